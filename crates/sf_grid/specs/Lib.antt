@@ -1,0 +1,4 @@
+pub mod Bounds
+pub mod Fraction
+pub mod Plane
+pub mod Edge

@@ -1,0 +1,10 @@
+//! Well-known text of geometries: its reader and its writer.
+#![tactic(auto)]
+
+mod fault;
+mod reading;
+mod writing;
+
+pub use fault::WktFault;
+pub use reading::read;
+pub use writing::{append, write};
