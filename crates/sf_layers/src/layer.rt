@@ -1,4 +1,4 @@
-ghost use Rattle.std.specs.Prelude.{◌≡◌, ℕ, option_copied, None, OnOk, OnErr, IfErr};
+ghost use Rattle.std.specs.Prelude.{◌≡◌, ℕ, length, option_copied, None, OnOk, OnErr, IfErr};
 ghost use Rattle.std.specs.Map.Iter.{ShowsInOrder, deref_pair};
 ghost use Rattle.sf_layers.specs.Content.{FeatureContent, empty_layer, feature_of, with_feature};
 
@@ -57,6 +57,13 @@ impl Layer {
         ensures { option_copied result ≡ feature_of self.now id }
     {
         self.features.get(&id)
+    }
+
+    /// How many features there are.
+    pub fn feature_count(&self) -> usize
+        ensures { result ≡ length self.now.features }
+    {
+        self.features.len()
     }
 
     /// The features with their identifiers, rising.
