@@ -3,6 +3,7 @@
 
 mod fault;
 mod reading;
+mod token;
 mod writing;
 
 pub use fault::WktFault;
