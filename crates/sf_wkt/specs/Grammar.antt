@@ -1,5 +1,5 @@
 -- Well-known text of points, read from left to right: the first token that cannot stand where it stands decides.
-use Rattle.std.specs.Prelude.{ℕ, ℤ, Bool, true, List, ◌++◌, Result, Ok, Err, codes}
+use Rattle.std.specs.Prelude.{◌≡◌, ℕ, ℤ, Bool, true, List, ◌++◌, Result, Ok, Err, codes}
 use Rattle.std.specs.Fmt.{signed_decimal}
 use Rattle.sf_grid.specs.Plane.{Coordinates}
 use Rattle.sf_geometry.specs.declared.geometry.Geometry.{Geometry}
@@ -98,3 +98,8 @@ read text = do
 -- the canonical text
 abbrev pub canonical : Geometry → List ℕ
 canonical (Point p) = codes "POINT (" ++ signed_decimal p.x ++ codes " " ++ signed_decimal p.y ++ codes ")"
+
+-- a value and what is left after it, or a fault, are what reading gives
+abbrev pub Gives : {T : Type 0} → Result T WktFault → Left → Reads T → Type 0
+Gives (Ok x) rest reads = reads ≡ Ok (x, rest)
+Gives (Err fault) rest reads = reads ≡ Err fault

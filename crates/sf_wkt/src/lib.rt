@@ -2,7 +2,9 @@
 #![tactic(auto)]
 
 mod fault;
+mod number;
 mod reading;
+mod scanner;
 mod token;
 mod writing;
 
