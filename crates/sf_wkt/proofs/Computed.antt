@@ -10,7 +10,6 @@ use Rattle.sf_wkt.specs.Grammar.{read, canonical}
 abbrev at : ℤ → ℤ → Geometry
 at x y = Point (record { x = x; y = y })
 
-
 pub read_plain : read (codes "POINT (3 4)") ≡ Ok (at (pos 3) (pos 4))
 read_plain = refl
 

@@ -78,13 +78,19 @@ point left = do
   y ← next second_coordinate x.1
   Ok (record { x = x.0; y = y.0 }, y.1)
 
--- the geometry of a kind, after the keyword
-abbrev pub body : Kind → Left → Reads Geometry
-body kinds.Point left = do
+-- a point in its brackets, after the keyword
+abbrev pub bracketed_point : Left → Reads Coordinates
+bracketed_point left = do
   opened ← next first_opening left
   p ← point opened.1
   closed ← next closing p.1
-  Ok (Point p.0, closed.1)
+  Ok (p.0, closed.1)
+
+-- the geometry of a kind, after the keyword
+abbrev pub body : Kind → Left → Reads Geometry
+body kinds.Point left = do
+  p ← bracketed_point left
+  Ok (Point p.0, p.1)
 body kind left = Err faults.UnsupportedType
 
 -- the geometry of a text, or the first fault in it

@@ -1,5 +1,5 @@
-ghost use Rattle.std.specs.Prelude.{◌≡◌, ℕ, ◌+◌, ◌-◌, ◌^◌, ◌<◌, ◌≤◌, length, min, take, Some, None, if◌then◌else◌, nat_lt};
-ghost use Rattle.sf_wkt.specs.Tokens.{digits_value, signed, coordinate as coordinate_of, digits_len as digits_len_of, fraction_len, is_whole as is_whole_of, number as number_of, number_len};
+ghost use Rattle.std.specs.Prelude.{◌≡◌, ℕ, ◌+◌, ◌-◌, ◌^◌, ◌<◌, ◌≤◌, length, min, take, Some, None, IfSome, if◌then◌else◌, nat_lt};
+ghost use Rattle.sf_wkt.specs.Tokens.{digits_value, signed, coordinate as coordinate_of, digits_len as digits_len_of, fraction_len as fraction_len_of, is_whole as is_whole_of, number as number_of, number_len};
 
 use super::fault::WktFault;
 use super::token::Token;
@@ -8,8 +8,9 @@ use sf_grid::GridPoint;
 /// The token of the number of these bytes after its sign, and how many of them it takes. None where they
 /// don't begin with a digit.
 pub fn number(negative: bool, unsigned: &[u8]) -> Option<(Token, usize)>
-    ensures { result ≡ (if nat_lt 0 (digits_len_of unsigned.now)
+    ensures value { result ≡ (if nat_lt 0 (digits_len_of unsigned.now)
         then Some (number_of negative unsigned.now, number_len unsigned.now) else None) }
+    ensures within { IfSome result (λ found. found.1 ≤ length unsigned.now) }
 {
     let (magnitude, digits) = whole_part(unsigned);
     if digits == 0 {
@@ -42,17 +43,25 @@ fn whole_part(bytes: &[u8]) -> (u32, usize)
 /// Whether the fraction at the front is zero, and how many bytes it takes with its point.
 fn fraction_part(bytes: &[u8]) -> (bool, usize)
     ensures value { result.0 ≡ is_whole_of bytes.now }
-    ensures len { result.1 ≡ fraction_len bytes.now }
+    ensures len { result.1 ≡ fraction_len_of bytes.now }
     ensures within { result.1 ≤ length bytes.now }
 {
-    let len = match bytes {
-        [b'.', digits @ ..] => 1 + digits_len(digits),
-        _ => 0,
-    };
+    let len = fraction_len(bytes);
     let is_whole = bytes[..len]
         .iter()
         .all(|byte| *byte == b'0' || *byte == b'.');
     (is_whole, len)
+}
+
+/// How many bytes a point at the front takes, with the digits after it.
+fn fraction_len(bytes: &[u8]) -> usize
+    ensures len { result ≡ fraction_len_of bytes.now }
+    ensures within { result ≤ length bytes.now }
+{
+    match bytes {
+        [b'.', digits @ ..] => 1 + digits_len(digits),
+        _ => 0,
+    }
 }
 
 /// How many digits stand at the front.

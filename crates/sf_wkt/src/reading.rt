@@ -27,14 +27,19 @@ fn body(kind: Kind, scanner: &mut Scanner<'_>) -> Result<Geometry, WktFault>
     ensures { Gives result scanner.new (grammar.body kind scanner.old) }
 {
     match kind {
-        Kind::Point => {
-            first_opening(scanner.next_token())?;
-            let point = point(scanner)?;
-            closing(scanner.next_token())?;
-            Ok(Geometry::Point(point))
-        }
+        Kind::Point => Ok(Geometry::Point(bracketed_point(scanner)?)),
         _ => Err(WktFault::UnsupportedType),
     }
+}
+
+/// A point in its brackets, after the keyword.
+fn bracketed_point(scanner: &mut Scanner<'_>) -> Result<GridPoint, WktFault>
+    ensures { Gives result scanner.new (grammar.bracketed_point scanner.old) }
+{
+    first_opening(scanner.next_token())?;
+    let point = point(scanner)?;
+    closing(scanner.next_token())?;
+    Ok(point)
 }
 
 /// The x and the y of a point.

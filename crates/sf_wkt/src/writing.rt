@@ -1,9 +1,11 @@
 ghost use Rattle.std.specs.Prelude.{◌≡◌, ◌++◌, string_bytes, IfOk, OnOk, OnErr};
+ghost use Rattle.std.specs.Fmt.InlineText.{inline_text};
 ghost use Rattle.sf_wkt.specs.Grammar.{canonical};
 
 use sf_geometry::Geometry;
+use sf_grid::GridPoint;
 use std::alloc::{AllocError, Global};
-use std::fmt::{InlineText, Write};
+use std::fmt::{self, InlineText, Write};
 
 /// At least the length of the canonical text of a point.
 const POINT_LEN: usize = 24;
@@ -25,11 +27,19 @@ pub fn append(text: &mut String, geometry: &Geometry) -> Result<(), AllocError>
 {
     match geometry {
         Geometry::Point(point) => {
-            let x = point.x();
-            let y = point.y();
-            let mut piece = InlineText::<POINT_LEN>::new();
-            write!(piece, "POINT ({x} {y})").map_err(|_| AllocError)?;
+            let piece = point_text(point).map_err(|_| AllocError)?;
             text.push_str(piece.as_str())
         }
     }
+}
+
+/// The canonical text of a point, which has room: an Err never comes.
+fn point_text(point: &GridPoint) -> Result<InlineText<POINT_LEN>, fmt::Error>
+    ensures { IfOk result (λ text. inline_text text ≡ canonical (Geometry.Point point.now)) }
+{
+    let x = point.x();
+    let y = point.y();
+    let mut text = InlineText::new();
+    write!(text, "POINT ({x} {y})")?;
+    Ok(text)
 }
