@@ -5,6 +5,8 @@ mod fault;
 mod number;
 mod reading;
 mod scanner;
+#[cfg(test)]
+mod tests;
 mod token;
 mod writing;
 
