@@ -2,7 +2,12 @@
 #![tactic(auto)]
 
 mod fault;
+mod number;
 mod reading;
+mod scanner;
+#[cfg(test)]
+mod tests;
+mod token;
 mod writing;
 
 pub use fault::WktFault;
