@@ -15,11 +15,11 @@ all-remove P f [] (suc i) h = h
 all-remove P f (x ∷ xs) zero h = h.1
 all-remove P f (x ∷ xs) (suc i) h = (h.0, all-remove P f xs i h.1)
 
-none_or : (a b : Bool) → (a || b) ≡ false → (a ≡ false) × (b ≡ false)
+pub none_or : (a b : Bool) → (a || b) ≡ false → (a ≡ false) × (b ≡ false)
 none_or false b h = (refl, h)
 none_or true b h = cc
 
-none-from : (a b : Bool) → a ≡ false → b ≡ false → (a || b) ≡ false
+pub none-from : (a b : Bool) → a ≡ false → b ≡ false → (a || b) ≡ false
 none-from a b p q = ap (λ c. c || b) p ∙ q
 
 none-remove : {X Y : Type 0} (test : Y → Bool) (f : X → Y) (xs : List X) (i : ℕ) → list_any test (map f xs) ≡ false → list_any test (map f (remove xs i)) ≡ false
