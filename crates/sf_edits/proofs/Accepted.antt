@@ -1,5 +1,5 @@
 -- What an accepted step has passed.
-use Rattle.std.proofs.Common.{◌≡◌, ℕ, ◌<◌, Bool, true, false, not, List, [], ◌∷◌, length, Option, None, Some, is_some, Result, Ok, Err, IsTrue, nat_lt, refl, ap, sym, ◌∙◌}
+use Rattle.std.proofs.Common.{◌≡◌, ℕ, ◌<◌, Bool, true, false, not, List, [], ◌∷◌, length, Option, None, Some, is_some, Ok, IsTrue, nat_lt, refl, ap}
 use Rattle.std.proofs.lemmas.Bool.{ltb-true}
 use Rattle.std.specs.Option.{option_map_or}
 use Rattle.sf_geometry.specs.declared.geometry.Geometry.{Geometry}
@@ -68,7 +68,7 @@ FeaturePasses-passed content name geometry h = by (layer_of content name) refl h
   where
     by : (o : Option LayerContent) → layer_of content name ≡ o
         → first_refusal (unless (is_some o) NoLayer ∷ unless (option_map_or (λ layer. admits layer.kind (kind_of geometry)) o false) WrongKind
-            ∷ unless (option_map_or (λ layer. nat_lt layer.next_id id_end) o false) IdsExhausted ∷ []) ≡ None
+        ∷ unless (option_map_or (λ layer. nat_lt layer.next_id id_end) o false) IdsExhausted ∷ []) ≡ None
         → (layer : LayerContent) × FeaturePasses content name geometry layer
     by None is checked = cc
     by (Some layer) is checked =

@@ -1,5 +1,5 @@
 -- Lists with one element more at their end.
-use Rattle.std.proofs.Common.{◌≡◌, ℕ, ◌+◌, ◌-◌, ◌<◌, List, [], ◌∷◌, ◌++◌, length, take, drop, insert, remove, slice_get, Some, refl, ap, sym, ◌∙◌, arith, length-append}
+use Rattle.std.proofs.Common.{◌≡◌, ◌-◌, ◌<◌, List, [], ◌∷◌, ◌++◌, length, take, insert, remove, slice_get, Some, refl, ap, ◌∙◌, arith, length-append}
 
 length-push : {X : Type 0} (xs : List X) (x : X) → length (xs ++ x ∷ []) - 1 ≡ length xs
 length-push xs x = omega (arith, length-append xs (x ∷ []))

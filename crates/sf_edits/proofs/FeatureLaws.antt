@@ -1,8 +1,7 @@
 -- A feature put under the next identifier, and taken off again.
-use Rattle.std.proofs.Common.{◌≡◌, ℕ, ◌+◌, ◌-◌, ◌<◌, ◌≤◌, Bool, true, false, List, [], ◌∷◌, Option, None, Some, is_some, option_map, Ok, IsTrue, IsSome, IsSomeAnd, nat_eq, nat_lt, bytes_eq, refl, ap, sym, subst, ◌∙◌, arith}
+use Rattle.std.proofs.Common.{◌≡◌, ℕ, ◌+◌, ◌<◌, Bool, true, false, List, None, Some, is_some, option_map, Ok, IsTrue, IsSome, IsSomeAnd, bytes_eq, refl, ap, sym, subst, ◌∙◌, arith}
 use Rattle.std.proofs.lemmas.Bool.{false≢true}
 use Rattle.std.proofs.lemmas.Slice.Eq.{bytes_eq-Decides}
-use Rattle.std.specs.Cmp.Lexicographic.{nat_list_eq_equiv}
 use Rattle.std.specs.Map.{keys_of}
 use Rattle.sf_geometry.specs.declared.geometry.Geometry.{Geometry}
 use Rattle.sf_layers.specs.Content.{Content, LayerContent, FeatureContent, plain_feature, layer_of, has_layer, feature_of, change_layer, with_feature, without_feature, with_next_id}
@@ -17,10 +16,10 @@ use Rattle.sf_edits.specs.declared.answer.Answer.TheVariants.{Id}
 use Rattle.sf_edits.specs.declared.edit.Edit.{Edit}
 use Rattle.sf_edits.specs.declared.edit.Edit.TheVariants.{AddLayer, AddFeature}
 use Rattle.sf_edits.specs.declared.inverse.Inverse.TheVariants.{TakeFeature}
-use Rattle.sf_edits.specs.Steps.{checks, first_refusal, add_feature, effect, answer, step, next_id_of}
+use Rattle.sf_edits.specs.Steps.{checks, first_refusal, add_feature, answer, step}
 use Rattle.sf_edits.specs.Inverses.{take_feature, takes_back, Restores}
-use Rattle.sf_edits.proofs.Accepted.{Accepted, Accepted-step, FeaturePasses, FeaturePasses-passed, step-passed}
-use Rattle.sf_edits.proofs.InverseLaws.{IsLayer-add_feature, IsWellFormed-step, next_id_of-found}
+use Rattle.sf_edits.proofs.Accepted.{Accepted-step, FeaturePasses, FeaturePasses-passed, step-passed}
+use Rattle.sf_edits.proofs.InverseLaws.{IsLayer-add_feature, next_id_of-found}
 
 -- ---- a feature is put
 
@@ -65,8 +64,8 @@ raised content name id = change_layer content name (with_next_id (id + 1))
 pub IsWellFormed-raised : (content : Content) (name : List ℕ) (geometry : Geometry) (layer : LayerContent) (id : ℕ) → Takes content name geometry layer id → IsWellFormed (raised content name id)
 IsWellFormed-raised content name geometry layer id t =
     IsWellFormed-change_layer-at content name layer (with_next_id (id + 1)) t.passes.found
-        (subst (λ n. IsLayer (with_next_id (n + 1) layer)) t.next (IsLayer-raised layer t.passes.room (IsLayer-layer_of content name layer t.passes.found t.fine.layers)))
-        t.fine
+    (subst (λ n. IsLayer (with_next_id (n + 1) layer)) t.next (IsLayer-raised layer t.passes.room (IsLayer-layer_of content name layer t.passes.found t.fine.layers)))
+    t.fine
 
 layer_of-raised : (content : Content) (name : List ℕ) (layer : LayerContent) (id : ℕ) → layer_of content name ≡ Some layer → layer_of (raised content name id) name ≡ Some (with_next_id (id + 1) layer)
 layer_of-raised content name layer id found = layer_of-change_layer content name (with_next_id (id + 1)) ∙ ap (option_map (with_next_id (id + 1))) found
@@ -87,13 +86,13 @@ pub raised-put : (content : Content) (name : List ℕ) (geometry : Geometry) (la
 raised-put content name geometry layer id t =
     change_layer-change_layer content name (with_next_id (id + 1)) (with_feature id (plain_feature geometry))
     ∙ change_layer-at content name layer (λ l. with_feature id (plain_feature geometry) (with_next_id (id + 1) l)) (add_feature geometry) t.passes.found
-        (ap (λ n. with_feature n (plain_feature geometry) (with_next_id (n + 1) layer)) (sym t.next))
+    (ap (λ n. with_feature n (plain_feature geometry) (with_next_id (n + 1) layer)) (sym t.next))
 
 pub IsWellFormed-put : (content : Content) (name : List ℕ) (geometry : Geometry) (layer : LayerContent) (id : ℕ) → Takes content name geometry layer id
     → IsWellFormed (change_layer (raised content name id) name (with_feature id (plain_feature geometry)))
 IsWellFormed-put content name geometry layer id t =
     subst IsWellFormed (sym (raised-put content name geometry layer id t))
-        (IsWellFormed-change_layer-at content name layer (add_feature geometry) t.passes.found (IsLayer-add_feature content name geometry layer t.passes t.fine) t.fine)
+    (IsWellFormed-change_layer-at content name layer (add_feature geometry) t.passes.found (IsLayer-add_feature content name geometry layer t.passes t.fine) t.fine)
 
 -- the counter taken back gives the content
 pub raised-lowered : (content : Content) (name : List ℕ) (geometry : Geometry) (layer : LayerContent) (id : ℕ) → Takes content name geometry layer id

@@ -1,7 +1,6 @@
 -- An accepted step keeps a content well formed, and its inverse takes it back.
-use Rattle.std.proofs.Common.{◌≡◌, ℕ, ◌+◌, ◌-◌, List, [], ◌∷◌, ◌++◌, length, take, Option, Some, None, Ok, nat_eq, refl, ap, sym, subst, ◌∙◌}
+use Rattle.std.proofs.Common.{◌≡◌, ℕ, ◌-◌, List, length, take, Some, Ok, refl, ap, sym, subst, ◌∙◌}
 use Rattle.std.specs.List.Sorted.{IsStrictlySortedBy}
-use Rattle.std.specs.Map.{remove_entry}
 use Rattle.std.specs.Option.{option_map_or}
 use Rattle.sf_geometry.specs.declared.geometry.Geometry.{Geometry}
 use Rattle.sf_layers.specs.Content.{Content, LayerContent, empty_layer, plain_feature, layer_of, change_layer}
@@ -10,14 +9,12 @@ use Rattle.sf_layers.proofs.Added.{IsWellFormed-push, IsWellFormed-change_layer-
 use Rattle.sf_layers.proofs.Changes.{change_layer-change_layer, change_layer-at, IsLayer-layer_of}
 use Rattle.sf_layers.proofs.Lookups.{change_layer-same}
 use Rattle.sf_edits.specs.declared.answer.Answer.{Answer}
-use Rattle.sf_edits.specs.declared.answer.Answer.TheVariants.{Id}
 use Rattle.sf_edits.specs.declared.edit.Edit.{Edit}
 use Rattle.sf_edits.specs.declared.edit.Edit.TheVariants.{AddLayer, AddFeature}
-use Rattle.sf_edits.specs.declared.inverse.Inverse.{Inverse}
 use Rattle.sf_edits.specs.Steps.{add_feature, next_id_of, step}
-use Rattle.sf_edits.specs.Inverses.{take_feature, described, answer_of, inverse_of, Restores, Accepts}
+use Rattle.sf_edits.specs.Inverses.{take_feature, described, inverse_of, Accepts}
 use Rattle.sf_edits.specs.Laws.{StepKeepsWellFormed, InverseTakesBack}
-use Rattle.sf_edits.proofs.Accepted.{Accepted, Accepted-step, LayerPasses, LayerPasses-passed, FeaturePasses, FeaturePasses-passed}
+use Rattle.sf_edits.proofs.Accepted.{Accepted, Accepted-step, LayerPasses-passed, FeaturePasses, FeaturePasses-passed}
 use Rattle.sf_edits.proofs.Ends.{take-last}
 
 pub IsFeature-plain_feature : (content : Content) (name : List ℕ) (geometry : Geometry) (layer : LayerContent) → FeaturePasses content name geometry layer → IsFeature layer (plain_feature geometry)
@@ -38,7 +35,7 @@ IsWellFormed-step old new (AddFeature name geometry) given fine led =
     let accepted = Accepted-step old new (AddFeature name geometry) given led in
     let passes = FeaturePasses-passed old name geometry accepted.passed in
     subst IsWellFormed accepted.effect
-        (IsWellFormed-change_layer-at old name passes.0 (add_feature geometry) passes.1.found (IsLayer-add_feature old name geometry passes.0 passes.1 fine) fine)
+    (IsWellFormed-change_layer-at old name passes.0 (add_feature geometry) passes.1.found (IsLayer-add_feature old name geometry passes.0 passes.1 fine) fine)
 
 -- a layer less the feature that was added is the layer
 pub take_feature-add_feature : (geometry : Geometry) (layer : LayerContent) → IsLayer layer → take_feature layer.next_id (add_feature geometry layer) ≡ layer
@@ -64,25 +61,29 @@ described-inverse_of old new (AddFeature name geometry) given fine accepted =
 
 pub Restores-inverse_of : InverseTakesBack
 Restores-inverse_of old new (AddLayer name kind) given fine led =
-    let accepted = Accepted-step old new (AddLayer name kind) given led in
-    (record {
-      described_by = described-inverse_of old new (AddLayer name kind) given fine accepted;
-      well_formed = fine;
-      edit = AddLayer name kind;
-      answer = given;
-      taken_back = refl;
-      led = led;
-    }, accepted.answer)
+    let accepted = Accepted-step old new (AddLayer name kind) given led in (
+      record {
+        described_by = described-inverse_of old new (AddLayer name kind) given fine accepted;
+        well_formed = fine;
+        edit = AddLayer name kind;
+        answer = given;
+        taken_back = refl;
+        led = led;
+      },
+      accepted.answer,
+    )
 Restores-inverse_of old new (AddFeature name geometry) given fine led =
-    let accepted = Accepted-step old new (AddFeature name geometry) given led in
-    (record {
-      described_by = described-inverse_of old new (AddFeature name geometry) given fine accepted;
-      well_formed = fine;
-      edit = AddFeature name geometry;
-      answer = given;
-      taken_back = refl;
-      led = led;
-    }, accepted.answer)
+    let accepted = Accepted-step old new (AddFeature name geometry) given led in (
+      record {
+        described_by = described-inverse_of old new (AddFeature name geometry) given fine accepted;
+        well_formed = fine;
+        edit = AddFeature name geometry;
+        answer = given;
+        taken_back = refl;
+        led = led;
+      },
+      accepted.answer,
+    )
 
 -- the inverse of an edit whose step led here
 pub Accepts-inverse_of : (old new : Content) (edit : Edit) (given : Answer) → IsWellFormed old → step old edit ≡ Ok (new, given) → Accepts old edit (inverse_of old edit) new

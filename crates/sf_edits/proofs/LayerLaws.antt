@@ -1,5 +1,5 @@
 -- What takes the last layer off again.
-use Rattle.std.proofs.Common.{◌≡◌, ℕ, ◌+◌, ◌-◌, ◌<◌, Bool, true, false, List, [], ◌∷◌, ◌++◌, length, remove, slice_get, Some, Ok, IsTrue, refl, ap, sym, subst, ◌∙◌}
+use Rattle.std.proofs.Common.{◌≡◌, ℕ, ◌-◌, ◌<◌, List, length, remove, slice_get, Some, Ok, IsTrue, ap, sym, subst, ◌∙◌}
 use Rattle.std.proofs.lemmas.Bool.{false≢true}
 use Rattle.sf_layers.specs.Content.{Content, LayerContent, empty_layer}
 use Rattle.sf_edits.specs.declared.answer.Answer.{Answer}
@@ -9,7 +9,7 @@ use Rattle.sf_edits.specs.declared.edit.Edit.TheVariants.{AddLayer, AddFeature}
 use Rattle.sf_edits.specs.declared.inverse.Inverse.TheVariants.{TakeLayer}
 use Rattle.sf_edits.specs.Steps.{step}
 use Rattle.sf_edits.specs.Inverses.{takes_back, Restores}
-use Rattle.sf_edits.proofs.Accepted.{Accepted, Accepted-step}
+use Rattle.sf_edits.proofs.Accepted.{Accepted-step}
 use Rattle.sf_edits.proofs.Ends.{slice_get-last, remove-last, some_length}
 
 -- the last layer of a content is the one that an edit added to the content before
