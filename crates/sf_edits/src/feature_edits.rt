@@ -11,7 +11,8 @@ use sf_geometry::Geometry;
 use sf_layers::{Feature, Store, Text};
 use std::alloc::Global;
 
-/// Puts a feature under the next identifier of its layer. An Err gives the edit back and changes nothing.
+/// Puts a feature under the next identifier of its layer. An Err gives the edit back and changes
+/// nothing.
 pub(crate) fn add_feature(
     alloc: Global,
     store: &mut Store,
@@ -19,7 +20,8 @@ pub(crate) fn add_feature(
     geometry: Geometry,
 ) -> Result<Inverse, Edit>
     requires { first_refusal (checks store.old (Edit.AddFeature layer geometry)) ≡ None }
-    ensures accepted { IfOk result (λ inverse. Accepts store.old (Edit.AddFeature layer geometry) inverse store.new) }
+    ensures accepted { IfOk result (λ inverse.
+        Accepts store.old (Edit.AddFeature layer geometry) inverse store.new) }
     ensures inverse { IfOk result (λ inverse. inverse ≡ inverse_of store.old (Edit.AddFeature layer geometry)) }
     ensures given_back { IfErr result (λ edit. edit ≡ Edit.AddFeature layer geometry) }
     ensures unchanged { IfErr result (λ edit. store.new ≡ store.old) }
@@ -38,7 +40,8 @@ fn put_next_feature(
     geometry: Geometry,
 ) -> Result<u32, Geometry>
     requires { first_refusal (checks store.old (Edit.AddFeature name.now geometry)) ≡ None }
-    ensures put { IfOk result (λ id. step store.old (Edit.AddFeature name.now geometry) ≡ Ok (store.new, Answer.Id id)) }
+    ensures put { IfOk result (λ id.
+        step store.old (Edit.AddFeature name.now geometry) ≡ Ok (store.new, Answer.Id id)) }
     ensures well_formed { IsWellFormed store.old }
     ensures given_back { IfErr result (λ back. back ≡ geometry) }
     ensures unchanged { IfErr result (λ back. store.new ≡ store.old) }

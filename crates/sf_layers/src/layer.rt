@@ -23,7 +23,13 @@ impl Model for Layer {
 
     ghost Value = { LayerContent };
 
-    ghost view = { λ a. record { kind = a.kind; next_id = a.next_id; next_column = a.next_column; columns = []; features = a.features.entries } };
+    ghost view = { λ a. record {
+      kind = a.kind;
+      next_id = a.next_id;
+      next_column = a.next_column;
+      columns = [];
+      features = a.features.entries;
+    } };
 }
 
 impl Layer {
