@@ -22,7 +22,8 @@ pub(crate) fn add_feature(
     requires { first_refusal (checks store.old (Edit.AddFeature layer geometry)) ≡ None }
     ensures accepted { IfOk result (λ inverse.
         Accepts store.old (Edit.AddFeature layer geometry) inverse store.new) }
-    ensures inverse { IfOk result (λ inverse. inverse ≡ inverse_of store.old (Edit.AddFeature layer geometry)) }
+    ensures inverse { IfOk result (λ inverse.
+        inverse ≡ inverse_of store.old (Edit.AddFeature layer geometry)) }
     ensures given_back { IfErr result (λ edit. edit ≡ Edit.AddFeature layer geometry) }
     ensures unchanged { IfErr result (λ edit. store.new ≡ store.old) }
 {
@@ -61,7 +62,8 @@ fn put_next_feature(
 pub(crate) fn take_feature(store: &mut Store, layer: Text, id: u32) -> Edit
     requires { Fits store.old (Inverse.TakeFeature layer id) }
     ensures restored { Restores store.old (Inverse.TakeFeature layer id) store.new }
-    ensures again { step store.new result ≡ Ok (store.old, answer_of (Inverse.TakeFeature layer id)) }
+    ensures again { step store.new result
+        ≡ Ok (store.old, answer_of (Inverse.TakeFeature layer id)) }
 {
     let feature = store.take_feature(layer.as_str(), id);
     store.set_next_id(layer.as_str(), id);

@@ -16,8 +16,10 @@ pub(crate) fn add_layer(
     kind: LayerKind,
 ) -> Result<Inverse, Edit>
     requires { first_refusal (checks store.old (Edit.AddLayer name kind)) ≡ None }
-    ensures accepted { IfOk result (λ inverse. Accepts store.old (Edit.AddLayer name kind) inverse store.new) }
-    ensures inverse { IfOk result (λ inverse. inverse ≡ inverse_of store.old (Edit.AddLayer name kind)) }
+    ensures accepted { IfOk result (λ inverse.
+        Accepts store.old (Edit.AddLayer name kind) inverse store.new) }
+    ensures inverse { IfOk result (λ inverse.
+        inverse ≡ inverse_of store.old (Edit.AddLayer name kind)) }
     ensures given_back { IfErr result (λ edit. edit ≡ Edit.AddLayer name kind) }
     ensures unchanged { IfErr result (λ edit. store.new ≡ store.old) }
 {
