@@ -1,9 +1,11 @@
-ghost use Rattle.std.specs.Prelude.{◌≡◌, IfOk, IfErr, Ok};
+ghost use Rattle.std.specs.Prelude.{◌≡◌, IfOk, IfErr, IsOk, Ok};
 ghost use Rattle.sf_edits.specs.Steps.{step, checks, first_refusal};
-ghost use Rattle.sf_edits.specs.Inverses.{Accepts, Refuses, Restores, Fits, answer_of};
+ghost use Rattle.sf_edits.specs.Inverses.{Accepts, Refuses, Restores, Fits, answer_of, inverse_of};
 
 use super::edit::Edit;
+use super::feature_edits::{add_feature, take_feature};
 use super::inverse::Inverse;
+use super::layer_edits::{add_layer, take_layer};
 use super::refusal::Refusal;
 use sf_layers::{Store, is_name};
 use std::alloc::Global;
@@ -43,29 +45,47 @@ fn first_fault(store: &Store, edit: &Edit) -> Option<Refusal>
     }
 }
 
-/// Carries out an edit. A refused edit is given back, and the store is as it was.
+/// Carries out an edit.
+///
+/// # Errors
+///
+/// The edit is given back with the refusal of its first check that fails, in their order, or with
+/// `Memory` in the place of success. The store is then as it was.
 pub fn apply(alloc: Global, store: &mut Store, edit: Edit) -> Result<Inverse, (Edit, Refusal)>
     ensures accepted { IfOk result (λ inverse. Accepts store.old edit inverse store.new) }
+    ensures inverse { IfOk result (λ inverse. inverse ≡ inverse_of store.old edit) }
     ensures refused { IfErr result (λ e. Refuses store.old edit e.1) }
     ensures given_back { IfErr result (λ e. e.0 ≡ edit) }
     ensures unchanged { IfErr result (λ e. store.new ≡ store.old) }
 {
-    let _ = alloc;
-    match first_fault(store, &edit) {
-        Some(refusal) => Err((edit, refusal)),
-        None => Err((edit, Refusal::Memory)),
+    if let Some(refusal) = first_fault(store, &edit) {
+        return Err((edit, refusal));
     }
+    let done = match edit {
+        Edit::AddLayer { name, kind } => add_layer(alloc, store, name, kind),
+        Edit::AddFeature { layer, geometry } => add_feature(alloc, store, layer, geometry),
+    };
+    done.map_err(|edit| (edit, Refusal::Memory))
 }
 
-/// Takes an edit back, and gives the edit that leads there again. An Err changes nothing.
+/// Takes an accepted edit back, and gives the edit that leads there again, with the same answer.
+///
+/// # Errors
+///
+/// Where no memory is found, the inverse is given back and nothing is changed.
 pub fn revert(alloc: Global, store: &mut Store, inverse: Inverse) -> Result<Edit, Inverse>
     requires { Fits store.old inverse }
     ensures restored { IfOk result (λ edit. Restores store.old inverse store.new) }
     ensures again { IfOk result (λ edit. step store.new edit ≡ Ok (store.old, answer_of inverse)) }
     ensures given_back { IfErr result (λ returned. returned ≡ inverse) }
     ensures unchanged { IfErr result (λ returned. store.new ≡ store.old) }
+
+    // No inverse so far puts anything in, so none takes memory.
+    ensures always { IsOk result }
 {
     let _ = alloc;
-    let _ = &*store;
-    Err(inverse)
+    Ok(match inverse {
+        Inverse::TakeLayer => take_layer(store),
+        Inverse::TakeFeature { layer, id } => take_feature(store, layer, id),
+    })
 }

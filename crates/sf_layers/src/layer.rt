@@ -1,15 +1,14 @@
-ghost use Rattle.std.specs.Prelude.{◌≡◌, ℕ, length, option_copied, None, OnOk, OnErr, IfErr};
+ghost use Rattle.std.specs.Prelude.{◌≡◌, ℕ, Bool, false, length, option_copied, None, Some, IsSome, OnOk, OnErr, IfErr};
 ghost use Rattle.std.specs.Map.Iter.{ShowsInOrder, deref_pair};
-ghost use Rattle.sf_layers.specs.Content.{FeatureContent, empty_layer, feature_of, with_feature};
+ghost use Rattle.sf_layers.specs.Content.{FeatureContent, empty_layer, feature_of, with_feature, without_feature, with_next_id};
 
 use super::feature::Feature;
 use super::layer_kind::LayerKind;
 use std::alloc::Global;
-use std::collections::BTreeMap;
-use std::collections::btree_map;
+use std::collections::{BTreeMap, btree_map};
 use std::marker::Model;
 
-/// A layer of features by identifier.
+/// A layer of features by identifier, with the counters of its identifiers and column numbers.
 #[derive(Drop)]
 pub struct Layer {
     kind: LayerKind,
@@ -24,7 +23,13 @@ impl Model for Layer {
 
     ghost Value = { LayerContent };
 
-    ghost view = { λ a. record { kind = a.kind; next_id = a.next_id; next_column = a.next_column; columns = []; features = a.features.entries } };
+    ghost view = { λ a. record {
+      kind = a.kind;
+      next_id = a.next_id;
+      next_column = a.next_column;
+      columns = [];
+      features = a.features.entries;
+    } };
 }
 
 impl Layer {
@@ -40,19 +45,28 @@ impl Layer {
         }
     }
 
+    /// Which kinds of geometry the layer takes.
     pub fn kind(&self) -> LayerKind
         ensures { result ≡ self.now.kind }
     {
         self.kind
     }
 
-    /// The identifier of the next feature.
+    /// The identifier that the next feature takes, from 1 on; 4294967295 where there is none left.
     pub fn next_id(&self) -> u32
         ensures { result ≡ self.now.next_id }
     {
         self.next_id
     }
 
+    /// The number that the next column takes, from 1 on; 65535 where there is none left.
+    pub fn next_column(&self) -> u16
+        ensures { result ≡ self.now.next_column }
+    {
+        self.next_column
+    }
+
+    /// The feature of an identifier, or None where the layer has none under it.
     pub fn feature(&self, id: u32) -> Option<&Feature>
         ensures { option_copied result ≡ feature_of self.now id }
     {
@@ -74,13 +88,27 @@ impl Layer {
         self.features.iter()
     }
 
-    /// Puts a feature under an identifier. An Err gives it back and changes nothing.
-    pub fn put_feature(&mut self, id: u32, feature: Feature) -> Result<(), Feature>
+    /// Whether the layer has an index of its features' boxes. No layer has one.
+    pub fn indexed(&self) -> bool
+        ensures { result ≡ false }
+    {
+        false
+    }
+
+    /// Puts a feature under an identifier that is free. An Err gives it back and changes nothing.
+    pub(crate) fn put_feature(
+        &mut self,
+        alloc: Global,
+        id: u32,
+        feature: Feature,
+    ) -> Result<(), Feature>
         requires { feature_of self.old id ≡ None }
         ensures put { OnOk result (self.new ≡ with_feature id feature self.old) }
         ensures given_back { IfErr result (λ back. back ≡ feature) }
         ensures unchanged { OnErr result (self.new ≡ self.old) }
     {
+        // The map has its own allocator.
+        let _ = alloc;
         match self.features.insert(id, feature) {
             Ok(_) => Ok(()),
             Err(failed) => {
@@ -88,5 +116,21 @@ impl Layer {
                 Err(feature)
             }
         }
+    }
+
+    /// Takes the feature of an identifier out.
+    pub(crate) fn take_feature(&mut self, id: u32) -> Feature
+        requires { IsSome (feature_of self.old id) }
+        ensures taken { feature_of self.old id ≡ Some result }
+        ensures rest { self.new ≡ without_feature id self.old }
+    {
+        self.features.remove(&id).unwrap()
+    }
+
+    /// Sets the identifier that the next feature takes.
+    pub(crate) fn set_next_id(&mut self, next_id: u32)
+        ensures { self.new ≡ with_next_id next_id self.old }
+    {
+        self.next_id = next_id;
     }
 }

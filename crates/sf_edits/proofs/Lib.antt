@@ -1,0 +1,5 @@
+pub mod Accepted
+pub mod Ends
+pub mod FeatureLaws
+pub mod InverseLaws
+pub mod LayerLaws

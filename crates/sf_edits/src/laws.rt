@@ -1,0 +1,13 @@
+//! Laws of steps and inverses. The functions do nothing: each one's contract is its law.
+ghost use Rattle.sf_edits.specs.Laws.{StepKeepsWellFormed, InverseTakesBack};
+
+/// An accepted edit leads from a well-formed content to a well-formed content.
+pub fn step_keeps_well_formed()
+    ensures { StepKeepsWellFormed }
+{}
+
+/// The inverse of an accepted edit takes the content back to what it was, and has the edit's
+/// answer.
+pub fn inverse_takes_back()
+    ensures { InverseTakesBack }
+{}

@@ -1,0 +1,50 @@
+use Rattle.std.proofs.Common.{◌≡◌, ℕ, ◌≤◌, ◌<◌, List, [], ◌∷◌, insert, refl, ap, sym, subst, ◌∙◌, arith, lit≤, lit<}
+use Rattle.std.specs.List.{AllByRecursion}
+use Rattle.std.specs.List.Sorted.{IsStrictlySortedBy}
+use Rattle.std.specs.Map.{keys_of, values_of}
+use Rattle.std.specs.Ordering.{nat_cmp}
+use Rattle.sf_geometry.specs.declared.geometry.Geometry.TheVariants as geometries
+use Rattle.sf_geometry.specs.declared.kind.Kind.TheVariants.{Point}
+use Rattle.sf_grid.specs.Plane.{Coordinates}
+use Rattle.sf_layers.specs.declared.layer_kind.LayerKind.TheVariants.{Only}
+use Rattle.sf_layers.specs.Content.{Content, LayerContent, FeatureContent, plain_feature, change_layer, with_feature, with_next_id}
+use Rattle.sf_layers.specs.WellFormed.{IsFeature, IsIssued, IsWellFormed, id_end}
+use Rattle.sf_layers.proofs.tests.layer_and_feature_are_put.Goals as goal
+
+-- a content of one layer of points, named "wells"
+abbrev wells : ℕ → List (ℕ × FeatureContent) → Content
+wells next features = (119 ∷ 101 ∷ 108 ∷ 108 ∷ 115 ∷ [], record { kind = Only Point; next_id = next; next_column = 1; columns = []; features = features }) ∷ []
+
+-- it is well formed with the feature 1, a point
+IsWellFormed-one : (point : Coordinates) → IsWellFormed (wells 2 ((1, plain_feature (geometries.Point point)) ∷ []))
+unfolding IsStrictlySortedBy
+IsWellFormed-one point = record {
+  few = lit≤ tt;
+  named = (refl, tt);
+  distinct = (refl, tt);
+  layers = (
+    record {
+      next_id = (lit≤ tt, lit≤ tt);
+      next_column = (lit≤ tt, lit≤ tt);
+      columns = tt;
+      column_names = tt;
+      column_numbers = tt;
+      rising = (tt, tt);
+      ids = ((lit≤ tt, lit< tt), tt);
+      features = (record { kind = refl; rising = tt; values = tt }, tt);
+    },
+    tt,
+  );
+}
+
+pub put_feature-requires-clause-fits : goal.put_feature-requires-clause-fits
+put_feature-requires-clause-fits g c =
+    let is : c.put_layer.new.self ≡ wells 1 [] =
+    c.in-Ok.ensures.put
+    ∙ ap (λ s. insert s 0 (c.from_string-name.result, c.new-layer.result)) c.new-store.ensures
+    ∙ ap (λ n. let l : Content = (n, c.new-layer.result) ∷ [] in l) (c.from_string-name.ensures ∙ c.in_ok-from_str.ensures.ok)
+    ∙ ap (λ n. let l : Content = (119 ∷ 101 ∷ 108 ∷ 108 ∷ 115 ∷ [], n) ∷ [] in l) c.new-layer.ensures in
+    let raised : c.set_next_id.new.self ≡ wells 2 [] =
+    c.set_next_id.ensures ∙ ap (λ content. change_layer content (119 ∷ 101 ∷ 108 ∷ 108 ∷ 115 ∷ []) (with_next_id 2)) is in
+    subst (λ content. IsWellFormed (change_layer content (119 ∷ 101 ∷ 108 ∷ 108 ∷ 115 ∷ []) (with_feature 1 c.new-feature.result))) (sym raised)
+    (subst (λ feature. IsWellFormed (wells 2 ((1, feature) ∷ []))) (sym c.new-feature.ensures) (IsWellFormed-one c.in-Some.point))

@@ -1,0 +1,29 @@
+use super::*;
+use sf_geometry::{Geometry, Kind};
+use sf_grid::GridPoint;
+use std::test::Fail;
+
+// Each changer that takes memory, once where memory is found.
+#[test]
+fn layer_and_feature_are_put(rt: HostRuntime) -> Result<(), Fail> {
+    let mut store = Store::new(rt.alloc());
+    let name = Text::from_string(String::from_str(rt.alloc(), "wells")?);
+    let layer = Layer::new(rt.alloc(), LayerKind::Only(Kind::Point));
+    let Ok(()) = store.put_layer(rt.alloc(), 0, name, layer) else {
+        return Err(Fail::from("no memory"));
+    };
+    store.set_next_id("wells", 2);
+    let Some(point) = GridPoint::new(3, 4) else {
+        return Err(Fail::from("off the grid"));
+    };
+    let feature = Feature::new(Geometry::Point(point));
+    let Ok(()) = store.put_feature(rt.alloc(), "wells", 1, feature) else {
+        return Err(Fail::from("no memory"));
+    };
+    let (name, layer) = store.layer_at(0).ok_or("no layer")?;
+    assert_eq!(rt; name, "wells");
+    assert_eq!(rt; layer.next_id(), 2);
+    let Geometry::Point(found) = layer.feature(1).ok_or("no feature")?.geometry();
+    assert_eq!(rt; (found.x(), found.y()), (3, 4));
+    Ok(())
+}
