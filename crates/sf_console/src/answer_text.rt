@@ -17,7 +17,7 @@ const ANSWER_ROOM: usize = 64;
 /// The text of an answer, with its line feeds. It keeps room for each answer that has no rows, so that
 /// writing such an answer takes no memory.
 #[derive(Drop)]
-pub struct AnswerText {
+pub(crate) struct AnswerText {
     text: String,
 }
 
@@ -34,7 +34,7 @@ impl Model for AnswerText {
 
 impl AnswerText {
     /// No answer, with room for one.
-    pub fn new(alloc: Global) -> Result<AnswerText, AllocError>
+    pub(crate) fn new(alloc: Global) -> Result<AnswerText, AllocError>
         ensures { IfOk result (λ text. text ≡ []) }
     {
         Ok(AnswerText {
@@ -43,21 +43,21 @@ impl AnswerText {
     }
 
     /// The bytes of the answer.
-    pub fn as_bytes(&self) -> &[u8]
+    pub(crate) fn as_bytes(&self) -> &[u8]
         ensures { result.now ≡ self.now }
     {
         self.text.as_bytes()
     }
 
     /// No answer.
-    pub fn clear(&mut self)
+    pub(crate) fn clear(&mut self)
         ensures { self.new ≡ [] }
     {
         self.text.clear();
     }
 
     /// The answer of an accepted edit.
-    pub fn set_answer(&mut self, answer: Answer)
+    pub(crate) fn set_answer(&mut self, answer: Answer)
         ensures { self.new ≡ answer_line answer }
     {
         match answer {
@@ -67,7 +67,7 @@ impl AnswerText {
     }
 
     /// `ok`
-    pub fn set_done(&mut self)
+    pub(crate) fn set_done(&mut self)
         ensures { self.new ≡ line (codes "ok") }
     {
         self.text.clear();
@@ -84,7 +84,7 @@ impl AnswerText {
     }
 
     /// `refused`, with the number and the name of the refusal.
-    pub fn set_refusal(&mut self, refusal: Refusal)
+    pub(crate) fn set_refusal(&mut self, refusal: Refusal)
         ensures { self.new ≡ refusal_line refusal }
     {
         self.text.clear();
@@ -96,7 +96,7 @@ impl AnswerText {
     }
 
     /// `rows` with their number, and a row for each feature of a layer; or the refusal for want of memory.
-    pub fn set_features(&mut self, alloc: Global, layer: &Layer)
+    pub(crate) fn set_features(&mut self, alloc: Global, layer: &Layer)
         ensures { (self.new ≡ rows (map feature_row layer.now.features)) ⊎ (self.new ≡ refusal_line Memory) }
     {
         match feature_rows(alloc, layer) {

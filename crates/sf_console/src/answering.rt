@@ -76,7 +76,7 @@ fn answer_line(alloc: Global, editor: &mut Editor, bytes: &[u8], text: &mut Answ
 }
 
 /// Answers the line that ends with these bytes, just before a line feed, and begins a new one.
-pub fn end_line(
+pub(crate) fn end_line(
     alloc: Global,
     editor: &mut Editor,
     unfinished: &mut Unfinished,
@@ -100,7 +100,7 @@ pub fn end_line(
 }
 
 /// Answers the last line, which had no line feed, if there is one.
-pub fn end_input(alloc: Global, editor: &mut Editor, unfinished: &Unfinished, text: &mut AnswerText)
+pub(crate) fn end_input(alloc: Global, editor: &mut Editor, unfinished: &Unfinished, text: &mut AnswerText)
     ensures { (before : List ℕ) → IsKeptOf before unfinished.now → GivesLast editor.old before text.new editor.new }
 {
     if unfinished.is_empty() {

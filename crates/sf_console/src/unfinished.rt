@@ -9,7 +9,7 @@ use std::marker::Model;
 /// The bytes of an unfinished line, or a mark that they are too many for a line. It has room for the
 /// longest line from the beginning.
 #[derive(Drop)]
-pub struct Unfinished {
+pub(crate) struct Unfinished {
     bytes: Vec<u8>,
     overlong: bool,
 }
@@ -28,7 +28,7 @@ impl Model for Unfinished {
 
 impl Unfinished {
     /// No byte yet.
-    pub fn new(alloc: Global) -> Result<Unfinished, AllocError>
+    pub(crate) fn new(alloc: Global) -> Result<Unfinished, AllocError>
         ensures { IfOk result (λ unfinished. unfinished ≡ nothing_kept) }
     {
         Ok(Unfinished {
@@ -38,7 +38,7 @@ impl Unfinished {
     }
 
     /// The bytes, or None where they are too many.
-    pub fn line(&self) -> Option<&[u8]>
+    pub(crate) fn line(&self) -> Option<&[u8]>
         ensures { option_copied result ≡ line_kept self.now }
     {
         if self.overlong {
@@ -49,14 +49,14 @@ impl Unfinished {
     }
 
     /// Whether no byte came yet.
-    pub fn is_empty(&self) -> bool
+    pub(crate) fn is_empty(&self) -> bool
         ensures { IsTrue result ↔ (self.now ≡ nothing_kept) }
     {
         !self.overlong && self.bytes.is_empty()
     }
 
     /// Goes on with further bytes.
-    pub fn extend(&mut self, more: &[u8])
+    pub(crate) fn extend(&mut self, more: &[u8])
         ensures { self.new ≡ kept_with self.old more.now }
     {
         if self.overlong || more.len() > LINE_MAX - self.bytes.len() {
@@ -68,7 +68,7 @@ impl Unfinished {
     }
 
     /// Begins a new line.
-    pub fn clear(&mut self)
+    pub(crate) fn clear(&mut self)
         ensures { self.new ≡ nothing_kept }
     {
         self.bytes.clear();

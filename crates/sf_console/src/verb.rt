@@ -3,7 +3,7 @@ ghost use Rattle.sf_console.specs.Commands.{verb_of as verb_named};
 
 /// The first word of a command.
 #[derive(Clone, Copy, Debug, PartialEq, Eq)]
-pub enum Verb {
+pub(crate) enum Verb {
     Layer,
     Add,
     Show,
@@ -11,7 +11,7 @@ pub enum Verb {
 }
 
 /// The verb that a word spells, in small letters.
-pub fn verb_of(word: &str) -> Option<Verb>
+pub(crate) fn verb_of(word: &str) -> Option<Verb>
     ensures { result ≡ verb_named word.now }
 {
     if word == "layer" {

@@ -5,14 +5,14 @@ ghost use Rattle.sf_wkt.specs.Tokens.{is_blank as is_blank_byte};
 ghost use Rattle.sf_console.specs.Commands.{words as words_of, skip_blanks as skip_blanks_of, skip_word as skip_word_of};
 
 /// Whether a byte parts words: a space or a tab.
-pub fn is_blank(byte: u8) -> bool
+pub(crate) fn is_blank(byte: u8) -> bool
     ensures { result ≡ is_blank_byte byte }
 {
     byte == b' ' || byte == b'\t'
 }
 
 /// Whether a text has blanks alone, or nothing.
-pub fn are_blanks(text: &str) -> bool
+pub(crate) fn are_blanks(text: &str) -> bool
     ensures { result ≡ list_all is_blank_byte text.now }
 {
     text.as_bytes().iter().all(|byte| is_blank(*byte))
@@ -33,14 +33,14 @@ fn word_len(bytes: &[u8]) -> usize
 }
 
 /// The text from its first byte on that is no blank.
-pub fn skip_blanks(text: &str) -> &str
+pub(crate) fn skip_blanks(text: &str) -> &str
     ensures { result.now ≡ skip_blanks_of text.now }
 {
     &text[blank_len(text.as_bytes())..]
 }
 
 /// The first word of a text, and what stands after it.
-pub fn next_word(text: &str) -> Option<(&str, &str)>
+pub(crate) fn next_word(text: &str) -> Option<(&str, &str)>
     ensures words { MatchOption result (words_of text.now ≡ []) (λ r. words_of text.now ≡ r.0.now ∷ words_of r.1.now) }
     ensures rest { MatchOption result (words_of text.now ≡ []) (λ r. r.1.now ≡ skip_word_of text.now) }
 {
