@@ -33,7 +33,7 @@ behind_y x y = Ok (record { x = x; y = y.0 }, y.1)
 abbrev behind_x : ℤ × Left → Reads Coordinates
 behind_x x = next second_coordinate x.1 >>= behind_y x.0
 
-point_ok : (left mid rest : Left) (t u : PlacedToken) (x y : ℤ) → (t, mid) ≡ next_token left → given first_coordinate t ≡ Ok x
+pub point_ok : (left mid rest : Left) (t u : PlacedToken) (x y : ℤ) → (t, mid) ≡ next_token left → given first_coordinate t ≡ Ok x
     → (u, rest) ≡ next_token mid → given second_coordinate u ≡ Ok y → point left ≡ Ok (record { x = x; y = y }, rest)
 point_ok left mid rest t u x y from_left first from_mid second =
     after behind_x (next first_coordinate left) (Ok (x, mid)) (next_is first_coordinate left mid t (Ok x) from_left first)
@@ -50,7 +50,7 @@ point_gives left mid rest t u x y (Some p) fits_x fits_y from_left first from_mi
     let p_is = simp to_z-of_z at made_is.1 in
     point_ok left mid rest t u x y from_left first from_mid second ∙ ap (λ q. Ok (q, rest)) (sym p_is)
 
-abbrev behind_point : Coordinates × Left → Reads Coordinates
+abbrev pub behind_point : Coordinates × Left → Reads Coordinates
 behind_point p = next closing p.1 >>= (λ closed. Ok (p.0, closed.1))
 
 abbrev behind_opening : Unit {0} × Left → Reads Coordinates

@@ -9,7 +9,9 @@ use sf_geometry::{Geometry, Kind};
 use sf_grid::GridPoint;
 use std::alloc::Global;
 
-/// The geometry of a well-known text, or the first fault in it (OGC 06-103r4, section 7).
+/// The geometry of a well-known text, or the first fault in it from the left (OGC 06-103r4, section
+/// 7). Keywords are read in any mixture of case, numbers of any length. It never answers `Memory`
+/// for a point.
 pub fn read(alloc: Global, text: &str) -> Result<Geometry, WktFault>
     ensures { result ≡ read_of text.now }
 {
@@ -51,6 +53,7 @@ fn point(scanner: &mut Scanner<'_>) -> Result<GridPoint, WktFault>
     GridPoint::new(x, y).ok_or(WktFault::OutOfRange)
 }
 
+/// The kind that a keyword names.
 fn keyword(next: PlacedToken) -> Result<Kind, WktFault>
     ensures { result ≡ grammar.keyword next.place next.spaced next.token }
 {
@@ -71,6 +74,7 @@ fn first_opening(next: PlacedToken) -> Result<(), WktFault>
     }
 }
 
+/// An opening bracket.
 fn opening(next: PlacedToken) -> Result<(), WktFault>
     ensures { result ≡ grammar.opening next.place next.spaced next.token }
 {
@@ -102,6 +106,7 @@ fn second_coordinate(next: PlacedToken) -> Result<i32, WktFault>
     }
 }
 
+/// A closing bracket.
 fn closing(next: PlacedToken) -> Result<(), WktFault>
     ensures { result ≡ grammar.closing next.place next.spaced next.token }
 {

@@ -1,7 +1,7 @@
 ghost use Rattle.std.specs.Prelude.{◌≡◌, ◌+◌, ◌<◌, ◌≤◌, ◌^◌, length, take};
-ghost use Rattle.sf_wkt.specs.Tokens.{front_token as front_token_of, next_token, word as word_of, mark as mark_of, is_blank, sign_len as sign_len_of, is_negative as is_negative_of};
 ghost use Rattle.std.specs.Char.{is_ascii_alphabetic};
 ghost use Rattle.std.specs.List.{prefix_len};
+ghost use Rattle.sf_wkt.specs.Tokens.{front_token as front_token_of, next_token, word as word_of, mark as mark_of, is_blank, sign_len as sign_len_of, is_negative as is_negative_of};
 
 use super::number::number;
 use super::token::{PlacedToken, Token};

@@ -52,7 +52,10 @@ fn numbers_have_any_length(rt: HostRuntime) -> Result<(), Fail> {
     let zeros = format!(in rt.alloc(); "POINT ({:0>1001} 2)", 5)?;
     assert_eq!(rt; coordinates(rt.alloc(), zeros.as_str()), Ok((5, 2)));
     let nines = format!(in rt.alloc(); "POINT (-{:9>100} 2)", 9)?;
-    assert_eq!(rt; coordinates(rt.alloc(), nines.as_str()), Err(WktFault::OutOfRange));
+    assert_eq!(rt;
+        coordinates(rt.alloc(), nines.as_str()),
+        Err(WktFault::OutOfRange)
+    );
     Ok(())
 }
 
