@@ -18,14 +18,9 @@ fn layer_and_feature_are_added_and_taken_back(rt: HostRuntime) -> Result<(), Fai
     let feature_added = apply(rt.alloc(), &mut store, Edit::AddFeature { layer, geometry })?;
     assert_eq!(rt; feature_added.answer(), Answer::Id(1));
 
-    let feature_again = revert(rt.alloc(), &mut store, feature_added)?;
+    let _ = revert(rt.alloc(), &mut store, feature_added)?;
     assert_eq!(rt; store.layer("wells").ok_or("no layer")?.next_id(), 1);
-    let layer_again = revert(rt.alloc(), &mut store, layer_added)?;
+    let _ = revert(rt.alloc(), &mut store, layer_added)?;
     assert_eq!(rt; store.layer_count(), 0);
-
-    let layer_added = apply(rt.alloc(), &mut store, layer_again)?;
-    let feature_added = apply(rt.alloc(), &mut store, feature_again)?;
-    assert_eq!(rt; layer_added.answer(), Answer::Done);
-    assert_eq!(rt; feature_added.answer(), Answer::Id(1));
     Ok(())
 }
