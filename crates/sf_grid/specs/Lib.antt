@@ -2,3 +2,4 @@ pub mod Bounds
 pub mod Fraction
 pub mod Plane
 pub mod Edge
+pub mod Sharing

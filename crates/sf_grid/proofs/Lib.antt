@@ -1,0 +1,9 @@
+mod Computed
+pub mod Products
+pub mod BoundLaws
+pub mod MeanLaws
+pub mod Ring
+pub mod FractionLaws
+pub mod HeightLaws
+pub mod MeetLaws
+pub mod PointLaws
