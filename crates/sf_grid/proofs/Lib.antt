@@ -1,5 +1,6 @@
 mod Computed
 pub mod Products
+pub mod Tests
 pub mod BoundLaws
 pub mod MeanLaws
 pub mod Ring

@@ -6,7 +6,7 @@ ghost use Rattle.std.specs.Int.{int_max, int_min};
 ghost use Rattle.sf_grid.specs.Bounds.{cross_bound, denominator_end};
 ghost use Rattle.sf_grid.specs.Fraction.{fraction_cmp, whole};
 ghost use Rattle.sf_grid.specs.Plane.{grid_point};
-ghost use Rattle.sf_grid.specs.Edge.{cross as cross_of, within, IsOnEdge, edge_between, height_at, is_vertical, left_end, reaches, right_end};
+ghost use Rattle.sf_grid.specs.Edge.{cross as cross_of, within, IsOnEdge, edge_between, height_at, in_box, is_vertical, left_end, reaches, right_end};
 ghost use Rattle.sf_grid.specs.Sharing.{IsSharing, comes_before as comes_before_of, earlier_of, later_of, turn_of, weighted_point as weighted_point_of};
 
 use crate::exact::{cross, weighted_sum};
@@ -32,7 +32,14 @@ pub fn orientation(a: GridPoint, b: GridPoint, c: GridPoint) -> Turn
 pub fn on_edge(p: GridPoint, a: GridPoint, b: GridPoint) -> bool
     ensures { IsTrue result ↔ IsOnEdge (edge_between a b) (grid_point p) }
 {
-    is_between(a.x(), b.x(), p.x()) && is_between(a.y(), b.y(), p.y()) && cross(a, b, p) == 0
+    is_in_box(p, a, b) && cross(a, b, p) == 0
+}
+
+/// Whether `p` is in the closed box of the edge between `a` and `b`.
+fn is_in_box(p: GridPoint, a: GridPoint, b: GridPoint) -> bool
+    ensures { result ≡ in_box (edge_between a b) (grid_point p) }
+{
+    is_between(a.x(), b.x(), p.x()) && is_between(a.y(), b.y(), p.y())
 }
 
 /// Whether `z` is from the one of two coordinates to the other.
