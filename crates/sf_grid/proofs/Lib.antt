@@ -3,6 +3,7 @@ pub mod Products
 pub mod Tests
 pub mod BoundLaws
 pub mod MeanLaws
+pub mod ApartLaws
 pub mod Ring
 pub mod FractionLaws
 pub mod HeightLaws

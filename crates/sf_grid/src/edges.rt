@@ -55,27 +55,28 @@ pub fn meet(e: (GridPoint, GridPoint), f: (GridPoint, GridPoint)) -> Meet
     requires second_has_length { f.0 ≢ f.1 }
     ensures { IsSharing (edge_between e.0 e.1) (edge_between f.0 f.1) result }
 {
-    if are_boxes_apart(e, f) {
+    if are_boxes_apart(&e, &f) {
         return Meet::Apart;
     }
-    let (start, end) = sides(f, e);
+    let (start, end) = sides(&f, &e);
     if are_one_sided(start, end) {
         return Meet::Apart;
     }
-    let (other_start, other_end) = sides(e, f);
+    let (other_start, other_end) = sides(&e, &f);
     if are_one_sided(other_start, other_end) {
         return Meet::Apart;
     }
     if start == end {
-        shared_piece(e, f)
+        shared_piece(&e, &f)
     } else {
-        Meet::At(weighted_point(e, end.unsigned_abs(), start.unsigned_abs()))
+        Meet::At(weighted_point(&e, end.unsigned_abs(), start.unsigned_abs()))
     }
 }
 
 /// Whether the closed boxes of two edges share no point.
-fn are_boxes_apart(e: (GridPoint, GridPoint), f: (GridPoint, GridPoint)) -> bool
-    ensures { IsTrue result → IsSharing (edge_between e.0 e.1) (edge_between f.0 f.1) Meet.Apart }
+fn are_boxes_apart(e: &(GridPoint, GridPoint), f: &(GridPoint, GridPoint)) -> bool
+    ensures { IsTrue result
+        → IsSharing (edge_between e.now.0 e.now.1) (edge_between f.now.0 f.now.1) Meet.Apart }
 {
     are_ranges_apart(e.0.x(), e.1.x(), f.0.x(), f.1.x())
         || are_ranges_apart(e.0.y(), e.1.y(), f.0.y(), f.1.y())
@@ -90,9 +91,9 @@ fn are_ranges_apart(a: i32, b: i32, c: i32, d: i32) -> bool
 }
 
 /// The cross products of the line along `line` with the ends of `e`.
-fn sides(line: (GridPoint, GridPoint), e: (GridPoint, GridPoint)) -> (i64, i64)
-    ensures start { result.0 ≡ cross_of line.0 line.1 (grid_point e.0) }
-    ensures end { result.1 ≡ cross_of line.0 line.1 (grid_point e.1) }
+fn sides(line: &(GridPoint, GridPoint), e: &(GridPoint, GridPoint)) -> (i64, i64)
+    ensures start { result.0 ≡ cross_of line.now.0 line.now.1 (grid_point e.now.0) }
+    ensures end { result.1 ≡ cross_of line.now.0 line.now.1 (grid_point e.now.1) }
     ensures start_bound { unsigned_abs result.0 ≤ cross_bound }
     ensures end_bound { unsigned_abs result.1 ≤ cross_bound }
 {
@@ -111,10 +112,10 @@ fn are_one_sided(first: i64, second: i64) -> bool
 }
 
 /// The point that parts the edge `e` so that its ends have these weights.
-fn weighted_point(e: (GridPoint, GridPoint), first: u64, second: u64) -> FracPoint
+fn weighted_point(e: &(GridPoint, GridPoint), first: u64, second: u64) -> FracPoint
     requires some { 0 < first + second }
     requires small { first + second < denominator_end }
-    ensures { result ≡ weighted_point_of (edge_between e.0 e.1) first second }
+    ensures { result ≡ weighted_point_of (edge_between e.now.0 e.now.1) first second }
 {
     let x = weighted_sum(e.0.x(), e.1.x(), first, second);
     let y = weighted_sum(e.0.y(), e.1.y(), first, second);
@@ -122,12 +123,12 @@ fn weighted_point(e: (GridPoint, GridPoint), first: u64, second: u64) -> FracPoi
 }
 
 /// What two edges of one line share.
-fn shared_piece(e: (GridPoint, GridPoint), f: (GridPoint, GridPoint)) -> Meet
-    requires first_has_length { e.0 ≢ e.1 }
-    requires second_has_length { f.0 ≢ f.1 }
-    requires start_on_line { cross_of f.0 f.1 (grid_point e.0) ≡ pos 0 }
-    requires end_on_line { cross_of f.0 f.1 (grid_point e.1) ≡ pos 0 }
-    ensures { IsSharing (edge_between e.0 e.1) (edge_between f.0 f.1) result }
+fn shared_piece(e: &(GridPoint, GridPoint), f: &(GridPoint, GridPoint)) -> Meet
+    requires first_has_length { e.now.0 ≢ e.now.1 }
+    requires second_has_length { f.now.0 ≢ f.now.1 }
+    requires start_on_line { cross_of f.now.0 f.now.1 (grid_point e.now.0) ≡ pos 0 }
+    requires end_on_line { cross_of f.now.0 f.now.1 (grid_point e.now.1) ≡ pos 0 }
+    ensures { IsSharing (edge_between e.now.0 e.now.1) (edge_between f.now.0 f.now.1) result }
 {
     let low = later(earlier(e.0, e.1), earlier(f.0, f.1));
     let high = earlier(later(e.0, e.1), later(f.0, f.1));
