@@ -10,7 +10,7 @@ use Rattle.sf_grid.specs.Plane.{Coordinates, Point, IsPoint, grid_point, x_of, y
 use Rattle.sf_grid.specs.Edge.{Edge, IsOnEdge, cross, within}
 use Rattle.sf_grid.specs.Sharing.{IsOnBoth, IsSharing}
 use Rattle.sf_grid.specs.declared.meet.Meet.TheVariants.{Apart}
-use Rattle.sf_grid.proofs.Products.{mul_lt, mul_nonneg-nonneg, mul_pos, mul_pos-pos}
+use Rattle.sf_grid.proofs.Products.{mul_lt, mul_nonneg-nonneg, mul_pos, mul_pos-pos, times_zero}
 use Rattle.sf_grid.proofs.Ring.{ring, var, num, sum, dif, mul}
 use Rattle.sf_grid.proofs.Tests.{le_from_test, lt_from_test}
 use Rattle.sf_grid.proofs.MeanLaws.{IsMean, Lies, cross-mean, lies, mean-on_edge, weight_a, weight_b}
@@ -72,9 +72,6 @@ weighted_neg m n a b hm hn t ha hb =
 -- both numbers have one sign
 abbrev pub one_sided : ℤ → ℤ → Bool
 one_sided a b = (int_lt (pos 0) a && int_lt (pos 0) b) || (int_lt a (pos 0) && int_lt b (pos 0))
-
-times_zero : (a : ℤ) → a *ℤ pos 0 ≡ pos 0
-times_zero a = omega (arith, ints)
 
 -- the mean of two numbers of one sign isn't 0
 mean_of_one_side : (m n a b z : ℤ) (d : ℕ) → 0 < d → pos 0 ≤ℤ m → pos 0 ≤ℤ n → pos 0 <ℤ (m +ℤ n) → one_sided a b ≡ true →

@@ -4,6 +4,7 @@ pub mod Tests
 pub mod BoundLaws
 pub mod MeanLaws
 pub mod ApartLaws
+pub mod CrossingLaws
 pub mod Ring
 pub mod FractionLaws
 pub mod HeightLaws
