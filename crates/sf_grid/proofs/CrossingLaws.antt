@@ -247,11 +247,17 @@ sides_bound e f h k l m =
       (difference_small e.b.y e.a.y k.1 h.1)
       (difference_small f.b.x f.a.x m.0 l.0))
 
-pub total_small : (a b : ℤ) → one_sided a b ≡ false → unsigned_abs (a -ℤ b) ≤ cross_bound → unsigned_abs b + unsigned_abs a < denominator_end
-total_small a b s h =
+pub total_small : (a b : ℤ) → a ≢ b → one_sided a b ≡ false → unsigned_abs (a -ℤ b) ≤ cross_bound → unsigned_abs b + unsigned_abs a < denominator_end
+total_small a b n s h =
     by_lt_z b a
     (λ l. let k = not_one_sided a b s l in omega (arith, ints))
-    (λ l. by_lt_z a b (λ r. let k = not_one_sided b a (one_sided_comm b a ∙ s) r in omega (arith, ints)) (λ r. equal_total (omega (arith, ints))))
-  where
-  equal_total : a ≡ b → unsigned_abs b + unsigned_abs a < denominator_end
-  equal_total e = ?
+    (λ l. let k = not_one_sided b a (one_sided_comm b a ∙ s) (omega (arith, ints)) in omega (arith, ints))
+
+-- equal numbers that aren't of one side are 0
+pub equal_sides : (a b : ℤ) → one_sided a b ≡ false → a ≡ b → a ≡ pos 0
+equal_sides a b s e =
+    by_lt_z (pos 0) a
+    (λ l. absurd (both_ways _ s (or_left _ _ (and_from _ _ (test_from_lt (pos 0) a l) (test_from_lt (pos 0) b (omega (arith, ints)))))))
+    (λ l. by_lt_z a (pos 0)
+      (λ r. absurd (both_ways _ s (or_right _ _ (and_from _ _ (test_from_lt a (pos 0) r) (test_from_lt b (pos 0) (omega (arith, ints)))))))
+      (λ r. omega (arith, ints)))

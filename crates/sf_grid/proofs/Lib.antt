@@ -5,6 +5,7 @@ pub mod BoundLaws
 pub mod MeanLaws
 pub mod ApartLaws
 pub mod CrossingLaws
+pub mod LineLaws
 pub mod Ring
 pub mod FractionLaws
 pub mod HeightLaws
