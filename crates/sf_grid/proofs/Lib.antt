@@ -6,6 +6,7 @@ pub mod MeanLaws
 pub mod ApartLaws
 pub mod CrossingLaws
 pub mod LineLaws
+pub mod PieceLaws
 pub mod Ring
 pub mod FractionLaws
 pub mod HeightLaws
