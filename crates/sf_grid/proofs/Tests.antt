@@ -2,9 +2,9 @@
 use Rattle.std.proofs.Common.{◌≡◌, ◌↔◌, ℕ, refl, ap, sym, ◌∙◌, ℤ, pos, negsuc, ◌≤ℤ◌, ◌<ℤ◌, arith, Bool, true, false, ◌&&◌, ◌||◌, nat_eq, SFits, w64}
 use Rattle.std.specs.Prelude.{int_le, int_lt, IsTrue}
 use Rattle.std.specs.Ordering.{int_eq}
-use Rattle.std.specs.Int.{cast_unsigned}
+use Rattle.std.specs.Int.{cast_signed, cast_unsigned}
 use Rattle.std.proofs.lemmas.Bool.{and_parts}
-use Rattle.std.proofs.lemmas.Int.{ints}
+use Rattle.std.proofs.lemmas.Int.{ints, to_z-of_z}
 
 -- two tests of which each passes if the other does
 pub same_tests : (a b : Bool) → (a ≡ true → b ≡ true) → (b ≡ true → a ≡ true) → a ≡ b
@@ -45,3 +45,7 @@ iff_first a false c e f = (λ t. sym e ∙ t, λ t. e ∙ t)
 
 pub iff_failed : (r b c : Bool) → r ≡ c → r ≡ false → IsTrue r ↔ IsTrue (b && c)
 iff_failed r b c e f = (λ t. cc, λ t. e ∙ (and_parts b c t).1)
+
+-- numbers with the same bits are one
+pub bits_same : (a b : ℤ) → SFits w64 a → SFits w64 b → cast_unsigned w64 a ≡ cast_unsigned w64 b → a ≡ b
+bits_same a b f g e = sym (to_z-of_z w64 a f) ∙ ap (cast_signed w64) e ∙ to_z-of_z w64 b g

@@ -1,7 +1,7 @@
 //! Edges, the straight pieces between two grid points: turns, points on edges, what two edges
 //! share, and which of two edges is lower.
 
-ghost use Rattle.std.specs.Prelude.{◌≡◌, ◌≢◌, ◌↔◌, ◌<◌, ◌≤◌, ◌+◌, ◌||◌, ◌&&◌, ◌<ℤ◌, pos, int_lt, unsigned_abs, IsFalse, IsTrue};
+ghost use Rattle.std.specs.Prelude.{◌≡◌, ◌≢◌, ◌↔◌, ◌<◌, ◌≤◌, ◌+◌, ◌||◌, ◌&&◌, ◌-ℤ◌, pos, int_lt, unsigned_abs, IsFalse, IsTrue};
 ghost use Rattle.std.specs.Int.{int_max, int_min};
 ghost use Rattle.sf_grid.specs.Bounds.{cross_bound, denominator_end};
 ghost use Rattle.sf_grid.specs.Fraction.{fraction_cmp, whole};
@@ -94,8 +94,7 @@ fn are_ranges_apart(a: i32, b: i32, c: i32, d: i32) -> bool
 fn sides(line: &(GridPoint, GridPoint), e: &(GridPoint, GridPoint)) -> (i64, i64)
     ensures start { result.0 ≡ cross_of line.now.0 line.now.1 (grid_point e.now.0) }
     ensures end { result.1 ≡ cross_of line.now.0 line.now.1 (grid_point e.now.1) }
-    ensures start_bound { unsigned_abs result.0 ≤ cross_bound }
-    ensures end_bound { unsigned_abs result.1 ≤ cross_bound }
+    ensures apart { unsigned_abs (result.0 -ℤ result.1) ≤ cross_bound }
 {
     (
         cross(line.0, line.1, e.0),

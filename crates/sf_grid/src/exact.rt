@@ -3,7 +3,7 @@
 ghost use Rattle.std.specs.Prelude.{◌≡◌, ◌≤◌, ◌<◌, ◌+◌, ◌*◌, ◌+ℤ◌, ◌-ℤ◌, ◌*ℤ◌, pos, unsigned_abs};
 ghost use Rattle.sf_grid.specs.Bounds.{IsCoordinate, coordinate_bound, cross_bound, denominator_end, difference_bound, numerator_bound, place_product_bound, product_bound};
 ghost use Rattle.sf_grid.specs.Edge.{cross as cross_of};
-ghost use Rattle.sf_grid.specs.Plane.{grid_point};
+ghost use Rattle.sf_grid.specs.Plane.{IsOnGrid, grid_point};
 
 use crate::GridPoint;
 
@@ -52,6 +52,7 @@ pub fn wide_product(a: i128, b: i128) -> i128
 pub fn cross(a: GridPoint, b: GridPoint, c: GridPoint) -> i64
     ensures value { result ≡ cross_of a b (grid_point c) }
     ensures bound { unsigned_abs result ≤ cross_bound }
+    ensures on_grid { IsOnGrid a × IsOnGrid b × IsOnGrid c }
 {
     product(difference(b.x(), a.x()), difference(c.y(), a.y()))
         - product(difference(b.y(), a.y()), difference(c.x(), a.x()))
