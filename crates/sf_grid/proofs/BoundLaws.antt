@@ -1,6 +1,7 @@
 -- How large sums of products of coordinates become.
 use Rattle.std.proofs.Common.{◌≡◌, ℕ, ◌+◌, ◌*◌, ℤ, pos, ◌+ℤ◌, ◌-ℤ◌, ◌*ℤ◌, ◌≤◌, ◌<◌, ◌≤ℤ◌, unsigned_abs, arith}
-use Rattle.std.proofs.lemmas.Int.{ints}
+use Rattle.std.proofs.lemmas.Int.{ints, unsigned_abs-mul}
+use native.Mathlib.Nat.{mul-le-mul}
 use Rattle.sf_grid.specs.Bounds.{IsCoordinate, grid_min, grid_max, denominator_end, numerator_bound}
 use Rattle.sf_grid.proofs.Products.{mul_le}
 
@@ -13,3 +14,7 @@ weighted_bound a b m n h k small =
     let b_low : (grid_min *ℤ pos n) ≤ℤ (b *ℤ pos n) = mul_le grid_min b n k.0 in
     let b_high : (b *ℤ pos n) ≤ℤ (grid_max *ℤ pos n) = mul_le b grid_max n k.1 in
     omega (arith, ints)
+
+-- a product of small numbers
+pub product_size : (a b : ℤ) (m n : ℕ) → unsigned_abs a ≤ m → unsigned_abs b ≤ n → unsigned_abs (a *ℤ b) ≤ m * n
+product_size a b m n h k = rw unsigned_abs-mul (mul-le-mul h k)

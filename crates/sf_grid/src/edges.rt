@@ -172,8 +172,11 @@ pub fn height_order(x: &Frac, e: (GridPoint, GridPoint), f: (GridPoint, GridPoin
         (height_at (edge_between e.0 e.1) x.now)
         (height_at (edge_between f.0 f.1) x.now) }
 {
-    let (e, f) = (rightward(e), rightward(f));
-    Line::through(e.0, e.1).gap(&Line::through(f.0, f.1), x).cmp(&0)
+    let (left, right) = rightward(e);
+    let line = Line::through(left, right);
+    let (other_left, other_right) = rightward(f);
+    let other = Line::through(other_left, other_right);
+    line.gap(&other, x).cmp(&0)
 }
 
 /// The ends of an edge, from the left.

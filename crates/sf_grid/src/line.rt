@@ -1,5 +1,6 @@
 ghost use Rattle.std.specs.Prelude.{◌≡◌, ◌≤◌, ◌*◌, ◌+ℤ◌, ◌-ℤ◌, ◌*ℤ◌, pos, unsigned_abs};
 ghost use Rattle.sf_grid.specs.Bounds.{coordinate_bound, difference_bound, height_product_bound, numerator_bound};
+ghost use Rattle.sf_grid.specs.Fraction.{IsFraction};
 
 use crate::exact::{coordinate_product, difference, product, wide_product};
 use crate::{Frac, GridPoint};
@@ -35,6 +36,7 @@ impl Line {
             (self.now.offset *ℤ other.now.run -ℤ other.now.offset *ℤ self.now.run) *ℤ pos x.now.den
             +ℤ x.now.num *ℤ (self.now.rise *ℤ other.now.run -ℤ other.now.rise *ℤ self.now.run) }
         ensures bound { unsigned_abs result ≤ height_product_bound }
+        ensures place { IsFraction x.now }
     {
         let offset = self.offset_gap(other);
         let rise = product(self.rise, other.run) - product(other.rise, self.run);
