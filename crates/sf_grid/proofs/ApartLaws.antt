@@ -1,19 +1,18 @@
 -- When two edges share no point.
-use Rattle.std.proofs.Common.{◌≡◌, ◌≢◌, ℕ, refl, ap, sym, ◌∙◌, ℤ, pos, neg_ℤ, ◌+ℤ◌, ◌-ℤ◌, ◌*ℤ◌, ◌≤ℤ◌, ◌<ℤ◌, ◌<◌, arith, [], ◌∷◌, Bool, true, ◌&&◌, ◌||◌, inl, inr}
+use Rattle.std.proofs.Common.{◌≡◌, ◌≢◌, ℕ, refl, ap, sym, ◌∙◌, ℤ, pos, ◌+ℤ◌, ◌-ℤ◌, ◌*ℤ◌, ◌≤ℤ◌, ◌<ℤ◌, ◌<◌, arith, [], ◌∷◌, Bool, true, ◌&&◌, ◌||◌, inl, inr}
 use Rattle.std.specs.Prelude.{int_le, int_lt}
 use Rattle.std.specs.Int.{int_max, int_min}
 use Rattle.std.proofs.lemmas.Bool.{and_parts, or_cases}
 use Rattle.std.proofs.lemmas.Int.{ints, by_lt_z}
-use lib.Signed.{clash_ℤ}
 use Rattle.sf_grid.specs.Fraction.{Fraction}
-use Rattle.sf_grid.specs.Plane.{Coordinates, Point, IsPoint, grid_point, x_of, y_of}
-use Rattle.sf_grid.specs.Edge.{Edge, IsOnEdge, cross, within}
-use Rattle.sf_grid.specs.Sharing.{IsOnBoth, IsSharing}
+use Rattle.sf_grid.specs.Plane.{grid_point, x_of, y_of}
+use Rattle.sf_grid.specs.Edge.{Edge, cross, within}
+use Rattle.sf_grid.specs.Sharing.{IsSharing}
 use Rattle.sf_grid.specs.declared.meet.Meet.TheVariants.{Apart}
 use Rattle.sf_grid.proofs.Products.{mul_lt, mul_nonneg-nonneg, mul_pos, mul_pos-pos, times_zero}
 use Rattle.sf_grid.proofs.Ring.{ring, var, num, sum, dif, mul}
 use Rattle.sf_grid.proofs.Tests.{le_from_test, lt_from_test}
-use Rattle.sf_grid.proofs.MeanLaws.{IsMean, Lies, cross-mean, lies, mean-on_edge, weight_a, weight_b}
+use Rattle.sf_grid.proofs.MeanLaws.{cross-mean, lies, mean-on_edge, weight_a, weight_b}
 
 -- the ranges between a and b and between c and d share no number
 abbrev pub are_apart : ℤ → ℤ → ℤ → ℤ → Bool

@@ -1,18 +1,17 @@
 -- The one point that two edges share which cross.
-use Rattle.std.proofs.Common.{◌≡◌, ◌≢◌, ◌↔◌, ℕ, ◌+◌, ◌*◌, refl, ap, sym, ◌∙◌, ℤ, pos, negsuc, ◌+ℤ◌, ◌-ℤ◌, ◌*ℤ◌, ◌≤ℤ◌, ◌<ℤ◌, ◌<◌, ◌≤◌, arith, [], ◌∷◌, Bool, true, false, List, ◌&&◌, ◌||◌, ◌⊎◌, inl, inr, unsigned_abs}
-use Rattle.std.specs.Prelude.{int_lt}
+use Rattle.std.proofs.Common.{◌≡◌, ◌≢◌, ℕ, ◌+◌, refl, ap, sym, ◌∙◌, ℤ, pos, ◌+ℤ◌, ◌-ℤ◌, ◌*ℤ◌, ◌≤ℤ◌, ◌<ℤ◌, ◌<◌, ◌≤◌, arith, [], ◌∷◌, false, List, ◌⊎◌, inl, inr, unsigned_abs}
 use Rattle.std.proofs.lemmas.Bool.{and_from, and_parts, both_ways, or_left, or_right}
 use Rattle.std.proofs.lemmas.Int.{ints, by_lt_z, unsigned_abs-mul}
 use native.Mathlib.Nat.{mul-le-mul}
 use Rattle.sf_grid.specs.Bounds.{IsCoordinate, cross_bound, denominator_end, difference_bound, product_bound}
-use Rattle.sf_grid.specs.Plane.{Coordinates, IsOnGrid, Point, IsPoint, IsSamePoint, grid_point, x_of, y_of}
-use Rattle.sf_grid.specs.Edge.{Edge, IsOnEdge, cross, cross_of_directions, on_edge}
+use Rattle.sf_grid.specs.Plane.{IsOnGrid, Point, IsPoint, IsSamePoint, grid_point}
+use Rattle.sf_grid.specs.Edge.{Edge, IsOnEdge, cross, cross_of_directions}
 use Rattle.sf_grid.specs.Sharing.{IsOnBoth, IsSharing, weighted_point}
 use Rattle.sf_grid.specs.declared.meet.Meet.TheVariants.{At}
 use Rattle.sf_grid.proofs.Products.{zero_from_factor}
 use Rattle.sf_grid.proofs.Ring.{Term, ring, var, num, sum, dif, mul}
 use Rattle.sf_grid.proofs.Tests.{eq_from_test, test_from_eq, test_from_lt}
-use Rattle.sf_grid.proofs.MeanLaws.{IsMean, Lies, lies, no_difference, on_edge-mean}
+use Rattle.sf_grid.proofs.MeanLaws.{IsMean, lies, on_edge-mean}
 use Rattle.sf_grid.proofs.MeetLaws.{meeting-x, meeting-y, way}
 use Rattle.sf_grid.proofs.PointLaws.{on_edge-same}
 use Rattle.sf_grid.proofs.ApartLaws.{one_sided}
@@ -26,13 +25,14 @@ end_side f e = cross f.a f.b (grid_point e.b)
 
 -- ---- signs of two numbers that aren't of one side
 pub not_one_sided : (a b : ℤ) → one_sided a b ≡ false → b <ℤ a → (pos 0 ≤ℤ a) × (b ≤ℤ pos 0)
-not_one_sided a b s l =
-    (by_lt_z a (pos 0)
+not_one_sided a b s l = (
+  by_lt_z a (pos 0)
       (λ h. absurd (both_ways _ s (or_right _ _ (and_from _ _ (test_from_lt a (pos 0) h) (test_from_lt b (pos 0) (omega (arith, ints)))))))
       (λ h. h),
-    by_lt_z (pos 0) b
+  by_lt_z (pos 0) b
       (λ h. absurd (both_ways _ s (or_left _ _ (and_from _ _ (test_from_lt (pos 0) a (omega (arith, ints))) (test_from_lt (pos 0) b h)))))
-      (λ h. h))
+      (λ h. h),
+)
 
 pub one_sided_comm : (a b : ℤ) → one_sided a b ≡ one_sided b a
 one_sided_comm a b = grind (arith, ints)
@@ -115,12 +115,12 @@ mean_from e q m n t x y d =
       y = ap (λ z. (pos m +ℤ pos n) *ℤ z) y ∙ regrouped e.a.y e.b.y ∙ ap (λ z. (pos m *ℤ e.a.y +ℤ pos n *ℤ e.b.y) *ℤ z) (sym d);
     }
   where
-  regrouped : (a b : ℤ) → (pos m +ℤ pos n) *ℤ (a *ℤ pos m +ℤ b *ℤ pos n) ≡ (pos m *ℤ a +ℤ pos n *ℤ b) *ℤ (pos m +ℤ pos n)
-  regrouped a b =
-      ring (a ∷ b ∷ pos m ∷ pos n ∷ [])
-      (mul (sum (var 2) (var 3)) (sum (mul (var 0) (var 2)) (mul (var 1) (var 3))))
-      (mul (sum (mul (var 2) (var 0)) (mul (var 3) (var 1))) (sum (var 2) (var 3)))
-      refl
+    regrouped : (a b : ℤ) → (pos m +ℤ pos n) *ℤ (a *ℤ pos m +ℤ b *ℤ pos n) ≡ (pos m *ℤ a +ℤ pos n *ℤ b) *ℤ (pos m +ℤ pos n)
+    regrouped a b =
+        ring (a ∷ b ∷ pos m ∷ pos n ∷ [])
+        (mul (sum (var 2) (var 3)) (sum (mul (var 0) (var 2)) (mul (var 1) (var 3))))
+        (mul (sum (mul (var 2) (var 0)) (mul (var 3) (var 1))) (sum (var 2) (var 3)))
+        refl
 
 -- the crossing, from the sides of e's ends
 abbrev pub crossing_point : Edge → Edge → Point
@@ -161,13 +161,13 @@ on_second e f n s t =
     let other : start_side e f ≢ end_side e f = apart_too (start_side f e) (end_side f e) (start_side e f) (end_side e f) differ n in
     on_edge-mean f (crossing_point e f) (pos (unsigned_abs (end_side e f))) (pos (unsigned_abs (start_side e f)))
     (mean_from f (crossing_point e f) (unsigned_abs (end_side e f)) (unsigned_abs (start_side e f))
-      (total_pos (start_side e f) (end_side e f) other)
-      (sums e.a.x e.b.x f.a.x f.b.x (start_side f e) (end_side f e) (start_side e f) (end_side e f) (crossing_x e f) sign)
-      (sums e.a.y e.b.y f.a.y f.b.y (start_side f e) (end_side f e) (start_side e f) (end_side e f) (crossing_y e f) sign)
-      (totals (start_side f e) (end_side f e) (start_side e f) (end_side e f) differ sign))
+    (total_pos (start_side e f) (end_side e f) other)
+    (sums e.a.x e.b.x f.a.x f.b.x (start_side f e) (end_side f e) (start_side e f) (end_side e f) (crossing_x e f) sign)
+    (sums e.a.y e.b.y f.a.y f.b.y (start_side f e) (end_side f e) (start_side e f) (end_side e f) (crossing_y e f) sign)
+    (totals (start_side f e) (end_side f e) (start_side e f) (end_side e f) differ sign))
   where
-  apart_too : (a b c d : ℤ) → a -ℤ b ≡ d -ℤ c → a ≢ b → c ≢ d
-  apart_too a b c d e n same = n (omega (arith, ints))
+    apart_too : (a b c d : ℤ) → a -ℤ b ≡ d -ℤ c → a ≢ b → c ≢ d
+    apart_too a b c d e n same = n (omega (arith, ints))
 
 -- ---- no other point is on both
 cancelled : (s c px qx pd qd : ℤ) → s ≢ pos 0 → c *ℤ pd ≡ px *ℤ s → c *ℤ qd ≡ qx *ℤ s → px *ℤ qd ≡ qx *ℤ pd
@@ -212,8 +212,8 @@ on_edge-same_point e p q o r s h =
 not_parallel : (e f : Edge) → start_side f e ≢ end_side f e → cross_of_directions e f ≢ pos 0
 not_parallel e f n z = n (equal (start_side f e) (end_side f e) (sides_differ e f ∙ z))
   where
-  equal : (a b : ℤ) → a -ℤ b ≡ pos 0 → a ≡ b
-  equal a b e = omega (arith, ints)
+    equal : (a b : ℤ) → a -ℤ b ≡ pos 0 → a ≡ b
+    equal a b e = omega (arith, ints)
 
 -- the crossing is the one point of both
 pub at-crossing : (e f : Edge) → start_side f e ≢ end_side f e →
@@ -222,9 +222,10 @@ pub at-crossing : (e f : Edge) → start_side f e ≢ end_side f e →
 at-crossing e f n s t p o =
     let is_point : IsPoint (crossing_point e f) = record { positive = total_pos (start_side f e) (end_side f e) n } in
     let first = on_first e f n in
-    let second = on_second e f n s t in
-    (λ h. shared_once e f p (crossing_point e f) (not_parallel e f n) h (first, second),
-    λ h. (on_edge-same_point e p (crossing_point e f) o is_point h first, on_edge-same_point f p (crossing_point e f) o is_point h second))
+    let second = on_second e f n s t in (
+      λ h. shared_once e f p (crossing_point e f) (not_parallel e f n) h (first, second),
+      λ h. (on_edge-same_point e p (crossing_point e f) o is_point h first, on_edge-same_point f p (crossing_point e f) o is_point h second),
+    )
 
 -- ---- the crossing's denominator is small
 directions_bound : (a b c d : ℤ) → unsigned_abs a ≤ difference_bound → unsigned_abs b ≤ difference_bound → unsigned_abs c ≤ difference_bound → unsigned_abs d ≤ difference_bound →
@@ -242,10 +243,10 @@ pub sides_bound : (e f : Edge) → IsOnGrid e.a → IsOnGrid e.b → IsOnGrid f.
 sides_bound e f h k l m =
     rw (sides_differ e f)
     (directions_bound (e.b.x -ℤ e.a.x) (f.b.y -ℤ f.a.y) (e.b.y -ℤ e.a.y) (f.b.x -ℤ f.a.x)
-      (difference_small e.b.x e.a.x k.0 h.0)
-      (difference_small f.b.y f.a.y m.1 l.1)
-      (difference_small e.b.y e.a.y k.1 h.1)
-      (difference_small f.b.x f.a.x m.0 l.0))
+    (difference_small e.b.x e.a.x k.0 h.0)
+    (difference_small f.b.y f.a.y m.1 l.1)
+    (difference_small e.b.y e.a.y k.1 h.1)
+    (difference_small f.b.x f.a.x m.0 l.0))
 
 pub total_small : (a b : ℤ) → a ≢ b → one_sided a b ≡ false → unsigned_abs (a -ℤ b) ≤ cross_bound → unsigned_abs b + unsigned_abs a < denominator_end
 total_small a b n s h =
@@ -259,5 +260,5 @@ equal_sides a b s e =
     by_lt_z (pos 0) a
     (λ l. absurd (both_ways _ s (or_left _ _ (and_from _ _ (test_from_lt (pos 0) a l) (test_from_lt (pos 0) b (omega (arith, ints)))))))
     (λ l. by_lt_z a (pos 0)
-      (λ r. absurd (both_ways _ s (or_right _ _ (and_from _ _ (test_from_lt a (pos 0) r) (test_from_lt b (pos 0) (omega (arith, ints)))))))
-      (λ r. omega (arith, ints)))
+    (λ r. absurd (both_ways _ s (or_right _ _ (and_from _ _ (test_from_lt a (pos 0) r) (test_from_lt b (pos 0) (omega (arith, ints)))))))
+    (λ r. omega (arith, ints)))

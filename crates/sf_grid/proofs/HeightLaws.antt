@@ -1,5 +1,5 @@
 -- How two edges lie to one another, column by column.
-use Rattle.std.proofs.Common.{◌≡◌, refl, ap, sym, ◌∙◌, ℕ, ℤ, pos, ◌+ℤ◌, ◌-ℤ◌, ◌*ℤ◌, ◌≤ℤ◌, ◌<ℤ◌, ◌<◌, [], ◌∷◌, arith, Bool, true, false, cond, unsigned_abs, inl, inr}
+use Rattle.std.proofs.Common.{◌≡◌, refl, ap, sym, ◌∙◌, ℕ, ℤ, pos, ◌+ℤ◌, ◌-ℤ◌, ◌*ℤ◌, ◌≤ℤ◌, ◌<ℤ◌, ◌<◌, [], ◌∷◌, arith, Bool, true, false, cond, unsigned_abs}
 use Rattle.std.specs.Prelude.{int_lt}
 use Rattle.std.specs.declared.cmp.Ordering.TheVariants.{Equal, Greater, Less}
 use Rattle.std.specs.Ordering.{int_cmp, int_eq}
@@ -8,8 +8,8 @@ use Rattle.std.proofs.lemmas.Int.{ints, by_lt_z}
 use Rattle.sf_grid.specs.Fraction.{Fraction, IsFraction, fraction_cmp}
 use Rattle.sf_grid.specs.Plane.{Coordinates}
 use Rattle.sf_grid.specs.Edge.{Edge, height_at, height_rightward, is_vertical, left_end, right_end}
-use Rattle.sf_grid.proofs.Products.{mul_lt, lt_from_mul, zero_mul}
-use Rattle.sf_grid.proofs.Ring.{Term, ring, var, num, sum, dif, mul}
+use Rattle.sf_grid.proofs.Products.{mul_lt, zero_mul}
+use Rattle.sf_grid.proofs.Ring.{Term, ring, var, sum, dif, mul}
 use Rattle.sf_grid.proofs.Tests.{ge_from_test, lt_from_test, test_from_eq}
 
 -- how far the line u v is above the line s t in the column x, times what is positive where u v and s t go to the right
@@ -63,10 +63,10 @@ cmp-scaled z k p =
     (λ h. let m : (z *ℤ pos k) <ℤ (pos 0 *ℤ pos k) = mul_lt z (pos 0) k p h in
     cmp_from_less (z *ℤ pos k) (pos 0) (omega (arith, ints)) ∙ sym (cmp_from_less z (pos 0) h))
     (λ l. by_lt_z (pos 0) z
-      (λ h. let m : (pos 0 *ℤ pos k) <ℤ (z *ℤ pos k) = mul_lt (pos 0) z k p h in
-      cmp_from_greater (z *ℤ pos k) (pos 0) (omega (arith, ints)) ∙ sym (cmp_from_greater z (pos 0) h))
-      (λ h. let e : z ≡ pos 0 = omega (arith, ints) in
-      cmp_from_equal (z *ℤ pos k) (pos 0) (ap (λ y. y *ℤ pos k) e ∙ zero_mul (pos k)) ∙ sym (cmp_from_equal z (pos 0) e)))
+    (λ h. let m : (pos 0 *ℤ pos k) <ℤ (z *ℤ pos k) = mul_lt (pos 0) z k p h in
+    cmp_from_greater (z *ℤ pos k) (pos 0) (omega (arith, ints)) ∙ sym (cmp_from_greater z (pos 0) h))
+    (λ h. let e : z ≡ pos 0 = omega (arith, ints) in
+    cmp_from_equal (z *ℤ pos k) (pos 0) (ap (λ y. y *ℤ pos k) e ∙ zero_mul (pos k)) ∙ sym (cmp_from_equal z (pos 0) e)))
 
 abs_of_run : (a b : ℤ) → a <ℤ b → pos (unsigned_abs (b -ℤ a)) ≡ b -ℤ a
 abs_of_run a b h = omega (arith, ints)
@@ -81,25 +81,25 @@ cmp-gap u v s t x h k q =
     ∙ ap (λ z. int_cmp z (pos 0)) (scaled (height_rightward u v x).num (height_rightward s t x).num (unsigned_abs (v.x -ℤ u.x)) (unsigned_abs (t.x -ℤ s.x)) (v.x -ℤ u.x) (t.x -ℤ s.x) (abs_of_run u.x v.x h) (abs_of_run s.x t.x k))
     ∙ cmp-scaled (gap u v s t x) x.den q.positive
   where
-  scaled : (a b : ℤ) (m n : ℕ) (c d : ℤ) → pos m ≡ c → pos n ≡ d → a *ℤ (pos n *ℤ pos x.den) -ℤ b *ℤ (pos m *ℤ pos x.den) ≡ (a *ℤ d -ℤ b *ℤ c) *ℤ pos x.den
-  scaled a b m n c d e f =
-      ring (a ∷ b ∷ pos m ∷ pos n ∷ pos x.den ∷ [])
-      (dif (mul (var 0) (mul (var 3) (var 4))) (mul (var 1) (mul (var 2) (var 4))))
-      (mul (dif (mul (var 0) (var 3)) (mul (var 1) (var 2))) (var 4))
-      refl
-      ∙ ap (λ z. (a *ℤ z -ℤ b *ℤ pos m) *ℤ pos x.den) f
-      ∙ ap (λ z. (a *ℤ d -ℤ b *ℤ z) *ℤ pos x.den) e
+    scaled : (a b : ℤ) (m n : ℕ) (c d : ℤ) → pos m ≡ c → pos n ≡ d → a *ℤ (pos n *ℤ pos x.den) -ℤ b *ℤ (pos m *ℤ pos x.den) ≡ (a *ℤ d -ℤ b *ℤ c) *ℤ pos x.den
+    scaled a b m n c d e f =
+        ring (a ∷ b ∷ pos m ∷ pos n ∷ pos x.den ∷ [])
+        (dif (mul (var 0) (mul (var 3) (var 4))) (mul (var 1) (mul (var 2) (var 4))))
+        (mul (dif (mul (var 0) (var 3)) (mul (var 1) (var 2))) (var 4))
+        refl
+        ∙ ap (λ z. (a *ℤ z -ℤ b *ℤ pos m) *ℤ pos x.den) f
+        ∙ ap (λ z. (a *ℤ d -ℤ b *ℤ z) *ℤ pos x.den) e
 
 -- ---- the left end is left of the right end
 pub runs_right : (e : Edge) → is_vertical e ≡ false → (left_end e).x <ℤ (right_end e).x
 runs_right e h = by_test (int_lt e.b.x e.a.x) refl
   where
-  by_test : (t : Bool) → int_lt e.b.x e.a.x ≡ t → (cond t e.b e.a).x <ℤ (cond t e.a e.b).x
-  by_test true i = lt_from_test e.b.x e.a.x i
-  by_test false i =
-      let le : e.a.x ≤ℤ e.b.x = ge_from_test e.b.x e.a.x i in
-      by_lt_z e.a.x e.b.x (λ l. l)
-      (λ l. absurd (both_ways (int_eq e.a.x e.b.x) h (test_from_eq e.a.x e.b.x (omega (arith, ints)))))
+    by_test : (t : Bool) → int_lt e.b.x e.a.x ≡ t → (cond t e.b e.a).x <ℤ (cond t e.a e.b).x
+    by_test true i = lt_from_test e.b.x e.a.x i
+    by_test false i =
+        let le : e.a.x ≤ℤ e.b.x = ge_from_test e.b.x e.a.x i in
+        by_lt_z e.a.x e.b.x (λ l. l)
+        (λ l. absurd (both_ways (int_eq e.a.x e.b.x) h (test_from_eq e.a.x e.b.x (omega (arith, ints)))))
 
 -- the order of heights of two edges that aren't vertical
 pub height_cmp-gap : (e f : Edge) (x : Fraction) → is_vertical e ≡ false → is_vertical f ≡ false → IsFraction x →

@@ -1,19 +1,17 @@
 -- Edges of one line, and the order of points by x and then y.
-use Rattle.std.proofs.Common.{◌≡◌, ◌≢◌, ◌↔◌, ℕ, refl, ap, sym, ◌∙◌, ℤ, pos, ◌+ℤ◌, ◌-ℤ◌, ◌*ℤ◌, ◌≤ℤ◌, ◌<ℤ◌, ◌<◌, arith, [], ◌∷◌, Bool, true, false, ◌⊎◌, inl, inr}
-use Rattle.std.specs.Prelude.{int_le, int_lt}
+use Rattle.std.proofs.Common.{◌≡◌, ◌≢◌, ℕ, refl, ap, sym, ◌∙◌, ℤ, pos, ◌+ℤ◌, ◌-ℤ◌, ◌*ℤ◌, ◌≤ℤ◌, ◌<ℤ◌, ◌<◌, arith, [], ◌∷◌, true, false, ◌⊎◌, inl, inr}
+use Rattle.std.specs.Prelude.{int_le}
 use Rattle.std.specs.Int.{int_max, int_min}
-use Rattle.std.specs.Ordering.{int_eq}
-use Rattle.std.proofs.lemmas.Bool.{and_from, and_parts, both_ways, cases_Bool, or_cases, or_left, or_parts, or_right}
+use Rattle.std.proofs.lemmas.Bool.{and_from, and_parts, both_ways, or_cases, or_left, or_right}
 use Rattle.std.proofs.lemmas.Int.{clamps, ints, by_lt_z}
 use Rattle.sf_grid.specs.Fraction.{Fraction}
-use Rattle.sf_grid.specs.Plane.{Coordinates, Point, IsPoint, IsSamePoint, grid_point, x_of, y_of}
-use Rattle.sf_grid.specs.Edge.{Edge, IsOnEdge, cross, edge_between, on_edge, within}
-use Rattle.sf_grid.specs.Sharing.{comes_before, earlier_of, later_of}
-use Rattle.sf_grid.proofs.Products.{mul_le, mul_lt, mul_pos, zero_from_mul}
+use Rattle.sf_grid.specs.Plane.{Coordinates, Point, IsPoint, grid_point, x_of, y_of}
+use Rattle.sf_grid.specs.Edge.{IsOnEdge, cross, edge_between, on_edge, within}
+use Rattle.sf_grid.specs.Sharing.{comes_before}
+use Rattle.sf_grid.proofs.Products.{mul_lt, zero_from_mul}
 use Rattle.sf_grid.proofs.Ring.{Term, ring, var, num, sum, dif, mul}
-use Rattle.sf_grid.proofs.Tests.{eq_from_test, ge_from_test, le_from_test, lt_from_test, same_tests, test_from_eq, test_from_le, test_from_lt}
-use Rattle.sf_grid.proofs.MeanLaws.{IsMean, Lies, cross-end, cross-start, lies, no_more, on_edge-mean, on_edge_from, same_coordinates, square_of, square_of-pos}
-use Rattle.sf_grid.proofs.CrossingLaws.{on_edge-same_point}
+use Rattle.sf_grid.proofs.Tests.{eq_from_test, le_from_test, lt_from_test, same_tests, test_from_eq, test_from_lt}
+use Rattle.sf_grid.proofs.MeanLaws.{cross-end, cross-start, lies, no_more, on_edge-mean, on_edge_from, same_coordinates, square_of, square_of-pos}
 
 -- ---- points of one line
 all_vanish : (k l d y z w : ℤ) → y ≡ pos 0 → z ≡ pos 0 → w ≡ pos 0 → k *ℤ (y -ℤ d *ℤ z) -ℤ l *ℤ (w -ℤ z) ≡ pos 0
@@ -114,10 +112,10 @@ pub order_from_not : (a b : Coordinates) → comes_before b a ≡ false → (a.x
 order_from_not a b h =
     by_lt_z a.x b.x (λ l. inl l)
     (λ l. by_lt_z b.x a.x
-      (λ k. absurd (both_ways _ h (before_from_order b a (inl k))))
-      (λ k. by_lt_z b.y a.y
-        (λ j. absurd (both_ways _ h (before_from_order b a (inr (omega (arith, ints), j)))))
-        (λ j. inr (omega (arith, ints), j))))
+    (λ k. absurd (both_ways _ h (before_from_order b a (inl k))))
+    (λ k. by_lt_z b.y a.y
+    (λ j. absurd (both_ways _ h (before_from_order b a (inr (omega (arith, ints), j)))))
+    (λ j. inr (omega (arith, ints), j))))
 
 pub differs_from_before : (a b : Coordinates) → comes_before a b ≡ true → a ≢ b
 differs_from_before a b h e =
@@ -177,21 +175,23 @@ between_ends a b p h o =
     elim (order_from_before a b h) [
       | inl k ↦
           let low : (a.x *ℤ pos p.d) ≤ℤ p.x = low_of a.x b.x (x_of p) (omega (arith, ints)) l.x in
-          let high : p.x ≤ℤ (b.x *ℤ pos p.d) = high_of a.x b.x (x_of p) (omega (arith, ints)) l.x in
-          (by_lt_z (a.x *ℤ pos p.d) p.x (λ j. inl j)
-            (λ j. let e : p.x ≡ a.x *ℤ pos p.d = omega (arith, ints) in
-            let f : p.y ≡ a.y *ℤ pos p.d = end_height a b a p k l.line (cross-start a b) e in inr (sym e, omega (arith, ints))),
-          by_lt_z p.x (b.x *ℤ pos p.d) (λ j. inl j)
-            (λ j. let e : p.x ≡ b.x *ℤ pos p.d = omega (arith, ints) in
-            let f : p.y ≡ b.y *ℤ pos p.d = end_height a b b p k l.line (cross-end a b) e in inr (e, omega (arith, ints))))
+          let high : p.x ≤ℤ (b.x *ℤ pos p.d) = high_of a.x b.x (x_of p) (omega (arith, ints)) l.x in (
+            by_lt_z (a.x *ℤ pos p.d) p.x (λ j. inl j)
+                (λ j. let e : p.x ≡ a.x *ℤ pos p.d = omega (arith, ints) in
+                let f : p.y ≡ a.y *ℤ pos p.d = end_height a b a p k l.line (cross-start a b) e in inr (sym e, omega (arith, ints))),
+            by_lt_z p.x (b.x *ℤ pos p.d) (λ j. inl j)
+                (λ j. let e : p.x ≡ b.x *ℤ pos p.d = omega (arith, ints) in
+                let f : p.y ≡ b.y *ℤ pos p.d = end_height a b b p k l.line (cross-end a b) e in inr (e, omega (arith, ints))),
+          )
       | inr k ↦
           let same : a.x ≡ b.x = k.0 in
           let rises : a.y <ℤ b.y = k.1 in
           let low : (a.x *ℤ pos p.d) ≤ℤ p.x = low_of a.x b.x (x_of p) (omega (arith, ints)) l.x in
           let high : p.x ≤ℤ (b.x *ℤ pos p.d) = high_of a.x b.x (x_of p) (omega (arith, ints)) l.x in
-          let column : a.x *ℤ pos p.d ≡ b.x *ℤ pos p.d = ap (λ z. z *ℤ pos p.d) same in
-          (inr (omega (arith, ints), low_of a.y b.y (y_of p) (omega (arith, ints)) l.y),
-          inr (omega (arith, ints), high_of a.y b.y (y_of p) (omega (arith, ints)) l.y))
+          let column : a.x *ℤ pos p.d ≡ b.x *ℤ pos p.d = ap (λ z. z *ℤ pos p.d) same in (
+            inr (omega (arith, ints), low_of a.y b.y (y_of p) (omega (arith, ints)) l.y),
+            inr (omega (arith, ints), high_of a.y b.y (y_of p) (omega (arith, ints)) l.y),
+          )
     ]
 
 weakly_after : (a : Coordinates) (p : Point) → After a p → (a.x *ℤ pos p.d) ≤ℤ p.x

@@ -1,14 +1,14 @@
 -- The points of an edge are the means of its ends.
-use Rattle.std.proofs.Common.{◌≡◌, ◌≢◌, ℕ, refl, ap, sym, ◌∙◌, ℤ, pos, ◌+ℤ◌, ◌-ℤ◌, ◌*ℤ◌, ◌≤ℤ◌, ◌<ℤ◌, ◌<◌, arith, [], ◌∷◌, Bool, true, false, cond, inl, inr}
+use Rattle.std.proofs.Common.{◌≡◌, ◌≢◌, ℕ, refl, ap, ◌∙◌, ℤ, pos, ◌+ℤ◌, ◌-ℤ◌, ◌*ℤ◌, ◌≤ℤ◌, ◌<ℤ◌, arith, [], ◌∷◌, Bool, true, false, cond, inl, inr}
 use Rattle.std.specs.Prelude.{int_le, int_lt}
 use Rattle.std.specs.Int.{int_max, int_min}
 use Rattle.std.specs.Ordering.{int_eq}
 use Rattle.std.proofs.lemmas.Bool.{and_from, and_parts, both_ways, cases_Bool}
-use Rattle.std.proofs.lemmas.Int.{clamps, ints, by_lt_z}
+use Rattle.std.proofs.lemmas.Int.{clamps, ints}
 use Rattle.sf_grid.specs.Fraction.{Fraction}
 use Rattle.sf_grid.specs.Plane.{Coordinates, Point, IsPoint, grid_point, x_of, y_of}
-use Rattle.sf_grid.specs.Edge.{Edge, IsOnEdge, cross, in_box, on_edge, reaches, within}
-use Rattle.sf_grid.proofs.Products.{le_from_mul, mul_nonneg, mul_nonneg-nonneg, mul_pos, mul_pos-pos, nonneg_from_mul, square_nonneg, square_pos, sum_nonneg, sum_pos, zero_from_mul, zero_mul}
+use Rattle.sf_grid.specs.Edge.{Edge, IsOnEdge, cross, within}
+use Rattle.sf_grid.proofs.Products.{mul_nonneg, mul_nonneg-nonneg, mul_pos, nonneg_from_mul, square_nonneg, square_pos, sum_nonneg, sum_pos, zero_from_mul}
 use Rattle.sf_grid.proofs.Ring.{Term, ring, var, num, sum, dif, mul}
 use Rattle.sf_grid.proofs.Tests.{eq_from_test, ge_from_test, le_from_test, lt_from_test, test_from_eq, test_from_le}
 

@@ -1,15 +1,15 @@
 -- What two edges of one line share: the piece between the later of their first ends and the earlier of their last.
-use Rattle.std.proofs.Common.{◌≡◌, ◌≢◌, ◌↔◌, ℕ, refl, ap, sym, ◌∙◌, ℤ, pos, ◌+ℤ◌, ◌-ℤ◌, ◌*ℤ◌, ◌≤ℤ◌, ◌<ℤ◌, ◌<◌, arith, Bool, true, false, cond, ◌⊎◌, inl, inr, lit<}
+use Rattle.std.proofs.Common.{◌≡◌, ◌≢◌, refl, ap, sym, ◌∙◌, pos, ◌*ℤ◌, ◌≤ℤ◌, ◌<ℤ◌, arith, Bool, true, false, cond, ◌⊎◌, inl, inr, lit<}
 use Rattle.std.proofs.lemmas.Bool.{and_from}
-use Rattle.std.proofs.lemmas.Int.{ints, by_lt_z}
+use Rattle.std.proofs.lemmas.Int.{ints}
 use Rattle.sf_grid.specs.Plane.{Coordinates, Point, IsPoint, IsSamePoint, grid_point}
-use Rattle.sf_grid.specs.Edge.{Edge, IsOnEdge, cross, edge_between}
+use Rattle.sf_grid.specs.Edge.{IsOnEdge, cross, edge_between}
 use Rattle.sf_grid.specs.Sharing.{IsOnBoth, IsSharing, comes_before, earlier_of, later_of}
 use Rattle.sf_grid.specs.declared.meet.Meet.{Meet}
 use Rattle.sf_grid.specs.declared.meet.Meet.TheVariants.{Along, Apart, At}
 use Rattle.sf_grid.proofs.Products.{mul_le, mul_lt}
 use Rattle.sf_grid.proofs.Tests.{test_from_eq}
-use Rattle.sf_grid.proofs.MeanLaws.{Lies, cross-end, cross-start, lies, same_coordinates}
+use Rattle.sf_grid.proofs.MeanLaws.{cross-end, cross-start, lies, same_coordinates}
 use Rattle.sf_grid.proofs.CrossingLaws.{on_edge-same_point}
 use Rattle.sf_grid.proofs.LineLaws.{After, Before, before_from_not, between_ends, differs_from_before, line_back, line_from, on_edge-swapped, on_edge_between, order_from_before, order_from_not}
 
@@ -103,9 +103,9 @@ before_both a b p o false e h = (h, before_later a b p o (order_from_not a b e) 
 pub sorted : (a b : Coordinates) → a ≢ b → comes_before (earlier_of a b) (later_of a b) ≡ true
 sorted a b n = sorted_by (comes_before b a) refl
   where
-  sorted_by : (t : Bool) → comes_before b a ≡ t → comes_before (cond t b a) (cond t a b) ≡ true
-  sorted_by true e = e
-  sorted_by false e = before_from_not a b n e
+    sorted_by : (t : Bool) → comes_before b a ≡ t → comes_before (cond t b a) (cond t a b) ≡ true
+    sorted_by true e = e
+    sorted_by false e = before_from_not a b n e
 
 on_sorted_by : (a b : Coordinates) (p : Point) (t : Bool) → IsOnEdge (edge_between a b) p → IsOnEdge (edge_between (cond t b a) (cond t a b)) p
 on_sorted_by a b p true h = on_edge-swapped a b p h
@@ -140,30 +140,33 @@ both_from_bounds : (a b el eh fl fh : Coordinates) → OneLine a b el eh fl fh �
     cross a b p ≡ pos 0 → After (later_of el fl) p → Before (earlier_of eh fh) p → IsOnBoth (edge_between el eh) (edge_between fl fh) p
 both_from_bounds a b el eh fl fh h p o line after before =
     let low = after_both el fl p o (comes_before fl el) refl after in
-    let high = before_both eh fh p o (comes_before fh eh) refl before in
-    (on_edge_between el eh p o h.first_sorted (line_from a b el eh p h.apart h.first_low h.first_high line) low.0 high.0,
-    on_edge_between fl fh p o h.second_sorted (line_from a b fl fh p h.apart h.second_low h.second_high line) low.1 high.1)
+    let high = before_both eh fh p o (comes_before fh eh) refl before in (
+      on_edge_between el eh p o h.first_sorted (line_from a b el eh p h.apart h.first_low h.first_high line) low.0 high.0,
+      on_edge_between fl fh p o h.second_sorted (line_from a b fl fh p h.apart h.second_low h.second_high line) low.1 high.1,
+    )
 
 piece : (a b el eh fl fh : Coordinates) → OneLine a b el eh fl fh → (low high : Coordinates) → low ≡ later_of el fl → high ≡ earlier_of eh fh →
     comes_before low high ≡ true → IsSharing (edge_between el eh) (edge_between fl fh) (Along low high)
-piece a b el eh fl fh h low high low_is high_is s =
-    (s,
-    λ p o.
-    let low_on : cross a b (grid_point low) ≡ pos 0 = rw low_is (later_is (λ c. cross a b (grid_point c) ≡ pos 0) el fl h.first_low h.second_low) in
-    let high_on : cross a b (grid_point high) ≡ pos 0 = rw high_is (earlier_is (λ c. cross a b (grid_point c) ≡ pos 0) eh fh h.first_high h.second_high) in
-    (λ k.
-    let c = bounds_of_both a b el eh fl fh h p k in
-    let after : After low p = rw low_is c.1 in
-    let before : Before high p = rw high_is c.2 in
-    on_edge_between low high p o s (line_from a b low high p h.apart low_on high_on c.0) after before,
-    λ k.
-    let c = between_ends low high p s k in
-    let after : After (later_of el fl) p = rw (← low_is) c.0 in
-    let before : Before (earlier_of eh fh) p = rw (← high_is) c.1 in
-    both_from_bounds a b el eh fl fh h p o
-    (line_back a b low high p h.apart (differs_from_before low high s) low_on high_on (lies (edge_between low high) p k).line)
-    after
-    before))
+piece a b el eh fl fh h low high low_is high_is s = (
+  s,
+  λ p o.
+      let low_on : cross a b (grid_point low) ≡ pos 0 = rw low_is (later_is (λ c. cross a b (grid_point c) ≡ pos 0) el fl h.first_low h.second_low) in
+      let high_on : cross a b (grid_point high) ≡ pos 0 = rw high_is (earlier_is (λ c. cross a b (grid_point c) ≡ pos 0) eh fh h.first_high h.second_high) in (
+        λ k.
+            let c = bounds_of_both a b el eh fl fh h p k in
+            let after : After low p = rw low_is c.1 in
+            let before : Before high p = rw high_is c.2 in
+            on_edge_between low high p o s (line_from a b low high p h.apart low_on high_on c.0) after before,
+        λ k.
+            let c = between_ends low high p s k in
+            let after : After (later_of el fl) p = rw (← low_is) c.0 in
+            let before : Before (earlier_of eh fh) p = rw (← high_is) c.1 in
+            both_from_bounds a b el eh fl fh h p o
+            (line_back a b low high p h.apart (differs_from_before low high s) low_on high_on (lies (edge_between low high) p k).line)
+            after
+            before,
+      ),
+)
 
 no_piece : (a b el eh fl fh : Coordinates) → OneLine a b el eh fl fh → (low high : Coordinates) → low ≡ later_of el fl → high ≡ earlier_of eh fh →
     comes_before high low ≡ true → IsSharing (edge_between el eh) (edge_between fl fh) Apart
@@ -181,23 +184,24 @@ one_point a b el eh fl fh h low high low_is high_is s t p o =
     let here : IsPoint (grid_point low) = record { positive = lit< tt } in
     let after : After (later_of el fl) (grid_point low) = rw (← low_is) (inr (omega (arith, ints), omega (arith, ints))) in
     let before : Before (earlier_of eh fh) (grid_point low) = rw (← high_is, ← same) (inr (omega (arith, ints), omega (arith, ints))) in
-    let both = both_from_bounds a b el eh fl fh h (grid_point low) here low_on after before in
-    (λ k.
-    let c = bounds_of_both a b el eh fl fh h p k in
-    let after_p : After low p = rw low_is c.1 in
-    let before_p : Before low p = rw (same, high_is) c.2 in
-    same_from_order low p after_p before_p,
-    λ k. (on_edge-same_point (edge_between el eh) p (grid_point low) o here k both.0, on_edge-same_point (edge_between fl fh) p (grid_point low) o here k both.1))
+    let both = both_from_bounds a b el eh fl fh h (grid_point low) here low_on after before in (
+      λ k.
+          let c = bounds_of_both a b el eh fl fh h p k in
+          let after_p : After low p = rw low_is c.1 in
+          let before_p : Before low p = rw (same, high_is) c.2 in
+          same_from_order low p after_p before_p,
+      λ k. (on_edge-same_point (edge_between el eh) p (grid_point low) o here k both.0, on_edge-same_point (edge_between fl fh) p (grid_point low) o here k both.1),
+    )
   where
-  both_ways : (c d : Coordinates) → comes_before c d ≡ false → comes_before d c ≡ false → c ≡ d
-  both_ways c d s t =
-      elim (order_from_not d c s) [
-        | inl l ↦ elim (order_from_not c d t) [ inl k ↦ absurd (omega (arith, ints)) | inr k ↦ let e : c.x ≡ d.x = k.0 in absurd (omega (arith, ints)) ]
-        | inr l ↦
-            let e : d.x ≡ c.x = l.0 in
-            let f : d.y ≤ℤ c.y = l.1 in
-            elim (order_from_not c d t) [ inl k ↦ absurd (omega (arith, ints)) | inr k ↦ let g : c.y ≤ℤ d.y = k.1 in same_coordinates c d (sym e) (omega (arith, ints)) ]
-      ]
+    both_ways : (c d : Coordinates) → comes_before c d ≡ false → comes_before d c ≡ false → c ≡ d
+    both_ways c d s t =
+        elim (order_from_not d c s) [
+          | inl l ↦ elim (order_from_not c d t) [ inl k ↦ absurd (omega (arith, ints)) | inr k ↦ let e : c.x ≡ d.x = k.0 in absurd (omega (arith, ints)) ]
+          | inr l ↦
+              let e : d.x ≡ c.x = l.0 in
+              let f : d.y ≤ℤ c.y = l.1 in
+              elim (order_from_not c d t) [ inl k ↦ absurd (omega (arith, ints)) | inr k ↦ let g : c.y ≤ℤ d.y = k.1 in same_coordinates c d (sym e) (omega (arith, ints)) ]
+        ]
 
 -- ---- the same of edges with their ends in any order
 on_sorted_both : (a b c d : Coordinates) (p : Point) → IsOnBoth (edge_between a b) (edge_between c d) p →

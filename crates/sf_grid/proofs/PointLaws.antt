@@ -1,5 +1,5 @@
 -- What is said of a point holds of the same point written with another denominator.
-use Rattle.std.proofs.Common.{◌≡◌, ℕ, refl, ap, sym, ◌∙◌, ℤ, pos, ◌-ℤ◌, ◌*ℤ◌, ◌≤ℤ◌, arith, ◌<◌, [], ◌∷◌, Bool, true, false, ◌&&◌}
+use Rattle.std.proofs.Common.{◌≡◌, ℕ, refl, ap, sym, ◌∙◌, ℤ, pos, ◌-ℤ◌, ◌*ℤ◌, ◌≤ℤ◌, arith, ◌<◌, [], ◌∷◌, true, ◌&&◌}
 use Rattle.std.specs.Prelude.{int_le}
 use Rattle.std.specs.Ordering.{int_eq}
 use Rattle.std.specs.Int.{int_min, int_max}
@@ -8,19 +8,8 @@ use Rattle.sf_grid.specs.Fraction.{Fraction, IsFraction}
 use Rattle.sf_grid.specs.Plane.{Coordinates, Point, IsPoint, x_of, y_of}
 use Rattle.sf_grid.specs.Edge.{Edge, cross, within, reaches, in_box, on_edge}
 use Rattle.sf_grid.proofs.Products.{mul_le, le_from_mul, zero_mul}
+use Rattle.sf_grid.proofs.Tests.{eq_from_test, le_from_test, same_tests, test_from_eq, test_from_le}
 use Rattle.sf_grid.proofs.Ring.{ring, var, dif, mul}
-
--- two tests of which each passes if the other does
-same_tests : (a b : Bool) → (a ≡ true → b ≡ true) → (b ≡ true → a ≡ true) → a ≡ b
-same_tests true b f g = sym (f refl)
-same_tests false true f g = g refl
-same_tests false false f g = refl
-
-test_from_le : (a b : ℤ) → a ≤ℤ b → int_le a b ≡ true
-test_from_le a b h = grind (arith, ints)
-
-le_from_test : (a b : ℤ) → int_le a b ≡ true → a ≤ℤ b
-le_from_test a b h = grind (arith, ints)
 
 le_scaled : (a b c d : ℤ) (k l : ℕ) → 0 < l → a *ℤ pos k ≡ c *ℤ pos l → b *ℤ pos k ≡ d *ℤ pos l → int_le a b ≡ true → int_le c d ≡ true
 le_scaled a b c d k l p e f h =
@@ -59,12 +48,6 @@ cross-same a b p q e f =
     h ∙ ap (λ z. (b.x -ℤ a.x) *ℤ (z -ℤ a.y *ℤ pos p.d *ℤ pos q.d) -ℤ (b.y -ℤ a.y) *ℤ (p.x *ℤ pos q.d -ℤ a.x *ℤ pos p.d *ℤ pos q.d)) f
     ∙ ap (λ z. (b.x -ℤ a.x) *ℤ (q.y *ℤ pos p.d -ℤ a.y *ℤ pos p.d *ℤ pos q.d) -ℤ (b.y -ℤ a.y) *ℤ (z -ℤ a.x *ℤ pos p.d *ℤ pos q.d)) e
     ∙ k
-
-eq_from_test : (a b : ℤ) → int_eq a b ≡ true → a ≡ b
-eq_from_test a b h = grind (arith, ints)
-
-test_from_eq : (a b : ℤ) → a ≡ b → int_eq a b ≡ true
-test_from_eq a b h = grind (arith, ints)
 
 eq_from_mul : (a b : ℤ) (k : ℕ) → 0 < k → a *ℤ pos k ≡ b *ℤ pos k → a ≡ b
 eq_from_mul a b k p e =

@@ -1,5 +1,5 @@
 -- What two edges share, as a fact on all points of the plane.
-use Rattle.std.specs.Prelude.{ℕ, ◌+◌, ◌↔◌, Bool, ◌&&◌, ◌||◌, if◌then◌else◌, ℤ, pos, ◌+ℤ◌, ◌*ℤ◌, int_lt, IsTrue}
+use Rattle.std.specs.Prelude.{ℕ, ◌+◌, ◌↔◌, Bool, ◌&&◌, ◌||◌, if◌then◌else◌, pos, ◌+ℤ◌, ◌*ℤ◌, int_lt, IsTrue}
 use Rattle.std.specs.Ordering.{int_eq, int_cmp}
 use Rattle.std.specs.declared.cmp.Ordering.{Ordering}
 use Rattle.std.specs.declared.cmp.Ordering.TheVariants.{Less, Equal, Greater}

@@ -96,10 +96,7 @@ fn sides(line: &(GridPoint, GridPoint), e: &(GridPoint, GridPoint)) -> (i64, i64
     ensures end { result.1 ≡ cross_of line.now.0 line.now.1 (grid_point e.now.1) }
     ensures apart { unsigned_abs (result.0 -ℤ result.1) ≤ cross_bound }
 {
-    (
-        cross(line.0, line.1, e.0),
-        cross(line.0, line.1, e.1),
-    )
+    (cross(line.0, line.1, e.0), cross(line.0, line.1, e.1))
 }
 
 /// Whether two cross products with a line say that it has both points strictly on one side.

@@ -1,4 +1,4 @@
-use Rattle.std.proofs.Common.{◌≡◌, ◌≢◌, ◌≤◌, ◌<◌, ◌+◌, ◌-ℤ◌, ℕ, ℤ, pos, sym, ◌∙◌, ap, subst, true, false, rules, SFits, w64, unsigned_abs}
+use Rattle.std.proofs.Common.{◌≡◌, ◌≢◌, ◌<◌, ◌+◌, ℕ, sym, ◌∙◌, ap, subst, false, rules, SFits, w64, unsigned_abs}
 use Rattle.std.specs.Int.{cast_unsigned}
 use Rattle.std.proofs.lemmas.Int.{to_z-of_z}
 use Rattle.sf_grid.specs.Bounds.{denominator_end}
@@ -29,10 +29,10 @@ returns-then-are_one_sided-2 c =
     let test_2 : c.are_one_sided-2.result ≡ one_sided c.sides-other_start.result.0 c.sides-other_start.result.1 = simp to_z-of_z at c.are_one_sided-2.ensures in
     apart-swapped (edge_between c.args.e.0 c.args.e.1) (edge_between c.args.f.0 c.args.f.1)
     (apart-one_sided (edge_between c.args.f.0 c.args.f.1) (edge_between c.args.e.0 c.args.e.1) c.requires.second_has_length
-      (ap (λ z. one_sided z (end_side (edge_between c.args.e.0 c.args.e.1) (edge_between c.args.f.0 c.args.f.1))) (sym c.sides-other_start.ensures.start)
-      ∙ ap (λ z. one_sided c.sides-other_start.result.0 z) (sym c.sides-other_start.ensures.end)
-      ∙ sym test_2
-      ∙ c.if-are_one_sided-2.true))
+    (ap (λ z. one_sided z (end_side (edge_between c.args.e.0 c.args.e.1) (edge_between c.args.f.0 c.args.f.1))) (sym c.sides-other_start.ensures.start)
+    ∙ ap (λ z. one_sided c.sides-other_start.result.0 z) (sym c.sides-other_start.ensures.end)
+    ∙ sym test_2
+    ∙ c.if-are_one_sided-2.true))
 
 pub shared_piece-requires-clause-start_on_line : goal.shared_piece-requires-clause-start_on_line
 shared_piece-requires-clause-start_on_line c =

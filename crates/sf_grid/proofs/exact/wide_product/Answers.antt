@@ -1,4 +1,4 @@
-use Rattle.std.proofs.Common.{lit<, arith}
+use Rattle.std.proofs.Common.{lit<}
 use Rattle.std.specs.Int.{w128}
 use Rattle.std.proofs.lemmas.Int.{to_z-of_z, fits_signed_mul, unsigned_abs-mul}
 use native.Mathlib.Nat.{mul-le-mul}

@@ -1,4 +1,4 @@
-use Rattle.std.proofs.Common.{◌≡◌, ◌*◌, ◌*ℤ◌, ◌+ℤ◌, ◌-ℤ◌, ℤ, pos, ap, arith, rules, sym, ◌∙◌, SFits, w64}
+use Rattle.std.proofs.Common.{◌≡◌, ◌*ℤ◌, ◌+ℤ◌, ◌-ℤ◌, pos, ap, arith, rules, ◌∙◌, SFits, w64}
 use Rattle.std.specs.Int.{w128}
 use Rattle.std.proofs.lemmas.Int.{ints, to_z-of_z}
 use Rattle.sf_grid.proofs.line.Line.gap.Goals as goal

@@ -1,4 +1,4 @@
-use Rattle.std.proofs.Common.{◌≡◌, ◌≤◌, ◌*◌, ◌*ℤ◌, ◌-ℤ◌, ℤ, unsigned_abs, ap, arith, rules, sym, ◌∙◌, SFits, w64}
+use Rattle.std.proofs.Common.{◌≡◌, ◌≤◌, ◌*◌, ◌*ℤ◌, ◌-ℤ◌, ℤ, unsigned_abs, ap, arith, rules, ◌∙◌, SFits, w64}
 use Rattle.std.specs.Int.{w128}
 use Rattle.std.proofs.lemmas.Int.{ints, to_z-of_z}
 use Rattle.sf_grid.specs.Bounds.{coordinate_bound, difference_bound, numerator_bound}
