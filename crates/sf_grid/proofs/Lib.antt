@@ -12,3 +12,4 @@ pub mod FractionLaws
 pub mod HeightLaws
 pub mod MeetLaws
 pub mod PointLaws
+pub mod SameLaws

@@ -49,7 +49,7 @@ cross-same a b p q e f =
     ∙ ap (λ z. (b.x -ℤ a.x) *ℤ (q.y *ℤ pos p.d -ℤ a.y *ℤ pos p.d *ℤ pos q.d) -ℤ (b.y -ℤ a.y) *ℤ (z -ℤ a.x *ℤ pos p.d *ℤ pos q.d)) e
     ∙ k
 
-eq_from_mul : (a b : ℤ) (k : ℕ) → 0 < k → a *ℤ pos k ≡ b *ℤ pos k → a ≡ b
+pub eq_from_mul : (a b : ℤ) (k : ℕ) → 0 < k → a *ℤ pos k ≡ b *ℤ pos k → a ≡ b
 eq_from_mul a b k p e =
     let le : a ≤ℤ b = le_from_mul a b k p (omega (arith, ints)) in
     let ge : b ≤ℤ a = le_from_mul b a k p (omega (arith, ints)) in

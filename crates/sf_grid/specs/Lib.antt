@@ -3,3 +3,4 @@ pub mod Fraction
 pub mod Plane
 pub mod Edge
 pub mod Sharing
+pub mod Laws
