@@ -213,33 +213,38 @@ before_in_column b p k (inr h) = h.1
 run_positive : (a b : ℤ) (d : ℕ) → 0 < d → a <ℤ b → (a *ℤ pos d) <ℤ (b *ℤ pos d)
 run_positive a b d p h = mul_lt a b d p h
 
+-- an edge to the right has the points of its line from its left end's column to its right end's
+pub on_edge_rightward : (a b : Coordinates) (p : Point) → IsPoint p → a.x <ℤ b.x → cross a b p ≡ pos 0 → (a.x *ℤ pos p.d) ≤ℤ p.x → p.x ≤ℤ (b.x *ℤ pos p.d) →
+    IsOnEdge (edge_between a b) p
+on_edge_rightward a b p o k l low high =
+    let run : (a.x *ℤ pos p.d) <ℤ (b.x *ℤ pos p.d) = run_positive a.x b.x p.d o.positive k in
+    on_edge-mean (edge_between a b) p (b.x *ℤ pos p.d -ℤ p.x) (p.x -ℤ a.x *ℤ pos p.d)
+    (record {
+      first = omega (arith, ints);
+      second = omega (arith, ints);
+      total = omega (arith, ints);
+      x =
+          ring (a.x ∷ a.y ∷ b.x ∷ b.y ∷ p.x ∷ p.y ∷ pos p.d ∷ [])
+          (mul (sum (dif (mul (var 2) (var 6)) (var 4)) (dif (var 4) (mul (var 0) (var 6)))) (var 4))
+          (mul (sum (mul (dif (mul (var 2) (var 6)) (var 4)) (var 0)) (mul (dif (var 4) (mul (var 0) (var 6))) (var 2))) (var 6))
+          refl;
+      y =
+          ring (a.x ∷ a.y ∷ b.x ∷ b.y ∷ p.x ∷ p.y ∷ pos p.d ∷ [])
+          (mul (sum (dif (mul (var 2) (var 6)) (var 4)) (dif (var 4) (mul (var 0) (var 6)))) (var 5))
+          (sum
+          (mul (sum (mul (dif (mul (var 2) (var 6)) (var 4)) (var 1)) (mul (dif (var 4) (mul (var 0) (var 6))) (var 3))) (var 6))
+          (mul (var 6) (cross_term (var 0) (var 1) (var 2) (var 3) (var 4) (var 5) (var 6))))
+          refl
+          ∙ no_more (((b.x *ℤ pos p.d -ℤ p.x) *ℤ a.y +ℤ (p.x -ℤ a.x *ℤ pos p.d) *ℤ b.y) *ℤ pos p.d) (pos p.d) (cross a b p) l;
+    })
+
 pub on_edge_between : (a b : Coordinates) (p : Point) → IsPoint p → comes_before a b ≡ true → cross a b p ≡ pos 0 → After a p → Before b p →
     IsOnEdge (edge_between a b) p
 on_edge_between a b p o h l after before =
     let low = weakly_after a p after in
     let high = weakly_before b p before in
     elim (order_from_before a b h) [
-      | inl k ↦
-          let run : (a.x *ℤ pos p.d) <ℤ (b.x *ℤ pos p.d) = run_positive a.x b.x p.d o.positive k in
-          on_edge-mean (edge_between a b) p (b.x *ℤ pos p.d -ℤ p.x) (p.x -ℤ a.x *ℤ pos p.d)
-          (record {
-            first = omega (arith, ints);
-            second = omega (arith, ints);
-            total = omega (arith, ints);
-            x =
-                ring (a.x ∷ a.y ∷ b.x ∷ b.y ∷ p.x ∷ p.y ∷ pos p.d ∷ [])
-                (mul (sum (dif (mul (var 2) (var 6)) (var 4)) (dif (var 4) (mul (var 0) (var 6)))) (var 4))
-                (mul (sum (mul (dif (mul (var 2) (var 6)) (var 4)) (var 0)) (mul (dif (var 4) (mul (var 0) (var 6))) (var 2))) (var 6))
-                refl;
-            y =
-                ring (a.x ∷ a.y ∷ b.x ∷ b.y ∷ p.x ∷ p.y ∷ pos p.d ∷ [])
-                (mul (sum (dif (mul (var 2) (var 6)) (var 4)) (dif (var 4) (mul (var 0) (var 6)))) (var 5))
-                (sum
-                (mul (sum (mul (dif (mul (var 2) (var 6)) (var 4)) (var 1)) (mul (dif (var 4) (mul (var 0) (var 6))) (var 3))) (var 6))
-                (mul (var 6) (cross_term (var 0) (var 1) (var 2) (var 3) (var 4) (var 5) (var 6))))
-                refl
-                ∙ no_more (((b.x *ℤ pos p.d -ℤ p.x) *ℤ a.y +ℤ (p.x -ℤ a.x *ℤ pos p.d) *ℤ b.y) *ℤ pos p.d) (pos p.d) (cross a b p) l;
-          })
+      | inl k ↦ on_edge_rightward a b p o k l low high
       | inr k ↦
           let column : a.x *ℤ pos p.d ≡ b.x *ℤ pos p.d = ap (λ z. z *ℤ pos p.d) k.0 in
           let rise : (a.y *ℤ pos p.d) <ℤ (b.y *ℤ pos p.d) = run_positive a.y b.y p.d o.positive k.1 in
