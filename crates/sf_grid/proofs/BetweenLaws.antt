@@ -17,7 +17,7 @@ use Rattle.sf_grid.proofs.LineLaws.{on_edge_rightward}
 use Rattle.sf_grid.proofs.PieceLaws.{on_given_by}
 use Rattle.sf_grid.proofs.OrderLaws.{equal_is, greater_is, is_equal, is_greater, is_less, is_not_greater, le_lt, less_is, lt_le, not_greater_is, product_pos, run_pos}
 use Rattle.sf_grid.proofs.Ring.{Term, ring, var, num, sum, dif, mul}
-use Rattle.sf_grid.proofs.Tests.{le_from_test, lt_from_test, test_from_le, test_from_lt}
+use Rattle.sf_grid.proofs.NumberTests.{le_from_test, lt_from_test, test_from_le, test_from_lt}
 
 -- how far e is above f, from their left ends to their right ends
 abbrev pub edge_gap : Edge → Edge → Fraction → ℤ
@@ -114,13 +114,13 @@ pub record Reach (u v : Coordinates) (x : Fraction) : Type 0 where
 pub reach : (e : Edge) (x : Fraction) → reaches e x ≡ true → Reach (left_end e) (right_end e) x
 reach e x h = by_test (int_lt e.b.x e.a.x) h
   where
-  by_test : (t : Bool) → within (cond t e.b.x e.a.x) (cond t e.a.x e.b.x) x ≡ true → Reach (cond t e.b e.a) (cond t e.a e.b) x
-  by_test true k =
-      let parts = and_parts (int_le (e.b.x *ℤ pos x.den) x.num) (int_le x.num (e.a.x *ℤ pos x.den)) k in
-      record { low = le_from_test _ _ parts.0; high = le_from_test _ _ parts.1 }
-  by_test false k =
-      let parts = and_parts (int_le (e.a.x *ℤ pos x.den) x.num) (int_le x.num (e.b.x *ℤ pos x.den)) k in
-      record { low = le_from_test _ _ parts.0; high = le_from_test _ _ parts.1 }
+    by_test : (t : Bool) → within (cond t e.b.x e.a.x) (cond t e.a.x e.b.x) x ≡ true → Reach (cond t e.b e.a) (cond t e.a e.b) x
+    by_test true k =
+        let parts = and_parts (int_le (e.b.x *ℤ pos x.den) x.num) (int_le x.num (e.a.x *ℤ pos x.den)) k in
+        record { low = le_from_test _ _ parts.0; high = le_from_test _ _ parts.1 }
+    by_test false k =
+        let parts = and_parts (int_le (e.a.x *ℤ pos x.den) x.num) (int_le x.num (e.b.x *ℤ pos x.den)) k in
+        record { low = le_from_test _ _ parts.0; high = le_from_test _ _ parts.1 }
 
 -- and every place between two that it reaches
 reach_low : (u : ℤ) (x y z : Fraction) → pos 0 <ℤ (y.num *ℤ pos x.den -ℤ x.num *ℤ pos y.den) →
@@ -205,8 +205,8 @@ pub on_edge_at : (e : Edge) (z y : Fraction) → is_vertical e ≡ false → IsF
 on_edge_at e z y s p q r c =
     on_given_by e.a e.b (point_at z y) (int_lt e.b.x e.a.x)
     (on_edge_rightward (left_end e) (right_end e) (point_at z y) (record { positive = product_pos z.den y.den p.positive q.positive }) (runs_right e s) c
-      (scaled_low (left_end e).x z.num z.den y.den r.low)
-      (scaled_high (right_end e).x z.num z.den y.den r.high))
+    (scaled_low (left_end e).x z.num z.den y.den r.low)
+    (scaled_high (right_end e).x z.num z.den y.den r.high))
 
 -- e and f, neither of them vertical
 record Slants (e f : Edge) : Type 0 where
@@ -220,11 +220,12 @@ height_is e z h q =
 -- where the gap is 0, the point of e is one of f
 on_both_at : (e f : Edge) (z : Fraction) → Slants e f → IsFraction z → Reach (left_end e) (right_end e) z → Reach (left_end f) (right_end f) z →
     edge_gap e f z ≡ pos 0 → IsOnEdge e (point_at z (height_at e z)) × IsOnEdge f (point_at z (height_at e z))
-on_both_at e f z s q r t g =
-    (on_edge_at e z (height_at e z) s.first q (height_is e z s.first q) r
+on_both_at e f z s q r t g = (
+  on_edge_at e z (height_at e z) s.first q (height_is e z s.first q) r
       (cross-height (left_end e) (right_end e) (left_end e) (right_end e) z (runs_right e s.first) ∙ ap (λ y. y *ℤ pos z.den) (gap-self (left_end e) (right_end e) z) ∙ zero_mul (pos z.den)),
-    on_edge_at f z (height_at e z) s.second q (height_is e z s.first q) t
-      (cross-height (left_end e) (right_end e) (left_end f) (right_end f) z (runs_right e s.first) ∙ ap (λ y. y *ℤ pos z.den) g ∙ zero_mul (pos z.den)))
+  on_edge_at f z (height_at e z) s.second q (height_is e z s.first q) t
+      (cross-height (left_end e) (right_end e) (left_end f) (right_end f) z (runs_right e s.first) ∙ ap (λ y. y *ℤ pos z.den) g ∙ zero_mul (pos z.den)),
+)
 
 -- a place over another denominator
 abbrev scaled : Fraction → ℕ → Fraction
@@ -315,25 +316,25 @@ le-place : (x y : Fraction) (a b : ℕ) → fraction_le x y ≡ true → fractio
 le-place x y a b h =
     test_from_le _ _
     (le_same _ _ _ _ (parts_from_left x y a b) (parts_from_right x y a b)
-      (add_le (x.num *ℤ pos x.den *ℤ pos a) _ _ (mul_le (x.num *ℤ pos y.den) (y.num *ℤ pos x.den) b (le_from_test _ _ h))))
+    (add_le (x.num *ℤ pos x.den *ℤ pos a) _ _ (mul_le (x.num *ℤ pos y.den) (y.num *ℤ pos x.den) b (le_from_test _ _ h))))
 
 place-le : (x y : Fraction) (a b : ℕ) → fraction_le x y ≡ true → fraction_le (place a b x y) y ≡ true
 place-le x y a b h =
     test_from_le _ _
     (le_same _ _ _ _ (parts_to_left x y a b) (parts_to_right x y a b)
-      (add_le (y.num *ℤ pos y.den *ℤ pos b) _ _ (mul_le (x.num *ℤ pos y.den) (y.num *ℤ pos x.den) a (le_from_test _ _ h))))
+    (add_le (y.num *ℤ pos y.den *ℤ pos b) _ _ (mul_le (x.num *ℤ pos y.den) (y.num *ℤ pos x.den) a (le_from_test _ _ h))))
 
 lt-place : (x y : Fraction) (a b : ℕ) → 0 < b → fraction_lt x y ≡ true → fraction_lt x (place a b x y) ≡ true
 lt-place x y a b p h =
     test_from_lt _ _
     (lt_same _ _ _ _ (parts_from_left x y a b) (parts_from_right x y a b)
-      (add_lt (x.num *ℤ pos x.den *ℤ pos a) _ _ (mul_lt (x.num *ℤ pos y.den) (y.num *ℤ pos x.den) b p (lt_from_test _ _ h))))
+    (add_lt (x.num *ℤ pos x.den *ℤ pos a) _ _ (mul_lt (x.num *ℤ pos y.den) (y.num *ℤ pos x.den) b p (lt_from_test _ _ h))))
 
 place-lt : (x y : Fraction) (a b : ℕ) → 0 < a → fraction_lt x y ≡ true → fraction_lt (place a b x y) y ≡ true
 place-lt x y a b p h =
     test_from_lt _ _
     (lt_same _ _ _ _ (parts_to_left x y a b) (parts_to_right x y a b)
-      (add_lt (y.num *ℤ pos y.den *ℤ pos b) _ _ (mul_lt (x.num *ℤ pos y.den) (y.num *ℤ pos x.den) a p (lt_from_test _ _ h))))
+    (add_lt (y.num *ℤ pos y.den *ℤ pos b) _ _ (mul_lt (x.num *ℤ pos y.den) (y.num *ℤ pos x.den) a p (lt_from_test _ _ h))))
 
 whole_parts : (u : ℤ) (x y : Fraction) (a b : ℕ) →
     u *ℤ (pos x.den *ℤ pos a +ℤ pos y.den *ℤ pos b) ≡ u *ℤ pos x.den *ℤ pos a +ℤ u *ℤ pos y.den *ℤ pos b
@@ -432,20 +433,20 @@ other_order_meets e f x y h l n =
     let second = sign_at e f y p.slants p.second in
     by_lt_z (edge_gap e f x) (pos 0)
     (λ i. by_lt_z (edge_gap e f y) (pos 0)
-      (λ j. absurd (n (first ∙ is_less (edge_gap e f x) (pos 0) i ∙ sym (second ∙ is_less (edge_gap e f y) (pos 0) j))))
-      (λ j. by_lt_z (pos 0) (edge_gap e f y)
-        (λ k. meet_weakly e f x y p l (inl (i, k)))
-        (λ k. share_at e f x y y p.slants p.second p.first_at_second p.second_at_second (zero_between (edge_gap e f y) j k) l (itself y))))
+    (λ j. absurd (n (first ∙ is_less (edge_gap e f x) (pos 0) i ∙ sym (second ∙ is_less (edge_gap e f y) (pos 0) j))))
+    (λ j. by_lt_z (pos 0) (edge_gap e f y)
+    (λ k. meet_weakly e f x y p l (inl (i, k)))
+    (λ k. share_at e f x y y p.slants p.second p.first_at_second p.second_at_second (zero_between (edge_gap e f y) j k) l (itself y))))
     (λ i. by_lt_z (pos 0) (edge_gap e f x)
-      (λ j. by_lt_z (pos 0) (edge_gap e f y)
-        (λ k. absurd (n (first ∙ is_greater (edge_gap e f x) (pos 0) j ∙ sym (second ∙ is_greater (edge_gap e f y) (pos 0) k))))
-        (λ k. by_lt_z (edge_gap e f y) (pos 0)
-          (λ m. meet_weakly e f x y p l (inr (j, m)))
-          (λ m. share_at e f x y y p.slants p.second p.first_at_second p.second_at_second (zero_between (edge_gap e f y) m k) l (itself y))))
-      (λ j. share_at e f x y x p.slants p.first p.first_at_first p.second_at_first (zero_between (edge_gap e f x) i j) (itself x) l))
+    (λ j. by_lt_z (pos 0) (edge_gap e f y)
+    (λ k. absurd (n (first ∙ is_greater (edge_gap e f x) (pos 0) j ∙ sym (second ∙ is_greater (edge_gap e f y) (pos 0) k))))
+    (λ k. by_lt_z (edge_gap e f y) (pos 0)
+    (λ m. meet_weakly e f x y p l (inr (j, m)))
+    (λ m. share_at e f x y y p.slants p.second p.first_at_second p.second_at_second (zero_between (edge_gap e f y) m k) l (itself y))))
+    (λ j. share_at e f x y x p.slants p.first p.first_at_first p.second_at_first (zero_between (edge_gap e f x) i j) (itself x) l))
   where
-  zero_between : (g : ℤ) → pos 0 ≤ℤ g → g ≤ℤ pos 0 → g ≡ pos 0
-  zero_between g i j = omega (arith, ints)
+    zero_between : (g : ℤ) → pos 0 ≤ℤ g → g ≤ℤ pos 0 → g ≡ pos 0
+    zero_between g i j = omega (arith, ints)
 
 pub opposite_order_meets : OppositeOrderMeets
 opposite_order_meets e f x y h l i j =
@@ -461,8 +462,8 @@ equal_at_two_places e f x y z h q l a b i j =
     sign_at e f z p.slants q
     ∙ is_equal (edge_gap e f z) (pos 0)
     (mean_zero (edge_gap e f z) _ (edge_gap e f x) _ (edge_gap e f y) _ (gap-between (left_end e) (right_end e) (left_end f) (right_end f) x y z) w.apart
-      (equal_is (edge_gap e f x) (pos 0) (sym (sign_at e f x p.slants p.first) ∙ i))
-      (equal_is (edge_gap e f y) (pos 0) (sym (sign_at e f y p.slants p.second) ∙ j)))
+    (equal_is (edge_gap e f x) (pos 0) (sym (sign_at e f x p.slants p.first) ∙ i))
+    (equal_is (edge_gap e f y) (pos 0) (sym (sign_at e f y p.slants p.second) ∙ j)))
 
 pub order_holds_between : OrderHoldsBetween
 order_holds_between e f x y z h q l a b =
@@ -480,27 +481,27 @@ order_holds_between e f x y z h q l a b =
           λ i j k.
           is_not_greater (edge_gap e f z) (pos 0)
           (mean_nonpos (edge_gap e f z) _ (edge_gap e f x) _ (edge_gap e f y) _ mean w.apart w.to w.from
-            (not_greater_is (edge_gap e f x) (pos 0) (λ m. i (first ∙ m)))
-            (not_greater_is (edge_gap e f y) (pos 0) (λ m. j (second ∙ m))))
+          (not_greater_is (edge_gap e f x) (pos 0) (λ m. i (first ∙ m)))
+          (not_greater_is (edge_gap e f y) (pos 0) (λ m. j (second ∙ m))))
           (sym here ∙ k);
       from_first =
           λ i j k.
           here
           ∙ is_less (edge_gap e f z) (pos 0)
           (mean_neg (edge_gap e f z) _ (edge_gap e f x) _ (edge_gap e f y) _ mean w.apart (gap_from_lt (z.num *ℤ pos y.den) (y.num *ℤ pos z.den) (lt_from_test _ _ k)) w.from
-            (less_is (edge_gap e f x) (pos 0) (sym first ∙ i))
-            (not_greater_is (edge_gap e f y) (pos 0) (λ m. j (second ∙ m))));
+          (less_is (edge_gap e f x) (pos 0) (sym first ∙ i))
+          (not_greater_is (edge_gap e f y) (pos 0) (λ m. j (second ∙ m))));
       from_second =
           λ i j k.
           here
           ∙ is_less (edge_gap e f z) (pos 0)
           (mean_neg (edge_gap e f z) _ (edge_gap e f y) _ (edge_gap e f x) _ back w.apart (gap_from_lt (x.num *ℤ pos z.den) (z.num *ℤ pos x.den) (lt_from_test _ _ k)) w.to
-            (less_is (edge_gap e f y) (pos 0) (sym second ∙ j))
-            (not_greater_is (edge_gap e f x) (pos 0) (λ m. i (first ∙ m))));
+          (less_is (edge_gap e f y) (pos 0) (sym second ∙ j))
+          (not_greater_is (edge_gap e f x) (pos 0) (λ m. i (first ∙ m))));
     }
   where
-  gap_from_lt : (s t : ℤ) → s <ℤ t → pos 0 <ℤ (t -ℤ s)
-  gap_from_lt s t h = omega (arith, ints)
+    gap_from_lt : (s t : ℤ) → s <ℤ t → pos 0 <ℤ (t -ℤ s)
+    gap_from_lt s t h = omega (arith, ints)
 
 -- ---- edges that share no point between two places
 lt_le_test : (a b c : Fraction) → IsFraction a → IsFraction b → IsFraction c → fraction_lt a b ≡ true → fraction_le b c ≡ true → fraction_lt a c ≡ true
@@ -512,21 +513,21 @@ le_lt_test a b c p q r h k = test_from_lt _ _ (le_lt a b c p q r (le_from_test _
 le_from_lt : (a b : Fraction) → fraction_lt a b ≡ true → fraction_le a b ≡ true
 le_from_lt a b h = test_from_le _ _ (weaker (a.num *ℤ pos b.den) (b.num *ℤ pos a.den) (lt_from_test _ _ h))
   where
-  weaker : (s t : ℤ) → s <ℤ t → s ≤ℤ t
-  weaker s t l = omega (arith, ints)
+    weaker : (s t : ℤ) → s <ℤ t → s ≤ℤ t
+    weaker s t l = omega (arith, ints)
 
 agree : (g k : ℤ) → g ≢ pos 0 → k ≢ pos 0 → (Opposite g k → ⊥) → int_cmp g (pos 0) ≡ int_cmp k (pos 0)
 agree g k n m o =
     by_lt_z g (pos 0)
     (λ i. by_lt_z k (pos 0)
-      (λ j. is_less g (pos 0) i ∙ sym (is_less k (pos 0) j))
-      (λ j. absurd (o (inl (i, nonzero k m j)))))
+    (λ j. is_less g (pos 0) i ∙ sym (is_less k (pos 0) j))
+    (λ j. absurd (o (inl (i, nonzero k m j)))))
     (λ i. by_lt_z k (pos 0)
-      (λ j. absurd (o (inr (nonzero g n i, j))))
-      (λ j. is_greater g (pos 0) (nonzero g n i) ∙ sym (is_greater k (pos 0) (nonzero k m j))))
+    (λ j. absurd (o (inr (nonzero g n i, j))))
+    (λ j. is_greater g (pos 0) (nonzero g n i) ∙ sym (is_greater k (pos 0) (nonzero k m j))))
   where
-  nonzero : (z : ℤ) → z ≢ pos 0 → pos 0 ≤ℤ z → pos 0 <ℤ z
-  nonzero z f h = by_lt_z (pos 0) z (λ l. l) (λ l. absurd (f (omega (arith, ints))))
+    nonzero : (z : ℤ) → z ≢ pos 0 → pos 0 ≤ℤ z → pos 0 <ℤ z
+    nonzero z f h = by_lt_z (pos 0) z (λ l. l) (λ l. absurd (f (omega (arith, ints))))
 
 -- a place strictly between, which both edges reach
 record Inside (e f : Edge) (x y z : Fraction) : Type 0 where
@@ -614,8 +615,8 @@ order_is_kept e f x y z h none q l m =
           sign_at e f w p.slants r
           ∙ agree (edge_gap e f w) (edge_gap e f z) (not_equal e f x y w p none j) slanted
           (λ o. by_lt_z (w.num *ℤ pos z.den) (z.num *ℤ pos w.den)
-            (λ k. not_opposite e f x y w z p none j i (le_from_lt w z (test_from_lt _ _ k)) o)
-            (λ k. not_opposite e f x y z w p none i j (test_from_le _ _ k) (flipped (edge_gap e f w) (edge_gap e f z) o)))
+          (λ k. not_opposite e f x y w z p none j i (le_from_lt w z (test_from_lt _ _ k)) o)
+          (λ k. not_opposite e f x y z w p none i j (test_from_le _ _ k) (flipped (edge_gap e f w) (edge_gap e f z) o)))
           ∙ sym here;
       from_first =
           λ n.

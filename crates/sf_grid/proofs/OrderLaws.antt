@@ -13,7 +13,7 @@ use Rattle.sf_grid.proofs.Products.{lt_from_mul, mul_le, mul_lt}
 use Rattle.sf_grid.proofs.FractionLaws.{le, le-trans, swap_last}
 use Rattle.sf_grid.proofs.HeightLaws.{runs_right}
 use Rattle.sf_grid.proofs.Ring.{Term, ring, var, num, sum, dif, mul}
-use Rattle.sf_grid.proofs.Tests.{test_from_eq}
+use Rattle.sf_grid.proofs.NumberTests.{test_from_eq}
 
 -- ---- what an answer of a comparison says
 pub less_is : (a b : ℤ) → int_cmp a b ≡ Less → a <ℤ b
@@ -45,8 +45,8 @@ reversed a b =
     by_lt_z a b
     (λ h. is_greater b a h ∙ ap ordering_reverse (sym (is_less a b h)))
     (λ h. by_lt_z b a
-      (λ k. is_less b a k ∙ ap ordering_reverse (sym (is_greater a b k)))
-      (λ k. let e : a ≡ b = omega (arith, ints) in is_equal b a (sym e) ∙ ap ordering_reverse (sym (is_equal a b e))))
+    (λ k. is_less b a k ∙ ap ordering_reverse (sym (is_greater a b k)))
+    (λ k. let e : a ≡ b = omega (arith, ints) in is_equal b a (sym e) ∙ ap ordering_reverse (sym (is_equal a b e))))
 
 total : (a b : ℤ) → (int_cmp a b ≢ Greater) ⊎ (int_cmp b a ≢ Greater)
 total a b = by_lt_z b a (λ h. inr (is_not_greater b a (omega (arith, ints)))) (λ h. inl (is_not_greater a b h))
@@ -106,8 +106,8 @@ heights_are_ordered x q =
           (le_lt (height_at e x) (height_at f x) (height_at g x) (height-IsFraction e x l q) (height-IsFraction f x m q) (height-IsFraction g x n q) (not_greater_is _ _ h) (less_is _ _ k));
     }
   where
-  both_le : (a b : ℤ) → a ≤ℤ b → b ≤ℤ a → a ≡ b
-  both_le a b h k = omega (arith, ints)
+    both_le : (a b : ℤ) → a ≤ℤ b → b ≤ℤ a → a ≡ b
+    both_le a b h k = omega (arith, ints)
 
 -- ---- the height half-way
 abbrev height_term : Term → Term → Term

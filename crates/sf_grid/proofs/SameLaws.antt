@@ -12,7 +12,7 @@ use Rattle.sf_grid.specs.declared.meet.Meet.TheVariants.{Along, Apart, At}
 use Rattle.sf_grid.proofs.Products.{lt_from_mul, mul_lt, zero_mul}
 use Rattle.sf_grid.proofs.PointLaws.{Same, cross-same, eq_from_mul, int_le-scaled, on_edge-same}
 use Rattle.sf_grid.proofs.Ring.{ring, var, mul}
-use Rattle.sf_grid.proofs.Tests.{eq_from_test, lt_from_test, same_tests, test_from_eq, test_from_lt}
+use Rattle.sf_grid.proofs.NumberTests.{eq_from_test, lt_from_test, same_tests, test_from_eq, test_from_lt}
 
 -- ---- what edges share in either order
 pub sharing_is_mutual : SharingIsMutual
