@@ -1,5 +1,5 @@
 -- The grid, and how large the numbers become that stand for places between its points.
-use Rattle.std.specs.Prelude.{ℤ, pos, negsuc, ◌≤ℤ◌, Bool, ◌&&◌, int_le}
+use Rattle.std.specs.Prelude.{ℕ, ◌*◌, ◌^◌, ◌-◌, ℤ, pos, negsuc, ◌≤ℤ◌, Bool, ◌&&◌, int_le}
 
 -- the least coordinate, -524288
 abbrev pub grid_min : ℤ
@@ -16,3 +16,35 @@ IsCoordinate n = (grid_min ≤ℤ n) × (n ≤ℤ grid_max)
 -- `IsCoordinate` as a test
 abbrev pub is_coordinate : ℤ → Bool
 is_coordinate n = int_le grid_min n && int_le n grid_max
+
+-- the greatest size of a coordinate
+abbrev pub coordinate_bound : ℕ
+coordinate_bound = 2 ^ 19
+
+-- the greatest difference of two coordinates
+abbrev pub difference_bound : ℕ
+difference_bound = 2 ^ 20 - 1
+
+-- the greatest product of two differences
+abbrev pub product_bound : ℕ
+product_bound = difference_bound * difference_bound
+
+-- the greatest size of a cross product of two differences each
+abbrev pub cross_bound : ℕ
+cross_bound = 2 * product_bound
+
+-- every denominator of a crossing is below it
+abbrev pub denominator_end : ℕ
+denominator_end = 2 ^ 41
+
+-- the greatest size of a numerator of a crossing
+abbrev pub numerator_bound : ℕ
+numerator_bound = 2 ^ 60
+
+-- a numerator times a denominator is at most this in size: two places are compared by such products
+abbrev pub place_product_bound : ℕ
+place_product_bound = 2 ^ 101
+
+-- two heights at a place are compared by numbers of at most this size
+abbrev pub height_product_bound : ℕ
+height_product_bound = 2 ^ 102

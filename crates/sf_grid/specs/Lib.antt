@@ -2,3 +2,5 @@ pub mod Bounds
 pub mod Fraction
 pub mod Plane
 pub mod Edge
+pub mod Sharing
+pub mod Laws

@@ -1,11 +1,8 @@
 ghost use Rattle.std.specs.Prelude.{◌≡◌, SomeIff};
 ghost use Rattle.sf_grid.specs.Plane.{IsOnGrid};
 
+use crate::bounds::{GRID_MAX, GRID_MIN};
 use std::marker::Model;
-
-const GRID_MIN: i32 = -524_288;
-
-const GRID_MAX: i32 = 524_287;
 
 /// A point of the grid: whole coordinates from -524288 to 524287, in grid steps.
 #[derive(Clone, Copy, Debug, PartialEq, Eq)]
