@@ -1,14 +1,11 @@
-use Rattle.std.proofs.Common.{◌≡◌, ℕ, ◌≤◌, ◌<◌, List, [], ◌∷◌, insert, refl, ap, sym, subst, ◌∙◌, arith, lit≤, lit<}
-use Rattle.std.specs.List.{AllByRecursion}
+use Rattle.std.proofs.Common.{◌≡◌, ℕ, List, [], ◌∷◌, insert, refl, ap, sym, subst, ◌∙◌, lit≤, lit<}
 use Rattle.std.specs.List.Sorted.{IsStrictlySortedBy}
-use Rattle.std.specs.Map.{keys_of, values_of}
-use Rattle.std.specs.Ordering.{nat_cmp}
 use Rattle.sf_geometry.specs.declared.geometry.Geometry.TheVariants as geometries
 use Rattle.sf_geometry.specs.declared.kind.Kind.TheVariants.{Point}
 use Rattle.sf_grid.specs.Plane.{Coordinates}
 use Rattle.sf_layers.specs.declared.layer_kind.LayerKind.TheVariants.{Only}
-use Rattle.sf_layers.specs.Content.{Content, LayerContent, FeatureContent, plain_feature, change_layer, with_feature, with_next_id}
-use Rattle.sf_layers.specs.WellFormed.{IsFeature, IsIssued, IsWellFormed, id_end}
+use Rattle.sf_layers.specs.Content.{Content, FeatureContent, plain_feature, change_layer, with_feature, with_next_id}
+use Rattle.sf_layers.specs.WellFormed.{IsWellFormed}
 use Rattle.sf_layers.proofs.tests.layer_and_feature_are_put.Goals as goal
 
 -- a content of one layer of points, named "wells"
