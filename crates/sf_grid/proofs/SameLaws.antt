@@ -1,15 +1,14 @@
 -- The same point over another denominator, and what edges share in either order.
-use Rattle.std.proofs.Common.{◌≡◌, ℕ, refl, ap, sym, ◌∙◌, ℤ, pos, ◌-ℤ◌, ◌*ℤ◌, ◌<ℤ◌, ◌<◌, arith, [], ◌∷◌, Bool, true, ◌&&◌, ◌||◌}
+use Rattle.std.proofs.Common.{◌≡◌, ℕ, refl, ap, sym, ◌∙◌, ℤ, pos, ◌*ℤ◌, ◌<ℤ◌, ◌<◌, arith, [], ◌∷◌, true, ◌&&◌, ◌||◌}
 use Rattle.std.specs.Prelude.{int_le, int_lt}
 use Rattle.std.proofs.lemmas.Bool.{and_from, and_parts}
 use Rattle.std.proofs.lemmas.Int.{ints}
-use Rattle.sf_grid.specs.Laws.{SamePointIsAlike, SamePointIsEquivalence, SamePointsAreAlike, SharingIsMutual}
+use Rattle.sf_grid.specs.Laws.{SamePointIsEquivalence, SamePointsAreAlike, SharingIsMutual}
 use Rattle.sf_grid.specs.Plane.{Coordinates, IsPoint, IsSamePoint, Point, x_of, y_of}
-use Rattle.sf_grid.specs.Edge.{Edge, below_rightward, cross, edge_above, reaches}
+use Rattle.sf_grid.specs.Edge.{Edge, below_rightward, cross, reaches}
 use Rattle.sf_grid.specs.Sharing.{IsSharing}
-use Rattle.sf_grid.specs.declared.meet.Meet.{Meet}
 use Rattle.sf_grid.specs.declared.meet.Meet.TheVariants.{Along, Apart, At}
-use Rattle.sf_grid.proofs.MeanLaws.{Lies, lies}
+use Rattle.sf_grid.proofs.MeanLaws.{lies}
 use Rattle.sf_grid.proofs.Products.{lt_from_mul, mul_lt, zero_mul}
 use Rattle.sf_grid.proofs.PointLaws.{Same, cross-same, eq_from_mul, int_le-scaled, on_edge-same}
 use Rattle.sf_grid.proofs.Ring.{ring, var, mul}
