@@ -1,10 +1,9 @@
 -- How long the answers without rows are, and how rows follow one another.
-use Rattle.std.proofs.Common.{◌≡◌, ℕ, ◌+◌, ◌/◌, ◌%◌, ◌^◌, ◌<◌, ◌≤◌, List, [], ◌∷◌, ◌++◌, length, map, flat_map, decimal, codes, lit≤, lit<, refl, sym, ap, ◌∙◌, arith, append_assoc, length-append}
+use Rattle.std.proofs.Common.{◌≡◌, ℕ, ◌+◌, ◌/◌, ◌%◌, ◌^◌, ◌<◌, ◌≤◌, [], ◌∷◌, ◌++◌, length, decimal, lit≤, lit<, ap, ◌∙◌, arith, length-append}
 use Rattle.std.proofs.lemmas.Fmt.{decimal_step, length-decimal-le}
-use Rattle.std.proofs.lemmas.List.{map-append}
 use Rattle.sf_console.specs.declared.refusal.Refusal.{Refusal}
 use Rattle.sf_console.specs.declared.refusal.Refusal.TheVariants.{Memory, Syntax, OffGrid, OutOfRange, Empty, UnsupportedType, NoLayer, LayerExists, BadName, WrongKind, IdsExhausted, NothingToUndo, BadCommand, LineTooLong}
-use Rattle.sf_console.specs.Refusals.{number_of, name_of}
+use Rattle.sf_console.specs.Refusals.{name_of}
 
 -- the digits of a number of several digits
 pub decimal-more : (n : ℕ) → 10 ≤ n → n < 2 ^ 32 → decimal n ≡ decimal (n / 10) ++ (48 + n % 10) ∷ []

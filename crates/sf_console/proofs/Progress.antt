@@ -1,11 +1,11 @@
 -- How serving goes on from line to line and from piece to piece.
-use Rattle.std.proofs.Common.{◌≡◌, ◌≢◌, true, false, ℕ, ◌+◌, inl, inr, Result, Ok, Err, OnOk, OnErr, List, [], ◌∷◌, ◌++◌, Option, None, Some, MatchOption, map, take, drop, refl, sym, ap, ◌∙◌, subst, append_assoc, append-nil}
+use Rattle.std.proofs.Common.{◌≡◌, ◌≢◌, true, false, ℕ, ◌+◌, inl, inr, Result, Ok, Err, OnOk, OnErr, List, [], ◌∷◌, ◌++◌, Option, map, take, drop, refl, sym, ap, ◌∙◌, subst, append_assoc, append-nil}
 use Rattle.std.proofs.KnownBytes.{Consumes-nil, Consumes-trans, Consumes-kept, Appends-nil, Appends-trans}
 use Rattle.std.specs.Io.KnownBytes.{Consumes, Appends, Keeps, IsAtEnd}
 use Rattle.sf_console.specs.History.{Machine}
 use Rattle.sf_console.specs.Lines.{Reading, reading, readings_of, whole_readings_of}
 use Rattle.sf_console.specs.Session.{Gives, Run}
-use Rattle.sf_console.specs.Unfinished.{Kept, nothing_kept, kept_with, IsKeptOf, HasNoFeed, IsFirstFeed, IsWhole, GivesLast, Sends, Takes, Breaks, EndsInput, BreaksAtEnd, Progress}
+use Rattle.sf_console.specs.Unfinished.{Kept, nothing_kept, kept_with, IsKeptOf, HasNoFeed, IsFirstFeed, GivesLast, Sends, Takes, Breaks, EndsInput, BreaksAtEnd, Progress}
 use Rattle.sf_console.specs.Serving.{ServesAll, ServesWholeLines, BreaksOff}
 use Rattle.sf_console.proofs.Pieces.{Run-append}
 use Rattle.sf_console.proofs.Whole.{readings_of-whole, whole_readings_of-whole, whole_readings_of-append, readings_of-fed, lines_of-unfed, IsWhole-append, IsWhole-fed, HasNoFeed-append}
@@ -217,12 +217,12 @@ Progress-break unread left left' piece kept written_before written written' old 
       first_lines = inl (
         whole_readings_of b.rest,
         ap whole_readings_of (append_assoc p.finished p.after piece ∙ ap (λ l. p.finished ++ l) b.parts)
-        ∙ whole_readings_of-append p.finished (b.finished ++ ((b.line ++ 10 ∷ []) ++ b.rest)) p.whole
-        ∙ ap (λ l. readings_of p.finished ++ l)
-        (whole_readings_of-append b.finished ((b.line ++ 10 ∷ []) ++ b.rest) b.whole
+            ∙ whole_readings_of-append p.finished (b.finished ++ ((b.line ++ 10 ∷ []) ++ b.rest)) p.whole
+            ∙ ap (λ l. readings_of p.finished ++ l)
+            (whole_readings_of-append b.finished ((b.line ++ 10 ∷ []) ++ b.rest) b.whole
             ∙ ap (λ l. readings_of b.finished ++ l)
             (whole_readings_of-append (b.line ++ 10 ∷ []) b.rest (IsWhole-fed b.line) ∙ ap (λ l. l ++ whole_readings_of b.rest) (readings_of-fed b.line b.unfed)))
-        ∙ regroup (readings_of p.finished) (readings_of b.finished) line (whole_readings_of b.rest),
+            ∙ regroup (readings_of p.finished) (readings_of b.finished) line (whole_readings_of b.rest),
       );
       output = p.output ++ b.output;
       sent = b.sent;

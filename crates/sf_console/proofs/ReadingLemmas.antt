@@ -1,5 +1,5 @@
 -- What a line is, what its answer is, and what is kept of a line that goes on.
-use Rattle.std.proofs.Common.{◌≡◌, ℕ, ◌+◌, ◌<◌, ◌≤◌, ◌||◌, Bool, true, false, not, cond, nat_lt, inl, inr, List, [], ◌∷◌, ◌++◌, length, Option, None, Some, Result, Ok, Err, refl, sym, ap, ◌∙◌, subst, arith, lit≤, length-append}
+use Rattle.std.proofs.Common.{◌≡◌, ℕ, ◌+◌, ◌<◌, ◌≤◌, ◌||◌, Bool, true, false, not, cond, nat_lt, inl, inr, List, [], ◌∷◌, ◌++◌, length, Option, None, Some, Result, Err, refl, sym, ap, ◌∙◌, subst, arith, lit≤, length-append}
 use Rattle.std.specs.List.{list_all}
 use Rattle.std.specs.Str.{is_utf8, IsUtf8}
 use Rattle.std.proofs.lemmas.Str.{IsUtf8-from_is_utf8}
@@ -11,7 +11,7 @@ use Rattle.sf_console.specs.declared.refusal.Refusal.TheVariants.{Memory, BadCom
 use Rattle.sf_console.specs.Refusals.{OrMemory}
 use Rattle.sf_console.specs.Commands.{command_of, line_max}
 use Rattle.sf_console.specs.History.{Machine}
-use Rattle.sf_console.specs.Answers.{reply, refusal_line}
+use Rattle.sf_console.specs.Answers.{refusal_line}
 use Rattle.sf_console.specs.Lines.{Line, Reading, Blank, Unreadable, Asked, reading, text_reading, text_of}
 use Rattle.sf_console.specs.Session.{Gives}
 use Rattle.sf_console.specs.Unfinished.{Kept, nothing_kept, kept_with, line_kept, IsKeptOf, GivesLast}

@@ -100,7 +100,12 @@ pub(crate) fn end_line(
 }
 
 /// Answers the last line, which had no line feed, if there is one.
-pub(crate) fn end_input(alloc: Global, editor: &mut Editor, unfinished: &Unfinished, text: &mut AnswerText)
+pub(crate) fn end_input(
+    alloc: Global,
+    editor: &mut Editor,
+    unfinished: &Unfinished,
+    text: &mut AnswerText,
+)
     ensures { (before : List ℕ) → IsKeptOf before unfinished.now → GivesLast editor.old before text.new editor.new }
 {
     if unfinished.is_empty() {

@@ -6,6 +6,7 @@ use sf_grid::edges::{height_order, meet, orientation};
 use sf_grid::{GridPoint, Meet, Turn};
 use std::alloc::{AllocError, Global};
 use std::env;
+use std::io;
 use std::time::{Duration, Instant};
 
 /// The ends of two edges.
@@ -112,7 +113,7 @@ fn per_call(time: Duration, pairs: &[Pair], rounds: u32) -> u128 {
     time.as_nanos() / (pairs.len() as u128 * u128::from(rounds)).max(1)
 }
 
-fn main(rt: HostRuntime) -> anyhow::Result<()> {
+fn main(rt: HostRuntime) -> io::Result<()> {
     let mut rounds = 1000u32;
     for word in env::args(&rt)? {
         if let Ok(n) = word.as_str().parse::<u32>() {

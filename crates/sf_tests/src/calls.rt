@@ -14,8 +14,18 @@ fn text(alloc: Global, name: &str) -> Result<Text, AllocError> {
 #[test]
 fn parse_reads_commands(rt: HostRuntime) {
     let alloc = rt.alloc();
-    assert!(rt; matches!(parse(alloc, "layer add w any"), Ok(Command::Edit(Edit::AddLayer { .. }))));
-    assert!(rt; matches!(parse(alloc, "add wells POINT (3 -4)"), Ok(Command::Edit(Edit::AddFeature { .. }))));
+    assert!(rt;
+        matches!(
+            parse(alloc, "layer add w any"),
+            Ok(Command::Edit(Edit::AddLayer { .. }))
+        )
+    );
+    assert!(rt;
+        matches!(
+            parse(alloc, "add wells POINT (3 -4)"),
+            Ok(Command::Edit(Edit::AddFeature { .. }))
+        )
+    );
     assert!(rt; matches!(parse(alloc, " undo "), Ok(Command::Undo)));
     assert!(rt; matches!(parse(alloc, "show w"), Ok(Command::Show(_))));
 }
@@ -26,7 +36,12 @@ fn editor_edits_and_undoes(rt: HostRuntime) -> Result<(), Fail> {
     let mut editor = Editor::new(alloc);
     let name = text(alloc, "w")?;
     let kind = LayerKind::Any;
-    assert!(rt; matches!(editor.edit(alloc, Edit::AddLayer { name, kind }), Ok(Answer::Done)));
+    assert!(rt;
+        matches!(
+            editor.edit(alloc, Edit::AddLayer { name, kind }),
+            Ok(Answer::Done)
+        )
+    );
     let layer = text(alloc, "w")?;
     let geometry = Geometry::Point(GridPoint::new(1, 2).ok_or("off the grid")?);
     let added = editor.edit(alloc, Edit::AddFeature { layer, geometry });

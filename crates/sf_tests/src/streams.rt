@@ -56,9 +56,7 @@ fn read_fault_keeps_whole_lines(rt: HostRuntime) -> Result<(), Fail> {
     assert!(rt; matches!(served, Err(ServeFault::Read)));
     assert_eq!(rt; written.as_slice(), b"ok\nok 1\n".as_slice());
     assert_eq!(rt; editor.depths(), (2, 0));
-    let mut more = ByteByByte {
-        bytes: b"show w\n",
-    };
+    let mut more = ByteByByte { bytes: b"show w\n" };
     written.clear();
     serve(alloc, &mut editor, &mut more, &mut written)?;
     assert_eq!(rt; written.as_slice(), b"rows 1\n1 POINT (1 1)\n".as_slice());
@@ -91,6 +89,9 @@ fn narrow_writer_gets_everything(rt: HostRuntime) -> Result<(), Fail> {
         room: 1000,
     };
     serve(alloc, &mut editor, &mut reader, &mut writer)?;
-    assert_eq!(rt; writer.bytes.as_slice(), b"ok\nok 1\nrows 1\n1 POINT (3 4)\n".as_slice());
+    assert_eq!(rt;
+        writer.bytes.as_slice(),
+        b"ok\nok 1\nrows 1\n1 POINT (3 4)\n".as_slice()
+    );
     Ok(())
 }

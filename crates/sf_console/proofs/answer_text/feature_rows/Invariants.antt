@@ -1,4 +1,4 @@
-use Rattle.std.proofs.Common.{◌≡◌, ◌+◌, ◌++◌, codes, decimal, length, map, flat_map, string_bytes, ℕ}
+use Rattle.std.proofs.Common.{◌≡◌, ◌++◌, codes, decimal, length, map, flat_map, string_bytes, ℕ}
 use Rattle.std.specs.Map.Iter.{deref_pair}
 use Rattle.sf_layers.specs.Content.{FeatureContent}
 use Rattle.sf_console.specs.Answers.{line, feature_row}

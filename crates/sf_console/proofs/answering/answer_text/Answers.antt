@@ -5,7 +5,6 @@ use Rattle.std.proofs.lemmas.Str.{is_utf8-from_IsUtf8}
 use Rattle.sf_wkt.specs.Tokens.{is_blank}
 use Rattle.sf_console.specs.Commands.{command_of}
 use Rattle.sf_console.specs.Refusals.{OrMemory}
-use Rattle.sf_console.specs.Lines.{Blank, text_reading}
 use Rattle.sf_console.specs.Session.{Gives}
 use Rattle.sf_console.proofs.ReadingLemmas.{not_utf8, text_reading-by, Gives-asked}
 use Rattle.sf_console.proofs.answering.answer_text.Goals as goal

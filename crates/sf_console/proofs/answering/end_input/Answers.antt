@@ -1,7 +1,6 @@
-use Rattle.std.proofs.Common.{◌≡◌, ◌∙◌, ap, sym, subst, List, ℕ, [], false, IsTrue, Some}
+use Rattle.std.proofs.Common.{◌≡◌, ◌∙◌, sym, subst, false, IsTrue}
 use Rattle.sf_console.specs.Lines.{text_reading}
 use Rattle.sf_console.specs.Session.{Gives}
-use Rattle.sf_console.specs.Unfinished.{Kept, nothing_kept}
 use Rattle.sf_console.proofs.ReadingLemmas.{line_kept-Some, line_kept-None, nothing_kept-of, GivesLast-short, GivesLast-long}
 use Rattle.sf_console.proofs.answering.end_input.Goals as goal
 

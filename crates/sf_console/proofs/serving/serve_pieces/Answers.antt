@@ -1,8 +1,7 @@
-use Rattle.std.proofs.Common.{◌≡◌, ◌<◌, ℕ, length, take, subst, sym, rules}
+use Rattle.std.proofs.Common.{◌≡◌, ◌<◌, length, take, subst, rules}
 use Rattle.std.specs.Io.KnownBytes.{Consumes, IsAtEnd}
 use Rattle.std.proofs.KnownBytes.{Keeps-refl}
-use Rattle.sf_console.specs.Unfinished.{Progress}
-use Rattle.sf_console.proofs.Progress.{Progress-start, Progress-fault, Progress-step, Progress-end, Progress-break, Progress-break_at_end, OnOk-map, OnErr-at}
+use Rattle.sf_console.proofs.Progress.{Progress-fault, Progress-step, Progress-end, Progress-break, Progress-break_at_end, OnOk-map, OnErr-at}
 use Rattle.sf_console.proofs.serving.serve_pieces.Goals as goal
 
 pub returns-in-Err-clause-read : goal.returns-in-Err-clause-read

@@ -1,8 +1,8 @@
-use Rattle.std.proofs.Common.{◌≡◌, ◌++◌, ◌∙◌, ◌+◌, true, [], Some, MatchOption, take, drop, sym, subst, List, ℕ}
+use Rattle.std.proofs.Common.{◌++◌, ◌∙◌, ◌+◌, true, [], MatchOption, drop, sym, subst, List, ℕ}
 use Rattle.std.specs.Io.KnownBytes.{Appends}
 use Rattle.sf_console.specs.Lines.{reading}
 use Rattle.sf_console.specs.Session.{Gives}
-use Rattle.sf_console.specs.Unfinished.{HasNoFeed, IsFirstFeed, IsKeptOf, Takes, Sends, nothing_kept}
+use Rattle.sf_console.specs.Unfinished.{HasNoFeed, IsFirstFeed, Takes, Sends, nothing_kept}
 use Rattle.sf_console.proofs.FeedLemmas.{position-feed}
 use Rattle.sf_console.proofs.Progress.{Takes-start, Takes-line, Takes-break, Takes-rest, OnErr-from}
 use Rattle.sf_console.proofs.serving.take_piece.Goals as goal

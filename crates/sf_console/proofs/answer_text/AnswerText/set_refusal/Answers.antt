@@ -1,5 +1,4 @@
-use Rattle.std.proofs.Common.{◌≤◌, length, decimal, arith, ap, subst, sym}
-use Rattle.sf_console.specs.Refusals.{name_of}
+use Rattle.std.proofs.Common.{◌≤◌, length, decimal, arith, subst, sym}
 use Rattle.sf_console.proofs.AnswerLemmas.{length-decimal-byte, length-name_of}
 use Rattle.sf_console.proofs.answer_text.AnswerText.set_refusal.Goals as goal
 
