@@ -8,14 +8,17 @@ use std::process::ExitCode;
 /// The exit status after a fault of serving.
 const SERVE_FAULT: u8 = 1;
 
-fn main(rt: HostRuntime) -> io::Result<ExitCode> {
+fn main(rt: HostRuntime) -> ExitCode {
     let alloc = rt.alloc();
     let mut editor = Editor::new(alloc);
     let mut input = rt.reader();
     let mut output = io::writer(&rt);
-    if let Err(fault) = serve(alloc, &mut editor, &mut input, &mut output) {
-        println!(rt; "fault serve {}", fault.name())?;
-        return Ok(ExitCode::from(SERVE_FAULT));
+    match serve(alloc, &mut editor, &mut input, &mut output) {
+        Ok(()) => ExitCode::SUCCESS,
+        Err(fault) => {
+            // The output may be what failed: then the status alone tells.
+            let _ = println!(rt; "fault serve {}", fault.name());
+            ExitCode::from(SERVE_FAULT)
+        }
     }
-    Ok(ExitCode::SUCCESS)
 }
