@@ -1,0 +1,3 @@
+mod Computed
+pub mod SampleLaws
+pub mod SideLaws

@@ -1,0 +1,8 @@
+//! The cells into which edges and dots cut the plane.
+#![tactic(auto)]
+
+mod cell;
+mod piece;
+
+pub use cell::{Cell, Numbers};
+pub use piece::Piece;
