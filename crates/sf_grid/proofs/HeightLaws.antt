@@ -68,7 +68,7 @@ cmp-scaled z k p =
     (λ h. let e : z ≡ pos 0 = omega (arith, ints) in
     cmp_from_equal (z *ℤ pos k) (pos 0) (ap (λ y. y *ℤ pos k) e ∙ zero_mul (pos k)) ∙ sym (cmp_from_equal z (pos 0) e)))
 
-abs_of_run : (a b : ℤ) → a <ℤ b → pos (unsigned_abs (b -ℤ a)) ≡ b -ℤ a
+pub abs_of_run : (a b : ℤ) → a <ℤ b → pos (unsigned_abs (b -ℤ a)) ≡ b -ℤ a
 abs_of_run a b h = omega (arith, ints)
 
 -- two heights in a column compare as the sign of the gap

@@ -13,3 +13,5 @@ pub mod HeightLaws
 pub mod MeetLaws
 pub mod PointLaws
 pub mod SameLaws
+pub mod OrderLaws
+pub mod BetweenLaws

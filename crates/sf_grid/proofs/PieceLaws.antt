@@ -111,7 +111,7 @@ on_sorted_by : (a b : Coordinates) (p : Point) (t : Bool) → IsOnEdge (edge_bet
 on_sorted_by a b p true h = on_edge-swapped a b p h
 on_sorted_by a b p false h = h
 
-on_given_by : (a b : Coordinates) (p : Point) (t : Bool) → IsOnEdge (edge_between (cond t b a) (cond t a b)) p → IsOnEdge (edge_between a b) p
+pub on_given_by : (a b : Coordinates) (p : Point) (t : Bool) → IsOnEdge (edge_between (cond t b a) (cond t a b)) p → IsOnEdge (edge_between a b) p
 on_given_by a b p true h = on_edge-swapped b a p h
 on_given_by a b p false h = h
 
