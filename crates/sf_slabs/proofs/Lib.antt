@@ -1,3 +1,6 @@
 mod Computed
 pub mod SampleLaws
 pub mod SideLaws
+pub mod OnLaws
+pub mod NumberLaws
+pub mod CellLaws
