@@ -4,3 +4,4 @@ pub mod SideLaws
 pub mod OnLaws
 pub mod NumberLaws
 pub mod CellLaws
+pub mod MarkLaws

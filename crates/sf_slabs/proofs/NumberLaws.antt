@@ -1,13 +1,14 @@
 -- Two lists in one strict order that have the same numbers are equal place by place, as numbers.
 use Rattle.std.proofs.Common.{◌≡◌, refl, ap, sym, ◌∙◌, ℕ, ℤ, pos, ◌+ℤ◌, ◌-ℤ◌, ◌*ℤ◌, ◌≤ℤ◌, ◌<ℤ◌, ◌<◌, ◌*◌, arith, Bool, true, false, List, [], ◌∷◌, inl, inr, ◌⊎◌}
 use Rattle.std.proofs.lemmas.Int.{ints}
-use Rattle.sf_grid.specs.Fraction.{Fraction, IsFraction, fraction_lt, middle, one_less, one_more}
+use Rattle.sf_grid.specs.Fraction.{Fraction, IsFraction, fraction_lt}
 use Rattle.sf_grid.proofs.FractionLaws.{le}
 use Rattle.sf_grid.proofs.OrderLaws.{le_lt, lt_le}
 use Rattle.sf_grid.proofs.PointLaws.{Same, eq_from_mul}
-use Rattle.sf_grid.proofs.Ring.{ring, var, num, sum, dif, mul}
+use Rattle.sf_grid.proofs.Ring.{ring, var, mul}
 use Rattle.sf_grid.proofs.Tests.{lt_from_test, test_from_lt}
-use Rattle.sf_slabs.proofs.SampleLaws.{Each, Follow, FollowFrom, Some_of}
+use Rattle.sf_slabs.specs.Samples.{sorted_by}
+use Rattle.sf_slabs.proofs.SampleLaws.{Each, Each-sorted_by, Follow, Follow-sorted_by, FollowFrom, Level, Some_of, Some_of-sorted_by, same_number}
 
 -- ---- one number written as different fractions
 pub Same-trans : (p q r : Fraction) → IsFraction q → Same p q → Same q r → Same p r
@@ -33,6 +34,7 @@ pub record IsOrder (before : Fraction → Fraction → Bool) : Type 0 where
   pub apart : (q r : Fraction) → Same q r → before q r ≡ true → ⊥
   pub trans : (p q r : Fraction) → IsFraction p → IsFraction q → IsFraction r → before p q ≡ true → before q r ≡ true → before p r ≡ true
   pub same_first : (p q r : Fraction) → IsFraction p → IsFraction q → IsFraction r → Same p q → before q r ≡ true → before p r ≡ true
+  pub level : (q r : Fraction) → Level before q r → Same q r
   pub same_second : (p q r : Fraction) → IsFraction p → IsFraction q → IsFraction r → before p q ≡ true → Same q r → before p r ≡ true
 
 differ : (a b : ℤ) → a ≡ b → a <ℤ b → ⊥
@@ -46,6 +48,7 @@ rising_order =
           λ p q r i j k h l.
           test_from_lt _ _ (lt_le p q r i j k (lt_from_test _ _ h) (le_from_lt (q.num *ℤ pos r.den) (r.num *ℤ pos q.den) (lt_from_test _ _ l)));
       same_first = λ p q r i j k e h. test_from_lt _ _ (le_lt p q r i j k (le_from_same p q e) (lt_from_test _ _ h));
+      level = same_number;
       same_second = λ p q r i j k h e. test_from_lt _ _ (lt_le p q r i j k (lt_from_test _ _ h) (le_from_same q r e));
     }
 
@@ -55,6 +58,7 @@ falling_order =
       apart = λ q r e h. rising_order.apart r q (sym e) h;
       trans = λ p q r i j k h l. rising_order.trans r q p k j i l h;
       same_first = λ p q r i j k e h. rising_order.same_second r q p k j i h (sym e);
+      level = λ q r l. same_number q r (l.1, l.0);
       same_second = λ p q r i j k h e. rising_order.same_first r q p k j i (sym e) h;
     }
 
@@ -138,3 +142,28 @@ Pairs-same before o (q ∷ qs) (r ∷ rs) n m f g a b =
     Pairs-same before o qs rs n.1 m.1 (Follow-rest before q qs f) (Follow-rest before r rs g)
     (rest_among before o q r qs rs n.0 m.0 n.1 e (Each-before before o q qs n.0 n.1 f) a.1)
     (rest_among before o r q rs qs m.0 n.0 m.1 (sym e) (Each-before before o r rs m.0 m.1 g) b.1))
+
+-- ---- a list in order with the numbers of another list
+pub record IsListing (before : Fraction → Fraction → Bool) (qs rs : List Fraction) : Type 0 where
+  pub numbers : Numbers rs
+  pub in_order : Follow before rs
+  pub has_all : Each (Among rs) qs
+  pub has_no_other : Each (Among qs) rs
+
+Each-map : (P Q : Fraction → Type 0) (qs : List Fraction) → ((q : Fraction) → P q → Q q) → Each P qs → Each Q qs
+Each-map P Q [] f h = tt
+Each-map P Q (q ∷ qs) f h = (f q h.0, Each-map P Q qs f h.1)
+
+-- a number that stands in a list stands in it once sorted
+pub Among-sorted_by : (before : Fraction → Fraction → Bool) → IsOrder before → (qs : List Fraction) (p : Fraction) →
+    Numbers qs → Among qs p → Among (sorted_by before qs) p
+Among-sorted_by before o qs p n a =
+    Some_of-sorted_by (Same p) IsFraction before qs (λ q r i j l e. Same-trans p q r i e (o.level q r l)) n a
+
+-- the sorted list is, place by place, any such list
+pub sorted_by-listing : (before : Fraction → Fraction → Bool) → IsOrder before → (qs rs : List Fraction) →
+    Numbers qs → IsListing before qs rs → Pairs Same (sorted_by before qs) rs
+sorted_by-listing before o qs rs n l =
+    Pairs-same before o (sorted_by before qs) rs (Each-sorted_by IsFraction before qs n) l.numbers (Follow-sorted_by before qs) l.in_order
+    (Each-sorted_by (Among rs) before qs l.has_all)
+    (Each-map (Among qs) (Among (sorted_by before qs)) rs (λ p a. Among-sorted_by before o qs p n a) l.has_no_other)
