@@ -5,3 +5,4 @@ pub mod OnLaws
 pub mod NumberLaws
 pub mod CellLaws
 pub mod MarkLaws
+pub mod HeightsLaws
