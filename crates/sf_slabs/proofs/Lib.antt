@@ -6,3 +6,4 @@ pub mod NumberLaws
 pub mod CellLaws
 pub mod MarkLaws
 pub mod HeightsLaws
+pub mod ColumnLaws
