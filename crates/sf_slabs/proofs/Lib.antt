@@ -7,3 +7,5 @@ pub mod CellLaws
 pub mod MarkLaws
 pub mod HeightsLaws
 pub mod ColumnLaws
+pub mod EventLaws
+pub mod NextLaws
