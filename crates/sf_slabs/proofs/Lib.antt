@@ -9,3 +9,7 @@ pub mod HeightsLaws
 pub mod ColumnLaws
 pub mod EventLaws
 pub mod NextLaws
+pub mod CountLaws
+pub mod SlabLaws
+pub mod SlopeLaws
+pub mod AboveLaws
