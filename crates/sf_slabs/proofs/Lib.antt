@@ -13,3 +13,5 @@ pub mod CountLaws
 pub mod SlabLaws
 pub mod SlopeLaws
 pub mod AboveLaws
+pub mod LevelLaws
+pub mod TopLaws

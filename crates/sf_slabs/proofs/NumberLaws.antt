@@ -93,7 +93,7 @@ Follow-rest before q [] f = tt
 Follow-rest before q (r ∷ rs) f = f.1
 
 -- a number that stands in a list after q is before it, if q is before all of them
-before_among : (before : Fraction → Fraction → Bool) → IsOrder before → (q p : Fraction) (rs : List Fraction) →
+pub before_among : (before : Fraction → Fraction → Bool) → IsOrder before → (q p : Fraction) (rs : List Fraction) →
     IsFraction q → IsFraction p → Numbers rs → Each (λ r. before q r ≡ true) rs → Among rs p → before q p ≡ true
 before_among before o q p [] i j n f a = absurd a
 before_among before o q p (r ∷ rs) i j n f a =

@@ -98,7 +98,7 @@ le_of p q h = test_from_le _ _ (weaker (p.num *ℤ pos q.den) (q.num *ℤ pos p.
   weaker : (s t : ℤ) → s <ℤ t → s ≤ℤ t
   weaker s t l = omega (arith, ints)
 
-reached_from : (e : Edge) (z : Fraction) → Reach (left_end e) (right_end e) z → reaches e z ≡ true
+pub reached_from : (e : Edge) (z : Fraction) → Reach (left_end e) (right_end e) z → reaches e z ≡ true
 reached_from e z r = by_test (int_lt e.b.x e.a.x) r
   where
   by_test : (t : Bool) → Reach (cond t e.b e.a) (cond t e.a e.b) z → within (cond t e.b.x e.a.x) (cond t e.a.x e.b.x) z ≡ true
