@@ -10,7 +10,7 @@ use Rattle.sf_grid.specs.Sharing.{IsOnBoth, IsSharing, weighted_point}
 use Rattle.sf_grid.specs.declared.meet.Meet.TheVariants.{At}
 use Rattle.sf_grid.proofs.Products.{zero_from_factor}
 use Rattle.sf_grid.proofs.Ring.{Term, ring, var, num, sum, dif, mul}
-use Rattle.sf_grid.proofs.Tests.{eq_from_test, test_from_eq, test_from_lt}
+use Rattle.sf_grid.proofs.NumberTests.{eq_from_test, test_from_eq, test_from_lt}
 use Rattle.sf_grid.proofs.MeanLaws.{IsMean, lies, on_edge-mean}
 use Rattle.sf_grid.proofs.MeetLaws.{meeting-x, meeting-y, way}
 use Rattle.sf_grid.proofs.PointLaws.{on_edge-same}

@@ -10,7 +10,7 @@ use Rattle.sf_grid.specs.Plane.{Coordinates}
 use Rattle.sf_grid.specs.Edge.{Edge, height_at, height_rightward, is_vertical, left_end, right_end}
 use Rattle.sf_grid.proofs.Products.{mul_lt, zero_mul}
 use Rattle.sf_grid.proofs.Ring.{Term, ring, var, sum, dif, mul}
-use Rattle.sf_grid.proofs.Tests.{ge_from_test, lt_from_test, test_from_eq}
+use Rattle.sf_grid.proofs.NumberTests.{ge_from_test, lt_from_test, test_from_eq}
 
 -- how far the line u v is above the line s t in the column x, times what is positive where u v and s t go to the right
 abbrev pub gap : Coordinates → Coordinates → Coordinates → Coordinates → Fraction → ℤ

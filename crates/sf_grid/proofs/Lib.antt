@@ -1,6 +1,6 @@
 mod Computed
 pub mod Products
-pub mod Tests
+pub mod NumberTests
 pub mod BoundLaws
 pub mod MeanLaws
 pub mod ApartLaws

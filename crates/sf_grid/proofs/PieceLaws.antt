@@ -8,7 +8,7 @@ use Rattle.sf_grid.specs.Sharing.{IsOnBoth, IsSharing, comes_before, earlier_of,
 use Rattle.sf_grid.specs.declared.meet.Meet.{Meet}
 use Rattle.sf_grid.specs.declared.meet.Meet.TheVariants.{Along, Apart, At}
 use Rattle.sf_grid.proofs.Products.{mul_le, mul_lt}
-use Rattle.sf_grid.proofs.Tests.{test_from_eq}
+use Rattle.sf_grid.proofs.NumberTests.{test_from_eq}
 use Rattle.sf_grid.proofs.MeanLaws.{cross-end, cross-start, lies, same_coordinates}
 use Rattle.sf_grid.proofs.CrossingLaws.{on_edge-same_point}
 use Rattle.sf_grid.proofs.LineLaws.{After, Before, before_from_not, between_ends, differs_from_before, line_back, line_from, on_edge-swapped, on_edge_between, order_from_before, order_from_not}

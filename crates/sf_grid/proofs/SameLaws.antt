@@ -5,14 +5,15 @@ use Rattle.std.proofs.lemmas.Bool.{and_from, and_parts}
 use Rattle.std.proofs.lemmas.Int.{ints}
 use Rattle.sf_grid.specs.Laws.{SamePointIsAlike, SamePointIsEquivalence, SamePointsAreAlike, SharingIsMutual}
 use Rattle.sf_grid.specs.Plane.{Coordinates, IsPoint, IsSamePoint, Point, x_of, y_of}
-use Rattle.sf_grid.specs.Edge.{Edge, below_rightward, cross, edge_above}
+use Rattle.sf_grid.specs.Edge.{Edge, below_rightward, cross, edge_above, reaches}
 use Rattle.sf_grid.specs.Sharing.{IsSharing}
 use Rattle.sf_grid.specs.declared.meet.Meet.{Meet}
 use Rattle.sf_grid.specs.declared.meet.Meet.TheVariants.{Along, Apart, At}
+use Rattle.sf_grid.proofs.MeanLaws.{Lies, lies}
 use Rattle.sf_grid.proofs.Products.{lt_from_mul, mul_lt, zero_mul}
 use Rattle.sf_grid.proofs.PointLaws.{Same, cross-same, eq_from_mul, int_le-scaled, on_edge-same}
 use Rattle.sf_grid.proofs.Ring.{ring, var, mul}
-use Rattle.sf_grid.proofs.Tests.{eq_from_test, lt_from_test, same_tests, test_from_eq, test_from_lt}
+use Rattle.sf_grid.proofs.NumberTests.{eq_from_test, lt_from_test, same_tests, test_from_eq, test_from_lt}
 
 -- ---- what edges share in either order
 pub sharing_is_mutual : SharingIsMutual
@@ -82,3 +83,9 @@ same_points_are_alike e p q o r h =
           ap (λ b. b || below_rightward e.b e.a p) (below_rightward-same e.a e.b p q o r h)
           ∙ ap (λ b. below_rightward e.a e.b q || b) (below_rightward-same e.b e.a p q o r h);
     }
+
+-- ---- two edges that share one point reach its place
+pub reached_at : (e f : Edge) (q : Point) → IsPoint q → IsSharing e f (At q) → (reaches e (x_of q) ≡ true) × (reaches f (x_of q) ≡ true)
+reached_at e f q o h =
+    let both = (h q o).1 (same_from q q refl refl) in
+    ((lies e q both.0).x, (lies f q both.1).x)

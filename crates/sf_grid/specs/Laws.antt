@@ -40,13 +40,13 @@ pub record HeightsAreOrdered (x : Fraction) : Type 0 where
   pub reversed : (e f : Edge) → height_cmp f e x ≡ ordering_reverse (height_cmp e f x)
   pub total : (e f : Edge) → (height_cmp e f x ≢ Greater) ⊎ (height_cmp f e x ≢ Greater)
   pub antisymmetric : (e f : Edge) → height_cmp e f x ≢ Greater → height_cmp f e x ≢ Greater
-    → IsTrue (fraction_eq (height_at e x) (height_at f x))
+      → IsTrue (fraction_eq (height_at e x) (height_at f x))
   pub transitive : (e f g : Edge) → HasHeight f x → height_cmp e f x ≢ Greater → height_cmp f g x ≢ Greater
-    → height_cmp e g x ≢ Greater
+      → height_cmp e g x ≢ Greater
   pub strict_first : (e f g : Edge) → HasHeight e x → HasHeight f x → HasHeight g x → height_cmp e f x ≡ Less
-    → height_cmp f g x ≢ Greater → height_cmp e g x ≡ Less
+      → height_cmp f g x ≢ Greater → height_cmp e g x ≡ Less
   pub strict_second : (e f g : Edge) → HasHeight e x → HasHeight f x → HasHeight g x → height_cmp e f x ≢ Greater
-    → height_cmp f g x ≡ Less → height_cmp e g x ≡ Less
+      → height_cmp f g x ≡ Less → height_cmp e g x ≡ Less
 
 abbrev pub HeightsAreOrderedAtPlaces : Type 0
 HeightsAreOrderedAtPlaces = (x : Fraction) → IsFraction x → HeightsAreOrdered x
@@ -121,7 +121,7 @@ ShareNoneInside e f x y = ¬ (SharePointInside e f x y)
 pub record KeepsOrder (e f : Edge) (x y z : Fraction) : Type 0 where
   pub strict : height_cmp e f z ≢ Equal
   pub steady : (w : Fraction) → IsFraction w → IsTrue (fraction_lt x w) → IsTrue (fraction_lt w y)
-    → height_cmp e f w ≡ height_cmp e f z
+      → height_cmp e f w ≡ height_cmp e f z
   pub from_first : height_cmp e f x ≢ Equal → height_cmp e f z ≡ height_cmp e f x
   pub from_second : height_cmp e f y ≢ Equal → height_cmp e f z ≡ height_cmp e f y
 
