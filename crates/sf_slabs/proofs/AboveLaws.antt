@@ -8,7 +8,7 @@ use Rattle.sf_grid.specs.Plane.{Coordinates, point_at}
 use Rattle.sf_grid.specs.Edge.{Edge as Line, edge_between, height_at, is_vertical, left_end, right_end}
 use Rattle.sf_grid.proofs.PointLaws.{Same}
 use Rattle.sf_grid.proofs.Products.{mul_le}
-use Rattle.sf_grid.proofs.Tests.{eq_from_test, lt_from_test, same_tests, test_from_eq, test_from_lt}
+use Rattle.sf_grid.proofs.NumberTests.{eq_from_test, lt_from_test, same_tests, test_from_eq, test_from_lt}
 use Rattle.sf_slabs.specs.declared.piece.Piece.{Piece}
 use Rattle.sf_slabs.specs.declared.piece.Piece.TheVariants.{Dot, Edge}
 use Rattle.sf_slabs.specs.Pieces.{is_above}

@@ -7,7 +7,7 @@ use Rattle.sf_grid.specs.Edge.{edge_between}
 use Rattle.sf_grid.proofs.PointLaws.{Same}
 use Rattle.sf_grid.proofs.Ring.{ring, var, num, sum, dif, mul}
 use Rattle.sf_grid.proofs.SameLaws.{same_point_is_equivalence, same_points_are_alike}
-use Rattle.sf_grid.proofs.Tests.{same_tests, test_from_eq}
+use Rattle.sf_grid.proofs.NumberTests.{same_tests, test_from_eq}
 use Rattle.std.proofs.lemmas.Bool.{and_from}
 use Rattle.sf_slabs.specs.declared.piece.Piece.{Piece}
 use Rattle.sf_slabs.specs.declared.piece.Piece.TheVariants.{Dot, Edge}

@@ -9,7 +9,7 @@ use Rattle.sf_grid.specs.Fraction.{Fraction, IsFraction, fraction_le, fraction_l
 use Rattle.sf_grid.specs.Plane.{Coordinates, Point, x_of}
 use Rattle.sf_grid.specs.Edge.{Edge as Line, cross_of_directions, crossing, edge_between, meeting_of_lines, on_edge}
 use Rattle.sf_grid.proofs.PointLaws.{Same}
-use Rattle.sf_grid.proofs.Tests.{le_from_test, lt_from_test, test_from_eq, test_from_lt}
+use Rattle.sf_grid.proofs.NumberTests.{le_from_test, lt_from_test, test_from_eq, test_from_lt}
 use Rattle.sf_slabs.specs.declared.piece.Piece.{Piece}
 use Rattle.sf_slabs.specs.declared.piece.Piece.TheVariants.{Dot, Edge}
 use Rattle.sf_slabs.specs.Pieces.{ends_of}

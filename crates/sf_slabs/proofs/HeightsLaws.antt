@@ -9,7 +9,7 @@ use Rattle.sf_grid.specs.Edge.{Edge as Line, edge_between, height_at, height_rig
 use Rattle.sf_grid.proofs.OrderLaws.{height-IsFraction}
 use Rattle.sf_grid.proofs.PointLaws.{Same, within-same}
 use Rattle.sf_grid.proofs.Ring.{ring, var, sum, dif, mul}
-use Rattle.sf_grid.proofs.Tests.{eq_from_test, same_tests, test_from_eq}
+use Rattle.sf_grid.proofs.NumberTests.{eq_from_test, same_tests, test_from_eq}
 use Rattle.sf_slabs.specs.declared.piece.Piece.{Piece}
 use Rattle.sf_slabs.specs.declared.piece.Piece.TheVariants.{Dot, Edge}
 use Rattle.sf_slabs.specs.Pieces.{heights_of, if_in_column}

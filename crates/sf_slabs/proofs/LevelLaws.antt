@@ -9,7 +9,7 @@ use Rattle.sf_grid.specs.Plane.{point_at}
 use Rattle.sf_grid.proofs.PointLaws.{Same}
 use Rattle.sf_grid.proofs.Products.{mul_lt}
 use Rattle.sf_grid.proofs.Ring.{ring, var, num, sum, dif, mul}
-use Rattle.sf_grid.proofs.Tests.{lt_from_test, test_from_lt}
+use Rattle.sf_grid.proofs.NumberTests.{lt_from_test, test_from_lt}
 use Rattle.sf_slabs.specs.declared.piece.Piece.{Piece}
 use Rattle.sf_slabs.specs.declared.cell.Cell.{Cell}
 use Rattle.sf_slabs.specs.Pieces.{is_above, is_on}

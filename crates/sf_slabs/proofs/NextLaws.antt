@@ -4,7 +4,7 @@ use Rattle.std.proofs.lemmas.Int.{ints, by_lt_z}
 use Rattle.std.specs.Prelude.{int_lt}
 use Rattle.sf_grid.specs.Fraction.{Fraction, IsFraction, fraction_le, fraction_lt}
 use Rattle.sf_grid.proofs.PointLaws.{Same}
-use Rattle.sf_grid.proofs.Tests.{le_from_test, test_from_lt}
+use Rattle.sf_grid.proofs.NumberTests.{le_from_test, test_from_lt}
 use Rattle.sf_slabs.proofs.NumberLaws.{Among, IsListing, Numbers}
 use Rattle.sf_slabs.proofs.SampleLaws.{Each, Follow, FollowFrom, Some_of}
 

@@ -15,7 +15,7 @@ use Rattle.sf_grid.proofs.MeanLaws.{lies}
 use Rattle.sf_grid.proofs.OrderLaws.{product_pos}
 use Rattle.sf_grid.proofs.PointLaws.{Same, eq_from_mul, within-same}
 use Rattle.sf_grid.proofs.Ring.{ring, var, num, dif, mul}
-use Rattle.sf_grid.proofs.Tests.{eq_from_test, le_from_test, same_tests, test_from_eq, test_from_le}
+use Rattle.sf_grid.proofs.NumberTests.{eq_from_test, le_from_test, same_tests, test_from_eq, test_from_le}
 use Rattle.sf_slabs.proofs.SideLaws.{on-side}
 
 -- ---- the coordinates of a point of a column

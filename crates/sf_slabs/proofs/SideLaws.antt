@@ -12,7 +12,7 @@ use Rattle.sf_grid.proofs.HeightLaws.{abs_of_run, runs_right}
 use Rattle.sf_grid.proofs.PointLaws.{int_le-scaled}
 use Rattle.sf_grid.proofs.Products.{mul_le}
 use Rattle.sf_grid.proofs.Ring.{ring, var, mul}
-use Rattle.sf_grid.proofs.Tests.{eq_from_test, ge_from_test, le_from_test, lt_from_test, same_tests, test_from_eq, test_from_le, test_from_lt}
+use Rattle.sf_grid.proofs.NumberTests.{eq_from_test, ge_from_test, le_from_test, lt_from_test, same_tests, test_from_eq, test_from_le, test_from_lt}
 
 -- ---- tests of a difference
 pub cmp-difference : (a b : ℤ) → int_cmp (a -ℤ b) (pos 0) ≡ int_cmp a b

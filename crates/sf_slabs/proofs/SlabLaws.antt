@@ -8,7 +8,7 @@ use Rattle.sf_grid.specs.Edge.{Edge, height_at, height_cmp, is_vertical, left_en
 use Rattle.sf_grid.specs.Laws.{HasHeight, HaveHeights, KeepsOrder, ShareNoneInside}
 use Rattle.sf_grid.proofs.BetweenLaws.{Reach, opposite_order_meets, order_is_kept, reach, reach_between, within_from}
 use Rattle.sf_grid.proofs.OrderLaws.{heights_are_ordered}
-use Rattle.sf_grid.proofs.Tests.{lt_from_test, test_from_le}
+use Rattle.sf_grid.proofs.NumberTests.{lt_from_test, test_from_le}
 use Rattle.std.specs.Prelude.{int_lt}
 use Rattle.std.proofs.lemmas.Bool.{and_from}
 

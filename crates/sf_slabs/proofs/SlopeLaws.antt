@@ -10,7 +10,7 @@ use Rattle.sf_grid.specs.Edge.{Edge, height_cmp, is_vertical, left_end, right_en
 use Rattle.sf_grid.proofs.HeightLaws.{cmp-scaled, gap, gap-line, height_cmp-gap}
 use Rattle.sf_grid.proofs.OrderLaws.{equal_is}
 use Rattle.sf_grid.proofs.Ring.{ring, var, num, sum, dif, mul}
-use Rattle.sf_grid.proofs.Tests.{lt_from_test}
+use Rattle.sf_grid.proofs.NumberTests.{lt_from_test}
 use Rattle.sf_slabs.proofs.SlabLaws.{Below, IsSlab, Spans, StaysBelow, StaysLevel}
 
 -- how much steeper the line from u to v rises than that from s to t, times both runs

@@ -9,7 +9,7 @@ use Rattle.sf_grid.specs.Plane.{Coordinates, point_at}
 use Rattle.sf_grid.specs.Edge.{Edge as Line, edge_between, height_at, is_vertical, left_end, reaches, right_end}
 use Rattle.sf_grid.proofs.OrderLaws.{height-IsFraction}
 use Rattle.sf_grid.proofs.Products.{mul_lt}
-use Rattle.sf_grid.proofs.Tests.{le_from_test, lt_from_test, test_from_lt}
+use Rattle.sf_grid.proofs.NumberTests.{le_from_test, lt_from_test, test_from_lt}
 use Rattle.sf_slabs.specs.declared.piece.Piece.{Piece}
 use Rattle.sf_slabs.specs.declared.piece.Piece.TheVariants.{Dot, Edge}
 use Rattle.sf_slabs.specs.Pieces.{heights_of, if_in_column, is_above, is_on}
