@@ -15,3 +15,4 @@ pub mod SlopeLaws
 pub mod AboveLaws
 pub mod LevelLaws
 pub mod TopLaws
+pub mod SlantedLaws

@@ -3,6 +3,8 @@
 
 mod cell;
 mod piece;
+mod slanted;
 
 pub use cell::{Cell, Numbers};
 pub use piece::Piece;
+pub use slanted::Slanted;

@@ -1,0 +1,90 @@
+//! Edges from left to right: on which side of them points lie, how steep they are, and where they
+//! meet.
+
+ghost use Rattle.std.specs.Prelude.{◌≡◌, ◌≤◌, ◌-ℤ◌, ◌*ℤ◌, ◌⊎◌, unsigned_abs, IfSome, IfNone as OnNone};
+ghost use Rattle.sf_grid.specs.Bounds.{difference_bound};
+ghost use Rattle.sf_grid.specs.Edge.{edge_between};
+ghost use Rattle.sf_grid.specs.Plane.{grid_point};
+ghost use Rattle.sf_slabs.specs.Slanted.{IsMeetingAfter, IsOneLine, IsRightward, ShareNoneAfter, side_of, slope_order as slope_order_of};
+
+use sf_grid::edges::{meet, orientation};
+use sf_grid::{Frac, FracPoint, GridPoint, Meet, Turn};
+use std::cmp::Ordering;
+
+/// An edge that isn't vertical, from its left end to its right end.
+#[derive(Drop)]
+pub struct Slanted {
+    left: GridPoint,
+    right: GridPoint,
+    ghost rightward: { IsRightward left right },
+}
+
+impl Slanted {
+    /// Where `p` lies in its column: below the line of this edge, on it, or above it.
+    pub fn side(&self, p: GridPoint) -> Ordering
+        ensures { result ≡ side_of self.now.left self.now.right (grid_point p) }
+    {
+        match orientation(self.left, self.right, p) {
+            Turn::Left => Ordering::Greater,
+            Turn::Straight => Ordering::Equal,
+            Turn::Right => Ordering::Less,
+        }
+    }
+
+    /// Which of two edges rises less.
+    pub fn slope_order(&self, other: &Slanted) -> Ordering
+        ensures { result ≡ slope_order_of
+            self.now.left self.now.right other.now.left other.now.right }
+    {
+        let rises = product(self.rise(), other.run());
+        let other_rises = product(other.rise(), self.run());
+        rises.cmp(&other_rises)
+    }
+
+    /// How far the right end is from the left end.
+    fn run(&self) -> i64
+        ensures value { result ≡ self.now.right.x -ℤ self.now.left.x }
+        ensures bound { unsigned_abs result ≤ difference_bound }
+    {
+        i64::from(self.right.x()) - i64::from(self.left.x())
+    }
+
+    /// How far the right end is above the left end.
+    fn rise(&self) -> i64
+        ensures value { result ≡ self.now.right.y -ℤ self.now.left.y }
+        ensures bound { unsigned_abs result ≤ difference_bound }
+    {
+        i64::from(self.right.y()) - i64::from(self.left.y())
+    }
+
+    /// The only point that two edges share, if it is right of the column `x`.
+    pub fn meeting_after(&self, other: &Slanted, x: &Frac) -> Option<FracPoint>
+        ensures some { IfSome result (λ p. IsMeetingAfter
+            (edge_between self.now.left self.now.right)
+            (edge_between other.now.left other.now.right) x.now p) }
+        ensures none { OnNone result (
+            (ShareNoneAfter
+                (edge_between self.now.left self.now.right)
+                (edge_between other.now.left other.now.right) x.now)
+            ⊎ (IsOneLine
+                (edge_between self.now.left self.now.right)
+                (edge_between other.now.left other.now.right))) }
+    {
+        match meet((self.left, self.right), (other.left, other.right)) {
+            Meet::At(p) => match x.compare(&p.x()) {
+                Ordering::Less => Some(p),
+                _ => None,
+            },
+            _ => None,
+        }
+    }
+}
+
+/// The product of two differences of coordinates.
+fn product(a: i64, b: i64) -> i64
+    requires first_small { unsigned_abs a ≤ difference_bound }
+    requires second_small { unsigned_abs b ≤ difference_bound }
+    ensures { result ≡ a *ℤ b }
+{
+    a * b
+}
