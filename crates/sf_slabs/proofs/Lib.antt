@@ -16,3 +16,4 @@ pub mod AboveLaws
 pub mod LevelLaws
 pub mod TopLaws
 pub mod SlantedLaws
+pub mod LocateLaws

@@ -1,6 +1,6 @@
 -- The side of a point against an edge that runs to the right, and the one point that two edges share.
-use Rattle.std.proofs.Common.{◌≡◌, ◌≢◌, refl, ap, sym, ◌∙◌, ℕ, ℤ, pos, ◌*ℤ◌, ◌<ℤ◌, ◌<◌, ◌*◌, arith, [], ◌∷◌, true}
-use Rattle.std.specs.Prelude.{IsTrue}
+use Rattle.std.proofs.Common.{◌≡◌, ◌≢◌, refl, ap, sym, ◌∙◌, ℕ, ℤ, pos, ◌-ℤ◌, ◌*ℤ◌, ◌<ℤ◌, ◌<◌, ◌*◌, arith, [], ◌∷◌, true}
+use Rattle.std.specs.Prelude.{IsTrue, int_lt}
 use Rattle.std.specs.Ordering.{int_cmp}
 use Rattle.std.specs.declared.cmp.Ordering.{Ordering}
 use Rattle.std.specs.declared.cmp.Ordering.TheVariants.{Equal, Greater, Less}
@@ -19,7 +19,7 @@ use Rattle.sf_grid.proofs.PointLaws.{cross-same}
 use Rattle.sf_grid.proofs.Products.{lt_from_mul, mul_lt}
 use Rattle.sf_grid.proofs.Ring.{ring, var, mul}
 use Rattle.sf_slabs.specs.Slanted.{ShareNoneAfter, side_of}
-use Rattle.sf_slabs.proofs.SideLaws.{cmp-side}
+use Rattle.sf_slabs.proofs.SideLaws.{cmp-difference, cmp-side}
 
 -- ---- the side of a point is the sign of its cross product
 pub side_of-cross : (u v : Coordinates) (p : Point) → IsPoint p → u.x <ℤ v.x → side_of u v p ≡ int_cmp (cross u v p) (pos 0)
@@ -33,6 +33,22 @@ side_of-cross u v p i h =
   where
   squared : (z : ℤ) → z *ℤ pos (p.d * p.d) ≡ z *ℤ pos p.d *ℤ pos p.d
   squared z = ring (z ∷ pos p.d ∷ []) (mul (var 0) (mul (var 1) (var 1))) (mul (mul (var 0) (var 1)) (var 1)) refl
+
+-- from the two products whose difference the cross product is
+pub side_of-products : (u v : Coordinates) (p : Point) (up along : ℤ) → IsPoint p → u.x <ℤ v.x →
+    up ≡ (p.y -ℤ u.y *ℤ pos p.d) *ℤ (v.x -ℤ u.x) → along ≡ (p.x -ℤ u.x *ℤ pos p.d) *ℤ (v.y -ℤ u.y) → int_cmp up along ≡ side_of u v p
+side_of-products u v p up along i h e f =
+    sym (cmp-difference up along)
+    ∙ ap (λ z. int_cmp (z -ℤ along) (pos 0)) (e ∙ commuted (p.y -ℤ u.y *ℤ pos p.d) (v.x -ℤ u.x))
+    ∙ ap (λ z. int_cmp ((v.x -ℤ u.x) *ℤ (p.y -ℤ u.y *ℤ pos p.d) -ℤ z) (pos 0)) (f ∙ commuted (p.x -ℤ u.x *ℤ pos p.d) (v.y -ℤ u.y))
+    ∙ sym (side_of-cross u v p i h)
+  where
+  commuted : (a b : ℤ) → a *ℤ b ≡ b *ℤ a
+  commuted a b = ring (a ∷ b ∷ []) (mul (var 0) (var 1)) (mul (var 1) (var 0)) refl
+
+-- an order and the tests that it answers
+pub is_less-lt : (a b : ℤ) → int_lt a b ≡ true → int_cmp a b ≡ Less
+is_less-lt a b h = grind (arith, ints)
 
 pub left_is_above : (z : ℤ) → turn_by (int_cmp (pos 0) z) ≡ Left → int_cmp z (pos 0) ≡ Greater
 left_is_above z h = grind (arith, ints)

@@ -11,15 +11,20 @@ use Rattle.sf_grid.proofs.HeightLaws.{cmp-scaled, gap, gap-line, height_cmp-gap}
 use Rattle.sf_grid.proofs.OrderLaws.{equal_is}
 use Rattle.sf_grid.proofs.Ring.{ring, var, num, sum, dif, mul}
 use Rattle.sf_grid.proofs.NumberTests.{lt_from_test}
+use Rattle.sf_slabs.specs.Slanted.{slope_gap, slope_order}
+use Rattle.sf_slabs.proofs.SideLaws.{cmp-difference}
 use Rattle.sf_slabs.proofs.SlabLaws.{Below, IsSlab, Spans, StaysBelow, StaysLevel}
-
--- how much steeper the line from u to v rises than that from s to t, times both runs
-abbrev pub slope_gap : Coordinates → Coordinates → Coordinates → Coordinates → ℤ
-slope_gap u v s t = (v.y -ℤ u.y) *ℤ (t.x -ℤ s.x) -ℤ (t.y -ℤ s.y) *ℤ (v.x -ℤ u.x)
 
 -- the order of two edges' slopes, from their left ends to their right ends
 abbrev pub slope_cmp : Edge → Edge → Ordering
 slope_cmp e f = int_cmp (slope_gap (left_end e) (right_end e) (left_end f) (right_end f)) (pos 0)
+
+-- the order that the sweep compares is that of the gap
+pub slope_cmp-order : (e f : Edge) → slope_cmp e f ≡ slope_order (left_end e) (right_end e) (left_end f) (right_end f)
+slope_cmp-order e f =
+    cmp-difference
+    (((right_end e).y -ℤ (left_end e).y) *ℤ ((right_end f).x -ℤ (left_end f).x))
+    (((right_end f).y -ℤ (left_end f).y) *ℤ ((right_end e).x -ℤ (left_end e).x))
 
 -- a gap of 0 in the column x grows by the slopes
 gap-grows : (u v s t : Coordinates) (x z : Fraction) → gap u v s t x ≡ pos 0 →

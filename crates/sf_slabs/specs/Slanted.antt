@@ -3,7 +3,7 @@ use Rattle.std.specs.Prelude.{◌≡◌, ◌⊎◌, Bool, IsTrue, ℤ, pos, ◌-
 use Rattle.std.specs.Ordering.{int_cmp}
 use Rattle.std.specs.declared.cmp.Ordering.{Ordering}
 use Rattle.sf_grid.specs.declared.meet.Meet.TheVariants.{Along, Apart, At}
-use Rattle.sf_grid.specs.Fraction.{Fraction, fraction_cmp, fraction_lt}
+use Rattle.sf_grid.specs.Fraction.{Fraction, fraction_cmp, fraction_le, fraction_lt}
 use Rattle.sf_grid.specs.Plane.{Coordinates, IsPoint, Point, x_of, y_of}
 use Rattle.sf_grid.specs.Edge.{Edge, edge_between, height_rightward}
 use Rattle.sf_grid.specs.Sharing.{IsOnBoth, IsSharing}
@@ -15,6 +15,14 @@ IsRightward u v = IsTrue (int_lt u.x v.x)
 -- the order of p's y and the height, in p's column, of the line from u to v
 abbrev pub side_of : Coordinates → Coordinates → Point → Ordering
 side_of u v p = fraction_cmp (y_of p) (height_rightward u v (x_of p))
+
+-- the line from u to v is above p
+abbrev pub is_line_above : Coordinates → Coordinates → Point → Bool
+is_line_above u v p = fraction_lt (y_of p) (height_rightward u v (x_of p))
+
+-- the line from u to v is above p or through it
+abbrev pub is_line_not_below : Coordinates → Coordinates → Point → Bool
+is_line_not_below u v p = fraction_le (y_of p) (height_rightward u v (x_of p))
 
 -- how much steeper the line from u to v rises than that from s to t, times both runs
 abbrev pub slope_gap : Coordinates → Coordinates → Coordinates → Coordinates → ℤ

@@ -2,6 +2,7 @@
 #![tactic(auto)]
 
 mod cell;
+pub mod order;
 mod piece;
 mod slanted;
 

@@ -1,11 +1,11 @@
 //! Edges from left to right: on which side of them points lie, how steep they are, and where they
 //! meet.
 
-ghost use Rattle.std.specs.Prelude.{◌≡◌, ◌≤◌, ◌-ℤ◌, ◌*ℤ◌, ◌⊎◌, unsigned_abs, IfSome, IfNone as OnNone};
-ghost use Rattle.sf_grid.specs.Bounds.{difference_bound};
+ghost use Rattle.std.specs.Prelude.{◌≡◌, ◌≤◌, ◌*◌, ◌-ℤ◌, ◌*ℤ◌, pos, ◌⊎◌, unsigned_abs, IfSome, IfNone as OnNone};
+ghost use Rattle.sf_grid.specs.Bounds.{IsCoordinate, difference_bound, numerator_bound};
 ghost use Rattle.sf_grid.specs.Edge.{edge_between};
 ghost use Rattle.sf_grid.specs.Plane.{grid_point};
-ghost use Rattle.sf_slabs.specs.Slanted.{IsMeetingAfter, IsOneLine, IsRightward, ShareNoneAfter, side_of, slope_order as slope_order_of};
+ghost use Rattle.sf_slabs.specs.Slanted.{IsMeetingAfter, IsOneLine, IsRightward, ShareNoneAfter, is_line_above, is_line_not_below, side_of, slope_order as slope_order_of};
 
 use sf_grid::edges::{meet, orientation};
 use sf_grid::{Frac, FracPoint, GridPoint, Meet, Turn};
@@ -29,6 +29,29 @@ impl Slanted {
             Turn::Straight => Ordering::Equal,
             Turn::Right => Ordering::Less,
         }
+    }
+
+    /// Whether the line of this edge is above `p`.
+    pub fn is_above(&self, p: GridPoint) -> bool
+        ensures { result ≡ is_line_above self.now.left self.now.right (grid_point p) }
+    {
+        self.side(p) == Ordering::Less
+    }
+
+    /// Whether the line of this edge is above `p` or through it.
+    pub fn is_not_below(&self, p: GridPoint) -> bool
+        ensures { result ≡ is_line_not_below self.now.left self.now.right (grid_point p) }
+    {
+        self.side(p) != Ordering::Greater
+    }
+
+    /// Where the point `p` lies in its column: below the line of this edge, on it, or above it.
+    pub fn side_at(&self, p: &FracPoint) -> Ordering
+        ensures { result ≡ side_of self.now.left self.now.right p.now }
+    {
+        let up = wide_product(distance(&p.y(), self.left.y()), self.run());
+        let along = wide_product(distance(&p.x(), self.left.x()), self.rise());
+        up.cmp(&along)
     }
 
     /// Which of two edges rises less.
@@ -87,4 +110,23 @@ fn product(a: i64, b: i64) -> i64
     ensures { result ≡ a *ℤ b }
 {
     a * b
+}
+
+/// How far a place is from a coordinate, times the place's denominator.
+fn distance(place: &Frac, from: i32) -> i128
+    requires { IsCoordinate from }
+    ensures value { result ≡ place.now.num -ℤ from *ℤ pos place.now.den }
+    ensures bound { unsigned_abs result ≤ 2 * numerator_bound }
+{
+    place.num() - wide_product(i128::from(place.den()), i64::from(from))
+}
+
+/// The product of a number of the size of a crossing's numerators and one of a coordinate's size.
+fn wide_product(a: i128, b: i64) -> i128
+    requires first_small { unsigned_abs a ≤ 2 * numerator_bound }
+    requires second_small { unsigned_abs b ≤ difference_bound }
+    ensures value { result ≡ a *ℤ b }
+    ensures bound { unsigned_abs result ≤ unsigned_abs a * unsigned_abs b }
+{
+    a * i128::from(b)
 }
