@@ -18,17 +18,18 @@ impl Model for Numbers {
 
 impl Numbers {
     /// The numbers of a `Vec`, which takes no memory.
-    pub fn from_vec(items: Vec<u32>) -> Numbers
-        ensures { result ≡ items.items }
+    pub fn from_vec(numbers: Vec<u32>) -> Numbers
+        ensures { result ≡ numbers.items }
     {
-        Numbers { items }
+        Numbers { items: numbers }
     }
 
     /// The `Vec` of the numbers, which takes no memory.
     pub fn into_vec(self) -> Vec<u32>
         ensures { result.items ≡ self }
     {
-        self.items
+        let Numbers { items } = self;
+        items
     }
 
     /// The numbers as a slice.

@@ -2,10 +2,9 @@
 #![tactic(auto)]
 
 mod cell;
-pub mod order;
+mod order;
 mod piece;
 mod slanted;
 
 pub use cell::{Cell, Numbers};
 pub use piece::Piece;
-pub use slanted::Slanted;

@@ -1,9 +1,9 @@
 //! Edges from left to right: on which side of them points lie, how steep they are, and where they
 //! meet.
 
-ghost use Rattle.std.specs.Prelude.{◌≡◌, ◌≤◌, ◌*◌, ◌-ℤ◌, ◌*ℤ◌, pos, ◌⊎◌, unsigned_abs, IfSome, IfNone as OnNone};
+ghost use Rattle.std.specs.Prelude.{◌≡◌, ◌≤◌, ◌*◌, ◌-ℤ◌, ◌*ℤ◌, pos, ◌⊎◌, unsigned_abs, ◌↔◌, IfSome, IsNone, IsTrue, IfNone as OnNone};
 ghost use Rattle.sf_grid.specs.Bounds.{IsCoordinate, difference_bound, numerator_bound};
-ghost use Rattle.sf_grid.specs.Edge.{edge_between};
+ghost use Rattle.sf_grid.specs.Edge.{edge_between, is_vertical, left_end, right_end};
 ghost use Rattle.sf_grid.specs.Plane.{grid_point};
 ghost use Rattle.sf_slabs.specs.Slanted.{IsMeetingAfter, IsOneLine, IsRightward, ShareNoneAfter, is_line_above, is_line_not_below, side_of, slope_order as slope_order_of};
 
@@ -20,6 +20,21 @@ pub struct Slanted {
 }
 
 impl Slanted {
+    /// The edge between two points, or None exactly where they are in one column.
+    pub fn between(a: GridPoint, b: GridPoint) -> Option<Slanted>
+        ensures some { IfSome result (λ e.
+            (e.left ≡ left_end (edge_between a b)) × (e.right ≡ right_end (edge_between a b))) }
+        ensures none { IsNone result ↔ IsTrue (is_vertical (edge_between a b)) }
+    {
+        if a.x() < b.x() {
+            Some(Slanted { left: a, right: b })
+        } else if b.x() < a.x() {
+            Some(Slanted { left: b, right: a })
+        } else {
+            None
+        }
+    }
+
     /// Where `p` lies in its column: below the line of this edge, on it, or above it.
     pub fn side(&self, p: GridPoint) -> Ordering
         ensures { result ≡ side_of self.now.left self.now.right (grid_point p) }
