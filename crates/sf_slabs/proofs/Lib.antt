@@ -15,5 +15,6 @@ pub mod SlopeLaws
 pub mod AboveLaws
 pub mod LevelLaws
 pub mod TopLaws
+pub mod GapLaws
 pub mod SlantedLaws
 pub mod LocateLaws

@@ -25,11 +25,11 @@ use Rattle.sf_slabs.proofs.SideLaws.{goes_on}
 use Rattle.sf_slabs.proofs.SlabLaws.{reached_from}
 
 -- ---- the height of a piece that goes on is listed
-if_false : {A : Type 0} (P : A → Type 0) (b : Bool) (s t : A) → b ≡ false → P (if b then s else t) → P t
+pub if_false : {A : Type 0} (P : A → Type 0) (b : Bool) (s t : A) → b ≡ false → P (if b then s else t) → P t
 if_false P true s t e h = cc
 if_false P false s t e h = h
 
-if_true : {A : Type 0} (P : A → Type 0) (b : Bool) (s t : A) → b ≡ true → P (if b then s else t) → P s
+pub if_true : {A : Type 0} (P : A → Type 0) (b : Bool) (s t : A) → b ≡ true → P (if b then s else t) → P s
 if_true P true s t e h = h
 if_true P false s t e h = cc
 
