@@ -18,3 +18,4 @@ pub mod TopLaws
 pub mod GapLaws
 pub mod SlantedLaws
 pub mod LocateLaws
+pub mod FallsLaws
