@@ -19,3 +19,4 @@ pub mod GapLaws
 pub mod SlantedLaws
 pub mod LocateLaws
 pub mod FallsLaws
+pub mod NearestLaws

@@ -2,6 +2,7 @@
 #![tactic(auto)]
 
 mod cell;
+mod next;
 mod order;
 mod piece;
 mod slanted;
