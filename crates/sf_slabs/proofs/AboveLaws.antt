@@ -1,18 +1,18 @@
 -- Down a column: which edges are above grows, at each height, by those that go on from there.
-use Rattle.std.proofs.Common.{◌≡◌, refl, ap, sym, ◌∙◌, ℕ, ℤ, pos, ◌*ℤ◌, ◌≤ℤ◌, ◌<ℤ◌, ◌<◌, ◌*◌, arith, Bool, true, false, ◌&&◌, ◌||◌, List, [], ◌∷◌, ◌⊎◌, inl, inr, cond}
+use Rattle.std.proofs.Common.{◌≡◌, refl, ap, sym, ◌∙◌, ℕ, ℤ, pos, ◌*ℤ◌, ◌≤ℤ◌, arith, Bool, true, false, ◌&&◌, ◌||◌, ◌⊎◌, inl, inr, cond}
 use Rattle.std.specs.Prelude.{int_le, int_lt}
-use Rattle.std.proofs.lemmas.Bool.{and_parts, both_ways, cases_Bool}
+use Rattle.std.proofs.lemmas.Bool.{both_ways, cases_Bool}
 use Rattle.std.proofs.lemmas.Int.{ints}
-use Rattle.sf_grid.specs.Fraction.{Fraction, IsFraction, fraction_eq, fraction_lt, middle, one_less, one_more, whole}
-use Rattle.sf_grid.specs.Plane.{Coordinates, point_at}
+use Rattle.sf_grid.specs.Fraction.{Fraction, IsFraction, fraction_eq, fraction_lt, whole}
+use Rattle.sf_grid.specs.Plane.{point_at}
 use Rattle.sf_grid.specs.Edge.{Edge as Line, edge_between, height_at, is_vertical, left_end, right_end}
 use Rattle.sf_grid.proofs.PointLaws.{Same}
 use Rattle.sf_grid.proofs.Products.{mul_le}
-use Rattle.sf_grid.proofs.NumberTests.{eq_from_test, lt_from_test, same_tests, test_from_eq, test_from_lt}
+use Rattle.sf_grid.proofs.NumberTests.{eq_from_test, test_from_eq}
 use Rattle.sf_slabs.specs.declared.piece.Piece.{Piece}
 use Rattle.sf_slabs.specs.declared.piece.Piece.TheVariants.{Dot, Edge}
 use Rattle.sf_slabs.specs.Pieces.{is_above}
-use Rattle.sf_slabs.proofs.NumberLaws.{Among, IsOrder, Numbers, Same-trans, rising_order}
+use Rattle.sf_slabs.proofs.NumberLaws.{rising_order}
 use Rattle.sf_slabs.proofs.SideLaws.{edge_above-height, edge_above-vertical, goes_on}
 
 -- ---- a piece that goes on to the right of a column, and its height there
@@ -31,11 +31,12 @@ no_column u v n k h = let m : (v *ℤ pos k) ≤ℤ (u *ℤ pos k) = mul_le v u 
 pub goes_on-vertical : (e : Line) (x : Fraction) → is_vertical e ≡ true → goes_on e x ≡ false
 goes_on-vertical e x h = no_column (left_end e).x (right_end e).x x.num x.den (by_test (int_lt e.b.x e.a.x))
   where
-  same : e.a.x ≡ e.b.x
-  same = eq_from_test e.a.x e.b.x h
-  by_test : (t : Bool) → (cond t e.a e.b).x ≤ℤ (cond t e.b e.a).x
-  by_test true = let k = same in omega (arith, ints)
-  by_test false = let k = same in omega (arith, ints)
+    same : e.a.x ≡ e.b.x
+    same = eq_from_test e.a.x e.b.x h
+
+    by_test : (t : Bool) → (cond t e.a e.b).x ≤ℤ (cond t e.b e.a).x
+    by_test true = let k = same in omega (arith, ints)
+    by_test false = let k = same in omega (arith, ints)
 
 -- a piece is above a point where it goes on at the point's column, higher up
 pub is_above-height : (x y : Fraction) (p : Piece) → IsFraction y → is_above (point_at x y) p ≡ (passes x p && fraction_lt y (height_of x p))
@@ -74,20 +75,23 @@ lower q r h i j k l c =
       ]
     ]
   where
-  or_true : (a b : Bool) → b ≡ true → (a || b) ≡ true
-  or_true true b e = refl
-  or_true false b e = e
-  or_none : (a b : Bool) → a ≡ false → b ≡ false → (a || b) ≡ false
-  or_none true b e f = e
-  or_none false b e f = f
-  not_above : fraction_lt r h ≡ false → fraction_lt q h ≡ false
-  not_above b = elim (cases_Bool (fraction_lt q h)) [ inl t ↦ absurd (both_ways _ b (rising_order.trans r q h j i k l t)) | inr f ↦ f ]
-  not_at : fraction_lt r h ≡ false → fraction_eq h q ≡ false
-  not_at b =
-      elim (cases_Bool (fraction_eq h q)) [
-        | inl t ↦ absurd (both_ways _ b (rising_order.same_second r q h j i k l (sym (eq_from_test _ _ t))))
-        | inr f ↦ f
-      ]
+    or_true : (a b : Bool) → b ≡ true → (a || b) ≡ true
+    or_true true b e = refl
+    or_true false b e = e
+
+    or_none : (a b : Bool) → a ≡ false → b ≡ false → (a || b) ≡ false
+    or_none true b e f = e
+    or_none false b e f = f
+
+    not_above : fraction_lt r h ≡ false → fraction_lt q h ≡ false
+    not_above b = elim (cases_Bool (fraction_lt q h)) [ inl t ↦ absurd (both_ways _ b (rising_order.trans r q h j i k l t)) | inr f ↦ f ]
+
+    not_at : fraction_lt r h ≡ false → fraction_eq h q ≡ false
+    not_at b =
+        elim (cases_Bool (fraction_eq h q)) [
+          | inl t ↦ absurd (both_ways _ b (rising_order.same_second r q h j i k l (sym (eq_from_test _ _ t))))
+          | inr f ↦ f
+        ]
 
 -- where a piece that goes on stands against the height q: above it, at it, or not above the lower place r
 abbrev pub Stands : Fraction → Fraction → Fraction → Piece → Type 0

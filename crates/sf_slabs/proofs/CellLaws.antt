@@ -1,11 +1,11 @@
 -- A sample's cell depends on the sample's numbers, and not on how their fractions are written.
-use Rattle.std.proofs.Common.{◌≡◌, refl, ap, sym, ◌∙◌, ℕ, ◌+◌, ℤ, pos, ◌+ℤ◌, ◌*ℤ◌, ◌<◌, ◌*◌, Bool, true, false, List, [], ◌∷◌, map}
+use Rattle.std.proofs.Common.{◌≡◌, refl, ap, ◌∙◌, ℕ, ◌+◌, pos, ◌*ℤ◌, Bool, true, false, List, [], ◌∷◌, map}
 use Rattle.std.specs.Prelude.{if◌then◌else◌}
-use Rattle.sf_grid.specs.Fraction.{Fraction, IsFraction, middle, one_less, one_more}
-use Rattle.sf_grid.specs.Plane.{Coordinates, IsPoint, IsSamePoint, Point, grid_point, point_at, same_point}
+use Rattle.sf_grid.specs.Fraction.{Fraction, IsFraction}
+use Rattle.sf_grid.specs.Plane.{IsPoint, IsSamePoint, Point, grid_point, point_at, same_point}
 use Rattle.sf_grid.specs.Edge.{edge_between}
 use Rattle.sf_grid.proofs.PointLaws.{Same}
-use Rattle.sf_grid.proofs.Ring.{ring, var, num, sum, dif, mul}
+use Rattle.sf_grid.proofs.Ring.{ring, var, mul}
 use Rattle.sf_grid.proofs.SameLaws.{same_point_is_equivalence, same_points_are_alike}
 use Rattle.sf_grid.proofs.NumberTests.{same_tests, test_from_eq}
 use Rattle.std.proofs.lemmas.Bool.{and_from}
@@ -13,9 +13,9 @@ use Rattle.sf_slabs.specs.declared.piece.Piece.{Piece}
 use Rattle.sf_slabs.specs.declared.piece.Piece.TheVariants.{Dot, Edge}
 use Rattle.sf_slabs.specs.declared.cell.Cell.{Cell}
 use Rattle.sf_slabs.specs.Pieces.{is_above, is_on}
-use Rattle.sf_slabs.specs.Samples.{Mark, Sample, listed, marks, marks_from, sample_at, unlisted}
+use Rattle.sf_slabs.specs.Samples.{Mark, sample_at}
 use Rattle.sf_slabs.specs.Cells.{cell_of, numbers_from}
-use Rattle.sf_slabs.proofs.NumberLaws.{Numbers, Pairs}
+use Rattle.sf_slabs.proofs.NumberLaws.{Pairs}
 use Rattle.sf_slabs.proofs.OnLaws.{IsPoint-point_at}
 
 -- ---- numbers of the members that pass a test
@@ -67,13 +67,13 @@ pub point_at-same : (x x' y y' : Fraction) → Same x x' → Same y y' → IsSam
 point_at-same x x' y y' e f =
     and_from _ _
     (test_from_eq _ _
-      (ring (x.num ∷ pos y.den ∷ pos x'.den ∷ pos y'.den ∷ []) (mul (mul (var 0) (var 1)) (mul (var 2) (var 3))) (mul (mul (mul (var 0) (var 2)) (var 1)) (var 3)) refl
-      ∙ ap (λ z. z *ℤ pos y.den *ℤ pos y'.den) e
-      ∙ ring (x'.num ∷ pos x.den ∷ pos y.den ∷ pos y'.den ∷ []) (mul (mul (mul (var 0) (var 1)) (var 2)) (var 3)) (mul (mul (var 0) (var 3)) (mul (var 1) (var 2))) refl))
+    (ring (x.num ∷ pos y.den ∷ pos x'.den ∷ pos y'.den ∷ []) (mul (mul (var 0) (var 1)) (mul (var 2) (var 3))) (mul (mul (mul (var 0) (var 2)) (var 1)) (var 3)) refl
+    ∙ ap (λ z. z *ℤ pos y.den *ℤ pos y'.den) e
+    ∙ ring (x'.num ∷ pos x.den ∷ pos y.den ∷ pos y'.den ∷ []) (mul (mul (mul (var 0) (var 1)) (var 2)) (var 3)) (mul (mul (var 0) (var 3)) (mul (var 1) (var 2))) refl))
     (test_from_eq _ _
-      (ring (y.num ∷ pos x.den ∷ pos x'.den ∷ pos y'.den ∷ []) (mul (mul (var 0) (var 1)) (mul (var 2) (var 3))) (mul (mul (mul (var 0) (var 3)) (var 1)) (var 2)) refl
-      ∙ ap (λ z. z *ℤ pos x.den *ℤ pos x'.den) f
-      ∙ ring (y'.num ∷ pos y.den ∷ pos x.den ∷ pos x'.den ∷ []) (mul (mul (mul (var 0) (var 1)) (var 2)) (var 3)) (mul (mul (var 0) (var 3)) (mul (var 2) (var 1))) refl))
+    (ring (y.num ∷ pos x.den ∷ pos x'.den ∷ pos y'.den ∷ []) (mul (mul (var 0) (var 1)) (mul (var 2) (var 3))) (mul (mul (mul (var 0) (var 3)) (var 1)) (var 2)) refl
+    ∙ ap (λ z. z *ℤ pos x.den *ℤ pos x'.den) f
+    ∙ ring (y'.num ∷ pos y.den ∷ pos x.den ∷ pos x'.den ∷ []) (mul (mul (mul (var 0) (var 1)) (var 2)) (var 3)) (mul (mul (var 0) (var 3)) (mul (var 2) (var 1))) refl))
 
 -- ---- marks at the same numbers
 pub record SameMark (m n : Mark) : Type 0 where

@@ -1,19 +1,19 @@
 -- The cells column by column, from any lists of the events and of each column's heights.
-use Rattle.std.proofs.Common.{◌≡◌, refl, ap, sym, ◌∙◌, ℕ, ◌<◌, ℤ, pos, ◌*ℤ◌, Bool, true, false, List, [], ◌∷◌, ◌++◌, map, ◌⊎◌, inl, inr}
+use Rattle.std.proofs.Common.{◌≡◌, refl, ap, sym, ◌∙◌, Bool, List, [], ◌∷◌, ◌++◌, map, inl, inr}
 use Rattle.std.specs.List.{flat_map}
 use Rattle.std.proofs.lemmas.List.{map-append}
 use Rattle.sf_grid.specs.Fraction.{Fraction, IsFraction, fraction_lt, one_less, one_more}
 use Rattle.sf_grid.proofs.PointLaws.{Same}
 use Rattle.sf_slabs.specs.declared.piece.Piece.{Piece}
 use Rattle.sf_slabs.specs.declared.cell.Cell.{Cell}
-use Rattle.sf_slabs.specs.Samples.{Mark, Sample, columns, crossings_of, events, levels, marks, sample_at, samples, sorted_by}
+use Rattle.sf_slabs.specs.Samples.{Mark, columns, crossings_of, events, levels, marks, sample_at, sorted_by}
 use Rattle.sf_slabs.specs.Pieces.{ends_of}
 use Rattle.sf_slabs.specs.Cells.{cell_of, cells}
 use Rattle.sf_slabs.proofs.CellLaws.{SameMark, map-Pairs, sample_at-same}
 use Rattle.sf_slabs.proofs.HeightsLaws.{heights_in, heights_in-numbers, heights_in-same}
-use Rattle.sf_slabs.proofs.MarkLaws.{IsStep, marks-same, one_less-step, one_more-step}
-use Rattle.sf_slabs.proofs.NumberLaws.{Among, IsListing, IsOrder, Numbers, Pairs, Pairs-same, Among-sorted_by, Same-trans, falling_order, rising_order, sorted_by-listing}
-use Rattle.sf_slabs.proofs.SampleLaws.{Each, Each-sorted_by, Follow-sorted_by, Some_of}
+use Rattle.sf_slabs.proofs.MarkLaws.{marks-same, one_less-step, one_more-step}
+use Rattle.sf_slabs.proofs.NumberLaws.{Among, IsListing, Numbers, Pairs, Same-trans, falling_order, rising_order, sorted_by-listing}
+use Rattle.sf_slabs.proofs.SampleLaws.{Each, Each-sorted_by}
 
 -- ---- maps of maps
 pub map-map : {A B C : Type 0} (f : B → C) (g : A → B) (xs : List A) → map f (map g xs) ≡ map (λ x. f (g x)) xs
@@ -57,9 +57,9 @@ cells-columns pieces =
     map-flat_map (cell_of pieces) (λ x. map (sample_at x) (levels pieces x.place)) (columns pieces)
     ∙ flat_map-agree _ _ (columns pieces) (λ x. map-map (cell_of pieces) (sample_at x) (levels pieces x.place))
   where
-  flat_map-agree : {A B : Type 0} (f g : A → List B) (xs : List A) → ((x : A) → f x ≡ g x) → flat_map f xs ≡ flat_map g xs
-  flat_map-agree f g [] h = refl
-  flat_map-agree f g (x ∷ xs) h = ap (λ zs. zs ++ flat_map f xs) (h x) ∙ ap (λ zs. g x ++ zs) (flat_map-agree f g xs h)
+    flat_map-agree : {A B : Type 0} (f g : A → List B) (xs : List A) → ((x : A) → f x ≡ g x) → flat_map f xs ≡ flat_map g xs
+    flat_map-agree f g [] h = refl
+    flat_map-agree f g (x ∷ xs) h = ap (λ zs. zs ++ flat_map f xs) (h x) ∙ ap (λ zs. g x ++ zs) (flat_map-agree f g xs h)
 
 -- ---- place by place the same, so with the same numbers
 Among-pairs : (p : Fraction) (qs rs : List Fraction) → Numbers qs → Pairs Same qs rs → Among qs p → Among rs p
@@ -74,9 +74,9 @@ Each-among-pairs [] rs h = tt
 Each-among-pairs (q ∷ qs) [] h = absurd h
 Each-among-pairs (q ∷ qs) (r ∷ rs) h = (inl h.0, widened qs (Each-among-pairs qs rs h.1))
   where
-  widened : (ps : List Fraction) → Each (Among rs) ps → Each (Among (r ∷ rs)) ps
-  widened [] k = tt
-  widened (p ∷ ps) k = (inr k.0, widened ps k.1)
+    widened : (ps : List Fraction) → Each (Among rs) ps → Each (Among (r ∷ rs)) ps
+    widened [] k = tt
+    widened (p ∷ ps) k = (inr k.0, widened ps k.1)
 
 Pairs-sym : (qs rs : List Fraction) → Pairs Same qs rs → Pairs Same rs qs
 Pairs-sym [] [] h = tt
@@ -99,15 +99,15 @@ IsListing-same before qs rs ts n m h l =
       has_no_other = Each-widen (Among qs) (Among rs) ts (λ p a. Among-pairs p qs rs n h a) l.has_no_other;
     }
   where
-  all_of : (qs rs : List Fraction) → Pairs Same qs rs → Numbers qs → Each (Among ts) qs → Each (Among ts) rs
-  all_of [] [] h n k = tt
-  all_of [] (r ∷ rs) h n k = absurd h
-  all_of (q ∷ qs) [] h n k = absurd h
-  all_of (q ∷ qs) (r ∷ rs) h n k = (moved ts k.0, all_of qs rs h.1 n.1 k.1)
-    where
-    moved : (us : List Fraction) → Among us q → Among us r
-    moved [] a = absurd a
-    moved (u ∷ us) a = elim a [ inl here ↦ inl (Same-trans r q u n.0 (sym h.0) here) | inr later ↦ inr (moved us later) ]
+    all_of : (qs rs : List Fraction) → Pairs Same qs rs → Numbers qs → Each (Among ts) qs → Each (Among ts) rs
+    all_of [] [] h n k = tt
+    all_of [] (r ∷ rs) h n k = absurd h
+    all_of (q ∷ qs) [] h n k = absurd h
+    all_of (q ∷ qs) (r ∷ rs) h n k = (moved ts k.0, all_of qs rs h.1 n.1 k.1)
+      where
+        moved : (us : List Fraction) → Among us q → Among us r
+        moved [] a = absurd a
+        moved (u ∷ us) a = elim a [ inl here ↦ inl (Same-trans r q u n.0 (sym h.0) here) | inr later ↦ inr (moved us later) ]
 
 -- ---- the reference: any listing of the events, and of the heights in each column
 -- all places of ends, dots and crossings
@@ -127,9 +127,9 @@ column_cells-heights pieces x y hs e h =
     column_cells-same pieces x y (falling_heights pieces x.place) hs e
     (falling_heights-numbers pieces x.place e.first) h.numbers
     (sorted_by-listing (λ q r. fraction_lt r q) falling_order (heights_in pieces x.place) hs (heights_in-numbers pieces x.place e.first)
-      (IsListing-same (λ q r. fraction_lt r q) (heights_in pieces y.place) (heights_in pieces x.place) hs
-        (heights_in-numbers pieces y.place e.second) (heights_in-numbers pieces x.place e.first)
-        (heights_in-same pieces y.place x.place e.second e.first (sym e.place)) h))
+    (IsListing-same (λ q r. fraction_lt r q) (heights_in pieces y.place) (heights_in pieces x.place) hs
+    (heights_in-numbers pieces y.place e.second) (heights_in-numbers pieces x.place e.first)
+    (heights_in-same pieces y.place x.place e.second e.first (sym e.place)) h))
 
 -- all cells, from any listing of the events, and in each column of its heights
 pub cells-events : (pieces : List Piece) (es : List Fraction) (heights : Mark → List Fraction) → Numbers (event_places pieces) →
@@ -141,5 +141,5 @@ cells-events pieces es heights n l h =
     (columns pieces) (marks one_less one_more es)
     (λ x y e. column_cells-heights pieces x y (heights y) e (h y e.second))
     (marks-same one_less one_more one_less-step one_more-step (events pieces) es
-      (Each-sorted_by IsFraction fraction_lt (event_places pieces) n) l.numbers
-      (sorted_by-listing fraction_lt rising_order (event_places pieces) es n l))
+    (Each-sorted_by IsFraction fraction_lt (event_places pieces) n) l.numbers
+    (sorted_by-listing fraction_lt rising_order (event_places pieces) es n l))

@@ -1,5 +1,5 @@
 -- The counts of groups on a cell are numbers of pieces that pass a test, and a sink's content is carried over lists one after another.
-use Rattle.std.proofs.Common.{◌≡◌, refl, ap, sym, ◌∙◌, ℕ, ◌+◌, arith, Bool, true, false, ◌&&◌, ◌||◌, List, [], ◌∷◌, ◌++◌, map, slice_index, ◌==◌, cond}
+use Rattle.std.proofs.Common.{◌≡◌, refl, ap, ◌∙◌, ℕ, ◌+◌, arith, Bool, true, false, ◌&&◌, ◌||◌, List, [], ◌∷◌, ◌++◌, map, slice_index, ◌==◌, cond}
 use Rattle.std.specs.Prelude.{if◌then◌else◌}
 use Rattle.std.specs.List.{count_by, fold}
 use Rattle.std.proofs.lemmas.List.Sums.{sum_by-cons}
@@ -55,8 +55,8 @@ tally-or g k groups s t (x ∷ xs) h =
     let rest = tally-or g (k + 1) groups s t xs h.1 in
     regrouped _ _ _ _ _ _ here rest
   where
-  regrouped : (a b c d e f : ℕ) → a ≡ b + c → d ≡ e + f → a + d ≡ (b + e) + (c + f)
-  regrouped a b c d e f h k = omega arith
+    regrouped : (a b c d e f : ℕ) → a ≡ b + c → d ≡ e + f → a + d ≡ (b + e) + (c + f)
+    regrouped a b c d e f h k = omega arith
 
 -- ---- a fold over lists one after another
 pub fold-append : {A B : Type 0} (f : B → A → B) (b : B) (xs ys : List A) → fold f b (xs ++ ys) ≡ fold f (fold f b xs) ys

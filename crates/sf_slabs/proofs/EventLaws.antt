@@ -1,23 +1,22 @@
 -- Events: each is an end, a dot or a crossing, and a list of them is made by going to the next one again and again.
-use Rattle.std.proofs.Common.{◌≡◌, ◌≢◌, refl, ap, sym, ◌∙◌, ℕ, ℤ, pos, ◌+ℤ◌, ◌-ℤ◌, ◌*ℤ◌, ◌≤ℤ◌, ◌<ℤ◌, ◌<◌, lit<, arith, Bool, true, false, ◌&&◌, not, List, [], ◌∷◌, ◌++◌, Some, None, Option, ◌⊎◌, inl, inr, unsigned_abs}
-use Rattle.std.specs.Prelude.{if◌then◌else◌}
+use Rattle.std.proofs.Common.{◌≢◌, ℤ, pos, ◌<◌, lit<, arith, ◌&&◌, not, List, [], ◌∷◌, ◌++◌, Some, None, Option, ◌⊎◌, inl, inr, unsigned_abs}
 use Rattle.std.specs.List.{flat_map}
 use Rattle.std.specs.Ordering.{int_eq}
-use Rattle.std.proofs.lemmas.Bool.{and_parts, both_ways, cases_Bool, not-true}
-use Rattle.std.proofs.lemmas.Int.{ints, by_lt_z}
-use Rattle.sf_grid.specs.Fraction.{Fraction, IsFraction, fraction_le, fraction_lt, whole}
-use Rattle.sf_grid.specs.Plane.{Coordinates, Point, x_of}
+use Rattle.std.proofs.lemmas.Bool.{and_parts, both_ways, not-true}
+use Rattle.std.proofs.lemmas.Int.{ints}
+use Rattle.sf_grid.specs.Fraction.{Fraction, IsFraction, whole}
+use Rattle.sf_grid.specs.Plane.{Point}
 use Rattle.sf_grid.specs.Edge.{Edge as Line, cross_of_directions, crossing, edge_between, meeting_of_lines, on_edge}
 use Rattle.sf_grid.proofs.PointLaws.{Same}
-use Rattle.sf_grid.proofs.NumberTests.{le_from_test, lt_from_test, test_from_eq, test_from_lt}
+use Rattle.sf_grid.proofs.NumberTests.{test_from_eq}
 use Rattle.sf_slabs.specs.declared.piece.Piece.{Piece}
 use Rattle.sf_slabs.specs.declared.piece.Piece.TheVariants.{Dot, Edge}
 use Rattle.sf_slabs.specs.Pieces.{ends_of}
 use Rattle.sf_slabs.specs.Samples.{crossing_place, crossings_of}
-use Rattle.sf_slabs.proofs.ColumnLaws.{IsEvents, event_places}
+use Rattle.sf_slabs.proofs.ColumnLaws.{event_places}
 use Rattle.sf_slabs.proofs.HeightsLaws.{Each-append, Each-flat_map}
-use Rattle.sf_slabs.proofs.NumberLaws.{Among, IsListing, Numbers, Same-trans, rising_order}
-use Rattle.sf_slabs.proofs.SampleLaws.{Each, Follow, FollowFrom, Some_of, if_cases}
+use Rattle.sf_slabs.proofs.NumberLaws.{Among, Numbers}
+use Rattle.sf_slabs.proofs.SampleLaws.{Some_of, if_cases}
 
 -- ---- every event is a number
 whole-IsFraction : (n : ℤ) → IsFraction (whole n)
@@ -36,11 +35,13 @@ crossing-numbers e f =
     if_cases P (not (int_eq (cross_of_directions e f) (pos 0)) && on_edge e (meeting_of_lines e f) && on_edge f (meeting_of_lines e f))
     (Some (meeting_of_lines e f)) None
     (λ h.
-      let parts = and_parts (not (int_eq (cross_of_directions e f) (pos 0)) && on_edge e (meeting_of_lines e f)) (on_edge f (meeting_of_lines e f)) h in
-      let slants = and_parts (not (int_eq (cross_of_directions e f) (pos 0))) (on_edge e (meeting_of_lines e f)) parts.0 in
-      (record {
+    let parts = and_parts (not (int_eq (cross_of_directions e f) (pos 0)) && on_edge e (meeting_of_lines e f)) (on_edge f (meeting_of_lines e f)) h in
+    let slants = and_parts (not (int_eq (cross_of_directions e f) (pos 0))) (on_edge e (meeting_of_lines e f)) parts.0 in (
+      record {
         positive = size_positive (cross_of_directions e f) (λ z. both_ways _ (not-true _ slants.0) (test_from_eq (cross_of_directions e f) (pos 0) z));
-      }, tt))
+      },
+      tt,
+    ))
     (λ _. tt)
 
 crossings_of-numbers : (p q : Piece) → Numbers (crossings_of p q)
@@ -108,8 +109,8 @@ event-is pieces q h =
       | inl first ↦ inl (Some_of-flat_map (Same q) ends_of pieces first)
       | inr second ↦
           inr (Some_in-map (λ p. Some_of (Same q) (flat_map (crossings_of p) pieces)) (λ p. Some_in (λ r. Among (crossings_of p r) q) pieces) pieces
-            (λ p k. Some_of-flat_map (Same q) (crossings_of p) pieces k)
-            (Some_of-flat_map (Same q) (λ p. flat_map (crossings_of p) pieces) pieces second))
+          (λ p k. Some_of-flat_map (Same q) (crossings_of p) pieces k)
+          (Some_of-flat_map (Same q) (λ p. flat_map (crossings_of p) pieces) pieces second))
     ]
 
 pub is-event : (pieces : List Piece) (q : Fraction) → IsEndPlace pieces q ⊎ IsCrossingPlace pieces q → Among (event_places pieces) q
@@ -120,6 +121,6 @@ is-event pieces q h =
       | inr second ↦
           Some_of-back (Same q) (flat_map ends_of pieces) (flat_map (λ p. flat_map (crossings_of p) pieces) pieces)
           (flat_map-Some_of (Same q) (λ p. flat_map (crossings_of p) pieces) pieces
-            (Some_in-map (λ p. Some_in (λ r. Among (crossings_of p r) q) pieces) (λ p. Some_of (Same q) (flat_map (crossings_of p) pieces)) pieces
-              (λ p k. flat_map-Some_of (Same q) (crossings_of p) pieces k) second))
+          (Some_in-map (λ p. Some_in (λ r. Among (crossings_of p r) q) pieces) (λ p. Some_of (Same q) (flat_map (crossings_of p) pieces)) pieces
+          (λ p k. flat_map-Some_of (Same q) (crossings_of p) pieces k) second))
     ]

@@ -1,7 +1,7 @@
 -- The order of edges that holds in a slab falls in its right column too, where points are located next.
-use Rattle.std.proofs.Common.{◌≡◌, ◌≢◌, refl, ap, sym, ◌∙◌, ℤ, pos, ◌<ℤ◌, ◌<◌, arith, Bool, true, false, cond, List, [], ◌∷◌, map, length}
+use Rattle.std.proofs.Common.{◌≡◌, ◌≢◌, ap, sym, ◌∙◌, ℤ, arith, true, false, cond, List, [], ◌∷◌, map}
 use Rattle.std.specs.Prelude.{int_lt}
-use Rattle.std.specs.List.{All, AllPairs}
+use Rattle.std.specs.List.{All}
 use Rattle.std.specs.declared.cmp.Ordering.TheVariants.{Greater}
 use Rattle.std.proofs.lemmas.Int.{ints}
 use Rattle.std.proofs.lemmas.List.Elements.{All-cons}

@@ -1,11 +1,11 @@
 -- The heights at which pieces meet a column are numbers, and the same ones however the column's place is written.
-use Rattle.std.proofs.Common.{◌≡◌, refl, ap, sym, ◌∙◌, ℕ, ℤ, pos, ◌+ℤ◌, ◌-ℤ◌, ◌*ℤ◌, ◌<◌, ◌*◌, lit<, arith, Bool, true, false, List, [], ◌∷◌, ◌++◌, unsigned_abs}
+use Rattle.std.proofs.Common.{◌≡◌, refl, ap, sym, ◌∙◌, ℤ, pos, ◌+ℤ◌, ◌-ℤ◌, ◌*ℤ◌, lit<, Bool, true, false, List, [], ◌∷◌, ◌++◌, unsigned_abs}
 use Rattle.std.specs.Prelude.{if◌then◌else◌}
 use Rattle.std.specs.List.{flat_map}
 use Rattle.std.specs.Int.{int_max, int_min}
 use Rattle.sf_grid.specs.Fraction.{Fraction, IsFraction, fraction_eq, whole}
 use Rattle.sf_grid.specs.Plane.{Coordinates}
-use Rattle.sf_grid.specs.Edge.{Edge as Line, edge_between, height_at, height_rightward, is_vertical, left_end, reaches, right_end}
+use Rattle.sf_grid.specs.Edge.{Edge as Line, edge_between, height_at, is_vertical, left_end, reaches, right_end}
 use Rattle.sf_grid.proofs.OrderLaws.{height-IsFraction}
 use Rattle.sf_grid.proofs.PointLaws.{Same, within-same}
 use Rattle.sf_grid.proofs.Ring.{ring, var, sum, dif, mul}
@@ -13,7 +13,7 @@ use Rattle.sf_grid.proofs.NumberTests.{eq_from_test, same_tests, test_from_eq}
 use Rattle.sf_slabs.specs.declared.piece.Piece.{Piece}
 use Rattle.sf_slabs.specs.declared.piece.Piece.TheVariants.{Dot, Edge}
 use Rattle.sf_slabs.specs.Pieces.{heights_of, if_in_column}
-use Rattle.sf_slabs.proofs.NumberLaws.{Among, Numbers, Pairs, Same-trans}
+use Rattle.sf_slabs.proofs.NumberLaws.{Numbers, Pairs, Same-trans}
 use Rattle.sf_slabs.proofs.SampleLaws.{Each, if_cases}
 
 -- ---- lists one after another
@@ -48,12 +48,14 @@ height_at-same e x x' h =
     (mul (sum (mul (mul (var 1) (var 6)) (dif (var 2) (var 0))) (mul (dif (var 3) (var 1)) (dif (var 4) (mul (var 0) (var 6))))) (mul (var 7) (var 5)))
     refl
   where
-  u : Coordinates
-  u = left_end e
-  v : Coordinates
-  v = right_end e
-  k : ℤ
-  k = pos (unsigned_abs ((right_end e).x -ℤ (left_end e).x))
+    u : Coordinates
+    u = left_end e
+
+    v : Coordinates
+    v = right_end e
+
+    k : ℤ
+    k = pos (unsigned_abs ((right_end e).x -ℤ (left_end e).x))
 
 -- ---- tests of a column
 pub reaches-same : (e : Line) (x x' : Fraction) → IsFraction x → IsFraction x' → Same x x' → reaches e x ≡ reaches e x'

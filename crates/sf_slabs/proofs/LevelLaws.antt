@@ -1,26 +1,23 @@
 -- The cells of a column, from the top: at each height the point and the gap below it, where what is above grows by what goes on.
-use Rattle.std.proofs.Common.{◌≡◌, refl, ap, sym, ◌∙◌, ℕ, ℤ, pos, ◌+ℤ◌, ◌-ℤ◌, ◌*ℤ◌, ◌≤ℤ◌, ◌<ℤ◌, ◌<◌, ◌*◌, arith, Bool, true, false, ◌&&◌, ◌||◌, List, [], ◌∷◌, ◌++◌, map, ◌⊎◌, inl, inr}
-use Rattle.std.specs.Prelude.{if◌then◌else◌, int_le, int_lt}
-use Rattle.std.specs.List.{flat_map}
-use Rattle.std.proofs.lemmas.Bool.{and_from, and_parts, both_ways, cases_Bool}
+use Rattle.std.proofs.Common.{◌≡◌, refl, ap, sym, ◌∙◌, ℕ, ℤ, pos, ◌+ℤ◌, ◌-ℤ◌, ◌*ℤ◌, ◌<ℤ◌, ◌<◌, arith, Bool, true, false, ◌||◌, List, [], ◌∷◌, map, ◌⊎◌, inl, inr}
+use Rattle.std.proofs.lemmas.Bool.{both_ways, cases_Bool}
 use Rattle.std.proofs.lemmas.Int.{ints}
-use Rattle.sf_grid.specs.Fraction.{Fraction, IsFraction, fraction_lt, middle, one_less, one_more}
+use Rattle.sf_grid.specs.Fraction.{Fraction, IsFraction, fraction_lt, middle, one_less}
 use Rattle.sf_grid.specs.Plane.{point_at}
 use Rattle.sf_grid.proofs.PointLaws.{Same}
 use Rattle.sf_grid.proofs.Products.{mul_lt}
-use Rattle.sf_grid.proofs.Ring.{ring, var, num, sum, dif, mul}
+use Rattle.sf_grid.proofs.Ring.{ring, var, num, sum, mul}
 use Rattle.sf_grid.proofs.NumberTests.{lt_from_test, test_from_lt}
 use Rattle.sf_slabs.specs.declared.piece.Piece.{Piece}
 use Rattle.sf_slabs.specs.declared.cell.Cell.{Cell}
 use Rattle.sf_slabs.specs.Pieces.{is_above, is_on}
-use Rattle.sf_slabs.specs.Samples.{Mark, dimension, listed, marks, marks_from, sample_at, unlisted}
+use Rattle.sf_slabs.specs.Samples.{Mark, dimension, marks_from, sample_at}
 use Rattle.sf_slabs.specs.Cells.{cell_of, numbers_from}
-use Rattle.sf_slabs.proofs.AboveLaws.{Stands, goes_on_from, height_of, is_above-height, is_above-lower, passes}
+use Rattle.sf_slabs.proofs.AboveLaws.{Stands, goes_on_from, height_of, is_above-lower, passes}
 use Rattle.sf_slabs.proofs.CellLaws.{AgreeOn, numbers_from-agree}
-use Rattle.sf_slabs.proofs.ColumnLaws.{column_cells}
 use Rattle.sf_slabs.proofs.MarkLaws.{middle-number}
 use Rattle.sf_slabs.proofs.NumberLaws.{Among, Each-before, Numbers, before_among, falling_order, rising_order}
-use Rattle.sf_slabs.proofs.SampleLaws.{Each, Follow, FollowFrom}
+use Rattle.sf_slabs.proofs.SampleLaws.{FollowFrom}
 
 -- ---- a height in a column: what is on it, what goes on from it, and what is on the gap below it
 pub record Level : Type 0 where
@@ -50,8 +47,8 @@ levels_from x q (r ∷ rs) =
 product_positive : (q : Fraction) → IsFraction q → pos 0 <ℤ (pos q.den)
 product_positive q i = size_of q.den i.positive
   where
-  size_of : (d : ℕ) → 0 < d → pos 0 <ℤ (pos d)
-  size_of d h = omega (arith, ints)
+    size_of : (d : ℕ) → 0 < d → pos 0 <ℤ (pos d)
+    size_of d h = omega (arith, ints)
 
 halfway_above : (a b : ℤ) → a <ℤ b → (a +ℤ a) <ℤ (b +ℤ a)
 halfway_above a b h = omega (arith, ints)
@@ -66,23 +63,23 @@ pub middle-above : (q r : Fraction) → IsFraction q → IsFraction r → fracti
 middle-above q r i j h =
     test_from_lt _ _
     (lt_same _ _ _ _
-      (ring (r.num ∷ pos q.den ∷ pos r.den ∷ []) (mul (var 0) (mul (num (pos 2)) (mul (var 1) (var 2)))) (mul (sum (mul (var 0) (var 1)) (mul (var 0) (var 1))) (var 2)) refl)
-      refl
-      (mul_lt _ _ r.den j.positive (halfway_above (r.num *ℤ pos q.den) (q.num *ℤ pos r.den) (lt_from_test _ _ h))))
+    (ring (r.num ∷ pos q.den ∷ pos r.den ∷ []) (mul (var 0) (mul (num (pos 2)) (mul (var 1) (var 2)))) (mul (sum (mul (var 0) (var 1)) (mul (var 0) (var 1))) (var 2)) refl)
+    refl
+    (mul_lt _ _ r.den j.positive (halfway_above (r.num *ℤ pos q.den) (q.num *ℤ pos r.den) (lt_from_test _ _ h))))
 
 pub middle-below : (q r : Fraction) → IsFraction q → IsFraction r → fraction_lt r q ≡ true → fraction_lt (middle q r) q ≡ true
 middle-below q r i j h =
     test_from_lt _ _
     (lt_same _ _ _ _
-      refl
-      (ring (q.num ∷ pos q.den ∷ pos r.den ∷ []) (mul (var 0) (mul (num (pos 2)) (mul (var 1) (var 2)))) (mul (sum (mul (var 0) (var 2)) (mul (var 0) (var 2))) (var 1)) refl)
-      (mul_lt _ _ q.den i.positive (halfway_below (r.num *ℤ pos q.den) (q.num *ℤ pos r.den) (lt_from_test _ _ h))))
+    refl
+    (ring (q.num ∷ pos q.den ∷ pos r.den ∷ []) (mul (var 0) (mul (num (pos 2)) (mul (var 1) (var 2)))) (mul (sum (mul (var 0) (var 2)) (mul (var 0) (var 2))) (var 1)) refl)
+    (mul_lt _ _ q.den i.positive (halfway_below (r.num *ℤ pos q.den) (q.num *ℤ pos r.den) (lt_from_test _ _ h))))
 
 pub one_less-below : (q : Fraction) → IsFraction q → fraction_lt (one_less q) q ≡ true
 one_less-below q i = test_from_lt _ _ (mul_lt _ _ q.den i.positive (smaller q.num (pos q.den) (product_positive q i)))
   where
-  smaller : (n d : ℤ) → pos 0 <ℤ d → (n -ℤ d) <ℤ n
-  smaller n d h = omega (arith, ints)
+    smaller : (n d : ℤ) → pos 0 <ℤ d → (n -ℤ d) <ℤ n
+    smaller n d h = omega (arith, ints)
 
 -- ---- where pieces stand against the heights from q on
 -- every piece of a list has a property
@@ -105,7 +102,7 @@ not_above r h rs i j n f a =
         | inr later ↦
             absurd (rising_order.apart r r refl
             (rising_order.trans r h r i j i yes'
-              (before_among (λ a b. fraction_lt b a) falling_order r h rs i j n (Each-before (λ a b. fraction_lt b a) falling_order r rs i n f) later)))
+            (before_among (λ a b. fraction_lt b a) falling_order r h rs i j n (Each-before (λ a b. fraction_lt b a) falling_order r rs i n f) later)))
       ]
     ]
 
@@ -117,34 +114,38 @@ not_above_higher m r h i j k l e =
 stands_from : (x q r m : Fraction) (rs : List Fraction) (p : Piece) → IsFraction q → IsFraction r → IsFraction m → Numbers rs →
     FollowFrom (λ a b. fraction_lt b a) r rs → (Same m r) ⊎ (fraction_lt r m ≡ true) → Placed x q (r ∷ rs) p → Stands x q m p
 stands_from x q r m rs p i j k n f c h t =
-    let g = h t in
-    (g.0, elim g.1 [
-      | inl above ↦ inl above
-      | inr among ↦ elim among [
-        | inl here ↦ inr (inl here)
-        | inr later ↦
-            let low = not_above r (height_of x p) rs j g.0 n f later in
-            inr (inr (elim c [
-              | inl same ↦ elim (cases_Bool (fraction_lt m (height_of x p))) [
-                | inl up ↦ absurd (both_ways _ low (rising_order.same_first r m (height_of x p) j k g.0 (sym same) up))
-                | inr no' ↦ no'
-              ]
-              | inr less ↦ not_above_higher m r (height_of x p) k j g.0 less low
-            ]))
-      ]
-    ])
+    let g = h t in (
+      g.0,
+      elim g.1 [
+        | inl above ↦ inl above
+        | inr among ↦ elim among [
+          | inl here ↦ inr (inl here)
+          | inr later ↦
+              let low = not_above r (height_of x p) rs j g.0 n f later in
+              inr (inr (elim c [
+                | inl same ↦ elim (cases_Bool (fraction_lt m (height_of x p))) [
+                  | inl up ↦ absurd (both_ways _ low (rising_order.same_first r m (height_of x p) j k g.0 (sym same) up))
+                  | inr no' ↦ no'
+                ]
+                | inr less ↦ not_above_higher m r (height_of x p) k j g.0 less low
+              ]))
+        ]
+      ],
+    )
 
 placed_next : (x q r : Fraction) (rs : List Fraction) (p : Piece) → IsFraction q → IsFraction r → fraction_lt r q ≡ true →
     Placed x q (r ∷ rs) p → Placed x r rs p
 placed_next x q r rs p i j l h t =
-    let g = h t in
-    (g.0, elim g.1 [
-      | inl above ↦ inl (rising_order.trans r q (height_of x p) j i g.0 l above)
-      | inr among ↦ elim among [
-        | inl here ↦ inl (rising_order.same_second r q (height_of x p) j i g.0 l (sym here))
-        | inr later ↦ inr later
-      ]
-    ])
+    let g = h t in (
+      g.0,
+      elim g.1 [
+        | inl above ↦ inl (rising_order.trans r q (height_of x p) j i g.0 l above)
+        | inr among ↦ elim among [
+          | inl here ↦ inl (rising_order.same_second r q (height_of x p) j i g.0 l (sym here))
+          | inr later ↦ inr later
+        ]
+      ],
+    )
 
 stands_last : (x q m : Fraction) (p : Piece) → Placed x q [] p → Stands x q m p
 stands_last x q m p h t =
@@ -179,8 +180,8 @@ cells-levels x q [] above pieces i n f h a =
     two_cells _ _ _ _ _ _
     (cell-agree (dimension x.listed true) (is_on (point_at x.place q)) (is_above (point_at x.place q)) above pieces a)
     (cell-agree (dimension x.listed false) (is_on (point_at x.place (one_less q))) (is_above (point_at x.place (one_less q))) (λ p. above p || goes_on_from x.place q p) pieces
-      (grown x.place q (one_less q) above pieces i (record { positive = i.positive }) (one_less-below q i)
-        (EachPiece-map (Placed x.place q []) (Stands x.place q (one_less q)) pieces (λ p k. stands_last x.place q (one_less q) p k) h) a))
+    (grown x.place q (one_less q) above pieces i (record { positive = i.positive }) (one_less-below q i)
+    (EachPiece-map (Placed x.place q []) (Stands x.place q (one_less q)) pieces (λ p k. stands_last x.place q (one_less q) p k) h) a))
     refl
 cells-levels x q (r ∷ rs) above pieces i n f h a =
     let m = middle q r in
@@ -188,11 +189,11 @@ cells-levels x q (r ∷ rs) above pieces i n f h a =
     two_cells _ _ _ _ _ _
     (cell-agree (dimension x.listed true) (is_on (point_at x.place q)) (is_above (point_at x.place q)) above pieces a)
     (cell-agree (dimension x.listed false) (is_on (point_at x.place m)) (is_above (point_at x.place m)) (λ p. above p || goes_on_from x.place q p) pieces
-      (grown x.place q m above pieces i im (middle-below q r i n.0 f.0)
-        (EachPiece-map (Placed x.place q (r ∷ rs)) (Stands x.place q m) pieces
-          (λ p k. stands_from x.place q r m rs p i n.0 im n.1 f.1 (inr (middle-above q r i n.0 f.0)) k) h) a))
+    (grown x.place q m above pieces i im (middle-below q r i n.0 f.0)
+    (EachPiece-map (Placed x.place q (r ∷ rs)) (Stands x.place q m) pieces
+    (λ p k. stands_from x.place q r m rs p i n.0 im n.1 f.1 (inr (middle-above q r i n.0 f.0)) k) h) a))
     (cells-levels x r rs (λ p. above p || goes_on_from x.place q p) pieces n.0 n.1 f.1
-      (EachPiece-map (Placed x.place q (r ∷ rs)) (Placed x.place r rs) pieces (λ p k. placed_next x.place q r rs p i n.0 f.0 k) h)
-      (grown x.place q r above pieces i n.0 f.0
-        (EachPiece-map (Placed x.place q (r ∷ rs)) (Stands x.place q r) pieces
-          (λ p k. stands_from x.place q r r rs p i n.0 n.0 n.1 f.1 (inl refl) k) h) a))
+    (EachPiece-map (Placed x.place q (r ∷ rs)) (Placed x.place r rs) pieces (λ p k. placed_next x.place q r rs p i n.0 f.0 k) h)
+    (grown x.place q r above pieces i n.0 f.0
+    (EachPiece-map (Placed x.place q (r ∷ rs)) (Stands x.place q r) pieces
+    (λ p k. stands_from x.place q r r rs p i n.0 n.0 n.1 f.1 (inl refl) k) h) a))

@@ -1,20 +1,17 @@
 -- In an order whose heights fall, the edges above a point come first, then those through it, then those below.
-use Rattle.std.proofs.Common.{◌≡◌, ◌≢◌, refl, ap, sym, ◌∙◌, ℕ, ℤ, pos, ◌*ℤ◌, ◌≤ℤ◌, ◌<ℤ◌, ◌<◌, ◌≤◌, ◌*◌, arith, Bool, true, false, List, length, slice_index_or, inl, inr, ◌⊎◌}
-use Rattle.std.specs.Prelude.{int_le, int_lt}
-use Rattle.std.specs.List.{AllWithin}
+use Rattle.std.proofs.Common.{◌≡◌, ℕ, ◌≤◌, arith, Bool, true, false, List, length, slice_index_or, inl, inr}
 use Rattle.std.specs.List.Sorted.{IsPartitionPoint, IsPartitionedBy}
-use Rattle.std.specs.Ordering.{int_cmp}
 use Rattle.std.specs.declared.cmp.Ordering.TheVariants.{Equal, Greater, Less}
 use Rattle.std.proofs.lemmas.Bool.{cases_lt}
 use Rattle.std.proofs.lemmas.Int.{ints}
 use Rattle.sf_grid.specs.Fraction.{Fraction, IsFraction, fraction_cmp, fraction_le, fraction_lt}
-use Rattle.sf_grid.specs.Plane.{Coordinates, IsPoint, Point, x_of, y_of}
+use Rattle.sf_grid.specs.Plane.{IsPoint, Point, x_of, y_of}
 use Rattle.sf_grid.proofs.FractionLaws.{le-trans}
 use Rattle.sf_grid.proofs.NumberTests.{le_from_test, lt_from_test, test_from_le, test_from_lt}
 use Rattle.sf_grid.proofs.OrderLaws.{lt_le, not_greater_is, product_pos, run_pos}
 use Rattle.sf_slabs.specs.declared.slanted.Slanted.{Slanted}
 use Rattle.sf_slabs.specs.Order.{FallsAt, IsLocated, height_in}
-use Rattle.sf_slabs.specs.Slanted.{is_line_above, is_line_not_below, side_of}
+use Rattle.sf_slabs.specs.Slanted.{is_line_above, is_line_not_below}
 
 -- the height of an edge that runs to the right is a number
 pub height_in-number : (x : Fraction) (e : Slanted) → IsFraction x → IsFraction (height_in x e)
@@ -37,7 +34,7 @@ above-partitions p order q f i j d l k h =
           let x : IsFraction (x_of p) = record { positive = q.positive } in
           test_from_lt _ _
           (lt_le (y_of p) (height_in (x_of p) g) (height_in (x_of p) e) (record { positive = q.positive }) (height_in-number (x_of p) g x) (height_in-number (x_of p) e x)
-            (lt_from_test _ _ h) (not_greater_is _ _ falls))
+          (lt_from_test _ _ h) (not_greater_is _ _ falls))
       | inr same ↦ let eq : i ≡ j = omega arith in rw eq h
     ]
 

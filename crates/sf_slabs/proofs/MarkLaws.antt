@@ -1,10 +1,10 @@
 -- The places that are marked in a column or along the axis, from lists of the same numbers.
-use Rattle.std.proofs.Common.{◌≡◌, refl, ap, sym, ◌∙◌, ℕ, ℤ, pos, ◌+ℤ◌, ◌*ℤ◌, ◌<◌, ◌*◌, ◌-ℤ◌, lit<, arith, List, [], ◌∷◌}
-use Rattle.sf_grid.specs.Fraction.{Fraction, IsFraction, middle, one_less, one_more, whole}
+use Rattle.std.proofs.Common.{refl, ap, ◌∙◌, pos, ◌+ℤ◌, ◌*ℤ◌, ◌-ℤ◌, lit<, arith, List, [], ◌∷◌}
+use Rattle.sf_grid.specs.Fraction.{Fraction, IsFraction, middle, one_less, one_more}
 use Rattle.sf_grid.proofs.OrderLaws.{product_pos}
 use Rattle.sf_grid.proofs.PointLaws.{Same}
 use Rattle.sf_grid.proofs.Ring.{ring, var, num, sum, dif, mul}
-use Rattle.sf_slabs.specs.Samples.{Mark, listed, marks, marks_from, unlisted}
+use Rattle.sf_slabs.specs.Samples.{marks, marks_from}
 use Rattle.sf_slabs.proofs.CellLaws.{SameMark}
 use Rattle.sf_slabs.proofs.NumberLaws.{Numbers, Pairs}
 
@@ -55,19 +55,24 @@ middle-number q r i j = record { positive = omega (arith, product_pos q.den r.de
 marks_from-same : (past : Fraction → Fraction) → IsStep past → (q r : Fraction) (qs rs : List Fraction) →
     IsFraction q → IsFraction r → Numbers qs → Numbers rs → Same q r → Pairs Same qs rs →
     Pairs SameMark (marks_from past q qs) (marks_from past r rs)
-marks_from-same past s q r [] [] i j n m e h =
-    (record { place = e; listed = refl; first = i; second = j },
-    (record { place = s.same q r e; listed = refl; first = s.number q i; second = s.number r j }, tt))
+marks_from-same past s q r [] [] i j n m e h = (
+  record { place = e; listed = refl; first = i; second = j },
+  (record { place = s.same q r e; listed = refl; first = s.number q i; second = s.number r j }, tt),
+)
 marks_from-same past s q r [] (r' ∷ rs) i j n m e h = absurd h
 marks_from-same past s q r (q' ∷ qs) [] i j n m e h = absurd h
-marks_from-same past s q r (q' ∷ qs) (r' ∷ rs) i j n m e h =
-    (record { place = e; listed = refl; first = i; second = j },
-    (record {
+marks_from-same past s q r (q' ∷ qs) (r' ∷ rs) i j n m e h = (
+  record { place = e; listed = refl; first = i; second = j },
+  (
+    record {
       place = middle-same q r q' r' e h.0;
       listed = refl;
       first = middle-number q q' i n.0;
       second = middle-number r r' j m.0;
-    }, marks_from-same past s q' r' qs rs n.0 m.0 n.1 m.1 h.0 h.1))
+    },
+    marks_from-same past s q' r' qs rs n.0 m.0 n.1 m.1 h.0 h.1,
+  ),
+)
 
 pub marks-same : (ahead past : Fraction → Fraction) → IsStep ahead → IsStep past → (qs rs : List Fraction) →
     Numbers qs → Numbers rs → Pairs Same qs rs → Pairs SameMark (marks ahead past qs) (marks ahead past rs)
@@ -75,6 +80,7 @@ marks-same ahead past a s [] [] n m h =
     (record { place = refl; listed = refl; first = record { positive = lit< tt }; second = record { positive = lit< tt } }, tt)
 marks-same ahead past a s [] (r ∷ rs) n m h = absurd h
 marks-same ahead past a s (q ∷ qs) [] n m h = absurd h
-marks-same ahead past a s (q ∷ qs) (r ∷ rs) n m h =
-    (record { place = a.same q r h.0; listed = refl; first = a.number q n.0; second = a.number r m.0 },
-    marks_from-same past s q r qs rs n.0 m.0 n.1 m.1 h.0 h.1)
+marks-same ahead past a s (q ∷ qs) (r ∷ rs) n m h = (
+  record { place = a.same q r h.0; listed = refl; first = a.number q n.0; second = a.number r m.0 },
+  marks_from-same past s q r qs rs n.0 m.0 n.1 m.1 h.0 h.1,
+)

@@ -1,7 +1,6 @@
 -- The least of a list of places, as the list grows.
-use Rattle.std.proofs.Common.{◌≡◌, refl, ap, sym, ◌∙◌, ℕ, ◌+◌, ◌<◌, ℤ, pos, ◌*ℤ◌, ◌≤ℤ◌, ◌<ℤ◌, arith, Bool, true, false, List, [], ◌∷◌, ◌++◌, take, length, get_or, Option, Some, None}
-use Rattle.std.specs.Prelude.{if◌then◌else◌, int_lt, IsTrue}
-use Rattle.std.specs.List.{All, Contains}
+use Rattle.std.proofs.Common.{◌≡◌, refl, ap, ◌∙◌, ℕ, ◌+◌, ◌<◌, ℤ, pos, ◌*ℤ◌, ◌≤ℤ◌, ◌<ℤ◌, arith, Bool, true, false, List, [], ◌∷◌, ◌++◌, take, length, get_or, Option, Some, None}
+use Rattle.std.specs.Prelude.{if◌then◌else◌, IsTrue}
 use Rattle.std.proofs.lemmas.Int.{ints}
 use Rattle.std.proofs.lemmas.List.{take_more}
 use Rattle.std.proofs.lemmas.List.Elements.{All-nil, All-push, All-same, All-weaker, Contains-append_left, Contains-push}
@@ -19,38 +18,44 @@ IsNearest (Some y) qs = IsFraction y × IsLeastOf qs y
 itself : (q : Fraction) → fraction_le q q ≡ true
 itself q = test_from_le (q.num *ℤ pos q.den) (q.num *ℤ pos q.den) (same (q.num *ℤ pos q.den))
   where
-  same : (a : ℤ) → a ≤ℤ a
-  same a = omega (arith, ints)
+    same : (a : ℤ) → a ≤ℤ a
+    same a = omega (arith, ints)
 
 le_of_lt : (a b : ℤ) → a <ℤ b → a ≤ℤ b
 le_of_lt a b h = omega (arith, ints)
 
 -- one more place
 pub nearest_more : (n : Option Fraction) (qs : List Fraction) (q : Fraction) → IsFraction q → IsNearest n qs → IsNearest (Some (lesser n q)) (qs ++ q ∷ [])
-nearest_more None qs q i h =
-    (i, record {
-      among = Contains-push qs q;
-      least = All-push (λ r. IsTrue (fraction_le q r)) qs q (All-same (λ r. IsTrue (fraction_le q r)) qs [] h (All-nil (λ r. IsTrue (fraction_le q r)))) (itself q);
-    })
+nearest_more None qs q i h = (
+  i,
+  record {
+    among = Contains-push qs q;
+    least = All-push (λ r. IsTrue (fraction_le q r)) qs q (All-same (λ r. IsTrue (fraction_le q r)) qs [] h (All-nil (λ r. IsTrue (fraction_le q r)))) (itself q);
+  },
+)
 nearest_more (Some p) qs q i h = by_test (fraction_lt q p) refl
   where
-  by_test : (t : Bool) → fraction_lt q p ≡ t → IsNearest (Some (if t then q else p)) (qs ++ q ∷ [])
-  by_test true l =
-      (i, record {
+    by_test : (t : Bool) → fraction_lt q p ≡ t → IsNearest (Some (if t then q else p)) (qs ++ q ∷ [])
+    by_test true l = (
+      i,
+      record {
         among = Contains-push qs q;
         least =
             All-push (λ r. IsTrue (fraction_le q r)) qs q
             (All-weaker (λ r. IsTrue (fraction_le p r)) (λ r. IsTrue (fraction_le q r))
-              (λ r k. test_from_le (q.num *ℤ pos r.den) (r.num *ℤ pos q.den)
-                (le-trans q p r h.0 (le_of_lt (q.num *ℤ pos p.den) (p.num *ℤ pos q.den) (lt_from_test (q.num *ℤ pos p.den) (p.num *ℤ pos q.den) l)) (le_from_test (p.num *ℤ pos r.den) (r.num *ℤ pos p.den) k)))
-              qs h.1.least)
+            (λ r k. test_from_le (q.num *ℤ pos r.den) (r.num *ℤ pos q.den)
+            (le-trans q p r h.0 (le_of_lt (q.num *ℤ pos p.den) (p.num *ℤ pos q.den) (lt_from_test (q.num *ℤ pos p.den) (p.num *ℤ pos q.den) l)) (le_from_test (p.num *ℤ pos r.den) (r.num *ℤ pos p.den) k)))
+            qs h.1.least)
             (itself q);
-      })
-  by_test false l =
-      (h.0, record {
+      },
+    )
+    by_test false l = (
+      h.0,
+      record {
         among = Contains-append_left qs (q ∷ []) p h.1.among;
         least = All-push (λ r. IsTrue (fraction_le p r)) qs q h.1.least (test_from_le (p.num *ℤ pos q.den) (q.num *ℤ pos p.den) (ge_from_test (q.num *ℤ pos p.den) (p.num *ℤ pos q.den) l));
-      })
+      },
+    )
 
 -- ---- the candidates of one more meeting
 places_of-append : (ms ns : List (Option Point)) → places_of (ms ++ ns) ≡ places_of ms ++ places_of ns

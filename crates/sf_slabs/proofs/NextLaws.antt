@@ -1,12 +1,12 @@
 -- A list of numbers in rising order is made by going from each to the next one.
-use Rattle.std.proofs.Common.{◌≡◌, refl, sym, ◌∙◌, ℤ, pos, ◌*ℤ◌, ◌≤ℤ◌, ◌<ℤ◌, ◌<◌, arith, Bool, true, false, List, [], ◌∷◌, ◌⊎◌, inl, inr}
+use Rattle.std.proofs.Common.{◌≡◌, refl, ℤ, pos, ◌*ℤ◌, ◌≤ℤ◌, arith, true, List, [], ◌∷◌, ◌⊎◌, inl, inr}
 use Rattle.std.proofs.lemmas.Int.{ints, by_lt_z}
 use Rattle.std.specs.Prelude.{int_lt}
 use Rattle.sf_grid.specs.Fraction.{Fraction, IsFraction, fraction_le, fraction_lt}
 use Rattle.sf_grid.proofs.PointLaws.{Same}
 use Rattle.sf_grid.proofs.NumberTests.{le_from_test, test_from_lt}
 use Rattle.sf_slabs.proofs.NumberLaws.{Among, IsListing, Numbers}
-use Rattle.sf_slabs.proofs.SampleLaws.{Each, Follow, FollowFrom, Some_of}
+use Rattle.sf_slabs.proofs.SampleLaws.{Each, FollowFrom, Some_of}
 
 -- y is the least of the numbers
 pub record IsLeast (numbers : List Fraction) (y : Fraction) : Type 0 where
@@ -46,8 +46,8 @@ NextFrom-among numbers x (y ∷ ys) h = (h.0.among, NextFrom-among numbers y ys 
 at_or_above : (x q : Fraction) → fraction_le x q ≡ true → Same q x ⊎ (fraction_lt x q ≡ true)
 at_or_above x q h = by_number (x.num *ℤ pos q.den) (q.num *ℤ pos x.den) (le_from_test _ _ h)
   where
-  by_number : (a b : ℤ) → a ≤ℤ b → (b ≡ a) ⊎ (int_lt a b ≡ true)
-  by_number a b k = by_lt_z a b (λ l. inr (test_from_lt a b l)) (λ l. inl (omega (arith, ints)))
+    by_number : (a b : ℤ) → a ≤ℤ b → (b ≡ a) ⊎ (int_lt a b ≡ true)
+    by_number a b k = by_lt_z a b (λ l. inr (test_from_lt a b l)) (λ l. inl (omega (arith, ints)))
 
 -- one number of the list that is at y or above it stands in the rest
 found : (numbers : List Fraction) (q x : Fraction) (ys : List Fraction) → Some_of (λ r. q ≡ r) numbers → NextFrom numbers x ys →
@@ -55,26 +55,27 @@ found : (numbers : List Fraction) (q x : Fraction) (ys : List Fraction) → Some
 found numbers q x [] m h k =
     elim (at_or_above x q k) [ inl same ↦ inl same | inr above ↦ absurd (never numbers m h above) ]
   where
-  never : (ns : List Fraction) → Some_of (λ r. q ≡ r) ns → Each (λ r. fraction_lt x r ≡ true → ⊥) ns → fraction_lt x q ≡ true → ⊥
-  never [] n e l = absurd n
-  never (n ∷ ns) i e l = elim i [ inl here ↦ e.0 (subst_lt here l) | inr later ↦ never ns later e.1 l ]
-    where
-    subst_lt : q ≡ n → fraction_lt x q ≡ true → fraction_lt x n ≡ true
-    subst_lt e l = rw e at l
+    never : (ns : List Fraction) → Some_of (λ r. q ≡ r) ns → Each (λ r. fraction_lt x r ≡ true → ⊥) ns → fraction_lt x q ≡ true → ⊥
+    never [] n e l = absurd n
+    never (n ∷ ns) i e l = elim i [ inl here ↦ e.0 (subst_lt here l) | inr later ↦ never ns later e.1 l ]
+      where
+        subst_lt : q ≡ n → fraction_lt x q ≡ true → fraction_lt x n ≡ true
+        subst_lt e l = rw e at l
 found numbers q x (y ∷ ys) m h k =
     elim (at_or_above x q k) [
       | inl same ↦ inl same
       | inr above ↦ inr (found numbers q y ys m h.1 (reached numbers m h.0.least above))
     ]
   where
-  reached : (ns : List Fraction) → Some_of (λ r. q ≡ r) ns → Each (λ r. fraction_lt x r ≡ true → fraction_le y r ≡ true) ns → fraction_lt x q ≡ true → fraction_le y q ≡ true
-  reached [] n e l = absurd n
-  reached (n ∷ ns) i e l = elim i [ inl here ↦ moved here (e.0 (at here l)) | inr later ↦ reached ns later e.1 l ]
-    where
-    at : q ≡ n → fraction_lt x q ≡ true → fraction_lt x n ≡ true
-    at e l = rw e at l
-    moved : q ≡ n → fraction_le y n ≡ true → fraction_le y q ≡ true
-    moved e l = rw (← e) at l
+    reached : (ns : List Fraction) → Some_of (λ r. q ≡ r) ns → Each (λ r. fraction_lt x r ≡ true → fraction_le y r ≡ true) ns → fraction_lt x q ≡ true → fraction_le y q ≡ true
+    reached [] n e l = absurd n
+    reached (n ∷ ns) i e l = elim i [ inl here ↦ moved here (e.0 (at here l)) | inr later ↦ reached ns later e.1 l ]
+      where
+        at : q ≡ n → fraction_lt x q ≡ true → fraction_lt x n ≡ true
+        at e l = rw e at l
+
+        moved : q ≡ n → fraction_le y n ≡ true → fraction_le y q ≡ true
+        moved e l = rw (← e) at l
 
 all_found : (numbers rest : List Fraction) (x : Fraction) (ys : List Fraction) → ((q : Fraction) → Some_of (λ r. q ≡ r) rest → Some_of (λ r. q ≡ r) numbers) →
     NextFrom numbers x ys → Each (λ q. fraction_le x q ≡ true) rest → Each (Among (x ∷ ys)) rest

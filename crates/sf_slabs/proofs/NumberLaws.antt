@@ -1,5 +1,5 @@
 -- Two lists in one strict order that have the same numbers are equal place by place, as numbers.
-use Rattle.std.proofs.Common.{◌≡◌, refl, ap, sym, ◌∙◌, ℕ, ℤ, pos, ◌+ℤ◌, ◌-ℤ◌, ◌*ℤ◌, ◌≤ℤ◌, ◌<ℤ◌, ◌<◌, ◌*◌, arith, Bool, true, false, List, [], ◌∷◌, inl, inr, ◌⊎◌}
+use Rattle.std.proofs.Common.{◌≡◌, refl, ap, sym, ◌∙◌, ℤ, pos, ◌*ℤ◌, ◌≤ℤ◌, ◌<ℤ◌, arith, Bool, true, List, [], ◌∷◌, inl, inr}
 use Rattle.std.proofs.lemmas.Int.{ints}
 use Rattle.sf_grid.specs.Fraction.{Fraction, IsFraction, fraction_lt}
 use Rattle.sf_grid.proofs.FractionLaws.{le}
@@ -23,8 +23,8 @@ Same-trans p q r h e f =
 le_from_same : (q r : Fraction) → Same q r → le q r
 le_from_same q r e = at_most (q.num *ℤ pos r.den) (r.num *ℤ pos q.den) e
   where
-  at_most : (a b : ℤ) → a ≡ b → a ≤ℤ b
-  at_most a b f = omega (arith, ints)
+    at_most : (a b : ℤ) → a ≡ b → a ≤ℤ b
+    at_most a b f = omega (arith, ints)
 
 le_from_lt : (a b : ℤ) → a <ℤ b → a ≤ℤ b
 le_from_lt a b h = omega (arith, ints)
@@ -84,9 +84,9 @@ Each-before before o q [] i n f = tt
 Each-before before o q (r ∷ rs) i n f =
     (f.0, carried rs n.1 (Each-before before o r rs n.0 n.1 f.1))
   where
-  carried : (ss : List Fraction) → Numbers ss → Each (λ s. before r s ≡ true) ss → Each (λ s. before q s ≡ true) ss
-  carried [] m g = tt
-  carried (s ∷ ss) m g = (o.trans q r s i n.0 m.0 f.0 g.0, carried ss m.1 g.1)
+    carried : (ss : List Fraction) → Numbers ss → Each (λ s. before r s ≡ true) ss → Each (λ s. before q s ≡ true) ss
+    carried [] m g = tt
+    carried (s ∷ ss) m g = (o.trans q r s i n.0 m.0 f.0 g.0, carried ss m.1 g.1)
 
 pub Follow-rest : (before : Fraction → Fraction → Bool) (q : Fraction) (rs : List Fraction) → FollowFrom before q rs → Follow before rs
 Follow-rest before q [] f = tt
@@ -114,8 +114,8 @@ same_first before o q r qs rs i j n m f g a b =
         | inr further ↦
             absurd (o.apart q q refl
             (o.trans q r q i j i
-              (before_among before o q r qs i j n (Each-before before o q qs i n f) further)
-              (before_among before o r q rs j i m (Each-before before o r rs j m g) later)))
+            (before_among before o q r qs i j n (Each-before before o q qs i n f) further)
+            (before_among before o r q rs j i m (Each-before before o r rs j m g) later)))
       ]
     ]
 
@@ -124,11 +124,13 @@ rest_among : (before : Fraction → Fraction → Bool) → IsOrder before → (q
     IsFraction q → IsFraction r → Numbers qs → Same q r → Each (λ p. before q p ≡ true) qs →
     Each (Among (r ∷ rs)) qs → Each (Among rs) qs
 rest_among before o q r [] rs i j n e f a = tt
-rest_among before o q r (p ∷ qs) rs i j n e f a =
-    (elim a.0 as (λ _. Among rs p) [
-      | inl here ↦ absurd (o.apart q p (Same-trans q r p j e (sym here)) f.0)
-      | inr later ↦ later
-    ], rest_among before o q r qs rs i j n.1 e f.1 a.1)
+rest_among before o q r (p ∷ qs) rs i j n e f a = (
+  elim a.0 as (λ _. Among rs p) [
+    | inl here ↦ absurd (o.apart q p (Same-trans q r p j e (sym here)) f.0)
+    | inr later ↦ later
+  ],
+  rest_among before o q r qs rs i j n.1 e f.1 a.1,
+)
 
 -- two lists in order with the same numbers
 pub Pairs-same : (before : Fraction → Fraction → Bool) → IsOrder before → (qs rs : List Fraction) →
@@ -137,11 +139,12 @@ Pairs-same before o [] [] n m f g a b = tt
 Pairs-same before o [] (r ∷ rs) n m f g a b = b.0
 Pairs-same before o (q ∷ qs) [] n m f g a b = a.0
 Pairs-same before o (q ∷ qs) (r ∷ rs) n m f g a b =
-    let e = same_first before o q r qs rs n.0 m.0 n.1 m.1 f g a.0 b.0 in
-    (e,
-    Pairs-same before o qs rs n.1 m.1 (Follow-rest before q qs f) (Follow-rest before r rs g)
-    (rest_among before o q r qs rs n.0 m.0 n.1 e (Each-before before o q qs n.0 n.1 f) a.1)
-    (rest_among before o r q rs qs m.0 n.0 m.1 (sym e) (Each-before before o r rs m.0 m.1 g) b.1))
+    let e = same_first before o q r qs rs n.0 m.0 n.1 m.1 f g a.0 b.0 in (
+      e,
+      Pairs-same before o qs rs n.1 m.1 (Follow-rest before q qs f) (Follow-rest before r rs g)
+          (rest_among before o q r qs rs n.0 m.0 n.1 e (Each-before before o q qs n.0 n.1 f) a.1)
+          (rest_among before o r q rs qs m.0 n.0 m.1 (sym e) (Each-before before o r rs m.0 m.1 g) b.1),
+    )
 
 -- ---- a list in order with the numbers of another list
 pub record IsListing (before : Fraction → Fraction → Bool) (qs rs : List Fraction) : Type 0 where

@@ -1,5 +1,5 @@
 -- A point is on a piece where the piece has its column and, in that column, its height.
-use Rattle.std.proofs.Common.{◌≡◌, refl, ap, sym, ◌∙◌, ℕ, ℤ, pos, ◌-ℤ◌, ◌*ℤ◌, ◌≤ℤ◌, ◌<◌, ◌*◌, arith, [], ◌∷◌, Bool, true, false, ◌&&◌, cond}
+use Rattle.std.proofs.Common.{◌≡◌, refl, ap, sym, ◌∙◌, ℕ, ℤ, pos, ◌-ℤ◌, ◌*ℤ◌, ◌<◌, ◌*◌, arith, [], ◌∷◌, Bool, true, false, ◌&&◌, cond}
 use Rattle.std.specs.Prelude.{int_le, int_lt}
 use Rattle.std.specs.Int.{int_max, int_min}
 use Rattle.std.specs.Ordering.{int_eq}
@@ -15,7 +15,7 @@ use Rattle.sf_grid.proofs.MeanLaws.{lies}
 use Rattle.sf_grid.proofs.OrderLaws.{product_pos}
 use Rattle.sf_grid.proofs.PointLaws.{Same, eq_from_mul, within-same}
 use Rattle.sf_grid.proofs.Ring.{ring, var, num, dif, mul}
-use Rattle.sf_grid.proofs.NumberTests.{eq_from_test, le_from_test, same_tests, test_from_eq, test_from_le}
+use Rattle.sf_grid.proofs.NumberTests.{eq_from_test, same_tests, test_from_eq}
 use Rattle.sf_slabs.proofs.SideLaws.{on-side}
 
 -- ---- the coordinates of a point of a column
@@ -45,9 +45,9 @@ within-y low high x y p q =
 line_rightward : (e : Edge) (p : Point) → cross e.a e.b p ≡ pos 0 → cross (left_end e) (right_end e) p ≡ pos 0
 line_rightward e p h = by_test (int_lt e.b.x e.a.x)
   where
-  by_test : (t : Bool) → cross (cond t e.b e.a) (cond t e.a e.b) p ≡ pos 0
-  by_test true = cross-swap e.a e.b p h
-  by_test false = h
+    by_test : (t : Bool) → cross (cond t e.b e.a) (cond t e.a e.b) p ≡ pos 0
+    by_test true = cross-swap e.a e.b p h
+    by_test false = h
 
 -- a point is on it where it reaches the point's column, at the point's height
 pub on_edge-height : (e : Edge) (x y : Fraction) → is_vertical e ≡ false → IsFraction x → IsFraction y →
@@ -55,15 +55,15 @@ pub on_edge-height : (e : Edge) (x y : Fraction) → is_vertical e ≡ false →
 on_edge-height e x y h p q =
     same_tests _ _
     (λ k.
-      let l = lies e (point_at x y) k in
-      and_from _ _
-      (sym (within-x (int_min e.a.x e.b.x) (int_max e.a.x e.b.x) x y p q) ∙ l.x)
-      (sym (on-side (left_end e) (right_end e) x y (runs_right e h))
-      ∙ test_from_eq _ _ (line_rightward e (point_at x y) l.line)))
+    let l = lies e (point_at x y) k in
+    and_from _ _
+    (sym (within-x (int_min e.a.x e.b.x) (int_max e.a.x e.b.x) x y p q) ∙ l.x)
+    (sym (on-side (left_end e) (right_end e) x y (runs_right e h))
+    ∙ test_from_eq _ _ (line_rightward e (point_at x y) l.line)))
     (λ k.
-      let parts = and_parts (reaches e x) (fraction_eq y (height_at e x)) k in
-      on_edge_at e x y h p q (reach e x parts.0)
-      (eq_from_test _ _ (on-side (left_end e) (right_end e) x y (runs_right e h) ∙ parts.1)))
+    let parts = and_parts (reaches e x) (fraction_eq y (height_at e x)) k in
+    on_edge_at e x y h p q (reach e x parts.0)
+    (eq_from_test _ _ (on-side (left_end e) (right_end e) x y (runs_right e h) ∙ parts.1)))
 
 -- ---- a vertical edge
 between_same : (a b z : ℤ) (k : ℕ) → a ≡ b →
@@ -77,8 +77,8 @@ between_same a b z k e =
     ∙ squeezed (a *ℤ pos k) z
     ∙ ap (λ m. int_eq (a *ℤ pos k) m) (sym one)
   where
-  squeezed : (s t : ℤ) → (int_le s t && int_le t s) ≡ int_eq s t
-  squeezed s t = grind (arith, ints)
+    squeezed : (s t : ℤ) → (int_le s t && int_le t s) ≡ int_eq s t
+    squeezed s t = grind (arith, ints)
 
 -- it reaches its own column alone
 pub reaches-vertical : (e : Edge) (x : Fraction) → is_vertical e ≡ true → reaches e x ≡ fraction_eq (whole e.a.x) x
@@ -98,24 +98,24 @@ pub on_edge-vertical : (e : Edge) (x y : Fraction) → is_vertical e ≡ true �
 on_edge-vertical e x y h p q =
     same_tests _ _
     (λ k.
-      let l = lies e (point_at x y) k in
-      and_from _ _
-      (sym (reaches-vertical e x h) ∙ sym (within-x (int_min e.a.x e.b.x) (int_max e.a.x e.b.x) x y p q) ∙ l.x)
-      (sym (within-y (int_min e.a.y e.b.y) (int_max e.a.y e.b.y) x y p q) ∙ l.y))
+    let l = lies e (point_at x y) k in
+    and_from _ _
+    (sym (reaches-vertical e x h) ∙ sym (within-x (int_min e.a.x e.b.x) (int_max e.a.x e.b.x) x y p q) ∙ l.x)
+    (sym (within-y (int_min e.a.y e.b.y) (int_max e.a.y e.b.y) x y p q) ∙ l.y))
     (λ k.
-      let parts = and_parts _ _ k in
-      let at : e.a.x *ℤ pos x.den ≡ x.num *ℤ pos 1 = eq_from_test _ _ parts.0 in
-      and_from _ _
-      (test_from_eq _ _ (flat_line e.a e.b (point_at x y) (eq_from_test e.a.x e.b.x h) (scaled at)))
-      (and_from _ _
-        (within-x (int_min e.a.x e.b.x) (int_max e.a.x e.b.x) x y p q ∙ reaches-vertical e x h ∙ parts.0)
-        (within-y (int_min e.a.y e.b.y) (int_max e.a.y e.b.y) x y p q ∙ parts.1)))
+    let parts = and_parts _ _ k in
+    let at : e.a.x *ℤ pos x.den ≡ x.num *ℤ pos 1 = eq_from_test _ _ parts.0 in
+    and_from _ _
+    (test_from_eq _ _ (flat_line e.a e.b (point_at x y) (eq_from_test e.a.x e.b.x h) (scaled at)))
+    (and_from _ _
+    (within-x (int_min e.a.x e.b.x) (int_max e.a.x e.b.x) x y p q ∙ reaches-vertical e x h ∙ parts.0)
+    (within-y (int_min e.a.y e.b.y) (int_max e.a.y e.b.y) x y p q ∙ parts.1)))
   where
-  scaled : e.a.x *ℤ pos x.den ≡ x.num *ℤ pos 1 → e.a.x *ℤ pos (x.den * y.den) ≡ x.num *ℤ pos y.den
-  scaled at =
-      ring (e.a.x ∷ pos x.den ∷ pos y.den ∷ []) (mul (var 0) (mul (var 1) (var 2))) (mul (mul (var 0) (var 1)) (var 2)) refl
-      ∙ ap (λ z. z *ℤ pos y.den) at
-      ∙ ring (x.num ∷ pos y.den ∷ []) (mul (mul (var 0) (num (pos 1))) (var 1)) (mul (var 0) (var 1)) refl
+    scaled : e.a.x *ℤ pos x.den ≡ x.num *ℤ pos 1 → e.a.x *ℤ pos (x.den * y.den) ≡ x.num *ℤ pos y.den
+    scaled at =
+        ring (e.a.x ∷ pos x.den ∷ pos y.den ∷ []) (mul (var 0) (mul (var 1) (var 2))) (mul (mul (var 0) (var 1)) (var 2)) refl
+        ∙ ap (λ z. z *ℤ pos y.den) at
+        ∙ ring (x.num ∷ pos y.den ∷ []) (mul (mul (var 0) (num (pos 1))) (var 1)) (mul (var 0) (var 1)) refl
 
 -- ---- a dot
 eq-scaled : (a b c d : ℤ) (k : ℕ) → 0 < k → a ≡ c *ℤ pos k → b ≡ d *ℤ pos k → int_eq a b ≡ int_eq c d
@@ -130,9 +130,9 @@ pub same_point-at : (a : Coordinates) (x y : Fraction) → IsFraction x → IsFr
 same_point-at a x y p q =
     ap (λ b. b && int_eq (a.y *ℤ pos (x.den * y.den)) (y.num *ℤ pos x.den *ℤ pos 1))
     (eq-scaled _ _ (a.x *ℤ pos x.den) (x.num *ℤ pos 1) y.den q.positive
-      (ring (a.x ∷ pos x.den ∷ pos y.den ∷ []) (mul (var 0) (mul (var 1) (var 2))) (mul (mul (var 0) (var 1)) (var 2)) refl)
-      (ring (x.num ∷ pos y.den ∷ []) (mul (mul (var 0) (var 1)) (num (pos 1))) (mul (mul (var 0) (num (pos 1))) (var 1)) refl))
+    (ring (a.x ∷ pos x.den ∷ pos y.den ∷ []) (mul (var 0) (mul (var 1) (var 2))) (mul (mul (var 0) (var 1)) (var 2)) refl)
+    (ring (x.num ∷ pos y.den ∷ []) (mul (mul (var 0) (var 1)) (num (pos 1))) (mul (mul (var 0) (num (pos 1))) (var 1)) refl))
     ∙ ap (λ b. fraction_eq (whole a.x) x && b)
     (eq-scaled _ _ (a.y *ℤ pos y.den) (y.num *ℤ pos 1) x.den p.positive
-      (ring (a.y ∷ pos x.den ∷ pos y.den ∷ []) (mul (var 0) (mul (var 1) (var 2))) (mul (mul (var 0) (var 2)) (var 1)) refl)
-      (ring (y.num ∷ pos x.den ∷ []) (mul (mul (var 0) (var 1)) (num (pos 1))) (mul (mul (var 0) (num (pos 1))) (var 1)) refl))
+    (ring (a.y ∷ pos x.den ∷ pos y.den ∷ []) (mul (var 0) (mul (var 1) (var 2))) (mul (mul (var 0) (var 2)) (var 1)) refl)
+    (ring (y.num ∷ pos x.den ∷ []) (mul (mul (var 0) (var 1)) (num (pos 1))) (mul (mul (var 0) (num (pos 1))) (var 1)) refl))

@@ -1,18 +1,17 @@
 -- The side of an edge on which a point lies is the order of its y and the edge's height.
-use Rattle.std.proofs.Common.{◌≡◌, ◌≢◌, refl, ap, sym, ◌∙◌, ℤ, pos, ◌-ℤ◌, ◌*ℤ◌, ◌≤ℤ◌, ◌<ℤ◌, ◌<◌, ◌*◌, arith, lit<, ℕ, [], ◌∷◌, Bool, true, false, ◌&&◌, ◌||◌, cond, not, unsigned_abs}
+use Rattle.std.proofs.Common.{◌≡◌, refl, ap, sym, ◌∙◌, ℤ, pos, ◌-ℤ◌, ◌*ℤ◌, ◌≤ℤ◌, ◌<ℤ◌, ◌<◌, arith, lit<, ℕ, [], ◌∷◌, Bool, true, false, ◌&&◌, ◌||◌, cond, not}
 use Rattle.std.specs.Prelude.{int_le, int_lt}
 use Rattle.std.specs.Ordering.{int_cmp, int_eq}
-use Rattle.std.proofs.lemmas.Bool.{and_from, and_parts, both_ways}
 use Rattle.std.proofs.lemmas.Int.{ints}
 use Rattle.sf_grid.specs.Fraction.{Fraction, IsFraction, fraction_cmp, fraction_eq, fraction_lt}
-use Rattle.sf_grid.specs.Plane.{Coordinates, Point, point_at, x_of}
-use Rattle.sf_grid.specs.Edge.{Edge, below_rightward, cross, edge_above, height_at, height_rightward, is_vertical, left_end, on_edge, reaches, right_end}
+use Rattle.sf_grid.specs.Plane.{Coordinates, Point, point_at}
+use Rattle.sf_grid.specs.Edge.{Edge, below_rightward, cross, edge_above, height_at, height_rightward, is_vertical, left_end, right_end}
 use Rattle.sf_grid.proofs.FractionLaws.{cross-point_at}
 use Rattle.sf_grid.proofs.HeightLaws.{abs_of_run, runs_right}
 use Rattle.sf_grid.proofs.PointLaws.{int_le-scaled}
 use Rattle.sf_grid.proofs.Products.{mul_le}
 use Rattle.sf_grid.proofs.Ring.{ring, var, mul}
-use Rattle.sf_grid.proofs.NumberTests.{eq_from_test, ge_from_test, le_from_test, lt_from_test, same_tests, test_from_eq, test_from_le, test_from_lt}
+use Rattle.sf_grid.proofs.NumberTests.{eq_from_test}
 
 -- ---- tests of a difference
 pub cmp-difference : (a b : ℤ) → int_cmp (a -ℤ b) (pos 0) ≡ int_cmp a b
@@ -110,17 +109,17 @@ pub edge_above-height : (e : Edge) (x y : Fraction) → is_vertical e ≡ false 
     edge_above e (point_at x y) ≡ (goes_on e x && fraction_lt y (height_at e x))
 edge_above-height e x y h p = by_test (int_lt e.b.x e.a.x) refl (runs_right e h)
   where
-  by_test : (t : Bool) → int_lt e.b.x e.a.x ≡ t → (cond t e.b e.a).x <ℤ (cond t e.a e.b).x →
-      edge_above e (point_at x y)
-      ≡ ((int_le ((cond t e.b e.a).x *ℤ pos x.den) x.num && int_lt x.num ((cond t e.a e.b).x *ℤ pos x.den))
-      && fraction_lt y (height_rightward (cond t e.b e.a) (cond t e.a e.b) x))
-  by_test true i r =
-      ap (λ b. b || below_rightward e.b e.a (point_at x y)) (below_leftward e.a e.b (point_at x y) (weaker e.b.x e.a.x r))
-      ∙ below_rightward-height e.b e.a x y r p
-  by_test false i r =
-      ap (λ b. below_rightward e.a e.b (point_at x y) || b) (below_leftward e.b e.a (point_at x y) (weaker e.a.x e.b.x r))
-      ∙ or_false (below_rightward e.a e.b (point_at x y))
-      ∙ below_rightward-height e.a e.b x y r p
+    by_test : (t : Bool) → int_lt e.b.x e.a.x ≡ t → (cond t e.b e.a).x <ℤ (cond t e.a e.b).x →
+        edge_above e (point_at x y)
+        ≡ ((int_le ((cond t e.b e.a).x *ℤ pos x.den) x.num && int_lt x.num ((cond t e.a e.b).x *ℤ pos x.den))
+        && fraction_lt y (height_rightward (cond t e.b e.a) (cond t e.a e.b) x))
+    by_test true i r =
+        ap (λ b. b || below_rightward e.b e.a (point_at x y)) (below_leftward e.a e.b (point_at x y) (weaker e.b.x e.a.x r))
+        ∙ below_rightward-height e.b e.a x y r p
+    by_test false i r =
+        ap (λ b. below_rightward e.a e.b (point_at x y) || b) (below_leftward e.b e.a (point_at x y) (weaker e.a.x e.b.x r))
+        ∙ or_false (below_rightward e.a e.b (point_at x y))
+        ∙ below_rightward-height e.a e.b x y r p
 
 -- a vertical edge is above no point
 pub edge_above-vertical : (e : Edge) (p : Point) → is_vertical e ≡ true → edge_above e p ≡ false

@@ -1,11 +1,10 @@
 -- Edges between two columns: where no two neighbours meet inside, the order at the left column holds at every place.
-use Rattle.std.proofs.Common.{◌≡◌, ◌≢◌, refl, ap, sym, ◌∙◌, ℤ, pos, ◌-ℤ◌, ◌+ℤ◌, ◌*ℤ◌, ◌≤ℤ◌, ◌<ℤ◌, ◌<◌, arith, Bool, true, false, cond, List, [], ◌∷◌, ◌⊎◌, inl, inr}
-use Rattle.std.specs.Ordering.{int_cmp}
+use Rattle.std.proofs.Common.{◌≡◌, ◌≢◌, sym, ◌∙◌, ℤ, pos, ◌*ℤ◌, ◌≤ℤ◌, ◌<ℤ◌, arith, Bool, true, false, cond, List, [], ◌∷◌, ◌⊎◌, inl, inr}
 use Rattle.std.specs.declared.cmp.Ordering.TheVariants.{Equal, Greater, Less}
-use Rattle.std.proofs.lemmas.Int.{ints, by_lt_z}
-use Rattle.sf_grid.specs.Fraction.{Fraction, IsFraction, fraction_le, fraction_lt, middle}
-use Rattle.sf_grid.specs.Edge.{Edge, height_at, height_cmp, is_vertical, left_end, reaches, right_end, within}
-use Rattle.sf_grid.specs.Laws.{HasHeight, HaveHeights, KeepsOrder, ShareNoneInside}
+use Rattle.std.proofs.lemmas.Int.{ints}
+use Rattle.sf_grid.specs.Fraction.{Fraction, IsFraction, fraction_le, fraction_lt}
+use Rattle.sf_grid.specs.Edge.{Edge, height_cmp, is_vertical, left_end, reaches, right_end, within}
+use Rattle.sf_grid.specs.Laws.{HasHeight, HaveHeights, ShareNoneInside}
 use Rattle.sf_grid.proofs.BetweenLaws.{Reach, opposite_order_meets, order_is_kept, reach, reach_between, within_from}
 use Rattle.sf_grid.proofs.OrderLaws.{heights_are_ordered}
 use Rattle.sf_grid.proofs.NumberTests.{lt_from_test, test_from_le}
@@ -88,22 +87,22 @@ stays_below-inside x y z e f s h k none i a b l =
       at_right = λ g. less_not_greater (sym l ∙ kept.from_second (λ q. distinct (sym g ∙ q)) ∙ g);
     }
   where
-  distinct : Greater ≢ Equal
-  distinct e = cc
+    distinct : Greater ≢ Equal
+    distinct e = cc
 
 -- ---- places inside
 le_of : (p q : Fraction) → fraction_lt p q ≡ true → fraction_le p q ≡ true
 le_of p q h = test_from_le _ _ (weaker (p.num *ℤ pos q.den) (q.num *ℤ pos p.den) (lt_from_test _ _ h))
   where
-  weaker : (s t : ℤ) → s <ℤ t → s ≤ℤ t
-  weaker s t l = omega (arith, ints)
+    weaker : (s t : ℤ) → s <ℤ t → s ≤ℤ t
+    weaker s t l = omega (arith, ints)
 
 pub reached_from : (e : Edge) (z : Fraction) → Reach (left_end e) (right_end e) z → reaches e z ≡ true
 reached_from e z r = by_test (int_lt e.b.x e.a.x) r
   where
-  by_test : (t : Bool) → Reach (cond t e.b e.a) (cond t e.a e.b) z → within (cond t e.b.x e.a.x) (cond t e.a.x e.b.x) z ≡ true
-  by_test true k = and_from _ _ (test_from_le _ _ k.low) (test_from_le _ _ k.high)
-  by_test false k = and_from _ _ (test_from_le _ _ k.low) (test_from_le _ _ k.high)
+    by_test : (t : Bool) → Reach (cond t e.b e.a) (cond t e.a e.b) z → within (cond t e.b.x e.a.x) (cond t e.a.x e.b.x) z ≡ true
+    by_test true k = and_from _ _ (test_from_le _ _ k.low) (test_from_le _ _ k.high)
+    by_test false k = and_from _ _ (test_from_le _ _ k.low) (test_from_le _ _ k.high)
 
 -- ---- a list of edges, from the top
 -- each edge and the next one: the next stays below it, or level with it
@@ -184,6 +183,6 @@ first_above x y e (f ∷ fs) s h k l =
     let step = weakly x y e f l.0 in
     (step, carried fs (first_above x y f fs s k.0 k.1 l.1))
   where
-  carried : (gs : List Edge) → EachEdge (WeaklyBelow x y f) gs → EachEdge (WeaklyBelow x y e) gs
-  carried [] m = tt
-  carried (g ∷ gs) m = (weakly-trans x y e f g s k.0 (height_inside x y f s k.0) (weakly x y e f l.0) m.0, carried gs m.1)
+    carried : (gs : List Edge) → EachEdge (WeaklyBelow x y f) gs → EachEdge (WeaklyBelow x y e) gs
+    carried [] m = tt
+    carried (g ∷ gs) m = (weakly-trans x y e f g s k.0 (height_inside x y f s k.0) (weakly x y e f l.0) m.0, carried gs m.1)

@@ -2,7 +2,6 @@
 use Rattle.std.proofs.Common.{◌≡◌, ◌≢◌, refl, ap, sym, ◌∙◌, ℕ, ℤ, pos, ◌-ℤ◌, ◌*ℤ◌, ◌<ℤ◌, ◌<◌, ◌*◌, arith, [], ◌∷◌, true}
 use Rattle.std.specs.Prelude.{IsTrue, int_lt}
 use Rattle.std.specs.Ordering.{int_cmp}
-use Rattle.std.specs.declared.cmp.Ordering.{Ordering}
 use Rattle.std.specs.declared.cmp.Ordering.TheVariants.{Equal, Greater, Less}
 use Rattle.std.proofs.lemmas.Bool.{and_parts}
 use Rattle.std.proofs.lemmas.Int.{ints}
@@ -14,7 +13,7 @@ use Rattle.sf_grid.specs.Edge.{Edge, cross}
 use Rattle.sf_grid.specs.Sharing.{IsSharing, turn_by}
 use Rattle.sf_grid.proofs.HeightLaws.{cmp-scaled}
 use Rattle.sf_grid.proofs.NumberTests.{eq_from_test, lt_from_test}
-use Rattle.sf_grid.proofs.OrderLaws.{equal_is, greater_is, is_equal, is_greater, is_less, less_is, product_pos}
+use Rattle.sf_grid.proofs.OrderLaws.{is_less, product_pos}
 use Rattle.sf_grid.proofs.PointLaws.{cross-same}
 use Rattle.sf_grid.proofs.Products.{lt_from_mul, mul_lt}
 use Rattle.sf_grid.proofs.Ring.{ring, var, mul}
@@ -31,8 +30,8 @@ side_of-cross u v p i h =
     ∙ ap (λ z. int_cmp z (pos 0)) (sym same)
     ∙ cmp-scaled (cross u v p) (p.d * p.d) (product_pos p.d p.d i.positive i.positive)
   where
-  squared : (z : ℤ) → z *ℤ pos (p.d * p.d) ≡ z *ℤ pos p.d *ℤ pos p.d
-  squared z = ring (z ∷ pos p.d ∷ []) (mul (var 0) (mul (var 1) (var 1))) (mul (mul (var 0) (var 1)) (var 1)) refl
+    squared : (z : ℤ) → z *ℤ pos (p.d * p.d) ≡ z *ℤ pos p.d *ℤ pos p.d
+    squared z = ring (z ∷ pos p.d ∷ []) (mul (var 0) (mul (var 1) (var 1))) (mul (mul (var 0) (var 1)) (var 1)) refl
 
 -- from the two products whose difference the cross product is
 pub side_of-products : (u v : Coordinates) (p : Point) (up along : ℤ) → IsPoint p → u.x <ℤ v.x →
@@ -43,8 +42,8 @@ side_of-products u v p up along i h e f =
     ∙ ap (λ z. int_cmp ((v.x -ℤ u.x) *ℤ (p.y -ℤ u.y *ℤ pos p.d) -ℤ z) (pos 0)) (f ∙ commuted (p.x -ℤ u.x *ℤ pos p.d) (v.y -ℤ u.y))
     ∙ sym (side_of-cross u v p i h)
   where
-  commuted : (a b : ℤ) → a *ℤ b ≡ b *ℤ a
-  commuted a b = ring (a ∷ b ∷ []) (mul (var 0) (var 1)) (mul (var 1) (var 0)) refl
+    commuted : (a b : ℤ) → a *ℤ b ≡ b *ℤ a
+    commuted a b = ring (a ∷ b ∷ []) (mul (var 0) (var 1)) (mul (var 1) (var 0)) refl
 
 -- an order and the tests that it answers
 pub is_less-lt : (a b : ℤ) → int_lt a b ≡ true → int_cmp a b ≡ Less

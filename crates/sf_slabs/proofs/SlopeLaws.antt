@@ -1,5 +1,5 @@
 -- Edges that are level in a column lie right of it in the order of their slopes.
-use Rattle.std.proofs.Common.{◌≡◌, refl, ap, sym, ◌∙◌, ℕ, ℤ, pos, negsuc, ◌-ℤ◌, ◌+ℤ◌, ◌*ℤ◌, ◌<ℤ◌, ◌<◌, arith, Bool, true, false, List, [], ◌∷◌}
+use Rattle.std.proofs.Common.{◌≡◌, refl, ap, sym, ◌∙◌, ℕ, ℤ, pos, negsuc, ◌-ℤ◌, ◌+ℤ◌, ◌*ℤ◌, ◌<ℤ◌, ◌<◌, arith, true, false, [], ◌∷◌}
 use Rattle.std.specs.Ordering.{int_cmp}
 use Rattle.std.specs.declared.cmp.Ordering.{Ordering}
 use Rattle.std.specs.declared.cmp.Ordering.TheVariants.{Equal, Greater, Less}
@@ -13,7 +13,7 @@ use Rattle.sf_grid.proofs.Ring.{ring, var, num, sum, dif, mul}
 use Rattle.sf_grid.proofs.NumberTests.{lt_from_test}
 use Rattle.sf_slabs.specs.Slanted.{slope_gap, slope_order}
 use Rattle.sf_slabs.proofs.SideLaws.{cmp-difference}
-use Rattle.sf_slabs.proofs.SlabLaws.{Below, IsSlab, Spans, StaysBelow, StaysLevel}
+use Rattle.sf_slabs.proofs.SlabLaws.{IsSlab, Spans, StaysBelow, StaysLevel}
 
 -- the order of two edges' slopes, from their left ends to their right ends
 abbrev pub slope_cmp : Edge → Edge → Ordering
@@ -35,14 +35,15 @@ gap-grows u v s t x z e =
     ∙ ap (λ g. g *ℤ pos z.den +ℤ slope_gap u v s t *ℤ (z.num *ℤ pos x.den -ℤ x.num *ℤ pos z.den)) (gap-line u v s t x ∙ e)
     ∙ ring (pos z.den ∷ (slope_gap u v s t *ℤ (z.num *ℤ pos x.den -ℤ x.num *ℤ pos z.den)) ∷ []) (sum (mul (num (pos 0)) (var 0)) (var 1)) (var 1) refl
   where
-  offset : ℤ
-  offset = (u.y *ℤ v.x -ℤ u.x *ℤ v.y) *ℤ (t.x -ℤ s.x) -ℤ (s.y *ℤ t.x -ℤ s.x *ℤ t.y) *ℤ (v.x -ℤ u.x)
-  regrouped : (o g k l m n : ℤ) → (o *ℤ l +ℤ n *ℤ g) *ℤ k ≡ (o *ℤ k +ℤ m *ℤ g) *ℤ l +ℤ g *ℤ (n *ℤ k -ℤ m *ℤ l)
-  regrouped o g k l m n =
-      ring (o ∷ g ∷ k ∷ l ∷ m ∷ n ∷ [])
-      (mul (sum (mul (var 0) (var 3)) (mul (var 5) (var 1))) (var 2))
-      (sum (mul (sum (mul (var 0) (var 2)) (mul (var 4) (var 1))) (var 3)) (mul (var 1) (dif (mul (var 5) (var 2)) (mul (var 4) (var 3)))))
-      refl
+    offset : ℤ
+    offset = (u.y *ℤ v.x -ℤ u.x *ℤ v.y) *ℤ (t.x -ℤ s.x) -ℤ (s.y *ℤ t.x -ℤ s.x *ℤ t.y) *ℤ (v.x -ℤ u.x)
+
+    regrouped : (o g k l m n : ℤ) → (o *ℤ l +ℤ n *ℤ g) *ℤ k ≡ (o *ℤ k +ℤ m *ℤ g) *ℤ l +ℤ g *ℤ (n *ℤ k -ℤ m *ℤ l)
+    regrouped o g k l m n =
+        ring (o ∷ g ∷ k ∷ l ∷ m ∷ n ∷ [])
+        (mul (sum (mul (var 0) (var 3)) (mul (var 5) (var 1))) (var 2))
+        (sum (mul (sum (mul (var 0) (var 2)) (mul (var 4) (var 1))) (var 3)) (mul (var 1) (dif (mul (var 5) (var 2)) (mul (var 4) (var 3)))))
+        refl
 
 sign-scaled : (g s w : ℤ) (k : ℕ) → 0 < k → pos 0 <ℤ w → g *ℤ pos k ≡ s *ℤ w → int_cmp g (pos 0) ≡ int_cmp s (pos 0)
 sign-scaled g s (pos m) k p h e =
@@ -52,8 +53,8 @@ sign-scaled g s (negsuc m) k p h e = absurd (omega (arith, ints))
 apart_pos : (x z : Fraction) → fraction_lt x z ≡ true → pos 0 <ℤ (z.num *ℤ pos x.den -ℤ x.num *ℤ pos z.den)
 apart_pos x z h = difference (x.num *ℤ pos z.den) (z.num *ℤ pos x.den) (lt_from_test _ _ h)
   where
-  difference : (a b : ℤ) → a <ℤ b → pos 0 <ℤ (b -ℤ a)
-  difference a b l = omega (arith, ints)
+    difference : (a b : ℤ) → a <ℤ b → pos 0 <ℤ (b -ℤ a)
+    difference a b l = omega (arith, ints)
 
 -- edges that are level in a column are right of it in the order of their slopes
 pub height_cmp-slopes : (e f : Edge) (x z : Fraction) → is_vertical e ≡ false → is_vertical f ≡ false → IsFraction x → IsFraction z →
@@ -78,10 +79,11 @@ stays_below-slope x y e f s h k l m =
       at_right = λ g. less_not_greater (sym at_right ∙ g);
     }
   where
-  equal_not_greater : Equal ≡ Greater → ⊥
-  equal_not_greater q = cc
-  less_not_greater : Less ≡ Greater → ⊥
-  less_not_greater q = cc
+    equal_not_greater : Equal ≡ Greater → ⊥
+    equal_not_greater q = cc
+
+    less_not_greater : Less ≡ Greater → ⊥
+    less_not_greater q = cc
 
 pub stays_level-slope : (x y : Fraction) (e f : Edge) → IsSlab x y → Spans x y e → Spans x y f →
     height_cmp f e x ≡ Equal → slope_cmp f e ≡ Equal → StaysLevel x y e f

@@ -3,7 +3,7 @@ use Rattle.std.specs.Prelude.{◌≡◌, ◌≢◌, ℕ, List, length}
 use Rattle.std.specs.List.{AllPairs, AllWithin}
 use Rattle.std.specs.declared.cmp.Ordering.TheVariants.{Equal, Greater, Less}
 use Rattle.sf_grid.specs.Fraction.{Fraction, fraction_cmp}
-use Rattle.sf_grid.specs.Plane.{Point, x_of}
+use Rattle.sf_grid.specs.Plane.{Point}
 use Rattle.sf_grid.specs.Edge.{height_rightward}
 use Rattle.sf_slabs.specs.declared.slanted.Slanted.{Slanted}
 use Rattle.sf_slabs.specs.Slanted.{side_of}

@@ -1,11 +1,11 @@
 -- Edges that run from left to right: on which side of them points lie, how steep they are, and where they meet.
-use Rattle.std.specs.Prelude.{◌≡◌, ◌⊎◌, Bool, IsTrue, ℤ, pos, ◌-ℤ◌, ◌*ℤ◌, int_lt}
+use Rattle.std.specs.Prelude.{Bool, IsTrue, ℤ, ◌-ℤ◌, ◌*ℤ◌, int_lt}
 use Rattle.std.specs.Ordering.{int_cmp}
 use Rattle.std.specs.declared.cmp.Ordering.{Ordering}
-use Rattle.sf_grid.specs.declared.meet.Meet.TheVariants.{Along, Apart, At}
+use Rattle.sf_grid.specs.declared.meet.Meet.TheVariants.{Along, At}
 use Rattle.sf_grid.specs.Fraction.{Fraction, fraction_cmp, fraction_le, fraction_lt}
 use Rattle.sf_grid.specs.Plane.{Coordinates, IsPoint, Point, x_of, y_of}
-use Rattle.sf_grid.specs.Edge.{Edge, edge_between, height_rightward}
+use Rattle.sf_grid.specs.Edge.{Edge, height_rightward}
 use Rattle.sf_grid.specs.Sharing.{IsOnBoth, IsSharing}
 
 -- u is in a column left of v's

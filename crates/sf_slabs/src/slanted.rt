@@ -102,11 +102,11 @@ impl Slanted {
             (edge_between other.now.left other.now.right) x.now p) }
         ensures none { OnNone result (
             (ShareNoneAfter
-                (edge_between self.now.left self.now.right)
-                (edge_between other.now.left other.now.right) x.now)
+            (edge_between self.now.left self.now.right)
+            (edge_between other.now.left other.now.right) x.now)
             ⊎ (IsOneLine
-                (edge_between self.now.left self.now.right)
-                (edge_between other.now.left other.now.right))) }
+            (edge_between self.now.left self.now.right)
+            (edge_between other.now.left other.now.right))) }
     {
         match meet((self.left, self.right), (other.left, other.right)) {
             Meet::At(p) => match x.compare(&p.x()) {

@@ -17,10 +17,10 @@ loop-meeting-preserved c =
           subst P
           (sym (w.nearest-is ∙ ap (λ q. Some q) (w.lesser.ensures ∙ ap (lesser c.loop-meeting.nearest) w.x-in-Some-meeting.ensures.value)))
           (nearest_next c.loop-meeting.nearest c.args.grid c.args.meetings.now c.loop-meeting.meeting-index c.meeting-item.result w.in-Some-meeting.p
-            c.loop-meeting-test.true (sym c.meeting-item.is ∙ w.in-Some-meeting.is)
-            (record { positive = w.x-in-Some-meeting.ensures.point.positive }) c.loop-meeting.invariant)
+          c.loop-meeting-test.true (sym c.meeting-item.is ∙ w.in-Some-meeting.is)
+          (record { positive = w.x-in-Some-meeting.ensures.point.positive }) c.loop-meeting.invariant)
       | in_default w ↦
           subst P (sym w.nearest-is)
           (nearest_same c.loop-meeting.nearest c.args.grid c.args.meetings.now c.loop-meeting.meeting-index c.meeting-item.result
-            c.loop-meeting-test.true (sym c.meeting-item.is ∙ none_from c.meeting-item.result w.in_default.not-Some) c.loop-meeting.invariant)
+          c.loop-meeting-test.true (sym c.meeting-item.is ∙ none_from c.meeting-item.result w.in_default.not-Some) c.loop-meeting.invariant)
     ]

@@ -9,7 +9,7 @@ returns-clause-located c =
     let p = grid_point c.args.p in
     located p c.args.order.now c.partition_point-from.result c.partition_point-to.result
     (IsPartitionPoint-from_clause (above_test p) c.args.order.now c.partition_point-from.result c.partition_point-from.ensures.partitioned
-      (above-partitions p c.args.order.now (record { positive = lit< tt }) c.requires.falls) (search rules))
+    (above-partitions p c.args.order.now (record { positive = lit< tt }) c.requires.falls) (search rules))
     (IsPartitionPoint-from_clause (not_below_test p) c.args.order.now c.partition_point-to.result c.partition_point-to.ensures.partitioned
-      (not_below-partitions p c.args.order.now (record { positive = lit< tt }) c.requires.falls) (search rules))
+    (not_below-partitions p c.args.order.now (record { positive = lit< tt }) c.requires.falls) (search rules))
     c.partition_point-to.ensures.bound

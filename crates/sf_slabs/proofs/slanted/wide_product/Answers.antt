@@ -1,4 +1,4 @@
-use Rattle.std.proofs.Common.{◌≡◌, ◌*◌, ◌*ℤ◌, ap, lit<, rules, SFits}
+use Rattle.std.proofs.Common.{◌≡◌, ◌*◌, lit<, rules, SFits}
 use Rattle.std.specs.Int.{w128}
 use Rattle.std.proofs.lemmas.Int.{fits_signed_mul, to_z-of_z}
 use Rattle.sf_grid.specs.Bounds.{difference_bound, numerator_bound}

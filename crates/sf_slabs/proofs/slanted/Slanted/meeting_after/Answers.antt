@@ -1,7 +1,7 @@
-use Rattle.std.proofs.Common.{sym, ap, ◌∙◌, inl}
+use Rattle.std.proofs.Common.{ap, ◌∙◌, inl}
 use Rattle.sf_grid.specs.Edge.{edge_between}
 use Rattle.sf_grid.specs.Fraction.{fraction_cmp}
-use Rattle.sf_slabs.proofs.SlantedLaws.{after_from_less, none_after}
+use Rattle.sf_slabs.proofs.SlantedLaws.{none_after}
 use Rattle.sf_slabs.proofs.slanted.Slanted.meeting_after.Goals as goal
 
 pub returns-in_default-compare : goal.returns-in_default-compare

@@ -1,7 +1,6 @@
-use Rattle.std.proofs.Common.{sym, ap, ◌∙◌, lit<}
+use Rattle.std.proofs.Common.{sym, ◌∙◌, lit<}
 use Rattle.sf_grid.specs.Edge.{cross}
 use Rattle.sf_grid.specs.Plane.{grid_point}
-use Rattle.sf_grid.specs.Sharing.{turn_of}
 use Rattle.sf_grid.proofs.NumberTests.{lt_from_test}
 use Rattle.sf_slabs.proofs.SlantedLaws.{left_is_above, right_is_below, side_of-cross, straight_is_on}
 use Rattle.sf_slabs.proofs.slanted.Slanted.side.Goals as goal

@@ -1,7 +1,7 @@
-use Rattle.std.proofs.Common.{◌≡◌, ◌-ℤ◌, ◌*ℤ◌, pos, ap, sym, ◌∙◌, rules, SFits, w32, w64}
+use Rattle.std.proofs.Common.{◌≡◌, ◌-ℤ◌, ◌*ℤ◌, pos, ap, ◌∙◌, rules, SFits, w32, w64}
 use Rattle.std.specs.Int.{w128}
 use Rattle.std.specs.Ordering.{int_cmp}
-use Rattle.std.proofs.lemmas.Int.{ints, to_z-of_z}
+use Rattle.std.proofs.lemmas.Int.{to_z-of_z}
 use Rattle.sf_grid.proofs.NumberTests.{lt_from_test}
 use Rattle.sf_slabs.proofs.SlantedLaws.{side_of-products}
 use Rattle.sf_slabs.proofs.slanted.Slanted.side_at.Goals as goal
