@@ -8,7 +8,8 @@ use Rattle.sf_slabs.specs.Samples.{Sample, samples}
 -- the numbers, from k on, of the members that pass a test
 abbrev pub numbers_from : {A : Type 0} → ℕ → (A → Bool) → List A → List ℕ
 numbers_from k test [] = []
-numbers_from k test (x ∷ xs) = if test x then k ∷ numbers_from (k + 1) test xs else numbers_from (k + 1) test xs
+numbers_from k test (x ∷ xs) =
+    if test x then k ∷ numbers_from (k + 1) test xs else numbers_from (k + 1) test xs
 
 -- the cell of a sample
 abbrev pub cell_of : List Piece → Sample → Cell

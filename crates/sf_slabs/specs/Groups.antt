@@ -15,7 +15,8 @@ numbers k (suc n) = k ∷ numbers (k + 1) n
 
 -- of each group, how many of these pieces are in it
 abbrev pub counts : List ℕ → List ℕ → List ℕ
-counts groups pieces = map (λ g. count_by (λ i. slice_index groups i == g) pieces) (numbers 0 (group_count groups))
+counts groups pieces =
+    map (λ g. count_by (λ i. slice_index groups i == g) pieces) (numbers 0 (group_count groups))
 
 -- a cell as a sink sees it
 pub record Item : Type 0 where

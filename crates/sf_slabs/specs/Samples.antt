@@ -11,7 +11,8 @@ use Rattle.sf_slabs.specs.Pieces.{ends_of, heights_of}
 -- a number put in its place, unless it is there already
 abbrev pub insert_by : (Fraction → Fraction → Bool) → Fraction → List Fraction → List Fraction
 insert_by before q [] = q ∷ []
-insert_by before q (r ∷ rs) = if before q r then q ∷ r ∷ rs else (if before r q then r ∷ insert_by before q rs else r ∷ rs)
+insert_by before q (r ∷ rs) =
+    if before q r then q ∷ r ∷ rs else (if before r q then r ∷ insert_by before q rs else r ∷ rs)
 
 -- numbers in order, each once
 abbrev pub sorted_by : (Fraction → Fraction → Bool) → List Fraction → List Fraction
@@ -57,7 +58,8 @@ crossings_of (Dot a) q = []
 
 -- the event columns, from the left: the places of all ends, dots and crossings
 abbrev pub events : List Piece → List Fraction
-events pieces = rising (flat_map ends_of pieces ++ flat_map (λ p. flat_map (crossings_of p) pieces) pieces)
+events pieces =
+    rising (flat_map ends_of pieces ++ flat_map (λ p. flat_map (crossings_of p) pieces) pieces)
 
 -- the columns, from the left: the events, the middles between them, and one on either side
 abbrev pub columns : List Piece → List Mark
