@@ -5,9 +5,8 @@
 use sf_grid::edges::{height_order, meet, orientation};
 use sf_grid::{GridPoint, Meet, Turn};
 use std::alloc::{AllocError, Global};
-use std::env;
-use std::io;
 use std::time::{Duration, Instant};
+use std::{env, io};
 
 /// The ends of two edges.
 #[derive(Clone, Copy)]
