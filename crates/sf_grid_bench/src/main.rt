@@ -133,8 +133,8 @@ fn main(rt: HostRuntime) -> io::Result<()> {
 
     let start = Instant::now(&rt)?;
     let count = meetings(&tables.crossing, rounds);
-    let nanos = per_call(start.elapsed(&rt)?, &tables.crossing, rounds);
-    eprintln!(rt; "meet, crossing: {nanos} ns ({count})")?;
+    let meeting = per_call(start.elapsed(&rt)?, &tables.crossing, rounds);
+    eprintln!(rt; "meet, crossing: {meeting} ns ({count})")?;
 
     let start = Instant::now(&rt)?;
     let count = meetings(&tables.along, rounds);
@@ -144,6 +144,8 @@ fn main(rt: HostRuntime) -> io::Result<()> {
     let start = Instant::now(&rt)?;
     let count = lower_edges(&tables.crossing, rounds);
     let nanos = per_call(start.elapsed(&rt)?, &tables.crossing, rounds);
+    let ordering = nanos.saturating_sub(meeting);
     eprintln!(rt; "meet and height_order: {nanos} ns ({count})")?;
+    eprintln!(rt; "height_order, the rest of it: {ordering} ns")?;
     Ok(())
 }

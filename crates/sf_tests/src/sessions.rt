@@ -1,5 +1,5 @@
 //! Worked sessions: lines and the answers to them.
-use super::support::{output_byte_by_byte, output_of, output_of_bytes};
+use super::support::{output_byte_by_byte, output_of};
 use std::alloc::Global;
 use std::process::Abort;
 use std::test::Fail;
@@ -7,15 +7,15 @@ use std::test::Fail;
 /// Each input gives its output, in one piece and byte by byte.
 fn check_all(rt: &impl Abort, alloc: Global, cases: &[(&str, &str)]) -> Result<(), Fail> {
     for (input, output) in cases {
-        let whole = output_of(alloc, input)?;
+        let whole = output_of(alloc, input.as_bytes())?;
         assert_eq!(rt; whole.as_str(), *output);
-        let pieces = output_byte_by_byte(alloc, input)?;
+        let pieces = output_byte_by_byte(alloc, input.as_bytes())?;
         assert_eq!(rt; pieces.as_str(), *output);
     }
     Ok(())
 }
 
-/// A line of so many letters, with an ending, gives the output.
+/// A line of so many letters, with an ending, gives the output, in one piece and byte by byte.
 fn check_letters(
     rt: &impl Abort,
     alloc: Global,
@@ -25,9 +25,7 @@ fn check_letters(
 ) -> Result<(), Fail> {
     let mut input = "a".repeat(alloc, letters)?;
     input.push_str(ending)?;
-    let whole = output_of(alloc, input.as_str())?;
-    assert_eq!(rt; whole.as_str(), output);
-    Ok(())
+    check_all(rt, alloc, &[(input.as_str(), output)])
 }
 
 // It also refuses a program that always answers for want of memory, and a `serve` that reports a read
@@ -100,11 +98,13 @@ fn line_of_131073_letters(rt: HostRuntime) -> Result<(), Fail> {
 
 #[test]
 fn bytes_that_are_no_text(rt: HostRuntime) -> Result<(), Fail> {
-    let output = output_of_bytes(rt.alloc(), b"\xff\nundo\nadd w \xc3\nshow\0")?;
-    assert_eq!(rt;
-        output.as_str(),
-        "refused 31 BadCommand\nrefused 29 NothingToUndo\nrefused 31 BadCommand\nrefused 31 BadCommand\n"
-    );
+    let input = b"\xff\nundo\nadd w \xc3\nshow\0";
+    let output =
+        "refused 31 BadCommand\nrefused 29 NothingToUndo\nrefused 31 BadCommand\nrefused 31 BadCommand\n";
+    let whole = output_of(rt.alloc(), input)?;
+    assert_eq!(rt; whole.as_str(), output);
+    let pieces = output_byte_by_byte(rt.alloc(), input)?;
+    assert_eq!(rt; pieces.as_str(), output);
     Ok(())
 }
 

@@ -5,13 +5,8 @@ use std::io;
 use std::io::Read;
 use std::test::Fail;
 
-/// What a new editor answers to an input.
-pub fn output_of(alloc: Global, input: &str) -> Result<String, Fail> {
-    output_of_bytes(alloc, input.as_bytes())
-}
-
-/// What a new editor answers to bytes.
-pub fn output_of_bytes(alloc: Global, input: &[u8]) -> Result<String, Fail> {
+/// What a new editor answers to bytes that come in one piece.
+pub fn output_of(alloc: Global, input: &[u8]) -> Result<String, Fail> {
     let mut editor = Editor::new(alloc);
     let mut reader = input;
     let mut written: Vec<u8> = Vec::new(alloc);
@@ -38,12 +33,10 @@ impl Read for ByteByByte<'_> {
     }
 }
 
-/// What a new editor answers to an input that comes one byte at a time.
-pub fn output_byte_by_byte(alloc: Global, input: &str) -> Result<String, Fail> {
+/// What a new editor answers to bytes that come one at a time.
+pub fn output_byte_by_byte(alloc: Global, input: &[u8]) -> Result<String, Fail> {
     let mut editor = Editor::new(alloc);
-    let mut reader = ByteByByte {
-        bytes: input.as_bytes(),
-    };
+    let mut reader = ByteByByte { bytes: input };
     let mut written: Vec<u8> = Vec::new(alloc);
     serve(alloc, &mut editor, &mut reader, &mut written)?;
     Ok(String::from_utf8(written)?)
