@@ -14,12 +14,9 @@ use Rattle.sf_slabs.specs.declared.piece.Piece.TheVariants.{Dot, Edge}
 use Rattle.sf_slabs.specs.Pieces.{is_above}
 use Rattle.sf_slabs.proofs.NumberLaws.{rising_order}
 use Rattle.sf_slabs.proofs.SideLaws.{edge_above-height, edge_above-vertical, goes_on}
+pub use Rattle.sf_slabs.specs.Sweeps.{passes}
 
 -- ---- a piece that goes on to the right of a column, and its height there
-abbrev pub passes : Fraction → Piece → Bool
-passes x (Edge a b) = goes_on (edge_between a b) x
-passes x (Dot a) = false
-
 abbrev pub height_of : Fraction → Piece → Fraction
 height_of x (Edge a b) = height_at (edge_between a b) x
 height_of x (Dot a) = whole a.y
@@ -58,10 +55,6 @@ goes_on_from x q p = passes x p && fraction_eq (height_of x p) q
 below_or : (t l m e : Bool) → (t ≡ true → l ≡ (m || e)) → (t && l) ≡ ((t && m) || (t && e))
 below_or true l m e h = h refl
 below_or false l m e h = refl
-
-below_same : (t l m : Bool) → (t ≡ true → l ≡ m) → (t && l) ≡ (t && m)
-below_same true l m h = h refl
-below_same false l m h = refl
 
 -- what is above a lower place is above the higher place or at it
 lower : (q r h : Fraction) → IsFraction q → IsFraction r → IsFraction h → fraction_lt r q ≡ true →

@@ -6,13 +6,13 @@ use Rattle.sf_grid.specs.Fraction.{Fraction, IsFraction, fraction_lt, one_less, 
 use Rattle.sf_grid.proofs.PointLaws.{Same}
 use Rattle.sf_slabs.specs.declared.piece.Piece.{Piece}
 use Rattle.sf_slabs.specs.declared.cell.Cell.{Cell}
-use Rattle.sf_slabs.specs.Samples.{Mark, columns, crossings_of, events, levels, marks, sample_at, sorted_by}
+use Rattle.sf_slabs.specs.Samples.{Mark, columns, crossings_of, levels, marks, sample_at, sorted_by}
 use Rattle.sf_slabs.specs.Pieces.{ends_of}
 use Rattle.sf_slabs.specs.Cells.{cell_of, cells}
 use Rattle.sf_slabs.proofs.CellLaws.{SameMark, map-Pairs, sample_at-same}
 use Rattle.sf_slabs.proofs.HeightsLaws.{heights_in, heights_in-numbers, heights_in-same}
 use Rattle.sf_slabs.proofs.MarkLaws.{marks-same, one_less-step, one_more-step}
-use Rattle.sf_slabs.proofs.NumberLaws.{Among, IsListing, Numbers, Pairs, Same-trans, falling_order, rising_order, sorted_by-listing}
+use Rattle.sf_slabs.proofs.NumberLaws.{Among, IsListing, Numbers, Pairs, Same-trans, falling_order, sorted_by-listing}
 use Rattle.sf_slabs.proofs.SampleLaws.{Each, Each-sorted_by}
 
 -- ---- maps of maps
@@ -69,21 +69,6 @@ Among-pairs p (q ∷ qs) [] n h a = absurd h
 Among-pairs p (q ∷ qs) (r ∷ rs) n h a =
     elim a [ inl here ↦ inl (Same-trans p q r n.0 here h.0) | inr later ↦ inr (Among-pairs p qs rs n.1 h.1 later) ]
 
-Each-among-pairs : (qs rs : List Fraction) → Pairs Same qs rs → Each (Among rs) qs
-Each-among-pairs [] rs h = tt
-Each-among-pairs (q ∷ qs) [] h = absurd h
-Each-among-pairs (q ∷ qs) (r ∷ rs) h = (inl h.0, widened qs (Each-among-pairs qs rs h.1))
-  where
-    widened : (ps : List Fraction) → Each (Among rs) ps → Each (Among (r ∷ rs)) ps
-    widened [] k = tt
-    widened (p ∷ ps) k = (inr k.0, widened ps k.1)
-
-Pairs-sym : (qs rs : List Fraction) → Pairs Same qs rs → Pairs Same rs qs
-Pairs-sym [] [] h = tt
-Pairs-sym [] (r ∷ rs) h = absurd h
-Pairs-sym (q ∷ qs) [] h = absurd h
-Pairs-sym (q ∷ qs) (r ∷ rs) h = (sym h.0, Pairs-sym qs rs h.1)
-
 Each-widen : (P Q : Fraction → Type 0) (qs : List Fraction) → ((q : Fraction) → P q → Q q) → Each P qs → Each Q qs
 Each-widen P Q [] f h = tt
 Each-widen P Q (q ∷ qs) f h = (f q h.0, Each-widen P Q qs f h.1)
@@ -117,9 +102,6 @@ event_places pieces = flat_map ends_of pieces ++ flat_map (λ p. flat_map (cross
 abbrev pub IsHeights : List Piece → Fraction → List Fraction → Type 0
 IsHeights pieces x hs = IsListing (λ q r. fraction_lt r q) (heights_in pieces x) hs
 
-abbrev pub IsEvents : List Piece → List Fraction → Type 0
-IsEvents pieces es = IsListing fraction_lt (event_places pieces) es
-
 -- a column's cells, from any listing of its heights
 pub column_cells-heights : (pieces : List Piece) (x y : Mark) (hs : List Fraction) → SameMark x y → IsHeights pieces y.place hs →
     column_cells pieces (falling_heights pieces x.place) x ≡ column_cells pieces hs y
@@ -130,16 +112,3 @@ column_cells-heights pieces x y hs e h =
     (IsListing-same (λ q r. fraction_lt r q) (heights_in pieces y.place) (heights_in pieces x.place) hs
     (heights_in-numbers pieces y.place e.second) (heights_in-numbers pieces x.place e.first)
     (heights_in-same pieces y.place x.place e.second e.first (sym e.place)) h))
-
--- all cells, from any listing of the events, and in each column of its heights
-pub cells-events : (pieces : List Piece) (es : List Fraction) (heights : Mark → List Fraction) → Numbers (event_places pieces) →
-    IsEvents pieces es → ((x : Mark) → IsFraction x.place → IsHeights pieces x.place (heights x)) →
-    cells pieces ≡ flat_map (λ x. column_cells pieces (heights x) x) (marks one_less one_more es)
-cells-events pieces es heights n l h =
-    cells-columns pieces
-    ∙ flat_map-Pairs SameMark (λ x. column_cells pieces (falling_heights pieces x.place) x) (λ x. column_cells pieces (heights x) x)
-    (columns pieces) (marks one_less one_more es)
-    (λ x y e. column_cells-heights pieces x y (heights y) e (h y e.second))
-    (marks-same one_less one_more one_less-step one_more-step (events pieces) es
-    (Each-sorted_by IsFraction fraction_lt (event_places pieces) n) l.numbers
-    (sorted_by-listing fraction_lt rising_order (event_places pieces) es n l))

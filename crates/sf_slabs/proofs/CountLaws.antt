@@ -1,6 +1,6 @@
 -- The counts of groups on a cell are numbers of pieces that pass a test, and a sink's content is carried over lists one after another.
-use Rattle.std.proofs.Common.{◌≡◌, refl, ap, ◌∙◌, ℕ, ◌+◌, arith, Bool, true, false, ◌&&◌, ◌||◌, List, [], ◌∷◌, ◌++◌, map, slice_index, ◌==◌, cond}
 use Rattle.std.specs.Prelude.{if◌then◌else◌}
+use Rattle.std.proofs.Common.{◌≡◌, refl, ap, ◌∙◌, ℕ, ◌+◌, arith, Bool, true, false, List, [], ◌∷◌, ◌++◌, map, slice_index, ◌==◌, cond}
 use Rattle.std.specs.List.{count_by, fold}
 use Rattle.std.proofs.lemmas.List.Sums.{sum_by-cons}
 use Rattle.sf_slabs.specs.Cells.{numbers_from}
@@ -34,29 +34,6 @@ pub counts-numbers_from : {A : Type 0} (groups : List ℕ) (test : A → Bool) (
 counts-numbers_from groups test xs =
     map-agree (λ g. count_by (λ i. slice_index groups i == g) (numbers_from 0 test xs)) (λ g. tally g groups 0 test xs) (numbers 0 (group_count groups))
     (λ g. count_by-numbers_from g 0 groups test xs)
-
--- ---- counts that grow by what passes a further test
--- no member passes both tests
-abbrev pub Disjoint : {A : Type 0} → (A → Bool) → (A → Bool) → List A → Type 0
-Disjoint s t [] = Unit {0}
-Disjoint s t (x ∷ xs) = ((s x && t x) ≡ false) × Disjoint s t xs
-
-either_or : (a b : Bool) (n : ℕ) → (a && b) ≡ false → (if a || b then n else 0) ≡ (if a then n else 0) + (if b then n else 0)
-either_or true true n h = cc
-either_or true false n h = omega arith
-either_or false true n h = omega arith
-either_or false false n h = refl
-
-pub tally-or : {A : Type 0} (g k : ℕ) (groups : List ℕ) (s t : A → Bool) (xs : List A) → Disjoint s t xs →
-    tally g groups k (λ x. s x || t x) xs ≡ tally g groups k s xs + tally g groups k t xs
-tally-or g k groups s t [] h = refl
-tally-or g k groups s t (x ∷ xs) h =
-    let here = either_or (s x) (t x) (if slice_index groups k == g then 1 else 0) h.0 in
-    let rest = tally-or g (k + 1) groups s t xs h.1 in
-    regrouped _ _ _ _ _ _ here rest
-  where
-    regrouped : (a b c d e f : ℕ) → a ≡ b + c → d ≡ e + f → a + d ≡ (b + e) + (c + f)
-    regrouped a b c d e f h k = omega arith
 
 -- ---- a fold over lists one after another
 pub fold-append : {A B : Type 0} (f : B → A → B) (b : B) (xs ys : List A) → fold f b (xs ++ ys) ≡ fold f (fold f b xs) ys

@@ -61,14 +61,6 @@ abbrev pub Some_in : {A : Type 0} → (A → Type 0) → List A → Type 0
 Some_in P [] = ⊥
 Some_in P (x ∷ xs) = P x ⊎ Some_in P xs
 
-pub Some_of-append : (P : Fraction → Type 0) (qs rs : List Fraction) → Some_of P (qs ++ rs) → Some_of P qs ⊎ Some_of P rs
-Some_of-append P [] rs h = inr h
-Some_of-append P (q ∷ qs) rs h =
-    elim h [
-      | inl here ↦ inl (inl here)
-      | inr later ↦ elim (Some_of-append P qs rs later) [ inl first ↦ inl (inr first) | inr second ↦ inr second ]
-    ]
-
 pub Some_of-front : (P : Fraction → Type 0) (qs rs : List Fraction) → Some_of P qs → Some_of P (qs ++ rs)
 Some_of-front P [] rs h = absurd h
 Some_of-front P (q ∷ qs) rs h = elim h [ inl here ↦ inl here | inr later ↦ inr (Some_of-front P qs rs later) ]
@@ -76,12 +68,6 @@ Some_of-front P (q ∷ qs) rs h = elim h [ inl here ↦ inl here | inr later ↦
 pub Some_of-back : (P : Fraction → Type 0) (qs rs : List Fraction) → Some_of P rs → Some_of P (qs ++ rs)
 Some_of-back P [] rs h = h
 Some_of-back P (q ∷ qs) rs h = inr (Some_of-back P qs rs h)
-
-pub Some_of-flat_map : {A : Type 0} (P : Fraction → Type 0) (f : A → List Fraction) (xs : List A) →
-    Some_of P (flat_map f xs) → Some_in (λ x. Some_of P (f x)) xs
-Some_of-flat_map P f [] h = h
-Some_of-flat_map P f (x ∷ xs) h =
-    elim (Some_of-append P (f x) (flat_map f xs) h) [ inl here ↦ inl here | inr later ↦ inr (Some_of-flat_map P f xs later) ]
 
 pub flat_map-Some_of : {A : Type 0} (P : Fraction → Type 0) (f : A → List Fraction) (xs : List A) →
     Some_in (λ x. Some_of P (f x)) xs → Some_of P (flat_map f xs)
@@ -92,7 +78,7 @@ flat_map-Some_of P f (x ∷ xs) h =
       | inr later ↦ Some_of-back P (f x) (flat_map f xs) (flat_map-Some_of P f xs later)
     ]
 
-Some_in-map : {A : Type 0} (P Q : A → Type 0) (xs : List A) → ((x : A) → P x → Q x) → Some_in P xs → Some_in Q xs
+pub Some_in-map : {A : Type 0} (P Q : A → Type 0) (xs : List A) → ((x : A) → P x → Q x) → Some_in P xs → Some_in Q xs
 Some_in-map P Q [] f h = h
 Some_in-map P Q (x ∷ xs) f h = elim h [ inl here ↦ inl (f x here) | inr later ↦ inr (Some_in-map P Q xs f later) ]
 
@@ -102,16 +88,6 @@ IsEndPlace pieces q = Some_in (λ p. Among (ends_of p) q) pieces
 
 abbrev pub IsCrossingPlace : List Piece → Fraction → Type 0
 IsCrossingPlace pieces q = Some_in (λ p. Some_in (λ r. Among (crossings_of p r) q) pieces) pieces
-
-pub event-is : (pieces : List Piece) (q : Fraction) → Among (event_places pieces) q → IsEndPlace pieces q ⊎ IsCrossingPlace pieces q
-event-is pieces q h =
-    elim (Some_of-append (Same q) (flat_map ends_of pieces) (flat_map (λ p. flat_map (crossings_of p) pieces) pieces) h) [
-      | inl first ↦ inl (Some_of-flat_map (Same q) ends_of pieces first)
-      | inr second ↦
-          inr (Some_in-map (λ p. Some_of (Same q) (flat_map (crossings_of p) pieces)) (λ p. Some_in (λ r. Among (crossings_of p r) q) pieces) pieces
-          (λ p k. Some_of-flat_map (Same q) (crossings_of p) pieces k)
-          (Some_of-flat_map (Same q) (λ p. flat_map (crossings_of p) pieces) pieces second))
-    ]
 
 pub is-event : (pieces : List Piece) (q : Fraction) → IsEndPlace pieces q ⊎ IsCrossingPlace pieces q → Among (event_places pieces) q
 is-event pieces q h =

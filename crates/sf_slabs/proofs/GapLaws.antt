@@ -87,7 +87,7 @@ at_least_place q r m h g i p =
     below_high = le-trans r m q g.place (le_of_lt _ _ (lt_from_test _ _ g.above)) (le_of_lt _ _ (lt_from_test _ _ g.below))
 
 -- ---- from a whole number to a whole number
-within-whole : (low high : ℤ) (q : Fraction) → within low high q ≡ (fraction_le (whole low) q && fraction_le q (whole high))
+pub within-whole : (low high : ℤ) (q : Fraction) → within low high q ≡ (fraction_le (whole low) q && fraction_le q (whole high))
 within-whole low high q =
     ap (λ z. int_le (low *ℤ pos q.den) z && int_le q.num (high *ℤ pos q.den)) (sym (times_one q.num))
     ∙ ap (λ z. int_le (low *ℤ pos q.den) (q.num *ℤ pos 1) && int_le z (high *ℤ pos q.den)) (sym (times_one q.num))
@@ -95,7 +95,7 @@ within-whole low high q =
     times_one : (n : ℤ) → n *ℤ pos 1 ≡ n
     times_one n = omega (arith, ints)
 
-one_of : (P : ℤ → Type 0) (a b : ℤ) → P a → P b → P (int_min a b) × P (int_max a b)
+pub one_of : (P : ℤ → Type 0) (a b : ℤ) → P a → P b → P (int_min a b) × P (int_max a b)
 one_of P a b h k = (by_test_min (int_lt b a), by_test_max (int_lt b a))
   where
     by_test_min : (t : Bool) → P (cond t b a)

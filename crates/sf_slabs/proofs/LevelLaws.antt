@@ -160,7 +160,7 @@ grown x q m above [] i j l h a = tt
 grown x q m above (p ∷ ps) i j l h a =
     (is_above-lower x q m p i j l h.0 ∙ ap (λ b. b || goes_on_from x q p) a.0, grown x q m above ps i j l h.1 a.1)
 
-EachPiece-map : (P Q : Piece → Type 0) (ps : List Piece) → ((p : Piece) → P p → Q p) → EachPiece P ps → EachPiece Q ps
+pub EachPiece-map : (P Q : Piece → Type 0) (ps : List Piece) → ((p : Piece) → P p → Q p) → EachPiece P ps → EachPiece Q ps
 EachPiece-map P Q [] f h = tt
 EachPiece-map P Q (p ∷ ps) f h = (f p h.0, EachPiece-map P Q ps f h.1)
 

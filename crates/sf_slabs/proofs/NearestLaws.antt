@@ -8,6 +8,8 @@ use Rattle.sf_grid.specs.Fraction.{Fraction, IsFraction, fraction_le, fraction_l
 use Rattle.sf_grid.specs.Plane.{Coordinates, Point, x_of}
 use Rattle.sf_grid.proofs.FractionLaws.{le-trans}
 use Rattle.sf_grid.proofs.NumberTests.{ge_from_test, le_from_test, lt_from_test, test_from_le}
+use Rattle.sf_slabs.specs.declared.contact.Contact.{Contact}
+use Rattle.sf_slabs.specs.declared.contact.Contact.TheVariants.{Ahead, Never, Throughout}
 use Rattle.sf_slabs.specs.Next.{IsLeastOf, candidates, lesser, places_of}
 
 -- the least place so far, where there is one
@@ -57,31 +59,38 @@ nearest_more (Some p) qs q i h = by_test (fraction_lt q p) refl
       },
     )
 
--- ---- the candidates of one more meeting
-places_of-append : (ms ns : List (Option Point)) → places_of (ms ++ ns) ≡ places_of ms ++ places_of ns
-places_of-append [] ns = refl
-places_of-append (None ∷ ms) ns = places_of-append ms ns
-places_of-append (Some p ∷ ms) ns = ap (λ qs. x_of p ∷ qs) (places_of-append ms ns)
+-- ---- the candidates of one more contact
+places_of-append : (cs ds : List Contact) → places_of (cs ++ ds) ≡ places_of cs ++ places_of ds
+places_of-append [] ds = refl
+places_of-append (Never ∷ cs) ds = places_of-append cs ds
+places_of-append (Ahead p ∷ cs) ds = ap (λ qs. x_of p ∷ qs) (places_of-append cs ds)
+places_of-append (Throughout ∷ cs) ds = places_of-append cs ds
 
-candidates-append : (g : Option Coordinates) (ms ns : List (Option Point)) → candidates g (ms ++ ns) ≡ candidates g ms ++ places_of ns
-candidates-append None ms ns = places_of-append ms ns
-candidates-append (Some a) ms ns = ap (λ qs. whole a.x ∷ qs) (places_of-append ms ns)
+candidates-append : (g : Option Coordinates) (cs ds : List Contact) → candidates g (cs ++ ds) ≡ candidates g cs ++ places_of ds
+candidates-append None cs ds = places_of-append cs ds
+candidates-append (Some a) cs ds = ap (λ qs. whole a.x ∷ qs) (places_of-append cs ds)
 
-candidates-more : (g : Option Coordinates) (ms : List (Option Point)) (i : ℕ) (d : Option Point) → i < length ms →
-    candidates g (take (i + 1) ms) ≡ candidates g (take i ms) ++ places_of (get_or ms i d ∷ [])
-candidates-more g ms i d h = ap (candidates g) (take_more ms i d h) ∙ candidates-append g (take i ms) (get_or ms i d ∷ [])
+candidates-more : (g : Option Coordinates) (cs : List Contact) (i : ℕ) (d : Contact) → i < length cs →
+    candidates g (take (i + 1) cs) ≡ candidates g (take i cs) ++ places_of (get_or cs i d ∷ [])
+candidates-more g cs i d h = ap (candidates g) (take_more cs i d h) ∙ candidates-append g (take i cs) (get_or cs i d ∷ [])
 
 append_nil : (qs : List Fraction) → qs ++ [] ≡ qs
 append_nil [] = refl
 append_nil (q ∷ qs) = ap (λ rs. q ∷ rs) (append_nil qs)
 
--- a step of the loop: no meeting, or one
-pub nearest_same : (n : Option Fraction) (g : Option Coordinates) (ms : List (Option Point)) (i : ℕ) (d : Option Point) → i < length ms →
-    get_or ms i d ≡ None → IsNearest n (candidates g (take i ms)) → IsNearest n (candidates g (take (i + 1) ms))
-nearest_same n g ms i d h e k =
-    rw (candidates-more g ms i d h ∙ ap (λ o. candidates g (take i ms) ++ places_of (o ∷ [])) e ∙ append_nil (candidates g (take i ms))) k
+-- a contact that isn't a point ahead has no place
+none_ahead : (c : Contact) → ((p : Point) → c ≡ Ahead p → ⊥) → places_of (c ∷ []) ≡ []
+none_ahead Never n = refl
+none_ahead (Ahead p) n = absurd (n p refl)
+none_ahead Throughout n = refl
 
-pub nearest_next : (n : Option Fraction) (g : Option Coordinates) (ms : List (Option Point)) (i : ℕ) (d : Option Point) (p : Point) → i < length ms →
-    get_or ms i d ≡ Some p → IsFraction (x_of p) → IsNearest n (candidates g (take i ms)) → IsNearest (Some (lesser n (x_of p))) (candidates g (take (i + 1) ms))
-nearest_next n g ms i d p h e f k =
-    rw (candidates-more g ms i d h ∙ ap (λ o. candidates g (take i ms) ++ places_of (o ∷ [])) e) (nearest_more n (candidates g (take i ms)) (x_of p) f k)
+-- a step of the loop: no point ahead, or one
+pub nearest_same : (n : Option Fraction) (g : Option Coordinates) (cs : List Contact) (i : ℕ) (d : Contact) → i < length cs →
+    ((p : Point) → get_or cs i d ≡ Ahead p → ⊥) → IsNearest n (candidates g (take i cs)) → IsNearest n (candidates g (take (i + 1) cs))
+nearest_same n g cs i d h e k =
+    rw (candidates-more g cs i d h ∙ ap (λ qs. candidates g (take i cs) ++ qs) (none_ahead (get_or cs i d) e) ∙ append_nil (candidates g (take i cs))) k
+
+pub nearest_next : (n : Option Fraction) (g : Option Coordinates) (cs : List Contact) (i : ℕ) (d : Contact) (p : Point) → i < length cs →
+    get_or cs i d ≡ Ahead p → IsFraction (x_of p) → IsNearest n (candidates g (take i cs)) → IsNearest (Some (lesser n (x_of p))) (candidates g (take (i + 1) cs))
+nearest_next n g cs i d p h e f k =
+    rw (candidates-more g cs i d h ∙ ap (λ c. candidates g (take i cs) ++ places_of (c ∷ [])) e) (nearest_more n (candidates g (take i cs)) (x_of p) f k)

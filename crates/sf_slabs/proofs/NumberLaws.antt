@@ -153,7 +153,7 @@ pub record IsListing (before : Fraction → Fraction → Bool) (qs rs : List Fra
   pub has_all : Each (Among rs) qs
   pub has_no_other : Each (Among qs) rs
 
-Each-map : (P Q : Fraction → Type 0) (qs : List Fraction) → ((q : Fraction) → P q → Q q) → Each P qs → Each Q qs
+pub Each-map : (P Q : Fraction → Type 0) (qs : List Fraction) → ((q : Fraction) → P q → Q q) → Each P qs → Each Q qs
 Each-map P Q [] f h = tt
 Each-map P Q (q ∷ qs) f h = (f q h.0, Each-map P Q qs f h.1)
 

@@ -5,13 +5,14 @@ use Rattle.std.specs.Ordering.{int_cmp, int_eq}
 use Rattle.std.proofs.lemmas.Int.{ints}
 use Rattle.sf_grid.specs.Fraction.{Fraction, IsFraction, fraction_cmp, fraction_eq, fraction_lt}
 use Rattle.sf_grid.specs.Plane.{Coordinates, Point, point_at}
-use Rattle.sf_grid.specs.Edge.{Edge, below_rightward, cross, edge_above, height_at, height_rightward, is_vertical, left_end, right_end}
+use Rattle.sf_grid.specs.Edge.{Edge, below_rightward, cross, edge_above, height_at, height_rightward, is_vertical}
 use Rattle.sf_grid.proofs.FractionLaws.{cross-point_at}
 use Rattle.sf_grid.proofs.HeightLaws.{abs_of_run, runs_right}
 use Rattle.sf_grid.proofs.PointLaws.{int_le-scaled}
 use Rattle.sf_grid.proofs.Products.{mul_le}
 use Rattle.sf_grid.proofs.Ring.{ring, var, mul}
 use Rattle.sf_grid.proofs.NumberTests.{eq_from_test}
+pub use Rattle.sf_slabs.specs.Sweeps.{goes_on}
 
 -- ---- tests of a difference
 pub cmp-difference : (a b : ℤ) → int_cmp (a -ℤ b) (pos 0) ≡ int_cmp a b
@@ -57,10 +58,6 @@ or_false true = refl
 or_false false = refl
 
 -- ---- which edges are above a point
--- the edge goes on to the right of the column x, where it has a point in x or right from it
-abbrev pub goes_on : Edge → Fraction → Bool
-goes_on e x = int_le ((left_end e).x *ℤ pos x.den) x.num && int_lt x.num ((right_end e).x *ℤ pos x.den)
-
 scale_first : (a : ℤ) (d k : ℤ) → a *ℤ d *ℤ k ≡ a *ℤ (d *ℤ k)
 scale_first a d k = ring (a ∷ d ∷ k ∷ []) (mul (mul (var 0) (var 1)) (var 2)) (mul (var 0) (mul (var 1) (var 2))) refl
 

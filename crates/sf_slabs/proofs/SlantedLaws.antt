@@ -1,13 +1,12 @@
 -- The side of a point against an edge that runs to the right, and the one point that two edges share.
-use Rattle.std.proofs.Common.{◌≡◌, ◌≢◌, refl, ap, sym, ◌∙◌, ℕ, ℤ, pos, ◌-ℤ◌, ◌*ℤ◌, ◌<ℤ◌, ◌<◌, ◌*◌, arith, [], ◌∷◌, true}
-use Rattle.std.specs.Prelude.{IsTrue, int_lt}
+use Rattle.std.proofs.Common.{◌≡◌, ◌≢◌, refl, ap, sym, ◌∙◌, ℕ, ℤ, pos, ◌*ℤ◌, ◌<ℤ◌, ◌<◌, ◌*◌, arith, [], ◌∷◌}
 use Rattle.std.specs.Ordering.{int_cmp}
 use Rattle.std.specs.declared.cmp.Ordering.TheVariants.{Equal, Greater, Less}
 use Rattle.std.proofs.lemmas.Bool.{and_parts}
 use Rattle.std.proofs.lemmas.Int.{ints}
 use Rattle.sf_grid.specs.declared.meet.Meet.TheVariants.{At}
 use Rattle.sf_grid.specs.declared.turn.Turn.TheVariants.{Left, Right, Straight}
-use Rattle.sf_grid.specs.Fraction.{Fraction, fraction_cmp, fraction_lt}
+use Rattle.sf_grid.specs.Fraction.{Fraction, fraction_cmp}
 use Rattle.sf_grid.specs.Plane.{Coordinates, IsPoint, IsSamePoint, Point, point_at, x_of, y_of}
 use Rattle.sf_grid.specs.Edge.{Edge, cross}
 use Rattle.sf_grid.specs.Sharing.{IsSharing, turn_by}
@@ -18,7 +17,7 @@ use Rattle.sf_grid.proofs.PointLaws.{cross-same}
 use Rattle.sf_grid.proofs.Products.{lt_from_mul, mul_lt}
 use Rattle.sf_grid.proofs.Ring.{ring, var, mul}
 use Rattle.sf_slabs.specs.Slanted.{ShareNoneAfter, side_of}
-use Rattle.sf_slabs.proofs.SideLaws.{cmp-difference, cmp-side}
+use Rattle.sf_slabs.proofs.SideLaws.{cmp-side}
 
 -- ---- the side of a point is the sign of its cross product
 pub side_of-cross : (u v : Coordinates) (p : Point) → IsPoint p → u.x <ℤ v.x → side_of u v p ≡ int_cmp (cross u v p) (pos 0)
@@ -32,22 +31,6 @@ side_of-cross u v p i h =
   where
     squared : (z : ℤ) → z *ℤ pos (p.d * p.d) ≡ z *ℤ pos p.d *ℤ pos p.d
     squared z = ring (z ∷ pos p.d ∷ []) (mul (var 0) (mul (var 1) (var 1))) (mul (mul (var 0) (var 1)) (var 1)) refl
-
--- from the two products whose difference the cross product is
-pub side_of-products : (u v : Coordinates) (p : Point) (up along : ℤ) → IsPoint p → u.x <ℤ v.x →
-    up ≡ (p.y -ℤ u.y *ℤ pos p.d) *ℤ (v.x -ℤ u.x) → along ≡ (p.x -ℤ u.x *ℤ pos p.d) *ℤ (v.y -ℤ u.y) → int_cmp up along ≡ side_of u v p
-side_of-products u v p up along i h e f =
-    sym (cmp-difference up along)
-    ∙ ap (λ z. int_cmp (z -ℤ along) (pos 0)) (e ∙ commuted (p.y -ℤ u.y *ℤ pos p.d) (v.x -ℤ u.x))
-    ∙ ap (λ z. int_cmp ((v.x -ℤ u.x) *ℤ (p.y -ℤ u.y *ℤ pos p.d) -ℤ z) (pos 0)) (f ∙ commuted (p.x -ℤ u.x *ℤ pos p.d) (v.y -ℤ u.y))
-    ∙ sym (side_of-cross u v p i h)
-  where
-    commuted : (a b : ℤ) → a *ℤ b ≡ b *ℤ a
-    commuted a b = ring (a ∷ b ∷ []) (mul (var 0) (var 1)) (mul (var 1) (var 0)) refl
-
--- an order and the tests that it answers
-pub is_less-lt : (a b : ℤ) → int_lt a b ≡ true → int_cmp a b ≡ Less
-is_less-lt a b h = grind (arith, ints)
 
 pub left_is_above : (z : ℤ) → turn_by (int_cmp (pos 0) z) ≡ Left → int_cmp z (pos 0) ≡ Greater
 left_is_above z h = grind (arith, ints)
@@ -75,6 +58,3 @@ pub none_after : (e f : Edge) (x : Fraction) (q : Point) → IsPoint q → IsSha
 none_after e f x q j h n p i both l =
     let same : IsSamePoint p q = (h p i).0 both in
     n (is_less _ _ (lt_moved x p.x q.x p.d q.d i.positive j.positive (eq_from_test _ _ (and_parts _ _ same).0) (lt_from_test _ _ l)))
-
-pub after_from_less : (x q : Fraction) → fraction_cmp x q ≡ Less → IsTrue (fraction_lt x q)
-after_from_less x q h = grind (arith, ints)

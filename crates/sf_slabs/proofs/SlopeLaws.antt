@@ -27,7 +27,7 @@ slope_cmp-order e f =
     (((right_end f).y -ℤ (left_end f).y) *ℤ ((right_end e).x -ℤ (left_end e).x))
 
 -- a gap of 0 in the column x grows by the slopes
-gap-grows : (u v s t : Coordinates) (x z : Fraction) → gap u v s t x ≡ pos 0 →
+pub gap-grows : (u v s t : Coordinates) (x z : Fraction) → gap u v s t x ≡ pos 0 →
     gap u v s t z *ℤ pos x.den ≡ slope_gap u v s t *ℤ (z.num *ℤ pos x.den -ℤ x.num *ℤ pos z.den)
 gap-grows u v s t x z e =
     ap (λ g. g *ℤ pos x.den) (sym (gap-line u v s t z))

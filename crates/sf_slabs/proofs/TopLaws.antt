@@ -60,7 +60,7 @@ passes-listed P x (Edge a b) h k =
 passes-listed P x (Dot a) h k = absurd (false≢true h)
 
 -- ---- the pieces of a list against a listing of the column's heights
-Each-parts : (P : Fraction → Type 0) (qs rs : List Fraction) → Each P (qs ++ rs) → Each P qs × Each P rs
+pub Each-parts : (P : Fraction → Type 0) (qs rs : List Fraction) → Each P (qs ++ rs) → Each P qs × Each P rs
 Each-parts P [] rs h = (tt, h)
 Each-parts P (q ∷ qs) rs h = let k = Each-parts P qs rs h.1 in ((h.0, k.0), k.1)
 
@@ -89,7 +89,7 @@ none_above x q m qs (p ∷ ps) i j k n f c h =
     never true l g = g refl
     never false l g = refl
 
-one_more-above : (q : Fraction) → IsFraction q → fraction_lt q (one_more q) ≡ true
+pub one_more-above : (q : Fraction) → IsFraction q → fraction_lt q (one_more q) ≡ true
 one_more-above q i = test_from_lt _ _ (mul_lt _ _ q.den i.positive (larger q.num q.den i.positive))
   where
     larger : (n : ℤ) (d : ℕ) → 0 < d → n <ℤ (n +ℤ pos d)

@@ -2,18 +2,27 @@
 use Rattle.std.specs.Prelude.{Option, Some, None, List, [], ◌∷◌, IsTrue, if◌then◌else◌}
 use Rattle.std.specs.List.{All, Contains}
 use Rattle.sf_grid.specs.Fraction.{Fraction, fraction_le, fraction_lt, whole}
-use Rattle.sf_grid.specs.Plane.{Coordinates, Point, x_of}
+use Rattle.sf_grid.specs.Plane.{Coordinates, x_of}
+use Rattle.sf_slabs.specs.declared.contact.Contact.{Contact}
+use Rattle.sf_slabs.specs.declared.contact.Contact.TheVariants.{Ahead, Never, Throughout}
+use Rattle.sf_slabs.specs.declared.vertex.Vertex.{Vertex}
 
--- the columns of the meetings that there are
-abbrev pub places_of : List (Option Point) → List Fraction
+-- the columns of the points ahead that neighbours share
+abbrev pub places_of : List Contact → List Fraction
 places_of [] = []
-places_of (None ∷ ps) = places_of ps
-places_of (Some p ∷ ps) = x_of p ∷ places_of ps
+places_of (Never ∷ cs) = places_of cs
+places_of (Ahead p ∷ cs) = x_of p ∷ places_of cs
+places_of (Throughout ∷ cs) = places_of cs
 
--- the columns of the next grid point and of the meetings
-abbrev pub candidates : Option Coordinates → List (Option Point) → List Fraction
-candidates None ps = places_of ps
-candidates (Some a) ps = whole a.x ∷ places_of ps
+-- the columns of the next grid point and of those points
+abbrev pub candidates : Option Coordinates → List Contact → List Fraction
+candidates None cs = places_of cs
+candidates (Some a) cs = whole a.x ∷ places_of cs
+
+-- the place of the first vertex, where there is one
+abbrev pub first_place : List Vertex → Option Coordinates
+first_place [] = None
+first_place (v ∷ vs) = Some v.at
 
 -- y is one of the places, and none of them is left of it
 pub record IsLeastOf (places : List Fraction) (y : Fraction) : Type 0 where

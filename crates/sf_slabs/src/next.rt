@@ -3,21 +3,22 @@
 ghost use Rattle.std.specs.Prelude.{◌≡◌, [], IfSome, IfNone as OnNone};
 ghost use Rattle.sf_slabs.specs.Next.{IsLeastOf, candidates, lesser as lesser_of};
 
+use crate::contact::Contact;
 use sf_grid::{Frac, FracPoint, GridPoint};
 use std::cmp::Ordering;
 
-/// The leftmost of the columns of the next grid point and of the meetings of neighbours, or None
-/// where there is none of either.
-pub fn next_column(grid: Option<GridPoint>, meetings: &[Option<FracPoint>]) -> Option<Frac>
-    ensures some { IfSome result (λ y. IsLeastOf (candidates grid meetings.now) y) }
-    ensures none { OnNone result (candidates grid meetings.now ≡ []) }
+/// The leftmost of the columns of the next grid point and of the points ahead that neighbours share,
+/// or None where there is none of either.
+pub fn next_column(grid: Option<GridPoint>, contacts: &[Contact]) -> Option<Frac>
+    ensures some { IfSome result (λ y. IsLeastOf (candidates grid contacts.now) y) }
+    ensures none { OnNone result (candidates grid contacts.now ≡ []) }
 {
     let mut nearest = match grid {
         Some(p) => Some(FracPoint::of(p).x()),
         None => None,
     };
-    for meeting in meetings {
-        if let Some(p) = meeting {
+    for contact in contacts {
+        if let Contact::Ahead(p) = contact {
             nearest = Some(lesser(nearest, p.x()));
         }
     }

@@ -1,18 +1,17 @@
-//! Edges from left to right: on which side of them points lie, how steep they are, and where they
-//! meet.
+//! Edges from left to right: on which side of them points lie, and how steep they are.
 
-ghost use Rattle.std.specs.Prelude.{◌≡◌, ◌≤◌, ◌*◌, ◌-ℤ◌, ◌*ℤ◌, pos, ◌⊎◌, unsigned_abs, ◌↔◌, IfSome, IsNone, IsTrue, IfNone as OnNone};
+ghost use Rattle.std.specs.Prelude.{◌≡◌, true, ◌≤◌, ◌*◌, ◌-ℤ◌, ◌*ℤ◌, pos, unsigned_abs, ◌↔◌, IfSome, IsNone, IsTrue};
 ghost use Rattle.sf_grid.specs.Bounds.{IsCoordinate, difference_bound, numerator_bound};
 ghost use Rattle.sf_grid.specs.Edge.{edge_between, is_vertical, left_end, right_end};
 ghost use Rattle.sf_grid.specs.Plane.{grid_point};
-ghost use Rattle.sf_slabs.specs.Slanted.{IsMeetingAfter, IsOneLine, IsRightward, ShareNoneAfter, is_line_above, is_line_not_below, side_of, slope_order as slope_order_of};
+ghost use Rattle.sf_slabs.specs.Slanted.{IsRightward, is_line_above, is_line_not_below, side_of, slope_order as slope_order_of};
 
-use sf_grid::edges::{meet, orientation};
-use sf_grid::{Frac, FracPoint, GridPoint, Meet, Turn};
+use sf_grid::edges::orientation;
+use sf_grid::{Frac, FracPoint, GridPoint, Turn};
 use std::cmp::Ordering;
 
 /// An edge that isn't vertical, from its left end to its right end.
-#[derive(Drop)]
+#[derive(Clone, Copy)]
 pub struct Slanted {
     left: GridPoint,
     right: GridPoint,
@@ -35,6 +34,27 @@ impl Slanted {
         }
     }
 
+    /// The left end.
+    pub fn left(&self) -> GridPoint
+        ensures { result ≡ self.now.left }
+    {
+        self.left
+    }
+
+    /// The right end.
+    pub fn right(&self) -> GridPoint
+        ensures { result ≡ self.now.right }
+    {
+        self.right
+    }
+
+    /// Whether both are the edge between the same two points.
+    pub fn is(&self, other: &Slanted) -> bool
+        ensures { result ≡ true ↔ (self.now.left ≡ other.now.left) × (self.now.right ≡ other.now.right) }
+    {
+        self.left == other.left && self.right == other.right
+    }
+
     /// Where `p` lies in its column: below the line of this edge, on it, or above it.
     pub fn side(&self, p: GridPoint) -> Ordering
         ensures { result ≡ side_of self.now.left self.now.right (grid_point p) }
@@ -44,29 +64,6 @@ impl Slanted {
             Turn::Straight => Ordering::Equal,
             Turn::Right => Ordering::Less,
         }
-    }
-
-    /// Whether the line of this edge is above `p`.
-    pub fn is_above(&self, p: GridPoint) -> bool
-        ensures { result ≡ is_line_above self.now.left self.now.right (grid_point p) }
-    {
-        self.side(p) == Ordering::Less
-    }
-
-    /// Whether the line of this edge is above `p` or through it.
-    pub fn is_not_below(&self, p: GridPoint) -> bool
-        ensures { result ≡ is_line_not_below self.now.left self.now.right (grid_point p) }
-    {
-        self.side(p) != Ordering::Greater
-    }
-
-    /// Where the point `p` lies in its column: below the line of this edge, on it, or above it.
-    pub fn side_at(&self, p: &FracPoint) -> Ordering
-        ensures { result ≡ side_of self.now.left self.now.right p.now }
-    {
-        let up = wide_product(distance(&p.y(), self.left.y()), self.run());
-        let along = wide_product(distance(&p.x(), self.left.x()), self.rise());
-        up.cmp(&along)
     }
 
     /// Which of two edges rises less.
@@ -94,28 +91,6 @@ impl Slanted {
     {
         i64::from(self.right.y()) - i64::from(self.left.y())
     }
-
-    /// The only point that two edges share, if it is right of the column `x`.
-    pub fn meeting_after(&self, other: &Slanted, x: &Frac) -> Option<FracPoint>
-        ensures some { IfSome result (λ p. IsMeetingAfter
-            (edge_between self.now.left self.now.right)
-            (edge_between other.now.left other.now.right) x.now p) }
-        ensures none { OnNone result (
-            (ShareNoneAfter
-            (edge_between self.now.left self.now.right)
-            (edge_between other.now.left other.now.right) x.now)
-            ⊎ (IsOneLine
-            (edge_between self.now.left self.now.right)
-            (edge_between other.now.left other.now.right))) }
-    {
-        match meet((self.left, self.right), (other.left, other.right)) {
-            Meet::At(p) => match x.compare(&p.x()) {
-                Ordering::Less => Some(p),
-                _ => None,
-            },
-            _ => None,
-        }
-    }
 }
 
 /// The product of two differences of coordinates.
@@ -125,23 +100,4 @@ fn product(a: i64, b: i64) -> i64
     ensures { result ≡ a *ℤ b }
 {
     a * b
-}
-
-/// How far a place is from a coordinate, times the place's denominator.
-fn distance(place: &Frac, from: i32) -> i128
-    requires { IsCoordinate from }
-    ensures value { result ≡ place.now.num -ℤ from *ℤ pos place.now.den }
-    ensures bound { unsigned_abs result ≤ 2 * numerator_bound }
-{
-    place.num() - wide_product(i128::from(place.den()), i64::from(from))
-}
-
-/// The product of a number of the size of a crossing's numerators and one of a coordinate's size.
-fn wide_product(a: i128, b: i64) -> i128
-    requires first_small { unsigned_abs a ≤ 2 * numerator_bound }
-    requires second_small { unsigned_abs b ≤ difference_bound }
-    ensures value { result ≡ a *ℤ b }
-    ensures bound { unsigned_abs result ≤ unsigned_abs a * unsigned_abs b }
-{
-    a * i128::from(b)
 }

@@ -3,5 +3,5 @@ use Rattle.sf_slabs.specs.Next.{candidates}
 use Rattle.sf_slabs.proofs.NearestLaws.{IsNearest}
 use Rattle.sf_slabs.proofs.next.next_column.Given as goal
 
-abbrev pub invariant-loop-meeting : goal.invariant-loop-meeting
-invariant-loop-meeting l = IsNearest l.nearest (candidates l.fn.grid (take l.meeting-index l.meetings))
+abbrev pub invariant-loop-contact : goal.invariant-loop-contact
+invariant-loop-contact l = IsNearest l.nearest (candidates l.fn.grid (take l.contact-index l.contacts))

@@ -1,0 +1,106 @@
+-- The lists of a sweep: what comes to a column from the left, what lies in it, and what goes on from it.
+use Rattle.std.specs.Prelude.{◌≡◌, ℕ, Bool, true, false, ◌&&◌, pos, ◌*ℤ◌, int_le, int_lt, List, [], ◌∷◌, map, Option, if◌then◌else◌}
+use Rattle.std.specs.List.{sum_by}
+use Rattle.std.specs.declared.cmp.Ordering.{Ordering}
+use Rattle.std.specs.declared.cmp.Ordering.TheVariants.{Equal, Less}
+use Rattle.sf_grid.specs.Fraction.{Fraction, IsFraction, fraction_eq, fraction_le, fraction_lt, whole}
+use Rattle.sf_grid.specs.Edge.{Edge as Line, edge_between, height_cmp, left_end, right_end}
+use Rattle.sf_slabs.specs.declared.piece.Piece.{Piece}
+use Rattle.sf_slabs.specs.declared.piece.Piece.TheVariants.{Dot, Edge}
+use Rattle.sf_slabs.specs.declared.active.Active.{Active}
+use Rattle.sf_slabs.specs.declared.cell.Cell.{Cell}
+use Rattle.sf_slabs.specs.declared.contact.Contact.{Contact}
+use Rattle.sf_slabs.specs.declared.vertex.Vertex.{Vertex}
+use Rattle.sf_slabs.specs.Cells.{cell_of, numbers_from}
+use Rattle.sf_slabs.specs.Fronts.{AreContacts, Descend, EachActive, IsEntry, SameNumbers, line_of, pieces_of, touches}
+use Rattle.sf_slabs.specs.Samples.{Mark, levels, sample_at}
+use Rattle.sf_slabs.specs.Vertices.{IsVertexOf, all_vertices, vertex_before}
+
+-- the edge goes on to the right of the column x, where it has a point in x or right from it
+abbrev pub goes_on : Line → Fraction → Bool
+goes_on e x = int_le ((left_end e).x *ℤ pos x.den) x.num && int_lt x.num ((right_end e).x *ℤ pos x.den)
+
+-- the piece is an edge that isn't vertical and goes on to the right of the column x
+abbrev pub passes : Fraction → Piece → Bool
+passes x (Edge a b) = goes_on (edge_between a b) x
+passes x (Dot a) = false
+
+-- the piece is an edge that isn't vertical and comes to the column z from the left
+abbrev pub comes_to : Fraction → Piece → Bool
+comes_to z (Edge a b) =
+    let e = edge_between a b in
+    fraction_lt (whole (left_end e).x) z && fraction_le z (whole (right_end e).x)
+comes_to z (Dot a) = false
+
+-- the next edge is level with this one in the column z where the two touch, and else strictly below
+abbrev pub step_by : Bool → Ordering
+step_by true = Equal
+step_by false = Less
+
+abbrev pub StepsAtFrom : Fraction → Option Fraction → Active → List Active → List Contact → Type 0
+StepsAtFrom z column a [] cs = cs ≡ []
+StepsAtFrom z column a (b ∷ bs) [] = ⊥
+StepsAtFrom z column a (b ∷ bs) (c ∷ cs) =
+    (height_cmp (line_of b) (line_of a) z ≡ step_by (touches column c)) × StepsAtFrom z column b bs cs
+
+abbrev pub StepsAt : Fraction → Option Fraction → List Active → List Contact → Type 0
+StepsAt z column [] cs = cs ≡ []
+StepsAt z column (a ∷ es) cs = StepsAtFrom z column a es cs
+
+-- every vertex of the list has a property
+abbrev pub EachVertex : (Vertex → Type 0) → List Vertex → Type 0
+EachVertex P [] = Unit {0}
+EachVertex P (v ∷ vs) = P v × EachVertex P vs
+
+-- the vertices are just those of the pieces that pass a test, each as often
+abbrev pub AreVertices : List Piece → (Vertex → Bool) → List Vertex → Type 0
+AreVertices pieces test vs =
+    (weight : Vertex → ℕ) → sum_by weight vs ≡ sum_by (λ v. if test v then weight v else 0) (all_vertices 0 pieces)
+
+abbrev pub in_column : Fraction → Vertex → Bool
+in_column z v = fraction_eq (whole v.at.x) z
+
+abbrev pub right_of : Fraction → Vertex → Bool
+right_of x v = fraction_lt x (whole v.at.x)
+
+-- columns from the left, each from the top
+abbrev pub InOrderFrom : Vertex → List Vertex → Type 0
+InOrderFrom u [] = Unit {0}
+InOrderFrom u (v ∷ vs) = (vertex_before v u ≡ false) × InOrderFrom v vs
+
+abbrev pub InOrder : List Vertex → Type 0
+InOrder [] = Unit {0}
+InOrder (v ∷ vs) = InOrderFrom v vs
+
+-- the vertices of a column
+pub record IsColumnOf (pieces : List Piece) (z : Fraction) (vs : List Vertex) : Type 0 where
+  pub are : AreVertices pieces (in_column z) vs
+  pub each : EachVertex (IsVertexOf pieces) vs
+  pub here : EachVertex (λ v. in_column z v ≡ true) vs
+  pub in_order : InOrder vs
+
+-- the vertices right of the column x
+pub record IsAhead (pieces : List Piece) (x : Fraction) (vs : List Vertex) : Type 0 where
+  pub are : AreVertices pieces (right_of x) vs
+  pub each : EachVertex (IsVertexOf pieces) vs
+  pub later : EachVertex (λ v. right_of x v ≡ true) vs
+  pub in_order : InOrder vs
+
+-- the edges that come to the column z from the left, from the top
+pub record IsComing (pieces : List Piece) (z : Fraction) (column : Option Fraction) (es : List Active) (cs : List Contact) : Type 0 where
+  pub place : IsFraction z
+  pub entries : EachActive (IsEntry pieces) es
+  pub coming : SameNumbers (pieces_of es) (numbers_from 0 (comes_to z) pieces)
+  pub steps : StepsAt z column es cs
+
+-- the edges that go on to the right of the column x, from the top
+pub record IsFront (pieces : List Piece) (x : Fraction) (os : List Active) (cs : List Contact) : Type 0 where
+  pub place : IsFraction x
+  pub entries : EachActive (IsEntry pieces) os
+  pub active : SameNumbers (pieces_of os) (numbers_from 0 (passes x) pieces)
+  pub descend : Descend x os
+  pub contacts : AreContacts x os cs
+
+-- the cells of a column
+abbrev pub cells_in : List Piece → Mark → List Cell
+cells_in pieces m = map (λ y. cell_of pieces (sample_at m y)) (levels pieces m.place)

@@ -1,0 +1,51 @@
+//! The cells of a list of pieces.
+
+ghost use Rattle.std.specs.Prelude.{◌≡◌, ◌≤◌, length, IfOk};
+ghost use Rattle.std.specs.List.{All};
+ghost use Rattle.sf_slabs.specs.Cells.{cells};
+ghost use Rattle.sf_slabs.specs.Groups.{numbers};
+ghost use Rattle.sf_slabs.specs.Pieces.{HasLength};
+
+use crate::cell::Cell;
+use crate::listing::{Measure, Recorder, recorded};
+use crate::piece::Piece;
+use crate::sweep::walk;
+use std::alloc::{AllocError, Global};
+
+/// The cells of the pieces: columns from the left, each from the top. The first walk over them
+/// measures, and the second one records them in room that was made in between.
+pub fn decompose(alloc: Global, pieces: &[Piece]) -> Result<Vec<Cell>, AllocError>
+    requires have_length { All HasLength pieces.now }
+    requires few { length pieces.now ≤ 65535 }
+    ensures { IfOk result (λ found. found.items ≡ cells pieces.now) }
+{
+    let groups = own_groups(alloc, pieces.len())?;
+    let mut measure = Measure {
+        cells: 0,
+        numbers: 0,
+    };
+    walk(alloc, pieces, groups.as_slice(), &mut measure)?;
+    let mut recorder = Recorder::new(alloc, measure.cells, measure.numbers)?;
+    walk(alloc, pieces, groups.as_slice(), &mut recorder)?;
+    if recorder.short {
+        // It doesn't happen: the second walk has the cells of the first one.
+        return Err(AllocError);
+    }
+    recorded(
+        alloc,
+        recorder.heads.as_slice(),
+        recorder.numbers.as_slice(),
+    )
+}
+
+/// A group of its own for each of so many pieces.
+fn own_groups(alloc: Global, pieces: usize) -> Result<Vec<u32>, AllocError>
+    requires { pieces ≤ 65535 }
+    ensures { IfOk result (λ groups. groups.items ≡ numbers 0 pieces) }
+{
+    let mut groups = Vec::with_capacity(alloc, pieces)?;
+    for group in 0..pieces {
+        groups.push_reserved(group as u32);
+    }
+    Ok(groups)
+}

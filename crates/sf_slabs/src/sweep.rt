@@ -1,0 +1,232 @@
+//! The sweep over the columns of a list of pieces, from the left.
+
+ghost use Rattle.std.specs.Prelude.{◌≡◌, ℕ, ◌≤◌, ◌<◌, List, [], None, Some, length, map, IfOk, OnErr, OnOk};
+ghost use Rattle.std.specs.List.{All, fold, prefix_len};
+ghost use Rattle.std.specs.List.Sorted.{IsPermutation, IsSortedBy};
+ghost use Rattle.sf_grid.specs.Fraction.{Fraction};
+ghost use Rattle.sf_slabs.specs.declared.piece.Piece.{Piece};
+ghost use Rattle.sf_slabs.specs.Cells.{cells};
+ghost use Rattle.sf_slabs.specs.Fronts.{AreApart};
+ghost use Rattle.sf_slabs.specs.Groups.{group_count as group_count_of, item_of};
+ghost use Rattle.sf_slabs.specs.Next.{first_place as first_place_of};
+ghost use Rattle.sf_slabs.specs.Pieces.{HasLength};
+ghost use Rattle.sf_slabs.specs.Samples.{listed, unlisted};
+ghost use Rattle.sf_slabs.specs.Sweeps.{IsColumnOf, IsComing, IsFront, cells_in, in_column};
+ghost use Rattle.sf_slabs.specs.Vertices.{all_vertices, vertex_before};
+ghost use Rattle.sf_slabs.specs.Walks.{IsReady, IsSlabOf};
+
+use crate::active::Active;
+use crate::contact::Contact;
+use crate::cut::Cut;
+use crate::hand_out::{Column, Tallies, hand_out};
+use crate::neighbours::{neighbours, note_places};
+use crate::next::next_column;
+use crate::piece::Piece;
+use crate::sink::CellSink;
+use crate::vertex::{Vertex, vertices};
+use sf_grid::{Frac, GridPoint};
+use std::alloc::{AllocError, Global};
+use std::mem::swap;
+
+/// The edges right of the last column, from the top, what each does with the next one, and the room
+/// that the sweep works in.
+#[derive(Drop)]
+pub struct Sweep {
+    pub order: Vec<Active>,
+    pub contacts: Vec<Contact>,
+    pub found: Vec<Contact>,
+    pub places: Vec<u32>,
+    pub cut: Cut,
+    pub tallies: Tallies,
+}
+
+impl Sweep {
+    /// Hands out the cells of the column `x`, and goes on to the edges right of it.
+    fn column<S: CellSink>(
+        &mut self,
+        x: &Frac,
+        pieces: &[Piece],
+        groups: &[u32],
+        vertices: &[Vertex],
+        sink: &mut S,
+    )
+        requires ready { IsReady pieces.now groups.now (length vertices.now) self.old }
+        requires few { length pieces.now ≤ 65535 }
+        requires few_vertices { length vertices.now ≤ 131070 }
+        requires one_group_each { length groups.now ≡ length pieces.now }
+        requires coming { IsComing pieces.now x.now (Some x.now)
+            self.old.order.items self.old.contacts.items }
+        requires apart { AreApart x.now self.old.order.items self.old.contacts.items }
+        requires vertices { IsColumnOf pieces.now x.now vertices.now }
+        ensures ready { (n : ℕ) → IsReady pieces.now groups.now n self.old
+            → IsReady pieces.now groups.now n self.new }
+        ensures front { IsFront pieces.now x.now self.new.order.items self.new.contacts.items }
+        ensures handed { S.content sink.new ≡ fold S.after (S.content sink.old)
+            (map (item_of groups.now) (cells_in pieces.now (listed x.now))) }
+    {
+        self.cut.column(
+            pieces,
+            &Some(*x),
+            self.order.as_slice(),
+            self.contacts.as_slice(),
+            vertices,
+        );
+        let column = Column {
+            edges: self.order.as_slice(),
+            vertices,
+            onward: self.cut.order.as_slice(),
+            levels: self.cut.levels.as_slice(),
+        };
+        hand_out(sink, true, groups, &mut self.tallies, &column);
+        note_places(self.order.as_slice(), self.places.as_mut_slice());
+        neighbours(
+            x,
+            self.order.as_slice(),
+            self.contacts.as_slice(),
+            self.places.as_slice(),
+            self.cut.order.as_slice(),
+            &mut self.found,
+        );
+        swap(&mut self.order, &mut self.cut.order);
+        swap(&mut self.contacts, &mut self.found);
+    }
+
+    /// Hands out the cells of the slab right of the last column.
+    fn slab<S: CellSink>(&mut self, pieces: &[Piece], groups: &[u32], sink: &mut S)
+        requires ready { IsReady pieces.now groups.now 0 self.old }
+        requires few { length pieces.now ≤ 65535 }
+        requires one_group_each { length groups.now ≡ length pieces.now }
+        requires slab { IsSlabOf pieces.now self.old.order.items self.old.contacts.items }
+        ensures ready { (n : ℕ) → IsReady pieces.now groups.now n self.old
+            → IsReady pieces.now groups.now n self.new }
+        ensures order { self.new.order ≡ self.old.order }
+        ensures contacts { self.new.contacts ≡ self.old.contacts }
+        ensures handed { (z : Fraction) → IsComing pieces.now z None
+            self.old.order.items self.old.contacts.items → IsColumnOf pieces.now z []
+            → S.content sink.new ≡ fold S.after (S.content sink.old)
+            (map (item_of groups.now) (cells_in pieces.now (unlisted z))) }
+    {
+        self.cut
+            .slab(self.order.as_slice(), self.contacts.as_slice());
+        let slab = Column {
+            edges: self.order.as_slice(),
+            vertices: &[],
+            onward: self.order.as_slice(),
+            levels: self.cut.levels.as_slice(),
+        };
+        hand_out(sink, false, groups, &mut self.tallies, &slab);
+    }
+    /// Room for a sweep over so many pieces, with so many vertices and groups.
+    fn new(
+        alloc: Global,
+        pieces: usize,
+        vertices: usize,
+        groups: usize,
+    ) -> Result<Sweep, AllocError>
+        requires few { pieces ≤ 65535 }
+        requires few_vertices { vertices ≤ 131070 }
+        ensures ready { IfOk result (λ s. (ps : List Piece) → length ps ≡ pieces
+            → (gs : List ℕ) → group_count_of gs ≡ groups → IsReady ps gs vertices s) }
+        ensures order { IfOk result (λ s. s.order.items ≡ []) }
+        ensures contacts { IfOk result (λ s. s.contacts.items ≡ []) }
+    {
+        let room = pieces + vertices;
+        Ok(Sweep {
+            order: Vec::with_capacity(alloc, room)?,
+            contacts: Vec::with_capacity(alloc, pieces)?,
+            found: Vec::with_capacity(alloc, pieces)?,
+            places: Vec::from_elem(alloc, 0, pieces)?,
+            cut: Cut {
+                levels: Vec::with_capacity(alloc, room)?,
+                order: Vec::with_capacity(alloc, room)?,
+                segment: Vec::with_capacity(alloc, room)?,
+            },
+            tallies: Tallies {
+                on: Vec::from_elem(alloc, 0, groups)?,
+                above: Vec::from_elem(alloc, 0, groups)?,
+            },
+        })
+    }
+
+    /// Hands out all cells: the slab left of everything, and then each column with the slab right
+    /// of it.
+    fn run<S: CellSink>(
+        &mut self,
+        pieces: &[Piece],
+        groups: &[u32],
+        vertices: &[Vertex],
+        sink: &mut S,
+    )
+        requires ready { IsReady pieces.now groups.now (length vertices.now) self.old }
+        requires few { length pieces.now ≤ 65535 }
+        requires few_vertices { length vertices.now ≤ 131070 }
+        requires one_group_each { length groups.now ≡ length pieces.now }
+        requires no_edge { self.old.order.items ≡ [] }
+        requires no_contact { self.old.contacts.items ≡ [] }
+        requires all { IsPermutation (all_vertices 0 pieces.now) vertices.now }
+        requires in_order { IsSortedBy vertex_before vertices.now }
+        ensures { S.content sink.new ≡ fold S.after (S.content sink.old)
+            (map (item_of groups.now) (cells pieces.now)) }
+    {
+        let mut ahead = vertices;
+        let mut next = next_column(first_place(ahead), self.contacts.as_slice());
+        self.slab(pieces, groups, sink);
+        while let Some(x) = next {
+            let (here, later) = ahead.split_at(column_len(&x, ahead));
+            self.column(&x, pieces, groups, here, sink);
+            ahead = later;
+            next = next_column(first_place(ahead), self.contacts.as_slice());
+            self.slab(pieces, groups, sink);
+        }
+    }
+}
+
+/// Where the first vertex is.
+fn first_place(vertices: &[Vertex]) -> Option<GridPoint>
+    ensures { result ≡ first_place_of vertices.now }
+{
+    vertices.first().map(|v| v.at)
+}
+
+/// How many vertices from the first one on are in the column `x`.
+fn column_len(x: &Frac, vertices: &[Vertex]) -> usize
+    ensures value { result ≡ prefix_len (in_column x.now) vertices.now }
+    ensures bound { result ≤ length vertices.now }
+{
+    vertices.iter().take_while(|v| v.is_in(x)).count()
+}
+
+/// Hands the cells of the pieces to the sink, each with its dimension and, of every group, how many
+/// of its pieces are on the cell and how many of its edges are above it: columns from the left,
+/// each from the top. The groups are those of the pieces, one for each; there are as many as the
+/// greatest number says, plus one. Where memory is wanting the sink is left as it was.
+pub fn walk<S: CellSink>(
+    alloc: Global,
+    pieces: &[Piece],
+    groups: &[u32],
+    sink: &mut S,
+) -> Result<(), AllocError>
+    requires have_length { All HasLength pieces.now }
+    requires few { length pieces.now ≤ 65535 }
+    requires one_group_each { length groups.now ≡ length pieces.now }
+    requires groups_in_range { All (λ g. g < length pieces.now) groups.now }
+    ensures ok { OnOk result (S.content sink.new ≡ fold S.after (S.content sink.old)
+        (map (item_of groups.now) (cells pieces.now))) }
+    ensures err { OnErr result (sink.new ≡ sink.old) }
+{
+    let vertices = vertices(alloc, pieces)?;
+    let mut sweep = Sweep::new(alloc, pieces.len(), vertices.len(), group_count(groups))?;
+    sweep.run(pieces, groups, vertices.as_slice(), sink);
+    Ok(())
+}
+
+/// How many groups there are: the greatest number plus one, or 0.
+fn group_count(groups: &[u32]) -> usize
+    ensures { result ≡ group_count_of groups.now }
+{
+    let mut count = 0;
+    for group in groups {
+        count = count.max(*group as usize + 1);
+    }
+    count
+}
