@@ -9,12 +9,12 @@ use Rattle.sf_grid.proofs.Ring.{ring, var, mul}
 use Rattle.sf_grid.proofs.SameLaws.{same_point_is_equivalence, same_points_are_alike}
 use Rattle.sf_grid.proofs.NumberTests.{same_tests, test_from_eq}
 use Rattle.std.proofs.lemmas.Bool.{and_from}
-use Rattle.sf_slabs.specs.declared.piece.Piece.{Piece}
-use Rattle.sf_slabs.specs.declared.piece.Piece.TheVariants.{Dot, Edge}
-use Rattle.sf_slabs.specs.declared.cell.Cell.{Cell}
-use Rattle.sf_slabs.specs.Pieces.{is_above, is_on}
-use Rattle.sf_slabs.specs.Samples.{Mark, sample_at}
-use Rattle.sf_slabs.specs.Cells.{cell_of, numbers_from}
+use Rattle.sf_columns.specs.declared.piece.Piece.{Piece}
+use Rattle.sf_columns.specs.declared.piece.Piece.TheVariants.{Dot, Edge}
+use Rattle.sf_cells.specs.declared.cell.Cell.{Cell}
+use Rattle.sf_cells.specs.Pieces.{is_above, is_on}
+use Rattle.sf_cells.specs.Samples.{Mark, sample_at}
+use Rattle.sf_cells.specs.Cells.{cell_of, numbers_from}
 use Rattle.sf_slabs.proofs.NumberLaws.{Pairs}
 use Rattle.sf_slabs.proofs.OnLaws.{IsPoint-point_at}
 

@@ -11,20 +11,20 @@ use Rattle.sf_grid.specs.Fraction.{Fraction, IsFraction, fraction_eq, fraction_l
 use Rattle.sf_grid.specs.Plane.{point_at}
 use Rattle.sf_grid.proofs.NumberTests.{eq_from_test, test_from_eq, test_from_le}
 use Rattle.sf_grid.proofs.PointLaws.{Same}
-use Rattle.sf_slabs.specs.declared.piece.Piece.{Piece}
-use Rattle.sf_slabs.specs.declared.piece.Piece.TheVariants.{Dot, Edge}
-use Rattle.sf_slabs.specs.declared.active.Active.{Active}
-use Rattle.sf_slabs.specs.declared.contact.Contact.{Contact}
-use Rattle.sf_slabs.specs.declared.level.Level.{Level}
-use Rattle.sf_slabs.specs.declared.vertex.Vertex.{Vertex}
-use Rattle.sf_slabs.specs.Cells.{numbers_from}
-use Rattle.sf_slabs.specs.Fronts.{EachActive, IsEntry, IsEntryIn, SameNumbers, pieces_of}
-use Rattle.sf_slabs.specs.Groups.{counts, item_of}
-use Rattle.sf_slabs.specs.Hands.{Balanced, Stop, item, stop_items, stops}
-use Rattle.sf_slabs.specs.Levels.{AreOnward, AreStarts, AreTops, IsOnward, StartsWith, goes_past, going_past, if_begins}
-use Rattle.sf_slabs.specs.Pieces.{heights_of, is_above, is_on}
-use Rattle.sf_slabs.specs.Samples.{dimension}
-use Rattle.sf_slabs.specs.Vertices.{all_vertices, begins, enters, leaves, piece_at, pieces_with}
+use Rattle.sf_columns.specs.declared.piece.Piece.{Piece}
+use Rattle.sf_columns.specs.declared.piece.Piece.TheVariants.{Dot, Edge}
+use Rattle.sf_columns.specs.declared.active.Active.{Active}
+use Rattle.sf_columns.specs.declared.contact.Contact.{Contact}
+use Rattle.sf_columns.specs.declared.level.Level.{Level}
+use Rattle.sf_columns.specs.declared.vertex.Vertex.{Vertex}
+use Rattle.sf_cells.specs.Cells.{numbers_from}
+use Rattle.sf_columns.specs.Fronts.{EachActive, IsEntry, IsEntryIn, SameNumbers, pieces_of}
+use Rattle.sf_cells.specs.Groups.{counts, item_of}
+use Rattle.sf_cells.specs.Hands.{Balanced, Stop, item, stop_items, stops}
+use Rattle.sf_columns.specs.Levels.{AreOnward, AreStarts, AreTops, IsOnward, StartsWith, goes_past, going_past, if_begins}
+use Rattle.sf_cells.specs.Pieces.{heights_of, is_above, is_on}
+use Rattle.sf_cells.specs.Samples.{dimension}
+use Rattle.sf_columns.specs.Vertices.{all_vertices, begins, enters, leaves, piece_at, pieces_with}
 use Rattle.sf_slabs.proofs.AboveLaws.{goes_on_from, height_of, is_above-height, passes}
 use Rattle.sf_slabs.proofs.ColumnLaws.{IsHeights}
 use Rattle.sf_slabs.proofs.GapLaws.{IsGap, Parted}
@@ -38,7 +38,7 @@ use Rattle.sf_slabs.proofs.MarkLaws.{middle-number}
 use Rattle.sf_slabs.proofs.NumberLaws.{Among, Each-map, Numbers, rising_order}
 use Rattle.sf_slabs.proofs.SampleLaws.{Each, FollowFrom}
 use Rattle.sf_slabs.proofs.Shapes.{AreVertices, EachVertex, Fits, IsColumn, IsColumnOf, IsComing, comes_to, in_column}
-use Rattle.sf_slabs.proofs.SideLaws.{lt-scaled}
+use Rattle.sf_columns.proofs.SideLaws.{lt-scaled}
 use Rattle.sf_slabs.proofs.TopLaws.{Each-parts, column-levels, one_more-above, passes-listed, passes-number}
 use Rattle.sf_slabs.proofs.WeightLaws.{AreVertices-chosen, IsEither, SameNumbers-agree, SameNumbers-chosen, SameNumbers-chosen_none, SameNumbers-either, SameNumbers-none, SameNumbers-refl, SameNumbers-trans, SameNumbers-vertices, chosen, chosen-drop, chosen-drop_vertices, chosen-take, chosen-take_vertices, numbers_from-none, passes_at, pieces_of-append, sum_by-agree}
 

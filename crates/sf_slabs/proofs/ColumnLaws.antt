@@ -4,11 +4,11 @@ use Rattle.std.specs.List.{flat_map}
 use Rattle.std.proofs.lemmas.List.{map-append}
 use Rattle.sf_grid.specs.Fraction.{Fraction, IsFraction, fraction_lt, one_less, one_more}
 use Rattle.sf_grid.proofs.PointLaws.{Same}
-use Rattle.sf_slabs.specs.declared.piece.Piece.{Piece}
-use Rattle.sf_slabs.specs.declared.cell.Cell.{Cell}
-use Rattle.sf_slabs.specs.Samples.{Mark, columns, crossings_of, levels, marks, sample_at, sorted_by}
-use Rattle.sf_slabs.specs.Pieces.{ends_of}
-use Rattle.sf_slabs.specs.Cells.{cell_of, cells}
+use Rattle.sf_columns.specs.declared.piece.Piece.{Piece}
+use Rattle.sf_cells.specs.declared.cell.Cell.{Cell}
+use Rattle.sf_cells.specs.Samples.{Mark, columns, crossings_of, levels, marks, sample_at, sorted_by}
+use Rattle.sf_cells.specs.Pieces.{ends_of}
+use Rattle.sf_cells.specs.Cells.{cell_of, cells}
 use Rattle.sf_slabs.proofs.CellLaws.{SameMark, map-Pairs, sample_at-same}
 use Rattle.sf_slabs.proofs.HeightsLaws.{heights_in, heights_in-numbers, heights_in-same}
 use Rattle.sf_slabs.proofs.MarkLaws.{marks-same, one_less-step, one_more-step}

@@ -22,9 +22,9 @@ use Rattle.sf_grid.proofs.PointLaws.{Same, eq_from_mul, on_edge-same}
 use Rattle.sf_grid.proofs.Products.{zero_from_mul, zero_mul}
 use Rattle.sf_grid.proofs.Ring.{ring, var, num, sum, dif, mul}
 use Rattle.sf_grid.proofs.SameLaws.{same_point_is_equivalence}
-use Rattle.sf_slabs.specs.declared.active.Active.{Active}
-use Rattle.sf_slabs.specs.Fronts.{IsRun, line_of}
-use Rattle.sf_slabs.specs.Slanted.{IsMeetingAfter, IsOneLine, slope_gap}
+use Rattle.sf_columns.specs.declared.active.Active.{Active}
+use Rattle.sf_columns.specs.Fronts.{IsRun, line_of}
+use Rattle.sf_columns.specs.Slanted.{IsMeetingAfter, IsOneLine, slope_gap}
 use Rattle.sf_slabs.proofs.NumberLaws.{Same-trans, rising_order}
 use Rattle.sf_slabs.proofs.OnLaws.{IsPoint-point_at, on_edge-height, x_of-point_at, y_of-point_at}
 use Rattle.sf_slabs.proofs.SampleLaws.{if_cases}

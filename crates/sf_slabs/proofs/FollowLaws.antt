@@ -13,11 +13,11 @@ use Rattle.sf_grid.specs.Laws.{HasHeight, ShareNoneInside}
 use Rattle.sf_grid.proofs.FractionLaws.{le-trans}
 use Rattle.sf_grid.proofs.NumberTests.{eq_from_test, le_from_test, lt_from_test, test_from_eq, test_from_le, test_from_lt}
 use Rattle.sf_grid.proofs.OrderLaws.{height-IsFraction, heights_are_ordered, is_equal, le_lt, lt_le}
-use Rattle.sf_slabs.specs.declared.active.Active.{Active}
-use Rattle.sf_slabs.specs.declared.contact.Contact.{Contact}
-use Rattle.sf_slabs.specs.declared.contact.Contact.TheVariants.{Ahead, Never, Throughout}
-use Rattle.sf_slabs.specs.Fronts.{AreContacts, AreContactsFrom, Descend, DescendFrom, Descends, EachActive, IsContact, line_of, touches}
-use Rattle.sf_slabs.specs.Slanted.{IsMeetingAfter, IsOneLine, ShareNoneAfter, slope_order}
+use Rattle.sf_columns.specs.declared.active.Active.{Active}
+use Rattle.sf_columns.specs.declared.contact.Contact.{Contact}
+use Rattle.sf_columns.specs.declared.contact.Contact.TheVariants.{Ahead, Never, Throughout}
+use Rattle.sf_columns.specs.Fronts.{AreContacts, AreContactsFrom, Descend, DescendFrom, Descends, EachActive, IsContact, line_of, touches}
+use Rattle.sf_columns.specs.Slanted.{IsMeetingAfter, IsOneLine, ShareNoneAfter, slope_order}
 use Rattle.sf_slabs.proofs.CrossLaws.{both_at-level, level-one_line, level-same, level_at-point, meeting-on_both, not_same_place, place-IsFraction}
 use Rattle.sf_slabs.proofs.FallsLaws.{left_end-edge_of, right_end-edge_of}
 use Rattle.sf_slabs.proofs.NumberLaws.{Same-trans, rising_order}

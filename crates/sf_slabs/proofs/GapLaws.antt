@@ -10,9 +10,9 @@ use Rattle.sf_grid.specs.Edge.{edge_between, height_at, is_vertical, on_edge, re
 use Rattle.sf_grid.proofs.FractionLaws.{le, le-trans}
 use Rattle.sf_grid.proofs.NumberTests.{eq_from_test, le_from_test, lt_from_test, same_tests, test_from_eq, test_from_le}
 use Rattle.sf_grid.proofs.OrderLaws.{height-IsFraction, le_lt, lt_le}
-use Rattle.sf_slabs.specs.declared.piece.Piece.{Piece}
-use Rattle.sf_slabs.specs.declared.piece.Piece.TheVariants.{Dot, Edge}
-use Rattle.sf_slabs.specs.Pieces.{heights_of, if_in_column, is_on}
+use Rattle.sf_columns.specs.declared.piece.Piece.{Piece}
+use Rattle.sf_columns.specs.declared.piece.Piece.TheVariants.{Dot, Edge}
+use Rattle.sf_cells.specs.Pieces.{heights_of, if_in_column, is_on}
 use Rattle.sf_slabs.proofs.OnLaws.{on_edge-height, on_edge-vertical, same_point-at}
 use Rattle.sf_slabs.proofs.SampleLaws.{Each}
 use Rattle.sf_slabs.proofs.TopLaws.{if_false, if_true}

@@ -1,14 +1,14 @@
 -- What is handed out for stops that fit the levels of a column is the items of the column's cells.
 use Rattle.std.proofs.Common.{◌≡◌, refl, ap, sym, ◌∙◌, subst, ℕ, Bool, true, false, ◌||◌, List, [], ◌∷◌, ◌++◌, map}
-use Rattle.sf_slabs.specs.declared.piece.Piece.{Piece}
-use Rattle.sf_slabs.specs.Cells.{numbers_from}
-use Rattle.sf_slabs.specs.Fronts.{SameNumbers}
-use Rattle.sf_slabs.specs.Groups.{Item, counts, item_of}
-use Rattle.sf_slabs.specs.Hands.{AtMost, Balanced, Stop, item, minus, on_gap, on_level, stop_items}
-use Rattle.sf_slabs.specs.Samples.{dimension}
+use Rattle.sf_columns.specs.declared.piece.Piece.{Piece}
+use Rattle.sf_cells.specs.Cells.{numbers_from}
+use Rattle.sf_columns.specs.Fronts.{SameNumbers}
+use Rattle.sf_cells.specs.Groups.{Item, counts, item_of}
+use Rattle.sf_cells.specs.Hands.{AtMost, Balanced, Stop, item, minus, on_gap, on_level, stop_items}
+use Rattle.sf_cells.specs.Samples.{dimension}
 use Rattle.sf_slabs.proofs.LevelLaws.{Level as PieceLevel, cell_by, level_cells}
 use Rattle.sf_slabs.proofs.Shapes.{Fits}
-use Rattle.sf_slabs.proofs.TallyLaws.{counts-grown, counts-left, counts-part}
+use Rattle.sf_cells.proofs.TallyLaws.{counts-grown, counts-left, counts-part}
 
 -- ---- the counts on a level and on the gap below it, from the pieces that are there
 -- on a level are the pieces on the gap above it and those that enter

@@ -10,9 +10,9 @@ use Rattle.sf_grid.proofs.OrderLaws.{height-IsFraction}
 use Rattle.sf_grid.proofs.PointLaws.{Same, within-same}
 use Rattle.sf_grid.proofs.Ring.{ring, var, sum, dif, mul}
 use Rattle.sf_grid.proofs.NumberTests.{eq_from_test, same_tests, test_from_eq}
-use Rattle.sf_slabs.specs.declared.piece.Piece.{Piece}
-use Rattle.sf_slabs.specs.declared.piece.Piece.TheVariants.{Dot, Edge}
-use Rattle.sf_slabs.specs.Pieces.{heights_of, if_in_column}
+use Rattle.sf_columns.specs.declared.piece.Piece.{Piece}
+use Rattle.sf_columns.specs.declared.piece.Piece.TheVariants.{Dot, Edge}
+use Rattle.sf_cells.specs.Pieces.{heights_of, if_in_column}
 use Rattle.sf_slabs.proofs.NumberLaws.{Numbers, Pairs, Same-trans}
 use Rattle.sf_slabs.proofs.SampleLaws.{Each, if_cases}
 

@@ -10,16 +10,16 @@ use Rattle.sf_grid.specs.Edge.{edge_between, height_at, height_rightward, is_ver
 use Rattle.sf_grid.proofs.HeightLaws.{runs_right}
 use Rattle.sf_grid.proofs.NumberTests.{eq_from_test, test_from_eq}
 use Rattle.sf_grid.proofs.PointLaws.{Same}
-use Rattle.sf_slabs.specs.declared.piece.Piece.{Piece}
-use Rattle.sf_slabs.specs.declared.piece.Piece.TheVariants.{Dot, Edge}
-use Rattle.sf_slabs.specs.declared.active.Active.{Active}
-use Rattle.sf_slabs.specs.declared.level.Level.{Level}
-use Rattle.sf_slabs.specs.declared.vertex.Role.TheVariants.{Begin, Bottom, End, Top}
-use Rattle.sf_slabs.specs.declared.vertex.Vertex.{Vertex}
-use Rattle.sf_slabs.specs.Cells.{numbers_from}
-use Rattle.sf_slabs.specs.Fronts.{EachActive, IsEntry, IsEntryIn, SameNumbers, pieces_of}
-use Rattle.sf_slabs.specs.Pieces.{heights_of, if_in_column}
-use Rattle.sf_slabs.specs.Vertices.{all_vertices, lower_end, piece_at, upper_end, vertex, vertices_of}
+use Rattle.sf_columns.specs.declared.piece.Piece.{Piece}
+use Rattle.sf_columns.specs.declared.piece.Piece.TheVariants.{Dot, Edge}
+use Rattle.sf_columns.specs.declared.active.Active.{Active}
+use Rattle.sf_columns.specs.declared.level.Level.{Level}
+use Rattle.sf_columns.specs.declared.vertex.Role.TheVariants.{Begin, Bottom, End, Top}
+use Rattle.sf_columns.specs.declared.vertex.Vertex.{Vertex}
+use Rattle.sf_cells.specs.Cells.{numbers_from}
+use Rattle.sf_columns.specs.Fronts.{EachActive, IsEntry, IsEntryIn, SameNumbers, pieces_of}
+use Rattle.sf_cells.specs.Pieces.{heights_of, if_in_column}
+use Rattle.sf_columns.specs.Vertices.{all_vertices, lower_end, piece_at, upper_end, vertex, vertices_of}
 use Rattle.sf_slabs.proofs.AboveLaws.{height_of}
 use Rattle.sf_slabs.proofs.ColumnLaws.{IsHeights}
 use Rattle.sf_slabs.proofs.HeightsLaws.{Each-append, heights_in}

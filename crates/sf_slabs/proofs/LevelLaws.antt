@@ -8,11 +8,11 @@ use Rattle.sf_grid.proofs.PointLaws.{Same}
 use Rattle.sf_grid.proofs.Products.{mul_lt}
 use Rattle.sf_grid.proofs.Ring.{ring, var, num, sum, mul}
 use Rattle.sf_grid.proofs.NumberTests.{lt_from_test, test_from_lt}
-use Rattle.sf_slabs.specs.declared.piece.Piece.{Piece}
-use Rattle.sf_slabs.specs.declared.cell.Cell.{Cell}
-use Rattle.sf_slabs.specs.Pieces.{is_above, is_on}
-use Rattle.sf_slabs.specs.Samples.{Mark, dimension, marks_from, sample_at}
-use Rattle.sf_slabs.specs.Cells.{cell_of, numbers_from}
+use Rattle.sf_columns.specs.declared.piece.Piece.{Piece}
+use Rattle.sf_cells.specs.declared.cell.Cell.{Cell}
+use Rattle.sf_cells.specs.Pieces.{is_above, is_on}
+use Rattle.sf_cells.specs.Samples.{Mark, dimension, marks_from, sample_at}
+use Rattle.sf_cells.specs.Cells.{cell_of, numbers_from}
 use Rattle.sf_slabs.proofs.AboveLaws.{Stands, goes_on_from, height_of, is_above-lower, passes}
 use Rattle.sf_slabs.proofs.CellLaws.{AgreeOn, numbers_from-agree}
 use Rattle.sf_slabs.proofs.MarkLaws.{middle-number}

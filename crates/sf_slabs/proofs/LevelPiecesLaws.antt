@@ -17,13 +17,13 @@ use Rattle.sf_grid.proofs.OrderLaws.{le_lt, lt_le, product_pos, run_pos}
 use Rattle.sf_grid.proofs.PointLaws.{Same}
 use Rattle.sf_grid.proofs.Products.{mul_le, mul_lt}
 use Rattle.sf_grid.proofs.Ring.{dif, mul, num, ring, sum, var}
-use Rattle.sf_slabs.specs.declared.piece.Piece.{Piece}
-use Rattle.sf_slabs.specs.declared.piece.Piece.TheVariants.{Dot, Edge}
-use Rattle.sf_slabs.specs.declared.vertex.Role.{Role}
-use Rattle.sf_slabs.specs.declared.vertex.Role.TheVariants.{Alone, Begin, Bottom, End, Top}
-use Rattle.sf_slabs.specs.declared.vertex.Vertex.{Vertex}
-use Rattle.sf_slabs.specs.Pieces.{heights_of, if_in_column, is_on}
-use Rattle.sf_slabs.specs.Vertices.{begins, enters, leaves, lower_end, upper_end, vertex}
+use Rattle.sf_columns.specs.declared.piece.Piece.{Piece}
+use Rattle.sf_columns.specs.declared.piece.Piece.TheVariants.{Dot, Edge}
+use Rattle.sf_columns.specs.declared.vertex.Role.{Role}
+use Rattle.sf_columns.specs.declared.vertex.Role.TheVariants.{Alone, Begin, Bottom, End, Top}
+use Rattle.sf_columns.specs.declared.vertex.Vertex.{Vertex}
+use Rattle.sf_cells.specs.Pieces.{heights_of, if_in_column, is_on}
+use Rattle.sf_columns.specs.Vertices.{begins, enters, leaves, lower_end, upper_end, vertex}
 use Rattle.sf_slabs.proofs.AboveLaws.{goes_on-vertical, goes_on_from, height_of}
 use Rattle.sf_slabs.proofs.GapLaws.{IsGap, Parted, is_on-gap, one_of, within-whole}
 use Rattle.sf_slabs.proofs.LeveledLaws.{vertex_height}
@@ -31,7 +31,7 @@ use Rattle.sf_slabs.proofs.NumberLaws.{Same-trans}
 use Rattle.sf_slabs.proofs.OnLaws.{on_edge-height, on_edge-vertical, same_point-at}
 use Rattle.sf_slabs.proofs.SampleLaws.{Each}
 use Rattle.sf_slabs.proofs.Shapes.{comes_to, in_column}
-use Rattle.sf_slabs.proofs.SideLaws.{goes_on}
+use Rattle.sf_columns.proofs.SideLaws.{goes_on}
 use Rattle.sf_slabs.proofs.SlabLaws.{reached_from}
 use Rattle.sf_slabs.proofs.TopLaws.{if_true}
 use Rattle.sf_slabs.proofs.WeightLaws.{HasOne, IsEither}

@@ -14,15 +14,15 @@ use Rattle.sf_grid.proofs.NumberTests.{eq_from_test, ge_from_test, lt_from_test,
 use Rattle.sf_grid.proofs.OrderLaws.{equal_is, is_equal, is_greater}
 use Rattle.sf_grid.proofs.PointLaws.{Same, eq_from_mul}
 use Rattle.sf_grid.proofs.Products.{mul_le}
-use Rattle.sf_slabs.specs.declared.active.Active.{Active}
-use Rattle.sf_slabs.specs.declared.contact.Contact.{Contact}
-use Rattle.sf_slabs.specs.declared.level.Level.{Level}
-use Rattle.sf_slabs.specs.declared.slanted.Slanted.{Slanted}
-use Rattle.sf_slabs.specs.declared.vertex.Vertex.{Vertex}
-use Rattle.sf_slabs.specs.Fronts.{EachActive, line_of, touches}
-use Rattle.sf_slabs.specs.Levels.{AreTops, IsTop, group_length, level_by, run_length, top_level}
-use Rattle.sf_slabs.specs.Order.{height_in}
-use Rattle.sf_slabs.specs.Slanted.{side_of}
+use Rattle.sf_columns.specs.declared.active.Active.{Active}
+use Rattle.sf_columns.specs.declared.contact.Contact.{Contact}
+use Rattle.sf_columns.specs.declared.level.Level.{Level}
+use Rattle.sf_columns.specs.declared.slanted.Slanted.{Slanted}
+use Rattle.sf_columns.specs.declared.vertex.Vertex.{Vertex}
+use Rattle.sf_columns.specs.Fronts.{EachActive, line_of, touches}
+use Rattle.sf_columns.specs.Levels.{AreTops, IsTop, group_length, level_by, run_length, top_level}
+use Rattle.sf_columns.specs.Order.{height_in}
+use Rattle.sf_columns.specs.Slanted.{side_of}
 use Rattle.sf_slabs.proofs.FallsLaws.{edge_of, height_in-edge_of}
 use Rattle.sf_slabs.proofs.HeightsLaws.{height_at-same}
 use Rattle.sf_slabs.proofs.LocateLaws.{height_in-number, less_from_lt}

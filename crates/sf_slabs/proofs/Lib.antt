@@ -1,6 +1,5 @@
 mod Computed
 pub mod SampleLaws
-pub mod SideLaws
 pub mod OnLaws
 pub mod NumberLaws
 pub mod CellLaws
@@ -9,35 +8,25 @@ pub mod HeightsLaws
 pub mod ColumnLaws
 pub mod EventLaws
 pub mod NextLaws
-pub mod CountLaws
 pub mod SlabLaws
 pub mod SlopeLaws
 pub mod AboveLaws
 pub mod LevelLaws
 pub mod TopLaws
 pub mod GapLaws
-pub mod SlantedLaws
 pub mod LocateLaws
 pub mod FallsLaws
-pub mod NearestLaws
 pub mod Shapes
-pub mod VertexLaws
 pub mod LeveledLaws
 pub mod WeightLaws
 pub mod LevelPiecesLaws
 pub mod LevelHeightsLaws
 pub mod ColumnIsLaws
-pub mod TallyLaws
-pub mod TallySteps
 pub mod HandLaws
-pub mod OnwardLaws
-pub mod CutLaws
-pub mod NeighbourLaws
 pub mod CrossLaws
 pub mod FollowLaws
 pub mod EndLaws
 pub mod FrontLaws
-pub mod HandSteps
 pub mod NextFrontLaws
 pub mod CandidateLaws
 pub mod NoCrossingLaws
@@ -46,4 +35,3 @@ pub mod SweepLaws
 pub mod RemainingLaws
 pub mod SlabCutLaws
 pub mod RunLaws
-pub mod ListingLaws

@@ -4,7 +4,7 @@ use Rattle.sf_grid.specs.Fraction.{Fraction, IsFraction, middle, one_less, one_m
 use Rattle.sf_grid.proofs.OrderLaws.{product_pos}
 use Rattle.sf_grid.proofs.PointLaws.{Same}
 use Rattle.sf_grid.proofs.Ring.{ring, var, num, sum, dif, mul}
-use Rattle.sf_slabs.specs.Samples.{marks, marks_from}
+use Rattle.sf_cells.specs.Samples.{marks, marks_from}
 use Rattle.sf_slabs.proofs.CellLaws.{SameMark}
 use Rattle.sf_slabs.proofs.NumberLaws.{Numbers, Pairs}
 

@@ -10,16 +10,16 @@ use Rattle.sf_grid.specs.Edge.{Edge as Line, crossing, edge_between, left_end, r
 use Rattle.sf_grid.proofs.BetweenLaws.{reach}
 use Rattle.sf_grid.proofs.MeanLaws.{lies}
 use Rattle.sf_grid.proofs.NumberTests.{test_from_le}
-use Rattle.sf_slabs.specs.declared.piece.Piece.{Piece}
-use Rattle.sf_slabs.specs.declared.piece.Piece.TheVariants.{Dot, Edge}
-use Rattle.sf_slabs.specs.declared.active.Active.{Active}
-use Rattle.sf_slabs.specs.declared.contact.Contact.{Contact}
-use Rattle.sf_slabs.specs.declared.vertex.Vertex.{Vertex}
-use Rattle.sf_slabs.specs.Fronts.{EachActive}
-use Rattle.sf_slabs.specs.Next.{IsLeastOf, candidates, first_place, places_of}
-use Rattle.sf_slabs.specs.Pieces.{ends_of}
-use Rattle.sf_slabs.specs.Samples.{crossing_place, crossings_of}
-use Rattle.sf_slabs.specs.Vertices.{all_vertices}
+use Rattle.sf_columns.specs.declared.piece.Piece.{Piece}
+use Rattle.sf_columns.specs.declared.piece.Piece.TheVariants.{Dot, Edge}
+use Rattle.sf_columns.specs.declared.active.Active.{Active}
+use Rattle.sf_columns.specs.declared.contact.Contact.{Contact}
+use Rattle.sf_columns.specs.declared.vertex.Vertex.{Vertex}
+use Rattle.sf_columns.specs.Fronts.{EachActive}
+use Rattle.sf_columns.specs.Next.{IsLeastOf, candidates, first_place, places_of}
+use Rattle.sf_cells.specs.Pieces.{ends_of}
+use Rattle.sf_cells.specs.Samples.{crossing_place, crossings_of}
+use Rattle.sf_columns.specs.Vertices.{all_vertices}
 use Rattle.sf_slabs.proofs.AboveLaws.{passes}
 use Rattle.sf_slabs.proofs.ColumnLaws.{event_places}
 use Rattle.sf_slabs.proofs.CrossLaws.{is-crossing, place-IsFraction}

@@ -14,19 +14,19 @@ use Rattle.sf_grid.specs.Edge.{Edge as Line, edge_between, height_cmp, is_vertic
 use Rattle.sf_grid.proofs.NumberTests.{lt_from_test, test_from_eq}
 use Rattle.sf_grid.proofs.OrderLaws.{is_equal}
 use Rattle.sf_grid.proofs.PointLaws.{Same}
-use Rattle.sf_slabs.specs.declared.active.Active.{Active}
-use Rattle.sf_slabs.specs.declared.contact.Contact.{Contact}
-use Rattle.sf_slabs.specs.declared.level.Level.{Level}
-use Rattle.sf_slabs.specs.declared.piece.Piece.{Piece}
-use Rattle.sf_slabs.specs.declared.piece.Piece.TheVariants.{Dot, Edge}
-use Rattle.sf_slabs.specs.declared.vertex.Role.TheVariants.{Begin, Bottom, End, Top}
-use Rattle.sf_slabs.specs.declared.vertex.Vertex.{Vertex}
-use Rattle.sf_slabs.specs.Cells.{numbers_from}
-use Rattle.sf_slabs.specs.Fronts.{AreContacts, Descend, DescendFrom, EachActive, IsEntry, IsEntryIn, SameNumbers, line_of, pieces_of}
-use Rattle.sf_slabs.specs.Hands.{Stop, stops}
-use Rattle.sf_slabs.specs.Levels.{AreOnward, AreStarts, AreTops, IsOnward, SlopesFall, SlopesFallFrom, StartsWith, goes_past, going_past, if_begins}
-use Rattle.sf_slabs.specs.Pieces.{heights_of, is_on}
-use Rattle.sf_slabs.specs.Vertices.{IsVertexIn, IsVertexOf, begins, lower_end, piece_at, upper_end, vertex, vertices_of}
+use Rattle.sf_columns.specs.declared.active.Active.{Active}
+use Rattle.sf_columns.specs.declared.contact.Contact.{Contact}
+use Rattle.sf_columns.specs.declared.level.Level.{Level}
+use Rattle.sf_columns.specs.declared.piece.Piece.{Piece}
+use Rattle.sf_columns.specs.declared.piece.Piece.TheVariants.{Dot, Edge}
+use Rattle.sf_columns.specs.declared.vertex.Role.TheVariants.{Begin, Bottom, End, Top}
+use Rattle.sf_columns.specs.declared.vertex.Vertex.{Vertex}
+use Rattle.sf_cells.specs.Cells.{numbers_from}
+use Rattle.sf_columns.specs.Fronts.{AreContacts, Descend, DescendFrom, EachActive, IsEntry, IsEntryIn, SameNumbers, line_of, pieces_of}
+use Rattle.sf_cells.specs.Hands.{Stop, stops}
+use Rattle.sf_columns.specs.Levels.{AreOnward, AreStarts, AreTops, IsOnward, SlopesFall, SlopesFallFrom, StartsWith, goes_past, going_past, if_begins}
+use Rattle.sf_cells.specs.Pieces.{heights_of, is_on}
+use Rattle.sf_columns.specs.Vertices.{IsVertexIn, IsVertexOf, begins, lower_end, piece_at, upper_end, vertex, vertices_of}
 use Rattle.sf_slabs.proofs.AboveLaws.{goes_on_from, height_of, passes}
 use Rattle.sf_slabs.proofs.ColumnIsLaws.{IsRest, all_listed, column_fits, every_piece, first_rest}
 use Rattle.sf_slabs.proofs.LeveledLaws.{IsAtLevel, Leveled, active_height, active_height-number, drop-each_active, drop-each_vertex, height_cmp-active, leveled, vertex_height}

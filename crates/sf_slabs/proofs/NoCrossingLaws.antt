@@ -14,14 +14,14 @@ use Rattle.sf_grid.proofs.MeanLaws.{lies}
 use Rattle.sf_grid.proofs.NumberTests.{eq_from_test, test_from_le}
 use Rattle.sf_grid.proofs.OrderLaws.{height-IsFraction}
 use Rattle.sf_grid.proofs.Ring.{ring, var, num, dif, mul}
-use Rattle.sf_slabs.specs.declared.piece.Piece.{Piece}
-use Rattle.sf_slabs.specs.declared.piece.Piece.TheVariants.{Dot, Edge}
-use Rattle.sf_slabs.specs.declared.active.Active.{Active}
-use Rattle.sf_slabs.specs.declared.contact.Contact.{Contact}
-use Rattle.sf_slabs.specs.Fronts.{EachActive, IsEntry, IsEntryIn, IsRun, line_of}
-use Rattle.sf_slabs.specs.Pieces.{ends_of}
-use Rattle.sf_slabs.specs.Samples.{crossing_place, crossings_of}
-use Rattle.sf_slabs.specs.Vertices.{piece_at}
+use Rattle.sf_columns.specs.declared.piece.Piece.{Piece}
+use Rattle.sf_columns.specs.declared.piece.Piece.TheVariants.{Dot, Edge}
+use Rattle.sf_columns.specs.declared.active.Active.{Active}
+use Rattle.sf_columns.specs.declared.contact.Contact.{Contact}
+use Rattle.sf_columns.specs.Fronts.{EachActive, IsEntry, IsEntryIn, IsRun, line_of}
+use Rattle.sf_cells.specs.Pieces.{ends_of}
+use Rattle.sf_cells.specs.Samples.{crossing_place, crossings_of}
+use Rattle.sf_columns.specs.Vertices.{piece_at}
 use Rattle.sf_slabs.proofs.AboveLaws.{passes}
 use Rattle.sf_slabs.proofs.CrossLaws.{IsCrossing, both_at-level, is-crossing, level_at-point, place-IsFraction, run-on_both, on_both-run}
 use Rattle.sf_slabs.proofs.EndLaws.{Each-left, Later, SomeActive, le_of_not_lt, passes-places, some_entry, whole-number, passes_at-piece, EachPiece-found}

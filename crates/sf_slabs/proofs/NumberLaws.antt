@@ -7,7 +7,7 @@ use Rattle.sf_grid.proofs.OrderLaws.{le_lt, lt_le}
 use Rattle.sf_grid.proofs.PointLaws.{Same, eq_from_mul}
 use Rattle.sf_grid.proofs.Ring.{ring, var, mul}
 use Rattle.sf_grid.proofs.NumberTests.{lt_from_test, test_from_lt}
-use Rattle.sf_slabs.specs.Samples.{sorted_by}
+use Rattle.sf_cells.specs.Samples.{sorted_by}
 use Rattle.sf_slabs.proofs.SampleLaws.{Each, Each-sorted_by, Follow, Follow-sorted_by, FollowFrom, Level, Some_of, Some_of-sorted_by, same_number}
 
 -- ---- one number written as different fractions

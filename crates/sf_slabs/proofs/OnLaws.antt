@@ -16,7 +16,7 @@ use Rattle.sf_grid.proofs.OrderLaws.{product_pos}
 use Rattle.sf_grid.proofs.PointLaws.{Same, eq_from_mul, within-same}
 use Rattle.sf_grid.proofs.Ring.{ring, var, num, dif, mul}
 use Rattle.sf_grid.proofs.NumberTests.{eq_from_test, same_tests, test_from_eq}
-use Rattle.sf_slabs.proofs.SideLaws.{on-side}
+use Rattle.sf_columns.proofs.SideLaws.{on-side}
 
 -- ---- the coordinates of a point of a column
 pub x_of-point_at : (x y : Fraction) → Same (x_of (point_at x y)) x

@@ -9,22 +9,22 @@ use Rattle.std.proofs.lemmas.Int.{ints}
 use Rattle.sf_grid.specs.Fraction.{Fraction, IsFraction, fraction_lt, middle, one_more}
 use Rattle.sf_grid.specs.Plane.{Coordinates, x_of}
 use Rattle.sf_grid.specs.Edge.{Edge as Line}
-use Rattle.sf_slabs.specs.declared.active.Active.{Active}
-use Rattle.sf_slabs.specs.declared.cell.Cell.{Cell}
-use Rattle.sf_slabs.specs.declared.contact.Contact.{Contact}
-use Rattle.sf_slabs.specs.declared.contact.Contact.TheVariants.{Ahead, Never, Throughout}
-use Rattle.sf_slabs.specs.declared.piece.Piece.{Piece}
+use Rattle.sf_columns.specs.declared.active.Active.{Active}
+use Rattle.sf_cells.specs.declared.cell.Cell.{Cell}
+use Rattle.sf_columns.specs.declared.contact.Contact.{Contact}
+use Rattle.sf_columns.specs.declared.contact.Contact.TheVariants.{Ahead, Never, Throughout}
+use Rattle.sf_columns.specs.declared.piece.Piece.{Piece}
 use Rattle.sf_slabs.specs.declared.sweep.Sweep.{Sweep}
-use Rattle.sf_slabs.specs.declared.vertex.Vertex.{Vertex}
-use Rattle.sf_slabs.specs.Cells.{cells}
-use Rattle.sf_slabs.specs.Fronts.{AreApart, AreApartFrom, AreContacts, AreContactsFrom, IsContact, line_of, touches}
-use Rattle.sf_slabs.specs.Next.{IsLeastOf, candidates, first_place}
-use Rattle.sf_slabs.specs.Samples.{listed, unlisted}
-use Rattle.sf_slabs.specs.Sweeps.{IsAhead, IsColumnOf, IsComing, IsFront, cells_in, in_column}
-use Rattle.sf_slabs.specs.Vertices.{all_vertices, vertex_before}
+use Rattle.sf_columns.specs.declared.vertex.Vertex.{Vertex}
+use Rattle.sf_cells.specs.Cells.{cells}
+use Rattle.sf_columns.specs.Fronts.{AreApart, AreApartFrom, AreContacts, AreContactsFrom, IsContact, line_of, touches}
+use Rattle.sf_columns.specs.Next.{IsLeastOf, candidates, first_place}
+use Rattle.sf_cells.specs.Samples.{listed, unlisted}
+use Rattle.sf_slabs.specs.Sweeps.{IsAhead, IsColumnOf, IsComing, IsFront, cells_in}
+use Rattle.sf_columns.specs.Vertices.{all_vertices, in_column, vertex_before}
 use Rattle.sf_slabs.specs.Walks.{IsReady, IsSlabOf}
 use Rattle.sf_slabs.proofs.ColumnLaws.{event_places}
-use Rattle.sf_slabs.proofs.CountLaws.{fold-append}
+use Rattle.sf_cells.proofs.CountLaws.{fold-append}
 use Rattle.sf_slabs.proofs.CrossLaws.{place-IsFraction}
 use Rattle.sf_slabs.proofs.FollowLaws.{EachContact, Waits}
 use Rattle.sf_slabs.proofs.FrontLaws.{IsClear, column_inside, column_none, coming_inside, coming_next, coming_none}

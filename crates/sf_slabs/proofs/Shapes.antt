@@ -1,15 +1,16 @@
 -- What the laws of the sweep speak of beside the definitions.
 use Rattle.std.proofs.Common.{◌≡◌, ℕ, Bool, ◌||◌, List, [], ◌∷◌, ◌++◌, map}
 use Rattle.sf_grid.specs.Fraction.{Fraction}
-use Rattle.sf_slabs.specs.declared.piece.Piece.{Piece}
-use Rattle.sf_slabs.specs.declared.active.Active.{Active}
-use Rattle.sf_slabs.specs.declared.level.Level.{Level}
-use Rattle.sf_slabs.specs.declared.vertex.Vertex.{Vertex}
-use Rattle.sf_slabs.specs.Cells.{numbers_from}
-use Rattle.sf_slabs.specs.Fronts.{SameNumbers}
-use Rattle.sf_slabs.specs.Groups.{counts, item_of}
-use Rattle.sf_slabs.specs.Hands.{Balanced, Stop, stop_items, stops}
-pub use Rattle.sf_slabs.specs.Sweeps.{AreVertices, EachVertex, InOrder, InOrderFrom, IsAhead, IsColumnOf, IsComing, IsFront, StepsAt, StepsAtFrom, comes_to, in_column, right_of, step_by}
+use Rattle.sf_columns.specs.declared.piece.Piece.{Piece}
+use Rattle.sf_columns.specs.declared.active.Active.{Active}
+use Rattle.sf_columns.specs.declared.level.Level.{Level}
+use Rattle.sf_columns.specs.declared.vertex.Vertex.{Vertex}
+use Rattle.sf_cells.specs.Cells.{numbers_from}
+use Rattle.sf_columns.specs.Fronts.{SameNumbers}
+use Rattle.sf_cells.specs.Groups.{counts, item_of}
+use Rattle.sf_cells.specs.Hands.{Balanced, Stop, stop_items, stops}
+pub use Rattle.sf_slabs.specs.Sweeps.{AreVertices, EachVertex, InOrder, InOrderFrom, IsAhead, IsColumnOf, IsComing, IsFront, StepsAt, StepsAtFrom, comes_to, right_of, step_by}
+pub use Rattle.sf_columns.specs.Vertices.{in_column}
 use Rattle.sf_slabs.proofs.ColumnLaws.{IsHeights, column_cells}
 use Rattle.sf_slabs.proofs.LevelLaws.{Level as PieceLevel}
 

@@ -7,26 +7,26 @@ use Rattle.std.proofs.lemmas.List.Elements.{All-from_recursion}
 use Rattle.std.proofs.lemmas.List.Sorted.{length_permutation}
 use Rattle.std.proofs.lemmas.List.Sums.{sum_by-cons}
 use Rattle.sf_grid.specs.Fraction.{Fraction, IsFraction}
-use Rattle.sf_slabs.specs.declared.active.Active.{Active}
-use Rattle.sf_slabs.specs.declared.contact.Contact.{Contact}
-use Rattle.sf_slabs.specs.declared.level.Level.{Level}
-use Rattle.sf_slabs.specs.declared.piece.Piece.{Piece}
+use Rattle.sf_columns.specs.declared.active.Active.{Active}
+use Rattle.sf_columns.specs.declared.contact.Contact.{Contact}
+use Rattle.sf_columns.specs.declared.level.Level.{Level}
+use Rattle.sf_columns.specs.declared.piece.Piece.{Piece}
 use Rattle.sf_grid.specs.Edge.{edge_between, is_vertical, left_end, right_end}
-use Rattle.sf_slabs.specs.declared.piece.Piece.TheVariants.{Dot, Edge}
-use Rattle.sf_slabs.specs.declared.vertex.Role.TheVariants.{Begin, Bottom, End, Top}
-use Rattle.sf_slabs.specs.declared.vertex.Vertex.{Vertex}
-use Rattle.sf_slabs.specs.Cells.{numbers_from}
-use Rattle.sf_slabs.specs.Fronts.{AreContacts, EachActive, IsEntry, IsEntryIn, SameNumbers, pieces_of}
-use Rattle.sf_slabs.specs.Groups.{counts, group_count, item_of, numbers}
-use Rattle.sf_slabs.specs.Hands.{Balanced, stop_items, stops}
-use Rattle.sf_slabs.specs.Levels.{AreOnward, AreTops}
+use Rattle.sf_columns.specs.declared.piece.Piece.TheVariants.{Dot, Edge}
+use Rattle.sf_columns.specs.declared.vertex.Role.TheVariants.{Begin, Bottom, End, Top}
+use Rattle.sf_columns.specs.declared.vertex.Vertex.{Vertex}
+use Rattle.sf_cells.specs.Cells.{numbers_from}
+use Rattle.sf_columns.specs.Fronts.{AreContacts, EachActive, IsEntry, IsEntryIn, SameNumbers, pieces_of}
+use Rattle.sf_cells.specs.Groups.{counts, group_count, item_of, numbers}
+use Rattle.sf_cells.specs.Hands.{Balanced, stop_items, stops}
+use Rattle.sf_columns.specs.Levels.{AreOnward, AreTops}
 use Rattle.sf_slabs.specs.Sweeps.{EachVertex, IsColumnOf, IsComing, IsFront, StepsAt, StepsAtFrom, cells_in, comes_to, passes}
-use Rattle.sf_slabs.specs.Vertices.{IsVertexOf, all_vertices, lower_end, piece_at, upper_end, vertex, vertices_of}
+use Rattle.sf_columns.specs.Vertices.{IsVertexOf, all_vertices, lower_end, piece_at, upper_end, vertex, vertices_of}
 use Rattle.sf_slabs.proofs.ColumnIsLaws.{column-is}
 use Rattle.sf_slabs.proofs.ColumnLaws.{column_cells-heights}
 use Rattle.sf_slabs.proofs.NextFrontLaws.{active-after, all_of, entries-after, front-after}
 use Rattle.sf_slabs.proofs.Shapes.{IsColumn}
-use Rattle.sf_slabs.proofs.VertexLaws.{piece_at-below, vertex-below}
+use Rattle.sf_columns.proofs.VertexLaws.{piece_at-below, vertex-below}
 
 -- ---- how many there are
 ones : (ns : List ℕ) → sum_by (λ _. 1) ns ≡ length ns

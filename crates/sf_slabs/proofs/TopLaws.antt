@@ -10,18 +10,18 @@ use Rattle.sf_grid.specs.Edge.{Edge as Line, edge_between, height_at, is_vertica
 use Rattle.sf_grid.proofs.OrderLaws.{height-IsFraction}
 use Rattle.sf_grid.proofs.Products.{mul_lt}
 use Rattle.sf_grid.proofs.NumberTests.{le_from_test, lt_from_test, test_from_lt}
-use Rattle.sf_slabs.specs.declared.piece.Piece.{Piece}
-use Rattle.sf_slabs.specs.declared.piece.Piece.TheVariants.{Dot, Edge}
-use Rattle.sf_slabs.specs.Pieces.{heights_of, if_in_column, is_above, is_on}
-use Rattle.sf_slabs.specs.Samples.{Mark, dimension, marks_from, sample_at}
-use Rattle.sf_slabs.specs.Cells.{cell_of}
+use Rattle.sf_columns.specs.declared.piece.Piece.{Piece}
+use Rattle.sf_columns.specs.declared.piece.Piece.TheVariants.{Dot, Edge}
+use Rattle.sf_cells.specs.Pieces.{heights_of, if_in_column, is_above, is_on}
+use Rattle.sf_cells.specs.Samples.{Mark, dimension, marks_from, sample_at}
+use Rattle.sf_cells.specs.Cells.{cell_of}
 use Rattle.sf_slabs.proofs.AboveLaws.{goes_on-vertical, height_of, is_above-height, passes}
 use Rattle.sf_slabs.proofs.CellLaws.{AgreeOn}
 use Rattle.sf_slabs.proofs.ColumnLaws.{IsHeights, column_cells}
 use Rattle.sf_slabs.proofs.LevelLaws.{EachPiece, Placed, cell-agree, cell_by, cells-levels, level_cells, levels_from, not_above, not_above_higher}
 use Rattle.sf_slabs.proofs.NumberLaws.{Among, Numbers}
 use Rattle.sf_slabs.proofs.SampleLaws.{Each, FollowFrom}
-use Rattle.sf_slabs.proofs.SideLaws.{goes_on}
+use Rattle.sf_columns.proofs.SideLaws.{goes_on}
 use Rattle.sf_slabs.proofs.SlabLaws.{reached_from}
 
 -- ---- the height of a piece that goes on is listed

@@ -5,20 +5,17 @@ use Rattle.std.specs.declared.cmp.Ordering.{Ordering}
 use Rattle.std.specs.declared.cmp.Ordering.TheVariants.{Equal, Less}
 use Rattle.sf_grid.specs.Fraction.{Fraction, IsFraction, fraction_eq, fraction_le, fraction_lt, whole}
 use Rattle.sf_grid.specs.Edge.{Edge as Line, edge_between, height_cmp, left_end, right_end}
-use Rattle.sf_slabs.specs.declared.piece.Piece.{Piece}
-use Rattle.sf_slabs.specs.declared.piece.Piece.TheVariants.{Dot, Edge}
-use Rattle.sf_slabs.specs.declared.active.Active.{Active}
-use Rattle.sf_slabs.specs.declared.cell.Cell.{Cell}
-use Rattle.sf_slabs.specs.declared.contact.Contact.{Contact}
-use Rattle.sf_slabs.specs.declared.vertex.Vertex.{Vertex}
-use Rattle.sf_slabs.specs.Cells.{cell_of, numbers_from}
-use Rattle.sf_slabs.specs.Fronts.{AreContacts, Descend, EachActive, IsEntry, SameNumbers, line_of, pieces_of, touches}
-use Rattle.sf_slabs.specs.Samples.{Mark, levels, sample_at}
-use Rattle.sf_slabs.specs.Vertices.{IsVertexOf, all_vertices, vertex_before}
-
--- the edge goes on to the right of the column x, where it has a point in x or right from it
-abbrev pub goes_on : Line → Fraction → Bool
-goes_on e x = int_le ((left_end e).x *ℤ pos x.den) x.num && int_lt x.num ((right_end e).x *ℤ pos x.den)
+use Rattle.sf_columns.specs.declared.piece.Piece.{Piece}
+use Rattle.sf_columns.specs.declared.piece.Piece.TheVariants.{Dot, Edge}
+use Rattle.sf_columns.specs.declared.active.Active.{Active}
+use Rattle.sf_cells.specs.declared.cell.Cell.{Cell}
+use Rattle.sf_columns.specs.declared.contact.Contact.{Contact}
+use Rattle.sf_columns.specs.declared.vertex.Vertex.{Vertex}
+use Rattle.sf_cells.specs.Cells.{cell_of, numbers_from}
+use Rattle.sf_columns.specs.Fronts.{AreContacts, Descend, EachActive, IsEntry, SameNumbers, line_of, pieces_of, touches}
+use Rattle.sf_cells.specs.Samples.{Mark, levels, sample_at}
+use Rattle.sf_columns.specs.Slanted.{goes_on}
+use Rattle.sf_columns.specs.Vertices.{IsVertexOf, all_vertices, in_column, vertex_before}
 
 -- the piece is an edge that isn't vertical and goes on to the right of the column x
 abbrev pub passes : Fraction → Piece → Bool
@@ -56,9 +53,6 @@ EachVertex P (v ∷ vs) = P v × EachVertex P vs
 abbrev pub AreVertices : List Piece → (Vertex → Bool) → List Vertex → Type 0
 AreVertices pieces test vs =
     (weight : Vertex → ℕ) → sum_by weight vs ≡ sum_by (λ v. if test v then weight v else 0) (all_vertices 0 pieces)
-
-abbrev pub in_column : Fraction → Vertex → Bool
-in_column z v = fraction_eq (whole v.at.x) z
 
 abbrev pub right_of : Fraction → Vertex → Bool
 right_of x v = fraction_lt x (whole v.at.x)

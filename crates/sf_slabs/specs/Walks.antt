@@ -1,11 +1,11 @@
 -- The sweep's own state: its room, and the slab that it stands in.
 use Rattle.std.specs.Prelude.{◌≡◌, ℕ, ◌+◌, ◌≤◌, List, [], None, length, vec_capacity}
 use Rattle.sf_grid.specs.Fraction.{Fraction}
-use Rattle.sf_slabs.specs.declared.active.Active.{Active}
-use Rattle.sf_slabs.specs.declared.contact.Contact.{Contact}
-use Rattle.sf_slabs.specs.declared.piece.Piece.{Piece}
+use Rattle.sf_columns.specs.declared.active.Active.{Active}
+use Rattle.sf_columns.specs.declared.contact.Contact.{Contact}
+use Rattle.sf_columns.specs.declared.piece.Piece.{Piece}
 use Rattle.sf_slabs.specs.declared.sweep.Sweep.{Sweep}
-use Rattle.sf_slabs.specs.Groups.{counts}
+use Rattle.sf_cells.specs.Groups.{counts}
 use Rattle.sf_slabs.specs.Sweeps.{IsColumnOf, IsComing, IsFront}
 
 -- there is room for all pieces and n vertices more, and no count is left from a column before

@@ -2,14 +2,13 @@
 
 ghost use Rattle.std.specs.Prelude.{◌≡◌, ◌≤◌, length, IfOk};
 ghost use Rattle.std.specs.List.{All};
-ghost use Rattle.sf_slabs.specs.Cells.{cells};
-ghost use Rattle.sf_slabs.specs.Groups.{numbers};
-ghost use Rattle.sf_slabs.specs.Pieces.{HasLength};
+ghost use Rattle.sf_cells.specs.Cells.{cells};
+ghost use Rattle.sf_cells.specs.Groups.{numbers};
+ghost use Rattle.sf_cells.specs.Pieces.{HasLength};
 
-use crate::cell::Cell;
-use crate::listing::{Measure, Recorder, recorded};
-use crate::piece::Piece;
 use crate::sweep::walk;
+use sf_cells::{Cell, Measure, Recorder, recorded};
+use sf_columns::Piece;
 use std::alloc::{AllocError, Global};
 
 /// The cells of the pieces: columns from the left, each from the top. The first walk over them

@@ -4,26 +4,21 @@ ghost use Rattle.std.specs.Prelude.{◌≡◌, ℕ, ◌≤◌, ◌<◌, List, []
 ghost use Rattle.std.specs.List.{All, fold, prefix_len};
 ghost use Rattle.std.specs.List.Sorted.{IsPermutation, IsSortedBy};
 ghost use Rattle.sf_grid.specs.Fraction.{Fraction};
-ghost use Rattle.sf_slabs.specs.declared.piece.Piece.{Piece};
-ghost use Rattle.sf_slabs.specs.Cells.{cells};
-ghost use Rattle.sf_slabs.specs.Fronts.{AreApart};
-ghost use Rattle.sf_slabs.specs.Groups.{group_count as group_count_of, item_of};
-ghost use Rattle.sf_slabs.specs.Next.{first_place as first_place_of};
-ghost use Rattle.sf_slabs.specs.Pieces.{HasLength};
-ghost use Rattle.sf_slabs.specs.Samples.{listed, unlisted};
-ghost use Rattle.sf_slabs.specs.Sweeps.{IsColumnOf, IsComing, IsFront, cells_in, in_column};
-ghost use Rattle.sf_slabs.specs.Vertices.{all_vertices, vertex_before};
+ghost use Rattle.sf_columns.specs.declared.piece.Piece.{Piece};
+ghost use Rattle.sf_cells.specs.Cells.{cells};
+ghost use Rattle.sf_columns.specs.Fronts.{AreApart};
+ghost use Rattle.sf_cells.specs.Groups.{group_count as group_count_of, item_of};
+ghost use Rattle.sf_columns.specs.Next.{first_place as first_place_of};
+ghost use Rattle.sf_cells.specs.Pieces.{HasLength};
+ghost use Rattle.sf_cells.specs.Samples.{listed, unlisted};
+ghost use Rattle.sf_slabs.specs.Sweeps.{IsColumnOf, IsComing, IsFront, cells_in};
+ghost use Rattle.sf_columns.specs.Vertices.{all_vertices, in_column, vertex_before};
 ghost use Rattle.sf_slabs.specs.Walks.{IsReady, IsSlabOf};
 
-use crate::active::Active;
-use crate::contact::Contact;
-use crate::cut::Cut;
-use crate::hand_out::{Column, Tallies, hand_out};
-use crate::neighbours::{neighbours, note_places};
-use crate::next::next_column;
-use crate::piece::Piece;
-use crate::sink::CellSink;
-use crate::vertex::{Vertex, vertices};
+use sf_cells::{CellSink, Column, Tallies, hand_out};
+use sf_columns::{
+    Active, Contact, Cut, Piece, Vertex, neighbours, next_column, note_places, vertices,
+};
 use sf_grid::{Frac, GridPoint};
 use std::alloc::{AllocError, Global};
 use std::mem::swap;
@@ -116,6 +111,7 @@ impl Sweep {
         };
         hand_out(sink, false, groups, &mut self.tallies, &slab);
     }
+
     /// Room for a sweep over so many pieces, with so many vertices and groups.
     fn new(
         alloc: Global,

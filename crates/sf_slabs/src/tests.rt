@@ -2,7 +2,7 @@
 
 ghost use Rattle.std.specs.Prelude.{◌<◌, IsTrue};
 ghost use Rattle.std.specs.List.{All};
-ghost use Rattle.sf_slabs.specs.Pieces.{HasLength};
+ghost use Rattle.sf_cells.specs.Pieces.{HasLength};
 
 use crate::{Cell, CellSink, Piece, decompose, walk};
 use sf_grid::GridPoint;

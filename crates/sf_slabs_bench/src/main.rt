@@ -5,7 +5,7 @@
 
 ghost use Rattle.std.specs.Prelude.{◌<◌, IsTrue};
 ghost use Rattle.std.specs.List.{All};
-ghost use Rattle.sf_slabs.specs.Pieces.{HasLength};
+ghost use Rattle.sf_cells.specs.Pieces.{HasLength};
 
 use sf_grid::GridPoint;
 use sf_slabs::{CellSink, Piece, walk};

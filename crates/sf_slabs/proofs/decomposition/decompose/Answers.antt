@@ -1,8 +1,8 @@
 use Rattle.std.proofs.Common.{◌≡◌, ◌∙◌, length}
 use Rattle.std.proofs.lemmas.Result.{IfOk-weaker}
-use Rattle.sf_slabs.specs.Cells.{cells}
-use Rattle.sf_slabs.specs.Listing.{listing_of, recorded_cells}
-use Rattle.sf_slabs.proofs.ListingLaws.{IsRecorded-walk, own-below, own-length}
+use Rattle.sf_cells.specs.Cells.{cells}
+use Rattle.sf_cells.specs.Listing.{listing_of, recorded_cells}
+use Rattle.sf_cells.proofs.ListingLaws.{IsRecorded-walk, own-below, own-length}
 use Rattle.sf_slabs.proofs.decomposition.decompose.Goals as goal
 
 pub walk-requires-clause-one_group_each : goal.walk-requires-clause-one_group_each

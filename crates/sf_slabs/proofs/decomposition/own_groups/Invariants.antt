@@ -1,5 +1,5 @@
 use Rattle.std.proofs.Common.{◌≡◌, ◌≤◌, vec_capacity, vec_len}
-use Rattle.sf_slabs.specs.Groups.{numbers}
+use Rattle.sf_cells.specs.Groups.{numbers}
 use Rattle.sf_slabs.proofs.decomposition.own_groups.Given as goal
 
 -- the groups so far, with room for all

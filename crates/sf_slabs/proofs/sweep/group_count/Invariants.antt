@@ -1,5 +1,5 @@
 use Rattle.std.proofs.Common.{◌≡◌, drop, max}
-use Rattle.sf_slabs.specs.Groups.{group_count}
+use Rattle.sf_cells.specs.Groups.{group_count}
 use Rattle.sf_slabs.proofs.sweep.group_count.Given as goal
 
 -- the count so far, and that of what is left

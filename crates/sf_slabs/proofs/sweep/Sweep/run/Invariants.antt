@@ -1,7 +1,7 @@
 use Rattle.std.proofs.Common.{◌≡◌, ◌≤◌, length, map}
 use Rattle.std.specs.List.{fold}
-use Rattle.sf_slabs.specs.Cells.{cells}
-use Rattle.sf_slabs.specs.Groups.{item_of}
+use Rattle.sf_cells.specs.Cells.{cells}
+use Rattle.sf_cells.specs.Groups.{item_of}
 use Rattle.sf_slabs.specs.Walks.{IsReady}
 use Rattle.sf_slabs.proofs.RemainingLaws.{left, remaining}
 use Rattle.sf_slabs.proofs.RunLaws.{Stands}

@@ -1,0 +1,5 @@
+pub mod CountLaws
+pub mod TallyLaws
+pub mod TallySteps
+pub mod HandSteps
+pub mod ListingLaws

@@ -1,0 +1,141 @@
+//! The cells of one column or slab, handed to a sink.
+
+ghost use Rattle.std.specs.Prelude.{◌≡◌, ◌<◌, ◌+◌, ◌^◌, ◌++◌, true, false, [], ◌∷◌, length};
+ghost use Rattle.std.specs.List.{All, fold};
+ghost use Rattle.sf_columns.specs.Fronts.{pieces_of};
+ghost use Rattle.sf_cells.specs.Groups.{counts, group_count};
+ghost use Rattle.sf_cells.specs.Hands.{AtMost, Balanced, item, minus, plus, stop_items, stops};
+ghost use Rattle.sf_columns.specs.Levels.{TakeAll};
+ghost use Rattle.sf_cells.specs.Samples.{dimension};
+ghost use Rattle.sf_columns.specs.Vertices.{enters, leaves, pieces_with};
+
+use crate::sink::CellSink;
+use crate::tally::{add_edges, enter_level, leave_level, take_edges};
+use sf_columns::{Active, Level, Vertex};
+
+/// Of each group, how many of its pieces are on the place that was reached, and how many of its
+/// edges are above it.
+#[derive(Drop)]
+pub struct Tallies {
+    pub on: Vec<u32>,
+    pub above: Vec<u32>,
+}
+
+/// The levels of a column from the top, with the edges that come to it, its vertices and the edges
+/// that go on from it.
+#[derive(Clone, Copy)]
+pub struct Column<'a> {
+    pub edges: &'a [Active],
+    pub vertices: &'a [Vertex],
+    pub onward: &'a [Active],
+    pub levels: &'a [Level],
+}
+
+/// Hands out the cells of a column: from the top, the gap above each level and the level, and in
+/// the end the gap below the last one. `event` says that something begins, ends or meets in the
+/// column, so that its levels are points.
+pub fn hand_out<S: CellSink>(
+    sink: &mut S,
+    event: bool,
+    groups: &[u32],
+    tallies: &mut Tallies,
+    column: &Column,
+)
+    requires edges { All (λ e. e.piece < length groups.now) column.now.edges.now }
+    requires vertices { All (λ v. v.piece < length groups.now) column.now.vertices.now }
+    requires onward { All (λ e. e.piece < length groups.now) column.now.onward.now }
+    requires few { length column.now.edges.now + length column.now.vertices.now
+        + length column.now.onward.now < 2 ^ 32 }
+    requires levels { TakeAll (length column.now.edges.now) (length column.now.vertices.now)
+        (length column.now.onward.now) column.now.levels.now }
+    requires balanced { Balanced groups.now (counts groups.now [])
+        (stops column.now.edges.now column.now.vertices.now column.now.onward.now column.now.levels.now) }
+    requires none_on { tallies.old.on.items ≡ counts groups.now [] }
+    requires none_above { tallies.old.above.items ≡ counts groups.now [] }
+    ensures handed { S.content sink.new ≡ fold S.after (S.content sink.old)
+        (stop_items groups.now event (counts groups.now []) (counts groups.now [])
+        (stops column.now.edges.now column.now.vertices.now column.now.onward.now column.now.levels.now)) }
+    ensures none_on { tallies.new.on.items ≡ counts groups.now [] }
+    ensures none_above { tallies.new.above.items ≡ counts groups.now [] }
+{
+    let mut edges = column.edges;
+    let mut vertices = column.vertices;
+    let mut onward = column.onward;
+    for level in column.levels {
+        let (level_edges, lower_edges) = edges.split_at(level.edges);
+        let (level_vertices, lower_vertices) = vertices.split_at(level.vertices);
+        let (level_onward, lower_onward) = onward.split_at(level.onward);
+        hand_level(
+            sink,
+            event,
+            groups,
+            tallies,
+            level_edges,
+            level_vertices,
+            level_onward,
+        );
+        edges = lower_edges;
+        vertices = lower_vertices;
+        onward = lower_onward;
+    }
+    hand_gap(sink, event, tallies);
+    take_edges(&mut tallies.above, groups, column.onward);
+}
+
+/// Hands out the gap above a level and the level, and counts what is on the gap below it.
+fn hand_level<S: CellSink>(
+    sink: &mut S,
+    event: bool,
+    groups: &[u32],
+    tallies: &mut Tallies,
+    edges: &[Active],
+    vertices: &[Vertex],
+    onward: &[Active],
+)
+    requires edges { All (λ e. e.piece < length groups.now) edges.now }
+    requires vertices { All (λ v. v.piece < length groups.now) vertices.now }
+    requires onward { All (λ e. e.piece < length groups.now) onward.now }
+    requires counted_on { length tallies.old.on.items ≡ group_count groups.now }
+    requires counted_above { length tallies.old.above.items ≡ group_count groups.now }
+    requires room_on { All (λ n. n + (length edges.now + length vertices.now) < 2 ^ 32) tallies.old.on.items }
+    requires room_above { All (λ n. n + length onward.now < 2 ^ 32) tallies.old.above.items }
+    requires there { AtMost (counts groups.now (pieces_of edges.now ++ pieces_with leaves vertices.now))
+        (plus tallies.old.on.items (counts groups.now (pieces_of edges.now ++ pieces_with enters vertices.now))) }
+    ensures handed { S.content sink.new ≡ fold S.after (S.content sink.old)
+        (item (dimension event false) tallies.old.on.items tallies.old.above.items
+        ∷ item (dimension event true)
+        (plus tallies.old.on.items (counts groups.now (pieces_of edges.now ++ pieces_with enters vertices.now)))
+        tallies.old.above.items ∷ []) }
+    ensures on { tallies.new.on.items ≡ minus
+        (plus tallies.old.on.items (counts groups.now (pieces_of edges.now ++ pieces_with enters vertices.now)))
+        (counts groups.now (pieces_of edges.now ++ pieces_with leaves vertices.now)) }
+    ensures above { tallies.new.above.items ≡ plus tallies.old.above.items (counts groups.now (pieces_of onward.now)) }
+{
+    hand_gap(sink, event, tallies);
+    enter_level(&mut tallies.on, groups, edges, vertices);
+    sink.cell(level_dimension(event), &tallies.on, &tallies.above);
+    leave_level(&mut tallies.on, groups, edges, vertices);
+    add_edges(&mut tallies.above, groups, onward);
+}
+
+/// Hands out a gap, also where no piece is on it or above it.
+fn hand_gap<S: CellSink>(sink: &mut S, event: bool, tallies: &Tallies)
+    ensures { S.content sink.new ≡ S.after (S.content sink.old)
+        (item (dimension event false) tallies.now.on.items tallies.now.above.items) }
+{
+    sink.cell(gap_dimension(event), &tallies.on, &tallies.above);
+}
+
+/// The dimension of a level.
+fn level_dimension(event: bool) -> u8
+    ensures { result ≡ dimension event true }
+{
+    if event { 0 } else { 1 }
+}
+
+/// The dimension of a gap.
+fn gap_dimension(event: bool) -> u8
+    ensures { result ≡ dimension event false }
+{
+    if event { 1 } else { 2 }
+}

@@ -1,0 +1,13 @@
+//! The cells of a column or slab, handed to a sink with their counts by group, or put down as a list.
+#![tactic(auto)]
+
+mod cell;
+mod column;
+mod listing;
+mod sink;
+mod tally;
+
+pub use cell::{Cell, Numbers};
+pub use column::{Column, Tallies, hand_out};
+pub use listing::{Head, Measure, Recorder, recorded};
+pub use sink::CellSink;

@@ -1,0 +1,111 @@
+//! Counts of pieces by groups.
+
+ghost use Rattle.std.specs.Prelude.{◌≡◌, ◌<◌, ◌+◌, ◌-◌, ◌^◌, ◌++◌, [], ◌∷◌, length};
+ghost use Rattle.std.specs.List.{All};
+ghost use Rattle.sf_columns.specs.Fronts.{pieces_of};
+ghost use Rattle.sf_cells.specs.Groups.{counts, group_count};
+ghost use Rattle.sf_cells.specs.Hands.{AtMost, minus, plus};
+ghost use Rattle.sf_columns.specs.Vertices.{enters as enters_of, leaves as leaves_of, pieces_with};
+
+use sf_columns::{Active, Vertex};
+
+/// Adds the pieces that a level has and the gap above it hasn't.
+pub fn enter_level(tally: &mut [u32], groups: &[u32], edges: &[Active], vertices: &[Vertex])
+    requires edges { All (λ e. e.piece < length groups.now) edges.now }
+    requires vertices { All (λ v. v.piece < length groups.now) vertices.now }
+    requires counted { length tally.old ≡ group_count groups.now }
+    requires room { All (λ n. n + (length edges.now + length vertices.now) < 2 ^ 32) tally.old }
+    ensures { tally.new ≡ plus tally.old
+        (counts groups.now (pieces_of edges.now ++ pieces_with enters_of vertices.now)) }
+{
+    add_edges(tally, groups, edges);
+    add_entering(tally, groups, vertices);
+}
+
+/// Takes off the pieces that a level has and the gap below it hasn't.
+pub fn leave_level(tally: &mut [u32], groups: &[u32], edges: &[Active], vertices: &[Vertex])
+    requires edges { All (λ e. e.piece < length groups.now) edges.now }
+    requires vertices { All (λ v. v.piece < length groups.now) vertices.now }
+    requires counted { length tally.old ≡ group_count groups.now }
+    requires there { AtMost (counts groups.now (pieces_of edges.now ++ pieces_with leaves_of vertices.now))
+        tally.old }
+    ensures { tally.new ≡ minus tally.old
+        (counts groups.now (pieces_of edges.now ++ pieces_with leaves_of vertices.now)) }
+{
+    take_edges(tally, groups, edges);
+    take_leaving(tally, groups, vertices);
+}
+
+/// Adds the edges' pieces.
+pub fn add_edges(tally: &mut [u32], groups: &[u32], edges: &[Active])
+    requires edges { All (λ e. e.piece < length groups.now) edges.now }
+    requires counted { length tally.old ≡ group_count groups.now }
+    requires room { All (λ n. n + length edges.now < 2 ^ 32) tally.old }
+    ensures { tally.new ≡ plus tally.old (counts groups.now (pieces_of edges.now)) }
+{
+    for edge in edges {
+        add_piece(tally, groups, edge.piece);
+    }
+}
+
+/// Takes off the edges' pieces.
+pub fn take_edges(tally: &mut [u32], groups: &[u32], edges: &[Active])
+    requires edges { All (λ e. e.piece < length groups.now) edges.now }
+    requires counted { length tally.old ≡ group_count groups.now }
+    requires there { AtMost (counts groups.now (pieces_of edges.now)) tally.old }
+    ensures { tally.new ≡ minus tally.old (counts groups.now (pieces_of edges.now)) }
+{
+    for edge in edges {
+        take_piece(tally, groups, edge.piece);
+    }
+}
+
+/// Adds the pieces of the vertices that bring their piece to the level.
+fn add_entering(tally: &mut [u32], groups: &[u32], vertices: &[Vertex])
+    requires vertices { All (λ v. v.piece < length groups.now) vertices.now }
+    requires counted { length tally.old ≡ group_count groups.now }
+    requires room { All (λ n. n + length vertices.now < 2 ^ 32) tally.old }
+    ensures { tally.new ≡ plus tally.old (counts groups.now (pieces_with enters_of vertices.now)) }
+{
+    for vertex in vertices {
+        if vertex.role.enters() {
+            add_piece(tally, groups, vertex.piece);
+        }
+    }
+}
+
+/// Takes off the pieces of the vertices that end their piece at the level.
+fn take_leaving(tally: &mut [u32], groups: &[u32], vertices: &[Vertex])
+    requires vertices { All (λ v. v.piece < length groups.now) vertices.now }
+    requires counted { length tally.old ≡ group_count groups.now }
+    requires there { AtMost (counts groups.now (pieces_with leaves_of vertices.now)) tally.old }
+    ensures { tally.new ≡ minus tally.old (counts groups.now (pieces_with leaves_of vertices.now)) }
+{
+    for vertex in vertices {
+        if vertex.role.leaves() {
+            take_piece(tally, groups, vertex.piece);
+        }
+    }
+}
+
+/// One more piece of its group.
+fn add_piece(tally: &mut [u32], groups: &[u32], piece: u32)
+    requires grouped { piece < length groups.now }
+    requires counted { length tally.old ≡ group_count groups.now }
+    requires room { All (λ n. n + 1 < 2 ^ 32) tally.old }
+    ensures { tally.new ≡ plus tally.old (counts groups.now (piece ∷ [])) }
+{
+    let group = groups[piece as usize] as usize;
+    tally[group] += 1;
+}
+
+/// One piece less of its group.
+fn take_piece(tally: &mut [u32], groups: &[u32], piece: u32)
+    requires grouped { piece < length groups.now }
+    requires counted { length tally.old ≡ group_count groups.now }
+    requires there { AtMost (counts groups.now (piece ∷ [])) tally.old }
+    ensures { tally.new ≡ minus tally.old (counts groups.now (piece ∷ [])) }
+{
+    let group = groups[piece as usize] as usize;
+    tally[group] -= 1;
+}

@@ -1,0 +1,6 @@
+pub mod Slanted
+pub mod Order
+pub mod Vertices
+pub mod Fronts
+pub mod Levels
+pub mod Next

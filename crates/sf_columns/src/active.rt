@@ -1,0 +1,25 @@
+ghost use Rattle.std.specs.Prelude.{◌≡◌};
+ghost use Rattle.sf_columns.specs.Levels.{goes_past as goes_past_of};
+
+use crate::slanted::Slanted;
+use crate::vertex::Vertex;
+
+/// An edge in the order of a column, with the number of its piece.
+#[derive(Clone, Copy)]
+pub struct Active {
+    pub edge: Slanted,
+    pub piece: u32,
+}
+
+impl Active {
+    /// Whether the edge goes on past the column of the vertices of a level. Where there is no
+    /// vertex, no edge ends.
+    pub fn goes_past(&self, vertices: &[Vertex]) -> bool
+        ensures { result ≡ goes_past_of vertices.now self.now }
+    {
+        match vertices.first() {
+            Some(vertex) => vertex.at.x() < self.edge.right().x(),
+            None => true,
+        }
+    }
+}

@@ -1,0 +1,24 @@
+//! One column of a plane that edges and dots cut: its levels from the top, and the edges that go on
+//! from it to the right.
+#![tactic(auto)]
+
+mod active;
+mod adjacency;
+mod contact;
+mod cut;
+mod level;
+mod next;
+mod onward;
+mod piece;
+mod slanted;
+mod vertex;
+
+pub use active::Active;
+pub use adjacency::{neighbours, note_places};
+pub use contact::Contact;
+pub use cut::Cut;
+pub use level::Level;
+pub use next::next_column;
+pub use piece::Piece;
+pub use slanted::Slanted;
+pub use vertex::{Role, Vertex, vertices};

@@ -1,7 +1,0 @@
-use Rattle.std.proofs.Common.{take}
-use Rattle.sf_slabs.specs.Next.{candidates}
-use Rattle.sf_slabs.proofs.NearestLaws.{IsNearest}
-use Rattle.sf_slabs.proofs.next.next_column.Given as goal
-
-abbrev pub invariant-loop-contact : goal.invariant-loop-contact
-invariant-loop-contact l = IsNearest l.nearest (candidates l.fn.grid (take l.contact-index l.contacts))

@@ -1,9 +1,0 @@
-use Rattle.std.proofs.Common.{◌≡◌, take}
-use Rattle.sf_slabs.specs.Fronts.{pieces_of}
-use Rattle.sf_slabs.specs.Groups.{counts}
-use Rattle.sf_slabs.specs.Hands.{minus}
-use Rattle.sf_slabs.proofs.tally.take_edges.Given as goal
-
--- the pieces of the edges so far were taken off
-abbrev pub invariant-loop-edge : goal.invariant-loop-edge
-invariant-loop-edge l = l.tally ≡ minus l.fn.tally (counts l.groups (pieces_of (take l.edge-index l.edges)))
