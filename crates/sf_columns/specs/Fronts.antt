@@ -36,11 +36,6 @@ IsEntryIn (Some (Dot p)) a = ⊥
 abbrev pub IsEntry : List Piece → Active → Type 0
 IsEntry pieces a = IsEntryIn (piece_at pieces a.piece) a
 
--- every edge of the list has a property
-abbrev pub EachActive : (Active → Type 0) → List Active → Type 0
-EachActive P [] = Unit {0}
-EachActive P (a ∷ rest) = P a × EachActive P rest
-
 -- an edge of the order, as an edge
 abbrev pub line_of : Active → Line
 line_of a = edge_between a.edge.left a.edge.right

@@ -1,7 +1,7 @@
 -- The candidates for the next event, the places of the next vertex and of the points ahead that neighbours share, are events.
 use Rattle.std.proofs.Common.{◌≡◌, refl, sym, ◌∙◌, subst, ℕ, zero, suc, ℤ, pos, ◌*ℤ◌, ◌≤ℤ◌, ◌<ℤ◌, arith, Bool, true, false, ◌||◌, List, [], ◌∷◌, Option, inl, inr}
 use Rattle.std.specs.Prelude.{int_lt}
-use Rattle.std.specs.List.{All}
+use Rattle.std.specs.List.{All, AllByRecursion}
 use Rattle.std.proofs.lemmas.Bool.{and_parts}
 use Rattle.std.proofs.lemmas.Int.{ints}
 use Rattle.std.proofs.lemmas.List.Elements.{All-cons, All-contains, All-head, All-nil, All-tail}
@@ -16,7 +16,7 @@ use Rattle.sf_columns.specs.declared.active.Active.{Active}
 use Rattle.sf_columns.specs.declared.contact.Contact.{Contact}
 use Rattle.sf_columns.specs.declared.contact.Contact.TheVariants.{Ahead, Never, Throughout}
 use Rattle.sf_columns.specs.declared.vertex.Vertex.{Vertex}
-use Rattle.sf_columns.specs.Fronts.{AreContacts, AreContactsFrom, EachActive, IsEntry, IsRun, line_of}
+use Rattle.sf_columns.specs.Fronts.{AreContacts, AreContactsFrom, IsEntry, IsRun, line_of}
 use Rattle.sf_columns.specs.Next.{candidates, first_place, places_of}
 use Rattle.sf_cells.specs.Pieces.{ends_of}
 use Rattle.sf_cells.specs.Samples.{crossing_place, crossings_of}
@@ -27,16 +27,15 @@ use Rattle.sf_slabs.proofs.ColumnLaws.{event_places}
 use Rattle.sf_slabs.proofs.CrossLaws.{crossing-is, meeting-apart, meeting-on_both, meeting-run, meeting-same, place-IsFraction}
 use Rattle.sf_slabs.proofs.EndLaws.{EntryOf, Later, NoEndBetween, all_good, each_passes, ends-all_vertices, entry_of, passes-places, passes_at, vertices_at-ends, whole-number, each_member}
 use Rattle.sf_slabs.proofs.EventLaws.{Some_in, Some_in-map, is-event}
-use Rattle.sf_slabs.proofs.FollowLaws.{EachContact, Waits, le_le-places}
+use Rattle.sf_slabs.proofs.FollowLaws.{Waits, le_le-places}
 use Rattle.sf_slabs.proofs.NumberLaws.{Among}
-use Rattle.sf_slabs.proofs.SampleLaws.{Each}
-use Rattle.sf_slabs.proofs.Shapes.{EachVertex, InOrder, InOrderFrom, IsAhead, IsFront, right_of}
+use Rattle.sf_slabs.proofs.Shapes.{InOrder, InOrderFrom, IsAhead, IsFront, right_of}
 use Rattle.sf_slabs.proofs.SlabLaws.{reached_from}
 
 -- ---- the ends right of x, from the vertices ahead
 -- all vertices are at the first one's column or further right
 ordered-places : (y : Fraction) (u : Vertex) (vs : List Vertex) → InOrderFrom u vs → fraction_le y (whole u.at.x) ≡ true →
-    EachVertex (λ v. fraction_le y (whole v.at.x) ≡ true) vs
+    AllByRecursion (λ v. fraction_le y (whole v.at.x) ≡ true) vs
 ordered-places y u [] o h = tt
 ordered-places y u (v ∷ vs) o h =
     let here = le_le-places y (whole u.at.x) (whole v.at.x) (whole-number u.at.x) h (not_left u.at.x v.at.x (none_first _ _ o.0)) in
@@ -50,7 +49,7 @@ ordered-places y u (v ∷ vs) o h =
     not_left m n e = test_from_le (m *ℤ pos 1) (n *ℤ pos 1) (let l : m ≤ℤ n = ge_from_test n m e in omega (arith, ints))
 
 least_vertices : (y : Fraction) (vs : List Vertex) (cs : List Contact) → InOrder vs → All (λ q. fraction_le y q ≡ true) (candidates (first_place vs) cs) →
-    EachVertex (λ v. fraction_le y (whole v.at.x) ≡ true) vs
+    AllByRecursion (λ v. fraction_le y (whole v.at.x) ≡ true) vs
 least_vertices y [] cs o h = tt
 least_vertices y (v ∷ vs) cs o h =
     let here = All-head (λ q. fraction_le y q ≡ true) (whole v.at.x) (places_of cs) h in
@@ -61,7 +60,7 @@ pub least_places : (y : Fraction) (vs : List Vertex) (cs : List Contact) → All
 least_places y [] cs h = h
 least_places y (v ∷ vs) cs h = All-tail (λ q. fraction_le y q ≡ true) (whole v.at.x) (places_of cs) h
 
-pub least_waits : (y : Fraction) (cs : List Contact) → All (λ q. fraction_le y q ≡ true) (places_of cs) → EachContact (Waits y) cs
+pub least_waits : (y : Fraction) (cs : List Contact) → All (λ q. fraction_le y q ≡ true) (places_of cs) → AllByRecursion (Waits y) cs
 least_waits y [] h = tt
 least_waits y (Never ∷ cs) h = (tt, least_waits y cs h)
 least_waits y (Ahead p ∷ cs) h =
@@ -80,11 +79,11 @@ pub record IsAheadEvent (pieces : List Piece) (x q : Fraction) : Type 0 where
   pub event : Among (event_places pieces) q
   pub above : fraction_lt x q ≡ true
 
-own_ends : (p : Piece) → Each (Among (ends_of p)) (ends_of p)
+own_ends : (p : Piece) → AllByRecursion (Among (ends_of p)) (ends_of p)
 own_ends (Edge a b) = (inl refl, (inr (inl refl), tt))
 own_ends (Dot a) = (inl refl, tt)
 
-all_vertices_have : (P : Vertex → Type 0) (vs : List Vertex) → EachVertex P vs → All P vs
+all_vertices_have : (P : Vertex → Type 0) (vs : List Vertex) → AllByRecursion P vs → All P vs
 all_vertices_have P [] h = All-nil P
 all_vertices_have P (v ∷ vs) h = All-cons P v vs h.0 (all_vertices_have P vs h.1)
 
@@ -104,8 +103,8 @@ vertex_event pieces x v h l =
 abbrev pub FrontEntry : List Piece → Fraction → Active → Type 0
 FrontEntry pieces x a = EntryOf (passes x) (λ p. Some_in (λ r. r ≡ p) pieces) a
 
-pub front_entries : (pieces : List Piece) (x : Fraction) (os : List Active) → EachActive (IsEntry pieces) os →
-    EachActive (λ a. passes_at (passes x) pieces a.piece ≡ true) os → EachActive (FrontEntry pieces x) os
+pub front_entries : (pieces : List Piece) (x : Fraction) (os : List Active) → AllByRecursion (IsEntry pieces) os →
+    AllByRecursion (λ a. passes_at (passes x) pieces a.piece ≡ true) os → AllByRecursion (FrontEntry pieces x) os
 front_entries pieces x [] e p = tt
 front_entries pieces x (a ∷ os) e p =
     (entry_of (passes x) (λ p. Some_in (λ r. r ≡ p) pieces) pieces a.piece a e.0 p.0 (each_member pieces), front_entries pieces x os e.1 p.1)
@@ -159,7 +158,7 @@ meeting_event pieces x a b p i h k m =
     }
 
 contact_events-from : (pieces : List Piece) (x : Fraction) (a : Active) (os : List Active) (cs : List Contact) → IsFraction x → FrontEntry pieces x a →
-    EachActive (FrontEntry pieces x) os → AreContactsFrom x a os cs → All (IsAheadEvent pieces x) (places_of cs)
+    AllByRecursion (FrontEntry pieces x) os → AreContactsFrom x a os cs → All (IsAheadEvent pieces x) (places_of cs)
 contact_events-from pieces x a [] cs i h k c = subst (λ (ds : List Contact). All (IsAheadEvent pieces x) (places_of ds)) (sym c) (All-nil (IsAheadEvent pieces x))
 contact_events-from pieces x a (b ∷ bs) [] i h k c = absurd c
 contact_events-from pieces x a (b ∷ bs) (Never ∷ cs) i h k c = contact_events-from pieces x b bs cs i k.0 k.1 c.1
@@ -167,7 +166,7 @@ contact_events-from pieces x a (b ∷ bs) (Ahead p ∷ cs) i h k c =
     All-cons (IsAheadEvent pieces x) (x_of p) (places_of cs) (meeting_event pieces x a b p i h k.0 c.0) (contact_events-from pieces x b bs cs i k.0 k.1 c.1)
 contact_events-from pieces x a (b ∷ bs) (Throughout ∷ cs) i h k c = contact_events-from pieces x b bs cs i k.0 k.1 c.1
 
-contact_events : (pieces : List Piece) (x : Fraction) (os : List Active) (cs : List Contact) → IsFraction x → EachActive (FrontEntry pieces x) os →
+contact_events : (pieces : List Piece) (x : Fraction) (os : List Active) (cs : List Contact) → IsFraction x → AllByRecursion (FrontEntry pieces x) os →
     AreContacts x os cs → All (IsAheadEvent pieces x) (places_of cs)
 contact_events pieces x [] cs i k c = subst (λ (ds : List Contact). All (IsAheadEvent pieces x) (places_of ds)) (sym c) (All-nil (IsAheadEvent pieces x))
 contact_events pieces x (a ∷ os) cs i k c = contact_events-from pieces x a os cs i k.0 k.1 c

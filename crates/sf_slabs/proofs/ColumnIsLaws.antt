@@ -1,7 +1,7 @@
 -- The stops of a column fit its cells: what comes, begins, ends and goes on at each level is what lies on the level and on the gaps beside it.
 use Rattle.std.proofs.Common.{◌≡◌, refl, ap, sym, subst, ◌∙◌, ℕ, zero, suc, ◌+◌, ℤ, pos, ◌*ℤ◌, arith, lit<, Bool, true, false, not, ◌&&◌, ◌||◌, List, [], ◌∷◌, ◌++◌, take, drop, map, inl, inr, ◌⊎◌, Option, Some, None}
 use Rattle.std.specs.Prelude.{if◌then◌else◌, int_le, int_lt}
-use Rattle.std.specs.List.{sum_by}
+use Rattle.std.specs.List.{AllByRecursion, sum_by}
 use Rattle.std.specs.List.Sorted.{IsPermutation}
 use Rattle.std.proofs.lemmas.Bool.{and_parts, both_ways, cases_Bool}
 use Rattle.std.proofs.lemmas.Int.{ints}
@@ -18,7 +18,7 @@ use Rattle.sf_columns.specs.declared.contact.Contact.{Contact}
 use Rattle.sf_columns.specs.declared.level.Level.{Level}
 use Rattle.sf_columns.specs.declared.vertex.Vertex.{Vertex}
 use Rattle.sf_cells.specs.Cells.{numbers_from}
-use Rattle.sf_columns.specs.Fronts.{EachActive, IsEntry, IsEntryIn, SameNumbers, pieces_of}
+use Rattle.sf_columns.specs.Fronts.{IsEntry, IsEntryIn, SameNumbers, pieces_of}
 use Rattle.sf_cells.specs.Groups.{counts, item_of}
 use Rattle.sf_cells.specs.Hands.{Balanced, Stop, item, stop_items, stops}
 use Rattle.sf_columns.specs.Levels.{AreOnward, AreStarts, AreTops, IsOnward, StartsWith, goes_past, going_past, if_begins}
@@ -30,27 +30,28 @@ use Rattle.sf_slabs.proofs.ColumnLaws.{IsHeights}
 use Rattle.sf_slabs.proofs.GapLaws.{IsGap, Parted}
 use Rattle.sf_slabs.proofs.HandLaws.{balanced-fit, items-fit}
 use Rattle.sf_slabs.proofs.HeightsLaws.{heights_in, heights_of-numbers}
-use Rattle.sf_slabs.proofs.LevelHeightsLaws.{EachActive-map, EachVertex-map, each_entry_height, leveled_heights, vertices_each}
-use Rattle.sf_slabs.proofs.LevelLaws.{EachPiece, EachPiece-map, levels_from, middle-above, middle-below, not_above, one_less-below}
+use Rattle.sf_slabs.proofs.LevelHeightsLaws.{each_entry_height, leveled_heights, vertices_each}
+use Rattle.sf_slabs.proofs.LevelLaws.{levels_from, middle-above, middle-below, not_above, one_less-below}
 use Rattle.sf_slabs.proofs.LevelPiecesLaws.{at_level, begins_at, comes_at, comes_number, ends, ends_at, enters_at, goes_past_at, le_before_lt, leaves_at, lt_before_le, none_over, none_under, not_lt, on_from, on_gap-over, on_gap-under, on_until, one_begins, one_ends, one_enters, one_leaves, onward_from, over, past_from, under, weakly_less}
 use Rattle.sf_slabs.proofs.LeveledLaws.{IsAtLevel, Leveled, active_height, drop-each_active, leveled, vertex_height}
 use Rattle.sf_slabs.proofs.MarkLaws.{middle-number}
-use Rattle.sf_slabs.proofs.NumberLaws.{Among, Each-map, Numbers, rising_order}
-use Rattle.sf_slabs.proofs.SampleLaws.{Each, FollowFrom}
-use Rattle.sf_slabs.proofs.Shapes.{AreVertices, EachVertex, Fits, IsColumn, IsColumnOf, IsComing, comes_to, in_column}
+use Rattle.sf_slabs.proofs.NumberLaws.{Among, Numbers, rising_order}
+use Rattle.sf_slabs.proofs.SampleLaws.{FollowFrom}
+use Rattle.sf_slabs.proofs.Shapes.{AreVertices, Fits, IsColumn, IsColumnOf, IsComing, comes_to, in_column}
 use Rattle.sf_columns.proofs.SideLaws.{lt-scaled}
-use Rattle.sf_slabs.proofs.TopLaws.{Each-parts, column-levels, one_more-above, passes-listed, passes-number}
+use Rattle.sf_slabs.proofs.TopLaws.{column-levels, one_more-above, passes-listed, passes-number}
 use Rattle.sf_slabs.proofs.WeightLaws.{AreVertices-chosen, IsEither, SameNumbers-agree, SameNumbers-chosen, SameNumbers-chosen_none, SameNumbers-either, SameNumbers-none, SameNumbers-refl, SameNumbers-trans, SameNumbers-vertices, chosen, chosen-drop, chosen-drop_vertices, chosen-take, chosen-take_vertices, numbers_from-none, passes_at, pieces_of-append, sum_by-agree}
+use Rattle.sf_slabs.proofs.EachLaws.{each-both, each-map, each-parts}
 
 -- ---- properties of all pieces
 -- a property of every piece
-pub every_piece : (P : Piece → Type 0) (ps : List Piece) → ((p : Piece) → P p) → EachPiece P ps
+pub every_piece : (P : Piece → Type 0) (ps : List Piece) → ((p : Piece) → P p) → AllByRecursion P ps
 every_piece P [] f = tt
 every_piece P (p ∷ ps) f = (f p, every_piece P ps f)
 
 -- ---- what is left of a column's edges and vertices, below some height
 pub record IsRest (pieces : List Piece) (z : Fraction) (below : Fraction → Bool) (es : List Active) (vs : List Vertex) : Type 0 where
-  pub entries : EachActive (IsEntry pieces) es
+  pub entries : AllByRecursion (IsEntry pieces) es
   pub coming : SameNumbers (pieces_of es) (numbers_from 0 (λ p. comes_to z p && below (height_of z p)) pieces)
   pub vertices : AreVertices pieces (λ v. in_column z v && below (vertex_height v)) vs
 
@@ -86,7 +87,7 @@ AreVertices-agree : (pieces : List Piece) (s t : Vertex → Bool) (vs : List Ver
 AreVertices-agree pieces s t vs h e = λ w. h w ∙ sum_by-agree (λ v. if s v then w v else 0) (λ v. if t v then w v else 0) (all_vertices 0 pieces) (λ v. ap (λ b. if b then w v else 0) (e v))
 
 -- the first ones of a list have its property
-pub take-each_active : (P : Active → Type 0) (n : ℕ) (es : List Active) → EachActive P es → EachActive P (take n es)
+pub take-each_active : (P : Active → Type 0) (n : ℕ) (es : List Active) → AllByRecursion P es → AllByRecursion P (take n es)
 take-each_active P zero es h = tt
 take-each_active P (suc n) [] h = tt
 take-each_active P (suc n) (a ∷ es) h = (h.0, take-each_active P n es h.1)
@@ -98,8 +99,8 @@ edges_here pieces z q below es vs n m i r c l =
     SameNumbers-agree (pieces_of (take n es)) (λ p. (comes_to z p && below (height_of z p)) && fraction_eq (height_of z p) q) (comes_at z q) pieces
     (subst (λ fs. SameNumbers (pieces_of fs) (numbers_from 0 (λ p. (comes_to z p && below (height_of z p)) && fraction_eq (height_of z p) q) pieces))
     (chosen-take (λ a. fraction_eq (active_height z a) q) n es
-    (EachActive-map (λ a. Same (active_height z a) q) (λ a. fraction_eq (active_height z a) q ≡ true) (take n es) (λ a e. test_from_eq _ _ e) l.edges)
-    (EachActive-map (λ a. fraction_lt (active_height z a) q ≡ true) (λ a. fraction_eq (active_height z a) q ≡ false) (drop n es) (λ a e. below_not_at q (active_height z a) e) l.edges_below))
+    (each-map (λ a. Same (active_height z a) q) (λ a. fraction_eq (active_height z a) q ≡ true) (take n es) (λ a e. test_from_eq _ _ e) l.edges)
+    (each-map (λ a. fraction_lt (active_height z a) q ≡ true) (λ a. fraction_eq (active_height z a) q ≡ false) (drop n es) (λ a e. below_not_at q (active_height z a) e) l.edges_below))
     (SameNumbers-chosen pieces (λ p. comes_to z p && below (height_of z p)) (λ p. fraction_eq (height_of z p) q) (λ a. fraction_eq (active_height z a) q) es r.coming
     (each_entry_height (λ h. fraction_eq h q) z pieces es r.entries)))
     (every_piece _ pieces (λ p. covered (comes_to z p) (below (height_of z p)) (fraction_eq (height_of z p) q) (λ t e. c (height_of z p) (comes_number z p i t) (eq_not_above q (height_of z p) e))))
@@ -111,8 +112,8 @@ vertices_here pieces z q below es vs n m r c l =
     AreVertices-agree pieces (λ v. (in_column z v && below (vertex_height v)) && fraction_eq (vertex_height v) q) (at_level z q) (take m vs)
     (subst (λ us. AreVertices pieces (λ v. (in_column z v && below (vertex_height v)) && fraction_eq (vertex_height v) q) us)
     (chosen-take_vertices (λ v. fraction_eq (vertex_height v) q) m vs
-    (EachVertex-map (λ v. Same (vertex_height v) q) (λ v. fraction_eq (vertex_height v) q ≡ true) (take m vs) (λ v e. test_from_eq _ _ e) l.vertices)
-    (EachVertex-map (λ v. fraction_lt (vertex_height v) q ≡ true) (λ v. fraction_eq (vertex_height v) q ≡ false) (drop m vs) (λ v e. below_not_at q (vertex_height v) e) l.vertices_below))
+    (each-map (λ v. Same (vertex_height v) q) (λ v. fraction_eq (vertex_height v) q ≡ true) (take m vs) (λ v e. test_from_eq _ _ e) l.vertices)
+    (each-map (λ v. fraction_lt (vertex_height v) q ≡ true) (λ v. fraction_eq (vertex_height v) q ≡ false) (drop m vs) (λ v e. below_not_at q (vertex_height v) e) l.vertices_below))
     (AreVertices-chosen pieces (λ v. in_column z v && below (vertex_height v)) (λ v. fraction_eq (vertex_height v) q) vs r.vertices))
     (λ v. covered (in_column z v) (below (vertex_height v)) (fraction_eq (vertex_height v) q) (λ t e. c (vertex_height v) (record { positive = lit< tt }) (eq_not_above q (vertex_height v) e)))
 
@@ -126,7 +127,7 @@ rest_below pieces z q below es vs n m i r c l =
           SameNumbers-agree (pieces_of (drop n es)) (λ p. (comes_to z p && below (height_of z p)) && fraction_lt (height_of z p) q) (λ p. comes_to z p && fraction_lt (height_of z p) q) pieces
           (subst (λ fs. SameNumbers (pieces_of fs) (numbers_from 0 (λ p. (comes_to z p && below (height_of z p)) && fraction_lt (height_of z p) q) pieces))
           (chosen-drop (λ a. fraction_lt (active_height z a) q) n es
-          (EachActive-map (λ a. Same (active_height z a) q) (λ a. fraction_lt (active_height z a) q ≡ false) (take n es) (λ a e. at_not_below q (active_height z a) e) l.edges)
+          (each-map (λ a. Same (active_height z a) q) (λ a. fraction_lt (active_height z a) q ≡ false) (take n es) (λ a e. at_not_below q (active_height z a) e) l.edges)
           l.edges_below)
           (SameNumbers-chosen pieces (λ p. comes_to z p && below (height_of z p)) (λ p. fraction_lt (height_of z p) q) (λ a. fraction_lt (active_height z a) q) es r.coming
           (each_entry_height (λ h. fraction_lt h q) z pieces es r.entries)))
@@ -135,7 +136,7 @@ rest_below pieces z q below es vs n m i r c l =
           AreVertices-agree pieces (λ v. (in_column z v && below (vertex_height v)) && fraction_lt (vertex_height v) q) (λ v. in_column z v && fraction_lt (vertex_height v) q) (drop m vs)
           (subst (λ us. AreVertices pieces (λ v. (in_column z v && below (vertex_height v)) && fraction_lt (vertex_height v) q) us)
           (chosen-drop_vertices (λ v. fraction_lt (vertex_height v) q) m vs
-          (EachVertex-map (λ v. Same (vertex_height v) q) (λ v. fraction_lt (vertex_height v) q ≡ false) (take m vs) (λ v e. at_not_below q (vertex_height v) e) l.vertices)
+          (each-map (λ v. Same (vertex_height v) q) (λ v. fraction_lt (vertex_height v) q ≡ false) (take m vs) (λ v e. at_not_below q (vertex_height v) e) l.vertices)
           l.vertices_below)
           (AreVertices-chosen pieces (λ v. in_column z v && below (vertex_height v)) (λ v. fraction_lt (vertex_height v) q) vs r.vertices))
           (λ v. covered (in_column z v) (below (vertex_height v)) (fraction_lt (vertex_height v) q) (λ t e. c (vertex_height v) (record { positive = lit< tt }) (lt_not_above q (vertex_height v) e)));
@@ -148,7 +149,7 @@ third d a b c e h = (h.0 ∙ ap (λ t. a || t) (sym e), ap (λ t. a && t) e ∙ 
 
 -- what was on the gap above and what enters is what is on the level
 enters_level : (pieces : List Piece) (z q : Fraction) (edges : List Active) (vertices : List Vertex) (gap : Piece → Bool) → IsFraction z → IsFraction q →
-    SameNumbers (pieces_of edges) (numbers_from 0 (comes_at z q) pieces) → AreVertices pieces (at_level z q) vertices → EachPiece (λ p. gap p ≡ over z q p) pieces →
+    SameNumbers (pieces_of edges) (numbers_from 0 (comes_at z q) pieces) → AreVertices pieces (at_level z q) vertices → AllByRecursion (λ p. gap p ≡ over z q p) pieces →
     SameNumbers ((pieces_of edges ++ pieces_with enters vertices) ++ numbers_from 0 gap pieces) (numbers_from 0 (is_on (point_at z q)) pieces)
 enters_level pieces z q edges vertices gap i j h k g =
     SameNumbers-either (pieces_of edges ++ pieces_with enters vertices) (numbers_from 0 gap pieces) (is_on (point_at z q)) (λ p. comes_at z q p || enters_at z q p) gap pieces
@@ -156,11 +157,11 @@ enters_level pieces z q edges vertices gap i j h k g =
     (SameNumbers-vertices pieces (at_level z q) enters (enters_at z q) vertices k (one_enters z q))
     (every_piece _ pieces (λ p. (on_from z q p i j).1)))
     (SameNumbers-refl (numbers_from 0 gap pieces))
-    (EachPiece-map (λ p. gap p ≡ over z q p) _ pieces (λ p e. third (is_on (point_at z q) p) (comes_at z q p || enters_at z q p) (over z q p) (gap p) e (on_from z q p i j).0) g)
+    (each-map (λ p. gap p ≡ over z q p) _ pieces (λ p e. third (is_on (point_at z q) p) (comes_at z q p || enters_at z q p) (over z q p) (gap p) e (on_from z q p i j).0) g)
 
 -- what is on the gap below and what leaves is what is on the level
 leaves_level : (pieces : List Piece) (z q : Fraction) (edges : List Active) (vertices : List Vertex) (gap : Piece → Bool) → IsFraction z → IsFraction q →
-    SameNumbers (pieces_of edges) (numbers_from 0 (comes_at z q) pieces) → AreVertices pieces (at_level z q) vertices → EachPiece (λ p. gap p ≡ under z q p) pieces →
+    SameNumbers (pieces_of edges) (numbers_from 0 (comes_at z q) pieces) → AreVertices pieces (at_level z q) vertices → AllByRecursion (λ p. gap p ≡ under z q p) pieces →
     SameNumbers ((pieces_of edges ++ pieces_with leaves vertices) ++ numbers_from 0 gap pieces) (numbers_from 0 (is_on (point_at z q)) pieces)
 leaves_level pieces z q edges vertices gap i j h k g =
     SameNumbers-either (pieces_of edges ++ pieces_with leaves vertices) (numbers_from 0 gap pieces) (is_on (point_at z q)) (λ p. comes_at z q p || leaves_at z q p) gap pieces
@@ -168,7 +169,7 @@ leaves_level pieces z q edges vertices gap i j h k g =
     (SameNumbers-vertices pieces (at_level z q) leaves (leaves_at z q) vertices k (one_leaves z q))
     (every_piece _ pieces (λ p. (on_until z q p i j).1)))
     (SameNumbers-refl (numbers_from 0 gap pieces))
-    (EachPiece-map (λ p. gap p ≡ under z q p) _ pieces (λ p e. third (is_on (point_at z q) p) (comes_at z q p || leaves_at z q p) (under z q p) (gap p) e (on_until z q p i j).0) g)
+    (each-map (λ p. gap p ≡ under z q p) _ pieces (λ p e. third (is_on (point_at z q) p) (comes_at z q p || leaves_at z q p) (under z q p) (gap p) e (on_until z q p i j).0) g)
 
 -- ---- what goes on from a level
 -- the edges that go past are chosen
@@ -188,10 +189,10 @@ starts-pieces pieces (v ∷ vs) starts h = by_test (begins v.role) starts h (sta
     by_test false fs k rest = rest fs k
 
 -- each vertex of a level is in the column
-each_at_level : (pieces : List Piece) (z q : Fraction) (vs : List Vertex) → AreVertices pieces (at_level z q) vs → EachVertex (λ v. at_level z q v ≡ true) vs
+each_at_level : (pieces : List Piece) (z q : Fraction) (vs : List Vertex) → AreVertices pieces (at_level z q) vs → AllByRecursion (λ v. at_level z q v ≡ true) vs
 each_at_level pieces z q vs h = vertices_each pieces (at_level z q) (at_level z q) vs h (all_so (all_vertices 0 pieces))
   where
-    all_so : (us : List Vertex) → EachVertex (λ v. at_level z q v ≡ true → at_level z q v ≡ true) us
+    all_so : (us : List Vertex) → AllByRecursion (λ v. at_level z q v ≡ true → at_level z q v ≡ true) us
     all_so [] = tt
     all_so (u ∷ us) = (λ t. t, all_so us)
 
@@ -206,32 +207,27 @@ past_vertex z v (Some (Edge p q)) a i h e =
 past_vertex z v (Some (Dot p)) a i h e = absurd e
 
 -- where no edge ends at the height, each one that comes there goes past
-none_ends : (pieces : List Piece) (z q : Fraction) (edges : List Active) → IsFraction z → EachActive (IsEntry pieces) edges →
-    SameNumbers (pieces_of edges) (numbers_from 0 (comes_at z q) pieces) → EachPiece (λ p. ends_at z q p ≡ false) pieces →
-    EachActive (λ a. passes_at (λ p. not (goes_past_at z p)) (piece_at pieces a.piece) ≡ false) edges
+none_ends : (pieces : List Piece) (z q : Fraction) (edges : List Active) → IsFraction z → AllByRecursion (IsEntry pieces) edges →
+    SameNumbers (pieces_of edges) (numbers_from 0 (comes_at z q) pieces) → AllByRecursion (λ p. ends_at z q p ≡ false) pieces →
+    AllByRecursion (λ a. passes_at (λ p. not (goes_past_at z p)) (piece_at pieces a.piece) ≡ false) edges
 none_ends pieces z q edges i e h n =
     SameNumbers-chosen_none pieces (comes_at z q) (λ p. not (goes_past_at z p)) (λ a. passes_at (λ p. not (goes_past_at z p)) (piece_at pieces a.piece)) edges h (all_refl edges)
-    (EachPiece-map (λ p. ends_at z q p ≡ false) (λ p. (comes_at z q p && not (goes_past_at z p)) ≡ false) pieces (λ p f. told (comes_at z q p) (goes_past_at z p) (λ t. past_from z q p i t f)) n)
+    (each-map (λ p. ends_at z q p ≡ false) (λ p. (comes_at z q p && not (goes_past_at z p)) ≡ false) pieces (λ p f. told (comes_at z q p) (goes_past_at z p) (λ t. past_from z q p i t f)) n)
   where
     told : (b c : Bool) → (b ≡ true → c ≡ true) → (b && not c) ≡ false
     told true c f = ap not (f refl)
     told false c f = refl
 
-    all_refl : (fs : List Active) → EachActive (λ a. passes_at (λ p. not (goes_past_at z p)) (piece_at pieces a.piece) ≡ passes_at (λ p. not (goes_past_at z p)) (piece_at pieces a.piece)) fs
+    all_refl : (fs : List Active) → AllByRecursion (λ a. passes_at (λ p. not (goes_past_at z p)) (piece_at pieces a.piece) ≡ passes_at (λ p. not (goes_past_at z p)) (piece_at pieces a.piece)) fs
     all_refl [] = tt
     all_refl (a ∷ fs) = (refl, all_refl fs)
 
--- a property from two others
-pub EachActive-both : (P Q R : Active → Type 0) (es : List Active) → ((a : Active) → P a → Q a → R a) → EachActive P es → EachActive Q es → EachActive R es
-EachActive-both P Q R [] f h k = tt
-EachActive-both P Q R (a ∷ es) f h k = (f a h.0 k.0, EachActive-both P Q R es f h.1 k.1)
-
 -- whether an edge of the level goes past is a matter of its piece
-pub past_level : (pieces : List Piece) (z q : Fraction) (edges : List Active) (vertices : List Vertex) → IsFraction z → EachActive (IsEntry pieces) edges →
+pub past_level : (pieces : List Piece) (z q : Fraction) (edges : List Active) (vertices : List Vertex) → IsFraction z → AllByRecursion (IsEntry pieces) edges →
     SameNumbers (pieces_of edges) (numbers_from 0 (comes_at z q) pieces) → AreVertices pieces (at_level z q) vertices →
-    EachActive (λ a. goes_past vertices a ≡ passes_at (goes_past_at z) (piece_at pieces a.piece)) edges
+    AllByRecursion (λ a. goes_past vertices a ≡ passes_at (goes_past_at z) (piece_at pieces a.piece)) edges
 past_level pieces z q edges [] i e h k =
-    EachActive-both (IsEntry pieces) (λ a. passes_at (λ p. not (goes_past_at z p)) (piece_at pieces a.piece) ≡ false) (λ a. true ≡ passes_at (goes_past_at z) (piece_at pieces a.piece)) edges
+    each-both (IsEntry pieces) (λ a. passes_at (λ p. not (goes_past_at z p)) (piece_at pieces a.piece) ≡ false) (λ a. true ≡ passes_at (goes_past_at z) (piece_at pieces a.piece)) edges
     (λ a n f. passed (piece_at pieces a.piece) a n f) e
     (none_ends pieces z q edges i e h (SameNumbers-none (ends_at z q) pieces (SameNumbers-vertices pieces (at_level z q) ends (ends_at z q) [] k (one_ends z q))))
   where
@@ -244,7 +240,7 @@ past_level pieces z q edges [] i e h k =
     passed (Some p) a n f = back (goes_past_at z p) f
 past_level pieces z q edges (v ∷ vs) i e h k =
     let here = and_parts (in_column z v) (fraction_eq (vertex_height v) q) (each_at_level pieces z q (v ∷ vs) k).0 in
-    EachActive-map (IsEntry pieces) (λ a. int_lt v.at.x a.edge.right.x ≡ passes_at (goes_past_at z) (piece_at pieces a.piece)) edges
+    each-map (IsEntry pieces) (λ a. int_lt v.at.x a.edge.right.x ≡ passes_at (goes_past_at z) (piece_at pieces a.piece)) edges
     (λ a n. past_vertex z v (piece_at pieces a.piece) a i here.0 n) e
 
 -- a permuted list has the same numbers
@@ -258,7 +254,7 @@ pieces_of-permuted es fs h = λ w. sum-pieces_of w fs ∙ sum_by-IsPermutation (
 
 -- the edges that go on from a level are just those of the pieces that go on from its height
 pub onward_level : (pieces : List Piece) (z q : Fraction) (edges : List Active) (vertices : List Vertex) (onward : List Active) → IsFraction z →
-    EachActive (IsEntry pieces) edges → SameNumbers (pieces_of edges) (numbers_from 0 (comes_at z q) pieces) → AreVertices pieces (at_level z q) vertices →
+    AllByRecursion (IsEntry pieces) edges → SameNumbers (pieces_of edges) (numbers_from 0 (comes_at z q) pieces) → AreVertices pieces (at_level z q) vertices →
     IsOnward pieces edges vertices onward → SameNumbers (pieces_of onward) (numbers_from 0 (goes_on_from z q) pieces)
 onward_level pieces z q edges vertices onward i e h k o =
     let going = going_past vertices edges in
@@ -324,7 +320,7 @@ IsKnown q qs h = IsFraction h × ((fraction_le q h ≡ true) ⊎ Among qs h)
 
 -- all heights of a piece are
 abbrev pub Known : Fraction → Fraction → List Fraction → Piece → Type 0
-Known z q qs p = Each (IsKnown q qs) (heights_of z p)
+Known z q qs p = AllByRecursion (IsKnown q qs) (heights_of z p)
 
 -- a number is at most itself, however it is written
 same_weakly : (q h : Fraction) → Same h q → fraction_le q h ≡ true
@@ -359,12 +355,12 @@ known_last : (q h : Fraction) → IsKnown q [] h → fraction_le q h ≡ true
 known_last q h k = elim k.1 [ inl high ↦ high | inr later ↦ absurd later ]
 
 -- below the lowest height there is nothing
-none_below : (pieces : List Piece) (z q : Fraction) → IsFraction z → IsFraction q → EachPiece (Known z q []) pieces →
-    EachPiece (λ p. is_on (point_at z (one_less q)) p ≡ under z q p) pieces × EachPiece (λ p. is_on (point_at z (one_less q)) p ≡ false) pieces
+none_below : (pieces : List Piece) (z q : Fraction) → IsFraction z → IsFraction q → AllByRecursion (Known z q []) pieces →
+    AllByRecursion (λ p. is_on (point_at z (one_less q)) p ≡ under z q p) pieces × AllByRecursion (λ p. is_on (point_at z (one_less q)) p ≡ false) pieces
 none_below pieces z q i j k = (
-  EachPiece-map (Known z q []) (λ p. is_on (point_at z (one_less q)) p ≡ under z q p) pieces (λ p h. gap_is p h) k,
-  EachPiece-map (Known z q []) (λ p. is_on (point_at z (one_less q)) p ≡ false) pieces
-      (λ p h. gap_is p h ∙ none_under z q p (Each-map (IsKnown q []) (λ h. fraction_lt h q ≡ false) (heights_of z p) (λ h l. not_lt q h (known_last q h l)) h)) k,
+  each-map (Known z q []) (λ p. is_on (point_at z (one_less q)) p ≡ under z q p) pieces (λ p h. gap_is p h) k,
+  each-map (Known z q []) (λ p. is_on (point_at z (one_less q)) p ≡ false) pieces
+      (λ p h. gap_is p h ∙ none_under z q p (each-map (IsKnown q []) (λ h. fraction_lt h q ≡ false) (heights_of z p) (λ h l. not_lt q h (known_last q h l)) h)) k,
 )
   where
     gap : IsGap q (one_less (one_less q)) (one_less q)
@@ -380,12 +376,12 @@ none_below pieces z q i j k = (
     gap_is : (p : Piece) → Known z q [] p → is_on (point_at z (one_less q)) p ≡ under z q p
     gap_is p h =
         on_gap-under z q (one_less (one_less q)) (one_less q) p i gap
-        (Each-map (IsKnown q []) (Parted q (one_less (one_less q))) (heights_of z p) (λ h l. inl (known_last q h l)) h)
+        (each-map (IsKnown q []) (Parted q (one_less (one_less q))) (heights_of z p) (λ h l. inl (known_last q h l)) h)
 
 -- ---- the stops of a column fit its levels
 fits_from : (pieces : List Piece) (z q : Fraction) (qs : List Fraction) (es : List Active) (vs : List Vertex) (os : List Active) (ls : List Level) (gap above : Piece → Bool) (below : Fraction → Bool) →
     IsFraction z → IsFraction q → Numbers qs → FollowFrom (λ a b. fraction_lt b a) q qs → IsRest pieces z below es vs → Covers below q → Leveled z es vs ls (q ∷ qs) → AreOnward pieces es vs os ls →
-    EachPiece (λ p. gap p ≡ over z q p) pieces → IsHigher z q above → EachPiece (Known z q qs) pieces → Fits pieces gap above (stops es vs os ls) (levels_from z q qs)
+    AllByRecursion (λ p. gap p ≡ over z q p) pieces → IsHigher z q above → AllByRecursion (Known z q qs) pieces → Fits pieces gap above (stops es vs os ls) (levels_from z q qs)
 fits_from pieces z q qs es vs os [] gap above below i j n f r c h o g a k = absurd h
 fits_from pieces z q [] es vs os (l ∷ []) gap above below i j n f r c h o g a k =
     let edges = edges_here pieces z q below es vs l.edges l.vertices i r c h.0 in
@@ -413,13 +409,13 @@ fits_from pieces z q (t ∷ ts) es vs os (l ∷ ls) gap above below i j n f r c 
       below = middle-below q t j n.0 f.0;
       above = middle-above q t j n.0 f.0;
     } in
-    let parted : EachPiece (λ p. Each (Parted q t) (heights_of z p)) pieces =
-    EachPiece-map (Known z q (t ∷ ts)) (λ p. Each (Parted q t) (heights_of z p)) pieces
-    (λ p. Each-map (IsKnown q (t ∷ ts)) (Parted q t) (heights_of z p) (λ b. known_parted q t ts b n.0 n.1 f.1)) k in (
+    let parted : AllByRecursion (λ p. AllByRecursion (Parted q t) (heights_of z p)) pieces =
+    each-map (Known z q (t ∷ ts)) (λ p. AllByRecursion (Parted q t) (heights_of z p)) pieces
+    (λ p. each-map (IsKnown q (t ∷ ts)) (Parted q t) (heights_of z p) (λ b. known_parted q t ts b n.0 n.1 f.1)) k in (
       enters_level pieces z q (take l.edges es) (take l.vertices vs) gap i j edges vertices g,
       (
         leaves_level pieces z q (take l.edges es) (take l.vertices vs) (is_on (point_at z (middle q t))) i j edges vertices
-            (EachPiece-map (λ p. Each (Parted q t) (heights_of z p)) (λ p. is_on (point_at z (middle q t)) p ≡ under z q p) pieces (λ p. on_gap-under z q t (middle q t) p i place) parted),
+            (each-map (λ p. AllByRecursion (Parted q t) (heights_of z p)) (λ p. is_on (point_at z (middle q t)) p ≡ under z q p) pieces (λ p. on_gap-under z q t (middle q t) p i place) parted),
         (
           above_grows pieces z q above (take l.onward os) a
               (onward_level pieces z q (take l.edges es) (take l.vertices vs) (take l.onward os) i (take-each_active (IsEntry pieces) l.edges es r.entries) edges vertices o.0),
@@ -427,27 +423,27 @@ fits_from pieces z q (t ∷ ts) es vs os (l ∷ ls) gap above below i j n f r c 
               (rest_below pieces z q below es vs l.edges l.vertices i r c h.0)
               (λ b w e. le_before_lt b t q w n.0 j (not_above_weakly t b e) f.0)
               h.1 o.1
-              (EachPiece-map (λ p. Each (Parted q t) (heights_of z p)) (λ p. is_on (point_at z (middle q t)) p ≡ over z t p) pieces (λ p. on_gap-over z q t (middle q t) p i place) parted)
+              (each-map (λ p. AllByRecursion (Parted q t) (heights_of z p)) (λ p. is_on (point_at z (middle q t)) p ≡ over z t p) pieces (λ p. on_gap-over z q t (middle q t) p i place) parted)
               (higher_next z q t above i j n.0 f.0 a)
-              (EachPiece-map (Known z q (t ∷ ts)) (Known z t ts) pieces (λ p. Each-map (IsKnown q (t ∷ ts)) (IsKnown t ts) (heights_of z p) (λ b. known_next q t ts b j n.0 f.0)) k),
+              (each-map (Known z q (t ∷ ts)) (Known z t ts) pieces (λ p. each-map (IsKnown q (t ∷ ts)) (IsKnown t ts) (heights_of z p) (λ b. known_next q t ts b j n.0 f.0)) k),
         ),
       ),
     )
 
 -- ---- the heights of all pieces are among the column's
-pub all_listed : (z : Fraction) (qs : List Fraction) (ps : List Piece) → IsFraction z → Each (Among qs) (heights_in ps z) → EachPiece (λ p. Each (λ h. IsFraction h × Among qs h) (heights_of z p)) ps
+pub all_listed : (z : Fraction) (qs : List Fraction) (ps : List Piece) → IsFraction z → AllByRecursion (Among qs) (heights_in ps z) → AllByRecursion (λ p. AllByRecursion (λ h. IsFraction h × Among qs h) (heights_of z p)) ps
 all_listed z qs [] i h = tt
 all_listed z qs (p ∷ ps) i h =
-    let parts = Each-parts (Among qs) (heights_of z p) (heights_in ps z) h in
+    let parts = each-parts (Among qs) (heights_of z p) (heights_in ps z) h in
     (paired (heights_of z p) (heights_of-numbers z p i) parts.0, all_listed z qs ps i parts.1)
   where
-    paired : (hs : List Fraction) → Numbers hs → Each (Among qs) hs → Each (λ h. IsFraction h × Among qs h) hs
+    paired : (hs : List Fraction) → Numbers hs → AllByRecursion (Among qs) hs → AllByRecursion (λ h. IsFraction h × Among qs h) hs
     paired [] n a = tt
     paired (h ∷ hs) n a = ((n.0, a.0), paired hs n.1 a.1)
 
 -- above the highest height there is nothing
 none_above : (z q : Fraction) (qs : List Fraction) (p : Piece) → IsFraction z → IsFraction q → Numbers qs → FollowFrom (λ a b. fraction_lt b a) q qs →
-    Each (λ h. IsFraction h × Among (q ∷ qs) h) (heights_of z p) → (is_on (point_at z (one_more q)) p ≡ over z q p) × (over z q p ≡ false)
+    AllByRecursion (λ h. IsFraction h × Among (q ∷ qs) h) (heights_of z p) → (is_on (point_at z (one_more q)) p ≡ over z q p) × (over z q p ≡ false)
 none_above z q qs p i j n f h = (
   on_gap-over z (one_more (one_more q)) q (one_more q) p i
       (record {
@@ -457,8 +453,8 @@ none_above z q qs p i j n f h = (
         below = one_more-above (one_more q) (record { positive = j.positive });
         above = one_more-above q j;
       })
-      (Each-map (λ h. IsFraction h × Among (q ∷ qs) h) (Parted (one_more (one_more q)) q) (heights_of z p) (λ b k. inr (not_above_weakly q b (not_above q b qs j k.0 n f k.1))) h),
-  none_over z q p (Each-map (λ h. IsFraction h × Among (q ∷ qs) h) (λ b. fraction_lt q b ≡ false) (heights_of z p) (λ b k. not_above q b qs j k.0 n f k.1) h),
+      (each-map (λ h. IsFraction h × Among (q ∷ qs) h) (Parted (one_more (one_more q)) q) (heights_of z p) (λ b k. inr (not_above_weakly q b (not_above q b qs j k.0 n f k.1))) h),
+  none_over z q p (each-map (λ h. IsFraction h × Among (q ∷ qs) h) (λ b. fraction_lt q b ≡ false) (heights_of z p) (λ b k. not_above q b qs j k.0 n f k.1) h),
 )
 
 -- at the first height
@@ -467,7 +463,7 @@ known_first q qs h k = (k.0, elim k.1 [ inl here ↦ inl (same_weakly q h here) 
 
 -- ---- a column with heights
 -- at first all edges and vertices are left
-pub first_rest : (pieces : List Piece) (z : Fraction) (es : List Active) (vs : List Vertex) → EachActive (IsEntry pieces) es →
+pub first_rest : (pieces : List Piece) (z : Fraction) (es : List Active) (vs : List Vertex) → AllByRecursion (IsEntry pieces) es →
     SameNumbers (pieces_of es) (numbers_from 0 (comes_to z) pieces) → AreVertices pieces (in_column z) vs → IsRest pieces z (λ _. true) es vs
 first_rest pieces z es vs e h k =
     record {
@@ -487,13 +483,13 @@ pub column_fits : (pieces : List Piece) (z q : Fraction) (qs : List Fraction) (e
     Fits pieces (is_on (point_at z (one_more q))) (λ _. false) (stops es vs os ls) (levels_from z q qs)
 column_fits pieces z q qs es vs os ls i l r h o =
     fits_from pieces z q qs es vs os ls (is_on (point_at z (one_more q))) (λ _. false) (λ _. true) i l.numbers.0 l.numbers.1 l.in_order r (λ b w e. refl) h o
-    (EachPiece-map (λ p. Each (λ h. IsFraction h × Among (q ∷ qs) h) (heights_of z p)) (λ p. is_on (point_at z (one_more q)) p ≡ over z q p) pieces
+    (each-map (λ p. AllByRecursion (λ h. IsFraction h × Among (q ∷ qs) h) (heights_of z p)) (λ p. is_on (point_at z (one_more q)) p ≡ over z q p) pieces
     (λ p k. (none_above z q qs p i l.numbers.0 l.numbers.1 l.in_order k).0) known)
     (λ p t. absurd (both_ways false refl t))
-    (EachPiece-map (λ p. Each (λ h. IsFraction h × Among (q ∷ qs) h) (heights_of z p)) (Known z q qs) pieces
-    (λ p. Each-map (λ h. IsFraction h × Among (q ∷ qs) h) (IsKnown q qs) (heights_of z p) (λ b. known_first q qs b)) known)
+    (each-map (λ p. AllByRecursion (λ h. IsFraction h × Among (q ∷ qs) h) (heights_of z p)) (Known z q qs) pieces
+    (λ p. each-map (λ h. IsFraction h × Among (q ∷ qs) h) (IsKnown q qs) (heights_of z p) (λ b. known_first q qs b)) known)
   where
-    known : EachPiece (λ p. Each (λ h. IsFraction h × Among (q ∷ qs) h) (heights_of z p)) pieces
+    known : AllByRecursion (λ p. AllByRecursion (λ h. IsFraction h × Among (q ∷ qs) h) (heights_of z p)) pieces
     known = all_listed z (q ∷ qs) pieces i l.has_all
 
 column_from : (pieces : List Piece) (z q : Fraction) (qs : List Fraction) (es : List Active) (vs : List Vertex) (os : List Active) (ls : List Level) → IsFraction z →
@@ -520,13 +516,13 @@ column_from pieces z q qs es vs os ls i l r h o =
     nothing : Piece → Bool
     nothing = λ _. false
 
-    known : EachPiece (λ p. Each (λ h. IsFraction h × Among (q ∷ qs) h) (heights_of z p)) pieces
+    known : AllByRecursion (λ p. AllByRecursion (λ h. IsFraction h × Among (q ∷ qs) h) (heights_of z p)) pieces
     known = all_listed z (q ∷ qs) pieces i l.has_all
 
     gap_none : numbers_from 0 gap pieces ≡ []
     gap_none =
         numbers_from-none 0 gap pieces
-        (EachPiece-map (λ p. Each (λ h. IsFraction h × Among (q ∷ qs) h) (heights_of z p)) (λ p. gap p ≡ false) pieces
+        (each-map (λ p. AllByRecursion (λ h. IsFraction h × Among (q ∷ qs) h) (heights_of z p)) (λ p. gap p ≡ false) pieces
         (λ p k. let n = none_above z q qs p i l.numbers.0 l.numbers.1 l.in_order k in n.0 ∙ n.1) known)
 
     above_none : numbers_from 0 nothing pieces ≡ []
@@ -537,7 +533,7 @@ column_from pieces z q qs es vs os ls i l r h o =
 
 -- ---- a column without heights
 -- nothing is on its one place, and nothing above it
-none_on : (z : Fraction) (p : Piece) → IsFraction z → Each (λ h. IsFraction h × Among [] h) (heights_of z p) → is_on (point_at z (whole (pos 0))) p ≡ false
+none_on : (z : Fraction) (p : Piece) → IsFraction z → AllByRecursion (λ h. IsFraction h × Among [] h) (heights_of z p) → is_on (point_at z (whole (pos 0))) p ≡ false
 none_on z p i h =
     on_gap-under z (one_more w) (one_less w) w p i
     (record {
@@ -547,14 +543,14 @@ none_on z p i h =
       below = one_more-above w (record { positive = lit< tt });
       above = one_less-below w (record { positive = lit< tt });
     })
-    (Each-map (λ h. IsFraction h × Among [] h) (Parted (one_more w) (one_less w)) (heights_of z p) (λ b k. absurd k.1) h)
-    ∙ none_under z (one_more w) p (Each-map (λ h. IsFraction h × Among [] h) (λ b. fraction_lt b (one_more w) ≡ false) (heights_of z p) (λ b k. absurd k.1) h)
+    (each-map (λ h. IsFraction h × Among [] h) (Parted (one_more w) (one_less w)) (heights_of z p) (λ b k. absurd k.1) h)
+    ∙ none_under z (one_more w) p (each-map (λ h. IsFraction h × Among [] h) (λ b. fraction_lt b (one_more w) ≡ false) (heights_of z p) (λ b k. absurd k.1) h)
   where
     w : Fraction
     w = whole (pos 0)
 
 -- no edge is above that place
-none_overhead : (z : Fraction) (p : Piece) → IsFraction z → Each (λ h. IsFraction h × Among [] h) (heights_of z p) → is_above (point_at z (whole (pos 0))) p ≡ false
+none_overhead : (z : Fraction) (p : Piece) → IsFraction z → AllByRecursion (λ h. IsFraction h × Among [] h) (heights_of z p) → is_above (point_at z (whole (pos 0))) p ≡ false
 none_overhead z p i h =
     is_above-height z (whole (pos 0)) p (record { positive = lit< tt })
     ∙ elim (cases_Bool (passes z p)) [
@@ -577,14 +573,14 @@ column_bare pieces z es vs os [] i l h =
       balanced = λ groups. refl;
     }
   where
-    known : EachPiece (λ p. Each (λ h. IsFraction h × Among [] h) (heights_of z p)) pieces
+    known : AllByRecursion (λ p. AllByRecursion (λ h. IsFraction h × Among [] h) (heights_of z p)) pieces
     known = all_listed z [] pieces i l.has_all
 
     on_none : numbers_from 0 (is_on (point_at z (whole (pos 0)))) pieces ≡ []
-    on_none = numbers_from-none 0 _ pieces (EachPiece-map (λ p. Each (λ h. IsFraction h × Among [] h) (heights_of z p)) _ pieces (λ p. none_on z p i) known)
+    on_none = numbers_from-none 0 _ pieces (each-map (λ p. AllByRecursion (λ h. IsFraction h × Among [] h) (heights_of z p)) _ pieces (λ p. none_on z p i) known)
 
     above_none : numbers_from 0 (is_above (point_at z (whole (pos 0)))) pieces ≡ []
-    above_none = numbers_from-none 0 _ pieces (EachPiece-map (λ p. Each (λ h. IsFraction h × Among [] h) (heights_of z p)) _ pieces (λ p. none_overhead z p i) known)
+    above_none = numbers_from-none 0 _ pieces (each-map (λ p. AllByRecursion (λ h. IsFraction h × Among [] h) (heights_of z p)) _ pieces (λ p. none_overhead z p i) known)
 
 -- ---- what is handed out for a column are the items of its cells
 -- of any column

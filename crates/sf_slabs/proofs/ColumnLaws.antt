@@ -1,6 +1,6 @@
 -- The cells column by column, from any lists of the events and of each column's heights.
 use Rattle.std.proofs.Common.{◌≡◌, refl, ap, sym, ◌∙◌, Bool, List, [], ◌∷◌, ◌++◌, map, inl, inr}
-use Rattle.std.specs.List.{flat_map}
+use Rattle.std.specs.List.{AllByRecursion, flat_map}
 use Rattle.std.proofs.lemmas.List.{map-append}
 use Rattle.sf_grid.specs.Fraction.{Fraction, IsFraction, fraction_lt, one_less, one_more}
 use Rattle.sf_grid.proofs.PointLaws.{Same}
@@ -13,7 +13,8 @@ use Rattle.sf_slabs.proofs.CellLaws.{SameMark, map-Pairs, sample_at-same}
 use Rattle.sf_slabs.proofs.HeightsLaws.{heights_in, heights_in-numbers, heights_in-same}
 use Rattle.sf_slabs.proofs.MarkLaws.{marks-same, one_less-step, one_more-step}
 use Rattle.sf_slabs.proofs.NumberLaws.{Among, IsListing, Numbers, Pairs, Same-trans, falling_order, sorted_by-listing}
-use Rattle.sf_slabs.proofs.SampleLaws.{Each, Each-sorted_by}
+use Rattle.sf_slabs.proofs.SampleLaws.{Each-sorted_by}
+use Rattle.sf_slabs.proofs.EachLaws.{each-map}
 
 -- ---- maps of maps
 pub map-map : {A B C : Type 0} (f : B → C) (g : A → B) (xs : List A) → map f (map g xs) ≡ map (λ x. f (g x)) xs
@@ -69,10 +70,6 @@ Among-pairs p (q ∷ qs) [] n h a = absurd h
 Among-pairs p (q ∷ qs) (r ∷ rs) n h a =
     elim a [ inl here ↦ inl (Same-trans p q r n.0 here h.0) | inr later ↦ inr (Among-pairs p qs rs n.1 h.1 later) ]
 
-Each-widen : (P Q : Fraction → Type 0) (qs : List Fraction) → ((q : Fraction) → P q → Q q) → Each P qs → Each Q qs
-Each-widen P Q [] f h = tt
-Each-widen P Q (q ∷ qs) f h = (f q h.0, Each-widen P Q qs f h.1)
-
 -- a listing of numbers is one of the same numbers written otherwise
 pub IsListing-same : (before : Fraction → Fraction → Bool) (qs rs ts : List Fraction) → Numbers qs → Numbers rs → Pairs Same qs rs →
     IsListing before qs ts → IsListing before rs ts
@@ -81,10 +78,10 @@ IsListing-same before qs rs ts n m h l =
       numbers = l.numbers;
       in_order = l.in_order;
       has_all = all_of qs rs h n l.has_all;
-      has_no_other = Each-widen (Among qs) (Among rs) ts (λ p a. Among-pairs p qs rs n h a) l.has_no_other;
+      has_no_other = each-map (Among qs) (Among rs) ts (λ p a. Among-pairs p qs rs n h a) l.has_no_other;
     }
   where
-    all_of : (qs rs : List Fraction) → Pairs Same qs rs → Numbers qs → Each (Among ts) qs → Each (Among ts) rs
+    all_of : (qs rs : List Fraction) → Pairs Same qs rs → Numbers qs → AllByRecursion (Among ts) qs → AllByRecursion (Among ts) rs
     all_of [] [] h n k = tt
     all_of [] (r ∷ rs) h n k = absurd h
     all_of (q ∷ qs) [] h n k = absurd h

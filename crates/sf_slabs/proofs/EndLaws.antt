@@ -1,7 +1,7 @@
 -- Where pieces begin and end: their ends, their vertices, and the numbers of those that pass a test.
 use Rattle.std.proofs.Common.{◌≡◌, refl, ap, sym, ◌∙◌, subst, ℕ, zero, suc, ◌+◌, ◌<◌, ℤ, pos, ◌*ℤ◌, arith, Bool, true, false, cond, ◌&&◌, ◌==◌, List, [], ◌∷◌, ◌++◌, Some, None, ◌⊎◌, inl, inr}
 use Rattle.std.specs.Prelude.{if◌then◌else◌, int_le, int_lt}
-use Rattle.std.specs.List.{flat_map, sum_by}
+use Rattle.std.specs.List.{AllByRecursion, flat_map, sum_by}
 use Rattle.std.proofs.lemmas.Bool.{and_from, and_parts, cases_Bool, eq-eqb, eqb-true}
 use Rattle.std.proofs.lemmas.Int.{ints}
 use Rattle.std.proofs.lemmas.List.Sums.{sum_by-cons}
@@ -15,49 +15,39 @@ use Rattle.sf_columns.specs.declared.active.Active.{Active}
 use Rattle.sf_columns.specs.declared.vertex.Vertex.{Vertex}
 use Rattle.sf_columns.specs.declared.vertex.Role.TheVariants.{Begin, Bottom, End, Top}
 use Rattle.sf_cells.specs.Cells.{numbers_from}
-use Rattle.sf_columns.specs.Fronts.{EachActive, IsEntry, IsEntryIn, IsRun, SameNumbers, pieces_of}
+use Rattle.sf_columns.specs.Fronts.{IsEntry, IsEntryIn, IsRun, SameNumbers, pieces_of}
 use Rattle.sf_cells.specs.Pieces.{ends_of}
 use Rattle.sf_columns.specs.Vertices.{all_vertices, lower_end, piece_at, upper_end, vertex, vertices_of}
 use Rattle.sf_slabs.proofs.AboveLaws.{passes}
 use Rattle.sf_slabs.proofs.CellLaws.{AgreeOn, numbers_from-agree}
 use Rattle.sf_slabs.proofs.FollowLaws.{Runs, le_le-places, le_lt-places, lt_le-places, not_le-lt}
-use Rattle.sf_slabs.proofs.HeightsLaws.{Each-append}
 use Rattle.sf_slabs.proofs.NumberLaws.{rising_order}
-use Rattle.sf_slabs.proofs.SampleLaws.{Each}
-use Rattle.sf_slabs.proofs.Shapes.{AreVertices, EachVertex, comes_to, in_column}
+use Rattle.sf_slabs.proofs.Shapes.{AreVertices, comes_to, in_column}
 use Rattle.sf_slabs.proofs.EventLaws.{Some_in}
+use Rattle.sf_slabs.proofs.EachLaws.{each-append, each-map, each-parts}
 
 -- ---- pieces and their ends
--- every piece of the list has a property
-abbrev pub EachPiece : (Piece → Type 0) → List Piece → Type 0
-EachPiece P [] = Unit {0}
-EachPiece P (p ∷ ps) = P p × EachPiece P ps
-
 -- an end right of x is at y or further right
 abbrev pub Later : Fraction → Fraction → Fraction → Type 0
 Later x y q = fraction_lt x q ≡ true → fraction_le y q ≡ true
 
 -- nothing of the pieces begins or ends strictly between x and y
 abbrev pub NoEndBetween : List Piece → Fraction → Fraction → Type 0
-NoEndBetween pieces x y = EachPiece (λ p. Each (Later x y) (ends_of p)) pieces
+NoEndBetween pieces x y = AllByRecursion (λ p. AllByRecursion (Later x y) (ends_of p)) pieces
 
-pub EachPiece-map : (P Q : Piece → Type 0) (ps : List Piece) → ((p : Piece) → P p → Q p) → EachPiece P ps → EachPiece Q ps
-EachPiece-map P Q [] f h = tt
-EachPiece-map P Q (p ∷ ps) f h = (f p h.0, EachPiece-map P Q ps f h.1)
-
-pub Each-ends : (P : Fraction → Type 0) (ps : List Piece) → EachPiece (λ p. Each P (ends_of p)) ps → Each P (flat_map ends_of ps)
+pub Each-ends : (P : Fraction → Type 0) (ps : List Piece) → AllByRecursion (λ p. AllByRecursion P (ends_of p)) ps → AllByRecursion P (flat_map ends_of ps)
 Each-ends P [] h = tt
-Each-ends P (p ∷ ps) h = Each-append P (ends_of p) (flat_map ends_of ps) h.0 (Each-ends P ps h.1)
+Each-ends P (p ∷ ps) h = each-append P (ends_of p) (flat_map ends_of ps) h.0 (Each-ends P ps h.1)
 
 -- what holds of both ends holds of the left one and of the right one
-pub Each-left : (P : Fraction → Type 0) (a b : Coordinates) → Each P (ends_of (Edge a b)) → P (whole (left_end (edge_between a b)).x)
+pub Each-left : (P : Fraction → Type 0) (a b : Coordinates) → AllByRecursion P (ends_of (Edge a b)) → P (whole (left_end (edge_between a b)).x)
 Each-left P a b h = by_test (int_lt b.x a.x)
   where
     by_test : (t : Bool) → P (whole (cond t b a).x)
     by_test true = h.1.0
     by_test false = h.0
 
-pub Each-right : (P : Fraction → Type 0) (a b : Coordinates) → Each P (ends_of (Edge a b)) → P (whole (right_end (edge_between a b)).x)
+pub Each-right : (P : Fraction → Type 0) (a b : Coordinates) → AllByRecursion P (ends_of (Edge a b)) → P (whole (right_end (edge_between a b)).x)
 Each-right P a b h = by_test (int_lt b.x a.x)
   where
     by_test : (t : Bool) → P (whole (cond t a b).x)
@@ -65,7 +55,7 @@ Each-right P a b h = by_test (int_lt b.x a.x)
     by_test false = h.1.0
 
 -- ---- the vertices of pieces are at their ends
-pub vertices_at-ends : (P : Fraction → Type 0) (i : ℕ) (p : Piece) → Each P (ends_of p) → EachVertex (λ v. P (whole v.at.x)) (vertices_of i p)
+pub vertices_at-ends : (P : Fraction → Type 0) (i : ℕ) (p : Piece) → AllByRecursion P (ends_of p) → AllByRecursion (λ v. P (whole v.at.x)) (vertices_of i p)
 vertices_at-ends P i (Dot a) h = (h.0, tt)
 vertices_at-ends P i (Edge a b) h = by_test (is_vertical (edge_between a b))
   where
@@ -77,14 +67,14 @@ vertices_at-ends P i (Edge a b) h = by_test (is_vertical (edge_between a b))
     lower true = h.0
     lower false = h.1.0
 
-    by_test : (t : Bool) → EachVertex (λ v. P (whole v.at.x))
+    by_test : (t : Bool) → AllByRecursion (λ v. P (whole v.at.x))
         (if t
         then vertex (upper_end (edge_between a b)) Top i ∷ vertex (lower_end (edge_between a b)) Bottom i ∷ []
         else vertex (left_end (edge_between a b)) Begin i ∷ vertex (right_end (edge_between a b)) End i ∷ [])
     by_test true = (upper (int_lt a.y b.y), (lower (int_lt a.y b.y), tt))
     by_test false = (Each-left P a b h, (Each-right P a b h, tt))
 
-ends_at-vertices : (P : Fraction → Type 0) (i : ℕ) (p : Piece) → EachVertex (λ v. P (whole v.at.x)) (vertices_of i p) → Each P (ends_of p)
+ends_at-vertices : (P : Fraction → Type 0) (i : ℕ) (p : Piece) → AllByRecursion (λ v. P (whole v.at.x)) (vertices_of i p) → AllByRecursion P (ends_of p)
 ends_at-vertices P i (Dot a) h = (h.0, tt)
 ends_at-vertices P i (Edge a b) h = by_test (is_vertical (edge_between a b)) h
   where
@@ -92,7 +82,7 @@ ends_at-vertices P i (Edge a b) h = by_test (is_vertical (edge_between a b)) h
     either true k l = (l, (k, tt))
     either false k l = (k, (l, tt))
 
-    by_test : (t : Bool) → EachVertex (λ v. P (whole v.at.x))
+    by_test : (t : Bool) → AllByRecursion (λ v. P (whole v.at.x))
         (if t
         then vertex (upper_end (edge_between a b)) Top i ∷ vertex (lower_end (edge_between a b)) Bottom i ∷ []
         else vertex (left_end (edge_between a b)) Begin i ∷ vertex (right_end (edge_between a b)) End i ∷ []) →
@@ -100,44 +90,32 @@ ends_at-vertices P i (Edge a b) h = by_test (is_vertical (edge_between a b)) h
     by_test true k = either (int_lt a.y b.y) k.0 k.1.0
     by_test false k = either (int_lt b.x a.x) k.0 k.1.0
 
-pub EachVertex-append : (P : Vertex → Type 0) (us vs : List Vertex) → EachVertex P us → EachVertex P vs → EachVertex P (us ++ vs)
-EachVertex-append P [] vs h k = k
-EachVertex-append P (u ∷ us) vs h k = (h.0, EachVertex-append P us vs h.1 k)
-
-EachVertex-parts : (P : Vertex → Type 0) (us vs : List Vertex) → EachVertex P (us ++ vs) → EachVertex P us × EachVertex P vs
-EachVertex-parts P [] vs h = (tt, h)
-EachVertex-parts P (u ∷ us) vs h = let rest = EachVertex-parts P us vs h.1 in ((h.0, rest.0), rest.1)
-
-pub all_vertices-ends : (P : Fraction → Type 0) (k : ℕ) (ps : List Piece) → EachPiece (λ p. Each P (ends_of p)) ps →
-    EachVertex (λ v. P (whole v.at.x)) (all_vertices k ps)
+pub all_vertices-ends : (P : Fraction → Type 0) (k : ℕ) (ps : List Piece) → AllByRecursion (λ p. AllByRecursion P (ends_of p)) ps →
+    AllByRecursion (λ v. P (whole v.at.x)) (all_vertices k ps)
 all_vertices-ends P k [] h = tt
 all_vertices-ends P k (p ∷ ps) h =
-    EachVertex-append (λ v. P (whole v.at.x)) (vertices_of k p) (all_vertices (k + 1) ps) (vertices_at-ends P k p h.0) (all_vertices-ends P (k + 1) ps h.1)
+    each-append (λ v. P (whole v.at.x)) (vertices_of k p) (all_vertices (k + 1) ps) (vertices_at-ends P k p h.0) (all_vertices-ends P (k + 1) ps h.1)
 
-pub ends-all_vertices : (P : Fraction → Type 0) (k : ℕ) (ps : List Piece) → EachVertex (λ v. P (whole v.at.x)) (all_vertices k ps) →
-    EachPiece (λ p. Each P (ends_of p)) ps
+pub ends-all_vertices : (P : Fraction → Type 0) (k : ℕ) (ps : List Piece) → AllByRecursion (λ v. P (whole v.at.x)) (all_vertices k ps) →
+    AllByRecursion (λ p. AllByRecursion P (ends_of p)) ps
 ends-all_vertices P k [] h = tt
 ends-all_vertices P k (p ∷ ps) h =
-    let parts = EachVertex-parts (λ v. P (whole v.at.x)) (vertices_of k p) (all_vertices (k + 1) ps) h in
+    let parts = each-parts (λ v. P (whole v.at.x)) (vertices_of k p) (all_vertices (k + 1) ps) h in
     (ends_at-vertices P k p parts.0, ends-all_vertices P (k + 1) ps parts.1)
 
 -- ---- sums of weights of vertices
 no_sum : (m n : ℕ) → m + n ≡ 0 → (m ≡ 0) × (n ≡ 0)
 no_sum m n h = (omega arith, omega arith)
 
-sum_zero : (weight : Vertex → ℕ) (vs : List Vertex) → EachVertex (λ v. weight v ≡ 0) vs → sum_by weight vs ≡ 0
+sum_zero : (weight : Vertex → ℕ) (vs : List Vertex) → AllByRecursion (λ v. weight v ≡ 0) vs → sum_by weight vs ≡ 0
 sum_zero weight [] h = refl
 sum_zero weight (v ∷ vs) h = sum_by-cons weight v vs ∙ ap (λ n. n + sum_by weight vs) h.0 ∙ ap (λ n. 0 + n) (sum_zero weight vs h.1)
 
-zero_sum : (weight : Vertex → ℕ) (vs : List Vertex) → sum_by weight vs ≡ 0 → EachVertex (λ v. weight v ≡ 0) vs
+zero_sum : (weight : Vertex → ℕ) (vs : List Vertex) → sum_by weight vs ≡ 0 → AllByRecursion (λ v. weight v ≡ 0) vs
 zero_sum weight [] h = tt
 zero_sum weight (v ∷ vs) h =
     let parts = no_sum (weight v) (sum_by weight vs) (sym (sum_by-cons weight v vs) ∙ h) in
     (parts.0, zero_sum weight vs parts.1)
-
-pub EachVertex-map : (P Q : Vertex → Type 0) (vs : List Vertex) → ((v : Vertex) → P v → Q v) → EachVertex P vs → EachVertex Q vs
-EachVertex-map P Q [] f h = tt
-EachVertex-map P Q (v ∷ vs) f h = (f v h.0, EachVertex-map P Q vs f h.1)
 
 -- no weight where a test passes
 none_of : (b : Bool) (n : ℕ) → b ≡ true → (if b then 0 else n) ≡ 0
@@ -150,21 +128,21 @@ passed_by true false h e = cc
 passed_by false g h e = cc
 
 -- what passes a test at all vertices of the list passes it at all vertices of the pieces that it lists
-pub all_good : (pieces : List Piece) (test good : Vertex → Bool) (vs : List Vertex) → AreVertices pieces test vs → EachVertex (λ v. good v ≡ true) vs →
-    EachVertex (λ v. test v ≡ true → good v ≡ true) (all_vertices 0 pieces)
+pub all_good : (pieces : List Piece) (test good : Vertex → Bool) (vs : List Vertex) → AreVertices pieces test vs → AllByRecursion (λ v. good v ≡ true) vs →
+    AllByRecursion (λ v. test v ≡ true → good v ≡ true) (all_vertices 0 pieces)
 all_good pieces test good vs h k =
-    EachVertex-map (λ v. (if test v then (if good v then 0 else 1) else 0) ≡ 0) (λ v. test v ≡ true → good v ≡ true) (all_vertices 0 pieces)
+    each-map (λ v. (if test v then (if good v then 0 else 1) else 0) ≡ 0) (λ v. test v ≡ true → good v ≡ true) (all_vertices 0 pieces)
     (λ v e. passed_by (test v) (good v) e)
     (zero_sum (λ v. if test v then (if good v then 0 else 1) else 0) (all_vertices 0 pieces)
     (sym (h (λ v. if good v then 0 else 1))
     ∙ sum_zero (λ v. if good v then 0 else 1) vs
-    (EachVertex-map (λ v. good v ≡ true) (λ v. (if good v then 0 else 1) ≡ 0) vs (λ v e. none_of (good v) 1 e) k)))
+    (each-map (λ v. good v ≡ true) (λ v. (if good v then 0 else 1) ≡ 0) vs (λ v e. none_of (good v) 1 e) k)))
 
 -- where no vertex passes the test, the list is that of none
-pub no_vertices : (pieces : List Piece) (test : Vertex → Bool) → EachVertex (λ v. test v ≡ false) (all_vertices 0 pieces) → AreVertices pieces test []
+pub no_vertices : (pieces : List Piece) (test : Vertex → Bool) → AllByRecursion (λ v. test v ≡ false) (all_vertices 0 pieces) → AreVertices pieces test []
 no_vertices pieces test h weight =
     sym (sum_zero (λ v. if test v then weight v else 0) (all_vertices 0 pieces)
-    (EachVertex-map (λ v. test v ≡ false) (λ v. (if test v then weight v else 0) ≡ 0) (all_vertices 0 pieces) (λ v e. failed (test v) (weight v) e) h))
+    (each-map (λ v. test v ≡ false) (λ v. (if test v then weight v else 0) ≡ 0) (all_vertices 0 pieces) (λ v e. failed (test v) (weight v) e) h))
   where
     failed : (b : Bool) (n : ℕ) → b ≡ false → (if b then n else 0) ≡ 0
     failed true n e = cc
@@ -195,7 +173,7 @@ no_weight good test k (p ∷ ps) h =
     shifted : (m n : ℕ) → (m + 1) + n ≡ m + suc n
     shifted m n = omega arith
 
-each_good : (good : ℕ → Bool) (os : List Active) → sum_by (λ i. if good i then 0 else 1) (pieces_of os) ≡ 0 → EachActive (λ a. good a.piece ≡ true) os
+each_good : (good : ℕ → Bool) (os : List Active) → sum_by (λ i. if good i then 0 else 1) (pieces_of os) ≡ 0 → AllByRecursion (λ a. good a.piece ≡ true) os
 each_good good [] h = tt
 each_good good (a ∷ os) h =
     let parts = no_sum (if good a.piece then 0 else 1) (sum_by (λ i. if good i then 0 else 1) (pieces_of os))
@@ -208,7 +186,7 @@ each_good good (a ∷ os) h =
 
 -- edges whose pieces are just those that pass a test: each of their pieces passes it
 pub each_passes : (pieces : List Piece) (test : Piece → Bool) (os : List Active) → SameNumbers (pieces_of os) (numbers_from 0 test pieces) →
-    EachActive (λ a. passes_at test pieces a.piece ≡ true) os
+    AllByRecursion (λ a. passes_at test pieces a.piece ≡ true) os
 each_passes pieces test os h =
     each_good (passes_at test pieces) os
     (h (λ i. if passes_at test pieces i then 0 else 1) ∙ no_weight (passes_at test pieces) test 0 pieces (λ i e. ap (passes_at test pieces) (plain i) ∙ e))
@@ -285,7 +263,7 @@ pub record EntryOf (test : Piece → Bool) (P : Piece → Type 0) (a : Active) :
   pub has : P (Edge start end)
 
 pub entry_of : (test : Piece → Bool) (P : Piece → Type 0) (pieces : List Piece) (i : ℕ) (a : Active) → IsEntryIn (piece_at pieces i) a →
-    passes_at test pieces i ≡ true → EachPiece P pieces → EntryOf test P a
+    passes_at test pieces i ≡ true → AllByRecursion P pieces → EntryOf test P a
 entry_of test P [] i a h e k = absurd h
 entry_of test P (Edge s t ∷ ps) zero a h e k = record { start = s; end = t; run = h; passed = e; has = k.0 }
 entry_of test P (Dot s ∷ ps) zero a h e k = absurd h
@@ -327,7 +305,7 @@ same_going x y z l r i j k m n h o =
         ]
 
 same_coming : (x y z : Fraction) (p : Piece) → IsFraction x → IsFraction y → IsFraction z → fraction_lt x z ≡ true → fraction_le z y ≡ true →
-    Each (Later x y) (ends_of p) → passes x p ≡ comes_to z p
+    AllByRecursion (Later x y) (ends_of p) → passes x p ≡ comes_to z p
 same_coming x y z (Edge a b) i j k m n h =
     passes-places x a b
     ∙ same_going x y z (left_end (edge_between a b)).x (right_end (edge_between a b)).x i j k m n (Each-left (Later x y) a b h) (Each-right (Later x y) a b h)
@@ -338,7 +316,7 @@ pub coming : (pieces : List Piece) (x y z : Fraction) → IsFraction x → IsFra
     NoEndBetween pieces x y → numbers_from 0 (passes x) pieces ≡ numbers_from 0 (comes_to z) pieces
 coming pieces x y z i j k m n h = numbers_from-agree 0 (passes x) (comes_to z) pieces (agree pieces h)
   where
-    agree : (ps : List Piece) → EachPiece (λ p. Each (Later x y) (ends_of p)) ps → AgreeOn (passes x) (comes_to z) ps
+    agree : (ps : List Piece) → AllByRecursion (λ p. AllByRecursion (Later x y) (ends_of p)) ps → AgreeOn (passes x) (comes_to z) ps
     agree [] e = tt
     agree (p ∷ ps) e = (same_coming x y z p i j k m n e.0, agree ps e.1)
 
@@ -347,7 +325,7 @@ pub none_between : (pieces : List Piece) (x y z : Fraction) → IsFraction x →
     NoEndBetween pieces x y → AreVertices pieces (in_column z) []
 none_between pieces x y z i j k m n h =
     no_vertices pieces (in_column z)
-    (EachVertex-map (λ v. Later x y (whole v.at.x)) (λ v. in_column z v ≡ false) (all_vertices 0 pieces) (λ v l. apart (whole v.at.x) (whole-number v.at.x) l)
+    (each-map (λ v. Later x y (whole v.at.x)) (λ v. in_column z v ≡ false) (all_vertices 0 pieces) (λ v l. apart (whole v.at.x) (whole-number v.at.x) l)
     (all_vertices-ends (Later x y) 0 pieces h))
   where
     apart : (q : Fraction) → IsFraction q → Later x y q → fraction_eq q z ≡ false
@@ -362,7 +340,7 @@ none_between pieces x y z i j k m n h =
 -- an edge that goes on from x runs as far as y
 pub runs : (pieces : List Piece) (x y : Fraction) (a : Active) → IsEntry pieces a → passes_at (passes x) pieces a.piece ≡ true → NoEndBetween pieces x y → Runs x y a
 runs pieces x y a h e k =
-    let o = entry_of (passes x) (λ p. Each (Later x y) (ends_of p)) pieces a.piece a h e k in
+    let o = entry_of (passes x) (λ p. AllByRecursion (Later x y) (ends_of p)) pieces a.piece a h e k in
     let parts =
     and_parts (fraction_le (whole (left_end (edge_between o.start o.end)).x) x) (fraction_lt x (whole (right_end (edge_between o.start o.end)).x))
     (sym (passes-places x o.start o.end) ∙ o.passed) in
@@ -372,17 +350,17 @@ runs pieces x y a h e k =
     }
 
 -- ---- more on pieces by their numbers
-pub EachPiece-at : (P : Piece → Type 0) (ps : List Piece) → ((i : ℕ) (p : Piece) → piece_at ps i ≡ Some p → P p) → EachPiece P ps
-EachPiece-at P [] f = tt
-EachPiece-at P (p ∷ ps) f = (f zero p refl, EachPiece-at P ps (λ i q e. f (suc i) q e))
+pub each_piece-at : (P : Piece → Type 0) (ps : List Piece) → ((i : ℕ) (p : Piece) → piece_at ps i ≡ Some p → P p) → AllByRecursion P ps
+each_piece-at P [] f = tt
+each_piece-at P (p ∷ ps) f = (f zero p refl, each_piece-at P ps (λ i q e. f (suc i) q e))
 
-pub EachPiece-all : (P : Piece → Type 0) (ps : List Piece) → ((p : Piece) → P p) → EachPiece P ps
-EachPiece-all P [] f = tt
-EachPiece-all P (p ∷ ps) f = (f p, EachPiece-all P ps f)
+pub each-always : (P : Piece → Type 0) (ps : List Piece) → ((p : Piece) → P p) → AllByRecursion P ps
+each-always P [] f = tt
+each-always P (p ∷ ps) f = (f p, each-always P ps f)
 
-pub Each-pieces : (P : Fraction → Type 0) (f : Piece → List Fraction) (ps : List Piece) → EachPiece (λ p. Each P (f p)) ps → Each P (flat_map f ps)
+pub Each-pieces : (P : Fraction → Type 0) (f : Piece → List Fraction) (ps : List Piece) → AllByRecursion (λ p. AllByRecursion P (f p)) ps → AllByRecursion P (flat_map f ps)
 Each-pieces P f [] h = tt
-Each-pieces P f (p ∷ ps) h = Each-append P (f p) (flat_map f ps) h.0 (Each-pieces P f ps h.1)
+Each-pieces P f (p ∷ ps) h = each-append P (f p) (flat_map f ps) h.0 (Each-pieces P f ps h.1)
 
 pub passes_at-piece : (test : Piece → Bool) (ps : List Piece) (i : ℕ) (p : Piece) → piece_at ps i ≡ Some p → test p ≡ true → passes_at test ps i ≡ true
 passes_at-piece test [] i p e h = cc
@@ -392,21 +370,21 @@ passes_at-piece test (q ∷ ps) zero p e h = ap test (same q p e) ∙ h
     same q p e = cc
 passes_at-piece test (q ∷ ps) (suc i) p e h = passes_at-piece test ps i p e h
 
-pub EachPiece-found : (P : Piece → Type 0) (ps : List Piece) (i : ℕ) (p : Piece) → piece_at ps i ≡ Some p → EachPiece P ps → P p
-EachPiece-found P [] i p e h = absurd (never p e)
+pub each_piece-found : (P : Piece → Type 0) (ps : List Piece) (i : ℕ) (p : Piece) → piece_at ps i ≡ Some p → AllByRecursion P ps → P p
+each_piece-found P [] i p e h = absurd (never p e)
   where
     never : (p : Piece) → None ≡ Some p → ⊥
     never p e = cc
-EachPiece-found P (q ∷ ps) zero p e h = subst P (same q p e) h.0
+each_piece-found P (q ∷ ps) zero p e h = subst P (same q p e) h.0
   where
     same : (q p : Piece) → Some q ≡ Some p → q ≡ p
     same q p e = cc
-EachPiece-found P (q ∷ ps) (suc i) p e h = EachPiece-found P ps i p e h.1
+each_piece-found P (q ∷ ps) (suc i) p e h = each_piece-found P ps i p e h.1
 
 -- every piece is one of the list
-members : (ps all : List Piece) → ((p : Piece) → Some_in (λ r. r ≡ p) ps → Some_in (λ r. r ≡ p) all) → EachPiece (λ p. Some_in (λ r. r ≡ p) all) ps
+members : (ps all : List Piece) → ((p : Piece) → Some_in (λ r. r ≡ p) ps → Some_in (λ r. r ≡ p) all) → AllByRecursion (λ p. Some_in (λ r. r ≡ p) all) ps
 members [] all f = tt
 members (p ∷ ps) all f = (f p (inl refl), members ps all (λ q m. f q (inr m)))
 
-pub each_member : (pieces : List Piece) → EachPiece (λ p. Some_in (λ r. r ≡ p) pieces) pieces
+pub each_member : (pieces : List Piece) → AllByRecursion (λ p. Some_in (λ r. r ≡ p) pieces) pieces
 each_member pieces = members pieces pieces (λ p m. m)

@@ -14,9 +14,10 @@ use Rattle.sf_columns.specs.declared.piece.Piece.TheVariants.{Dot, Edge}
 use Rattle.sf_cells.specs.Pieces.{ends_of}
 use Rattle.sf_cells.specs.Samples.{crossing_place, crossings_of}
 use Rattle.sf_slabs.proofs.ColumnLaws.{event_places}
-use Rattle.sf_slabs.proofs.HeightsLaws.{Each-append, Each-flat_map}
+use Rattle.sf_slabs.proofs.HeightsLaws.{Each-flat_map}
 use Rattle.sf_slabs.proofs.NumberLaws.{Among, Numbers}
 use Rattle.sf_slabs.proofs.SampleLaws.{Some_of, if_cases}
+use Rattle.sf_slabs.proofs.EachLaws.{each-append}
 
 -- ---- every event is a number
 whole-IsFraction : (n : ℤ) → IsFraction (whole n)
@@ -51,7 +52,7 @@ crossings_of-numbers (Dot a) q = tt
 
 pub event_places-numbers : (pieces : List Piece) → Numbers (event_places pieces)
 event_places-numbers pieces =
-    Each-append IsFraction (flat_map ends_of pieces) (flat_map (λ p. flat_map (crossings_of p) pieces) pieces)
+    each-append IsFraction (flat_map ends_of pieces) (flat_map (λ p. flat_map (crossings_of p) pieces) pieces)
     (Each-flat_map IsFraction ends_of pieces ends_of-numbers)
     (Each-flat_map IsFraction (λ p. flat_map (crossings_of p) pieces) pieces (λ p. Each-flat_map IsFraction (crossings_of p) pieces (crossings_of-numbers p)))
 

@@ -1,5 +1,6 @@
 -- Edges in order right of a column, up to a place before which none ends and no neighbours meet: the order holds all the way.
 use Rattle.std.proofs.Common.{◌≡◌, ◌≢◌, refl, ap, sym, ◌∙◌, subst, ℤ, pos, ◌*ℤ◌, ◌≤ℤ◌, ◌<ℤ◌, arith, Bool, true, false, List, [], ◌∷◌, ◌⊎◌, inl, inr}
+use Rattle.std.specs.List.{AllByRecursion}
 use Rattle.std.specs.Prelude.{int_lt, Some, None}
 use Rattle.std.specs.Ordering.{int_eq}
 use Rattle.std.specs.declared.cmp.Ordering.{Ordering}
@@ -16,7 +17,7 @@ use Rattle.sf_grid.proofs.OrderLaws.{height-IsFraction, heights_are_ordered, is_
 use Rattle.sf_columns.specs.declared.active.Active.{Active}
 use Rattle.sf_columns.specs.declared.contact.Contact.{Contact}
 use Rattle.sf_columns.specs.declared.contact.Contact.TheVariants.{Ahead, Never, Throughout}
-use Rattle.sf_columns.specs.Fronts.{AreContacts, AreContactsFrom, Descend, DescendFrom, Descends, EachActive, IsContact, line_of, touches}
+use Rattle.sf_columns.specs.Fronts.{AreContacts, AreContactsFrom, Descend, DescendFrom, Descends, IsContact, line_of, touches}
 use Rattle.sf_columns.specs.Slanted.{IsMeetingAfter, IsOneLine, ShareNoneAfter, slope_order}
 use Rattle.sf_slabs.proofs.CrossLaws.{both_at-level, level-one_line, level-same, level_at-point, meeting-on_both, not_same_place, place-IsFraction}
 use Rattle.sf_slabs.proofs.FallsLaws.{left_end-edge_of, right_end-edge_of}
@@ -243,11 +244,6 @@ follows x y a b (Ahead p) s q r d k w = follows-ahead x y a b p s q r d k w
 follows x y a b Throughout s q r d k w = follows-throughout x y a b s k
 
 -- ---- the whole front
--- every contact of the list has a property
-abbrev pub EachContact : (Contact → Type 0) → List Contact → Type 0
-EachContact P [] = Unit {0}
-EachContact P (c ∷ cs) = P c × EachContact P cs
-
 -- each edge and the next one, beginning with a
 abbrev pub FollowFrom : Fraction → Fraction → Active → List Active → List Contact → Type 0
 FollowFrom x y a [] cs = cs ≡ []
@@ -258,14 +254,14 @@ abbrev pub FollowAll : Fraction → Fraction → List Active → List Contact �
 FollowAll x y [] cs = cs ≡ []
 FollowAll x y (a ∷ os) cs = FollowFrom x y a os cs
 
-follow_from : (x y : Fraction) (a : Active) (os : List Active) (cs : List Contact) → IsSlab x y → Runs x y a → EachActive (Runs x y) os → DescendFrom x a os →
-    AreContactsFrom x a os cs → EachContact (Waits y) cs → FollowFrom x y a os cs
+follow_from : (x y : Fraction) (a : Active) (os : List Active) (cs : List Contact) → IsSlab x y → Runs x y a → AllByRecursion (Runs x y) os → DescendFrom x a os →
+    AreContactsFrom x a os cs → AllByRecursion (Waits y) cs → FollowFrom x y a os cs
 follow_from x y a [] cs s r e d k w = k
 follow_from x y a (b ∷ bs) [] s r e d k w = k
 follow_from x y a (b ∷ bs) (c ∷ cs) s r e d k w = (follows x y a b c s r e.0 d.0 k.0 w.0, follow_from x y b bs cs s e.0 e.1 d.1 k.1 w.1)
 
-pub follow_all : (x y : Fraction) (os : List Active) (cs : List Contact) → IsSlab x y → EachActive (Runs x y) os → Descend x os → AreContacts x os cs →
-    EachContact (Waits y) cs → FollowAll x y os cs
+pub follow_all : (x y : Fraction) (os : List Active) (cs : List Contact) → IsSlab x y → AllByRecursion (Runs x y) os → Descend x os → AreContacts x os cs →
+    AllByRecursion (Waits y) cs → FollowAll x y os cs
 follow_all x y [] cs s e d k w = k
 follow_all x y (a ∷ os) cs s e d k w = follow_from x y a os cs s e.0 e.1 d k w
 
@@ -371,26 +367,26 @@ ordered-trans x y a b c s h k l p q =
 -- each edge with every later one
 abbrev pub EachPair : (Active → Active → Type 0) → List Active → Type 0
 EachPair R [] = Unit {0}
-EachPair R (a ∷ os) = EachActive (R a) os × EachPair R os
+EachPair R (a ∷ os) = AllByRecursion (R a) os × EachPair R os
 
-ordered_below : (x y : Fraction) (a : Active) (os : List Active) (cs : List Contact) → IsSlab x y → Runs x y a → EachActive (Runs x y) os → FollowFrom x y a os cs →
-    EachActive (Ordered x y a) os
+ordered_below : (x y : Fraction) (a : Active) (os : List Active) (cs : List Contact) → IsSlab x y → Runs x y a → AllByRecursion (Runs x y) os → FollowFrom x y a os cs →
+    AllByRecursion (Ordered x y a) os
 ordered_below x y a [] cs s r e f = tt
 ordered_below x y a (b ∷ bs) [] s r e f = absurd f
 ordered_below x y a (b ∷ bs) (c ∷ cs) s r e f = (f.0.ordered, carried bs e.1 (ordered_below x y b bs cs s e.0 e.1 f.1))
   where
-    carried : (ds : List Active) → EachActive (Runs x y) ds → EachActive (Ordered x y b) ds → EachActive (Ordered x y a) ds
+    carried : (ds : List Active) → AllByRecursion (Runs x y) ds → AllByRecursion (Ordered x y b) ds → AllByRecursion (Ordered x y a) ds
     carried [] q o = tt
     carried (d ∷ ds) q o =
         (ordered-trans x y a b d s (spans-line_of x y a s r) (spans-line_of x y b s e.0) (spans-line_of x y d s q.0) f.0.ordered o.0, carried ds q.1 o.1)
 
-ordered_pairs-from : (x y : Fraction) (a : Active) (os : List Active) (cs : List Contact) → IsSlab x y → Runs x y a → EachActive (Runs x y) os → FollowFrom x y a os cs →
+ordered_pairs-from : (x y : Fraction) (a : Active) (os : List Active) (cs : List Contact) → IsSlab x y → Runs x y a → AllByRecursion (Runs x y) os → FollowFrom x y a os cs →
     EachPair (Ordered x y) (a ∷ os)
 ordered_pairs-from x y a [] cs s r e f = (tt, tt)
 ordered_pairs-from x y a (b ∷ bs) [] s r e f = absurd f
 ordered_pairs-from x y a (b ∷ bs) (c ∷ cs) s r e f = (ordered_below x y a (b ∷ bs) (c ∷ cs) s r e f, ordered_pairs-from x y b bs cs s e.0 e.1 f.1)
 
 -- up to y, every edge stays below each one before it, or level with it
-pub ordered_pairs : (x y : Fraction) (os : List Active) (cs : List Contact) → IsSlab x y → EachActive (Runs x y) os → FollowAll x y os cs → EachPair (Ordered x y) os
+pub ordered_pairs : (x y : Fraction) (os : List Active) (cs : List Contact) → IsSlab x y → AllByRecursion (Runs x y) os → FollowAll x y os cs → EachPair (Ordered x y) os
 ordered_pairs x y [] cs s e f = tt
 ordered_pairs x y (a ∷ os) cs s e f = ordered_pairs-from x y a os cs s e.0 e.1 f

@@ -1,41 +1,41 @@
 -- A front up to the next column: which edges come to each column on the way, in which order, and that no vertex is there.
 use Rattle.std.proofs.Common.{◌≡◌, ap, ◌∙◌, ◌∷◌, true, false, List, [], Some, None, inl, inr, sym, pos, ◌*ℤ◌}
-use Rattle.std.specs.List.{sum_by}
+use Rattle.std.specs.List.{AllByRecursion, sum_by}
 use Rattle.std.proofs.lemmas.Bool.{cases_Bool}
 use Rattle.sf_grid.specs.Fraction.{Fraction, IsFraction, fraction_eq, fraction_lt, whole}
 use Rattle.sf_grid.proofs.NumberTests.{eq_from_test}
 use Rattle.sf_columns.specs.declared.piece.Piece.{Piece}
 use Rattle.sf_columns.specs.declared.active.Active.{Active}
 use Rattle.sf_columns.specs.declared.contact.Contact.{Contact}
-use Rattle.sf_columns.specs.Fronts.{EachActive, IsEntry}
+use Rattle.sf_columns.specs.Fronts.{IsEntry}
 use Rattle.sf_cells.specs.Pieces.{ends_of}
 use Rattle.sf_columns.specs.Vertices.{all_vertices}
 use Rattle.sf_slabs.proofs.AboveLaws.{passes}
-use Rattle.sf_slabs.proofs.EndLaws.{EachPiece, EachPiece-map, EachVertex-map, Later, NoEndBetween, all_vertices-ends, coming, each_passes, no_vertices, none_between, passes_at, runs, whole-number}
-use Rattle.sf_slabs.proofs.FollowLaws.{EachContact, EachPair, FollowAll, Ordered, Runs, Waits, follow_all, le_of_lt, le_self, ordered_pairs, steps_at_right, steps_inside}
+use Rattle.sf_slabs.proofs.EndLaws.{Later, NoEndBetween, all_vertices-ends, coming, each_passes, no_vertices, none_between, passes_at, runs, whole-number}
+use Rattle.sf_slabs.proofs.FollowLaws.{EachPair, FollowAll, Ordered, Runs, Waits, follow_all, le_of_lt, le_self, ordered_pairs, steps_at_right, steps_inside}
 use Rattle.sf_slabs.proofs.NumberLaws.{rising_order}
-use Rattle.sf_slabs.proofs.SampleLaws.{Each}
 use Rattle.sf_slabs.proofs.Shapes.{IsColumnOf, IsComing, IsFront, in_column}
 use Rattle.sf_slabs.proofs.SlabLaws.{IsSlab}
+use Rattle.sf_slabs.proofs.EachLaws.{each-map}
 
 -- up to y nothing begins or ends, and no neighbours meet
 pub record IsClear (pieces : List Piece) (x y : Fraction) (cs : List Contact) : Type 0 where
   pub place : IsFraction y
   pub ahead : fraction_lt x y ≡ true
   pub ends : NoEndBetween pieces x y
-  pub waits : EachContact (Waits y) cs
+  pub waits : AllByRecursion (Waits y) cs
 
 pub slab : (pieces : List Piece) (x y : Fraction) (os : List Active) (cs : List Contact) → IsFront pieces x os cs → IsClear pieces x y cs → IsSlab x y
 slab pieces x y os cs f c = record { left = f.place; right = c.place; apart = c.ahead }
 
 -- every edge of the front runs as far as y
-each_runs : (pieces : List Piece) (x y : Fraction) (os : List Active) → EachActive (IsEntry pieces) os → EachActive (λ a. passes_at (passes x) pieces a.piece ≡ true) os →
-    NoEndBetween pieces x y → EachActive (Runs x y) os
+each_runs : (pieces : List Piece) (x y : Fraction) (os : List Active) → AllByRecursion (IsEntry pieces) os → AllByRecursion (λ a. passes_at (passes x) pieces a.piece ≡ true) os →
+    NoEndBetween pieces x y → AllByRecursion (Runs x y) os
 each_runs pieces x y [] e p n = tt
 each_runs pieces x y (a ∷ os) e p n = (runs pieces x y a e.0 p.0 n, each_runs pieces x y os e.1 p.1 n)
 
 pub front_runs : (pieces : List Piece) (x y : Fraction) (os : List Active) (cs : List Contact) → IsFront pieces x os cs → IsClear pieces x y cs →
-    EachActive (Runs x y) os
+    AllByRecursion (Runs x y) os
 front_runs pieces x y os cs f c = each_runs pieces x y os f.entries (each_passes pieces (passes x) os f.active) c.ends
 
 front_follows : (pieces : List Piece) (x y : Fraction) (os : List Active) (cs : List Contact) → IsFront pieces x os cs → IsClear pieces x y cs → FollowAll x y os cs
@@ -79,11 +79,7 @@ coming_next pieces x y os cs f c =
 -- ---- where nothing is left
 -- no piece begins or ends right of x
 abbrev pub NoEndRight : List Piece → Fraction → Type 0
-NoEndRight pieces x = EachPiece (λ p. Each (λ q. fraction_lt x q ≡ true → ⊥) (ends_of p)) pieces
-
-Each-map : (P Q : Fraction → Type 0) (qs : List Fraction) → ((q : Fraction) → P q → Q q) → Each P qs → Each Q qs
-Each-map P Q [] f h = tt
-Each-map P Q (q ∷ qs) f h = (f q h.0, Each-map P Q qs f h.1)
+NoEndRight pieces x = AllByRecursion (λ p. AllByRecursion (λ q. fraction_lt x q ≡ true → ⊥) (ends_of p)) pieces
 
 pub coming_none : (pieces : List Piece) (x z : Fraction) (cs : List Contact) → IsFront pieces x [] cs → NoEndRight pieces x →
     IsFraction z → fraction_lt x z ≡ true → IsComing pieces z None [] cs
@@ -97,8 +93,8 @@ coming_none pieces x z cs f n i h =
   where
     no_end : NoEndBetween pieces x z
     no_end =
-        EachPiece-map (λ p. Each (λ q. fraction_lt x q ≡ true → ⊥) (ends_of p)) (λ p. Each (Later x z) (ends_of p)) pieces
-        (λ p. Each-map (λ q. fraction_lt x q ≡ true → ⊥) (Later x z) (ends_of p) (λ q never l. absurd (never l)))
+        each-map (λ p. AllByRecursion (λ q. fraction_lt x q ≡ true → ⊥) (ends_of p)) (λ p. AllByRecursion (Later x z) (ends_of p)) pieces
+        (λ p. each-map (λ q. fraction_lt x q ≡ true → ⊥) (Later x z) (ends_of p) (λ q never l. absurd (never l)))
         n
 
 pub column_none : (pieces : List Piece) (x z : Fraction) → NoEndRight pieces x → IsFraction x → IsFraction z → fraction_lt x z ≡ true → IsColumnOf pieces z []
@@ -106,7 +102,7 @@ column_none pieces x z n j i h =
     record {
       are =
           no_vertices pieces (in_column z)
-          (EachVertex-map (λ v. fraction_lt x (whole v.at.x) ≡ true → ⊥) (λ v. in_column z v ≡ false) (all_vertices 0 pieces)
+          (each-map (λ v. fraction_lt x (whole v.at.x) ≡ true → ⊥) (λ v. in_column z v ≡ false) (all_vertices 0 pieces)
           (λ v never. apart (whole v.at.x) (whole-number v.at.x) never)
           (all_vertices-ends (λ q. fraction_lt x q ≡ true → ⊥) 0 pieces n));
       each = tt;

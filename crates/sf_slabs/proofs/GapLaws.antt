@@ -1,5 +1,6 @@
 -- In a gap between two neighbouring heights of a column lie only the vertical edges that reach both.
 use Rattle.std.proofs.Common.{◌≡◌, refl, ap, sym, ◌∙◌, ℤ, pos, ◌*ℤ◌, ◌≤ℤ◌, ◌<ℤ◌, lit<, arith, Bool, true, false, ◌&&◌, [], ◌∷◌, ◌⊎◌, inl, inr, cond}
+use Rattle.std.specs.List.{AllByRecursion}
 use Rattle.std.specs.Prelude.{if◌then◌else◌, int_le, int_lt}
 use Rattle.std.specs.Int.{int_max, int_min}
 use Rattle.std.proofs.lemmas.Bool.{and_from, and_parts, both_ways, cases_Bool}
@@ -14,7 +15,6 @@ use Rattle.sf_columns.specs.declared.piece.Piece.{Piece}
 use Rattle.sf_columns.specs.declared.piece.Piece.TheVariants.{Dot, Edge}
 use Rattle.sf_cells.specs.Pieces.{heights_of, if_in_column, is_on}
 use Rattle.sf_slabs.proofs.OnLaws.{on_edge-height, on_edge-vertical, same_point-at}
-use Rattle.sf_slabs.proofs.SampleLaws.{Each}
 use Rattle.sf_slabs.proofs.TopLaws.{if_false, if_true}
 
 -- the piece is a vertical edge
@@ -134,7 +134,7 @@ never : (t e : Bool) → (t ≡ true → e ≡ false) → (t && e) ≡ false
 never true e h = h refl
 never false e h = refl
 
-pub is_on-gap : (x q r m : Fraction) (p : Piece) → IsFraction x → IsGap q r m → Each (Parted q r) (heights_of x p) →
+pub is_on-gap : (x q r m : Fraction) (p : Piece) → IsFraction x → IsGap q r m → AllByRecursion (Parted q r) (heights_of x p) →
     is_on (point_at x m) p ≡ (stands_upright p && (is_on (point_at x q) p && is_on (point_at x r) p))
 is_on-gap x q r m (Edge a b) i g h =
     let e = edge_between a b in
@@ -143,8 +143,8 @@ is_on-gap x q r m (Edge a b) i g h =
           on_edge-vertical e x m upright i g.place
           ∙ in_column (fraction_eq (whole a.x) x) _ (within (int_min a.y b.y) (int_max a.y b.y) q) (within (int_min a.y b.y) (int_max a.y b.y) r)
           (λ t.
-          let ends = if_true (Each (Parted q r)) (fraction_eq (whole a.x) x) (whole a.y ∷ whole b.y ∷ []) [] t
-          (if_true (Each (Parted q r)) (is_vertical e) (if_in_column x a (whole a.y ∷ whole b.y ∷ [])) (if reaches e x then height_at e x ∷ [] else []) upright h) in
+          let ends = if_true (AllByRecursion (Parted q r)) (fraction_eq (whole a.x) x) (whole a.y ∷ whole b.y ∷ []) [] t
+          (if_true (AllByRecursion (Parted q r)) (is_vertical e) (if_in_column x a (whole a.y ∷ whole b.y ∷ [])) (if reaches e x then height_at e x ∷ [] else []) upright h) in
           within-gap q r m a.y b.y g ends.0 ends.1.0)
           ∙ ap (λ t. t && (fraction_eq (whole a.x) x && within (int_min a.y b.y) (int_max a.y b.y) r)) (sym (on_edge-vertical e x q upright i g.high))
           ∙ ap (λ t. on_edge e (point_at x q) && t) (sym (on_edge-vertical e x r upright i g.low))
@@ -153,8 +153,8 @@ is_on-gap x q r m (Edge a b) i g h =
           on_edge-height e x m slants i g.place
           ∙ never (reaches e x) (fraction_eq m (height_at e x))
           (λ t.
-          let here = if_true (Each (Parted q r)) (reaches e x) (height_at e x ∷ []) [] t
-          (if_false (Each (Parted q r)) (is_vertical e) (if_in_column x a (whole a.y ∷ whole b.y ∷ [])) (if reaches e x then height_at e x ∷ [] else []) slants h) in
+          let here = if_true (AllByRecursion (Parted q r)) (reaches e x) (height_at e x ∷ []) [] t
+          (if_false (AllByRecursion (Parted q r)) (is_vertical e) (if_in_column x a (whole a.y ∷ whole b.y ∷ [])) (if reaches e x then height_at e x ∷ [] else []) slants h) in
           not_at q r m (height_at e x) g (height-IsFraction e x (record { slants = slants; reached = t }) i) here.0)
           ∙ sym (ap (λ t. t && (on_edge e (point_at x q) && on_edge e (point_at x r))) slants)
     ]
@@ -162,7 +162,7 @@ is_on-gap x q r m (Dot a) i g h =
     same_point-at a x m i g.place
     ∙ never (fraction_eq (whole a.x) x) (fraction_eq (whole a.y) m)
     (λ t.
-    let here = if_true (Each (Parted q r)) (fraction_eq (whole a.x) x) (whole a.y ∷ []) [] t h in
+    let here = if_true (AllByRecursion (Parted q r)) (fraction_eq (whole a.x) x) (whole a.y ∷ []) [] t h in
     same_tests (fraction_eq (whole a.y) m) false
     (λ k. absurd (both_ways _ (not_at q r m (whole a.y) g (record { positive = lit< tt }) here.0) (flipped (whole a.y) m k)))
     (λ k. absurd (both_ways false refl k)))

@@ -1,7 +1,7 @@
 -- The heights at which pieces meet a column are numbers, and the same ones however the column's place is written.
 use Rattle.std.proofs.Common.{◌≡◌, refl, ap, sym, ◌∙◌, ℤ, pos, ◌+ℤ◌, ◌-ℤ◌, ◌*ℤ◌, lit<, Bool, true, false, List, [], ◌∷◌, ◌++◌, unsigned_abs}
 use Rattle.std.specs.Prelude.{if◌then◌else◌}
-use Rattle.std.specs.List.{flat_map}
+use Rattle.std.specs.List.{AllByRecursion, flat_map}
 use Rattle.std.specs.Int.{int_max, int_min}
 use Rattle.sf_grid.specs.Fraction.{Fraction, IsFraction, fraction_eq, whole}
 use Rattle.sf_grid.specs.Plane.{Coordinates}
@@ -14,16 +14,13 @@ use Rattle.sf_columns.specs.declared.piece.Piece.{Piece}
 use Rattle.sf_columns.specs.declared.piece.Piece.TheVariants.{Dot, Edge}
 use Rattle.sf_cells.specs.Pieces.{heights_of, if_in_column}
 use Rattle.sf_slabs.proofs.NumberLaws.{Numbers, Pairs, Same-trans}
-use Rattle.sf_slabs.proofs.SampleLaws.{Each, if_cases}
+use Rattle.sf_slabs.proofs.SampleLaws.{if_cases}
+use Rattle.sf_slabs.proofs.EachLaws.{each-append}
 
 -- ---- lists one after another
-pub Each-append : (P : Fraction → Type 0) (qs rs : List Fraction) → Each P qs → Each P rs → Each P (qs ++ rs)
-Each-append P [] rs h k = k
-Each-append P (q ∷ qs) rs h k = (h.0, Each-append P qs rs h.1 k)
-
-pub Each-flat_map : {A : Type 0} (P : Fraction → Type 0) (f : A → List Fraction) (xs : List A) → ((x : A) → Each P (f x)) → Each P (flat_map f xs)
+pub Each-flat_map : {A : Type 0} (P : Fraction → Type 0) (f : A → List Fraction) (xs : List A) → ((x : A) → AllByRecursion P (f x)) → AllByRecursion P (flat_map f xs)
 Each-flat_map P f [] h = tt
-Each-flat_map P f (x ∷ xs) h = Each-append P (f x) (flat_map f xs) (h x) (Each-flat_map P f xs h)
+Each-flat_map P f (x ∷ xs) h = each-append P (f x) (flat_map f xs) (h x) (Each-flat_map P f xs h)
 
 pub Pairs-append : {A : Type 0} (R : A → A → Type 0) (ps qs rs ss : List A) → Pairs R ps rs → Pairs R qs ss → Pairs R (ps ++ qs) (rs ++ ss)
 Pairs-append R [] qs [] ss h k = k

@@ -1,7 +1,7 @@
 -- The heights of a column's levels are just the heights at which the pieces meet the column.
 use Rattle.std.proofs.Common.{◌≡◌, refl, ap, sym, subst, ◌∙◌, ℕ, zero, suc, ◌+◌, arith, lit<, Bool, true, false, cond, not, ◌&&◌, ◌||◌, List, [], ◌∷◌, ◌++◌, take, drop, inl, inr, Option, Some, None}
 use Rattle.std.specs.Prelude.{if◌then◌else◌, int_lt}
-use Rattle.std.specs.List.{sum_by}
+use Rattle.std.specs.List.{AllByRecursion, sum_by}
 use Rattle.std.proofs.lemmas.Bool.{and_from, and_parts, both_ways, cases_Bool}
 use Rattle.std.proofs.lemmas.List.Sums.{sum_by-cons}
 use Rattle.sf_grid.specs.Fraction.{Fraction, IsFraction, fraction_eq, fraction_le, fraction_lt, whole}
@@ -17,20 +17,20 @@ use Rattle.sf_columns.specs.declared.level.Level.{Level}
 use Rattle.sf_columns.specs.declared.vertex.Role.TheVariants.{Begin, Bottom, End, Top}
 use Rattle.sf_columns.specs.declared.vertex.Vertex.{Vertex}
 use Rattle.sf_cells.specs.Cells.{numbers_from}
-use Rattle.sf_columns.specs.Fronts.{EachActive, IsEntry, IsEntryIn, SameNumbers, pieces_of}
+use Rattle.sf_columns.specs.Fronts.{IsEntry, IsEntryIn, SameNumbers, pieces_of}
 use Rattle.sf_cells.specs.Pieces.{heights_of, if_in_column}
 use Rattle.sf_columns.specs.Vertices.{all_vertices, lower_end, piece_at, upper_end, vertex, vertices_of}
 use Rattle.sf_slabs.proofs.AboveLaws.{height_of}
 use Rattle.sf_slabs.proofs.ColumnLaws.{IsHeights}
-use Rattle.sf_slabs.proofs.HeightsLaws.{Each-append, heights_in}
-use Rattle.sf_slabs.proofs.LevelLaws.{EachPiece}
+use Rattle.sf_slabs.proofs.HeightsLaws.{heights_in}
 use Rattle.sf_slabs.proofs.LevelPiecesLaws.{comes_to-vertical, height-left, height-right, lies_by, lower_column, upper_column}
 use Rattle.sf_slabs.proofs.LeveledLaws.{IsAtLevel, Leveled, active_height, active_height-number, drop-each_active, drop-each_vertex, vertex_height, vertex_height-number}
 use Rattle.sf_slabs.proofs.NumberLaws.{Among, Numbers, Same-trans, rising_order}
-use Rattle.sf_slabs.proofs.SampleLaws.{Each, Follow, FollowFrom, if_cases}
-use Rattle.sf_slabs.proofs.Shapes.{AreVertices, EachVertex, comes_to, in_column}
+use Rattle.sf_slabs.proofs.SampleLaws.{Follow, FollowFrom, if_cases}
+use Rattle.sf_slabs.proofs.Shapes.{AreVertices, comes_to, in_column}
 use Rattle.sf_slabs.proofs.TopLaws.{if_false, if_true}
 use Rattle.sf_slabs.proofs.WeightLaws.{SameNumbers-chosen, SameNumbers-chosen_none, SameNumbers-none, chosen, passes_at}
+use Rattle.sf_slabs.proofs.EachLaws.{each-append, each-join, each-map, each-parts}
 
 -- ---- a number among others, as a test
 abbrev pub is_among : List Fraction → Fraction → Bool
@@ -116,22 +116,22 @@ slanted_among z hs a b i s r h k =
 
 -- all heights of a piece are among the numbers hs, if those are that its vertices have and at which it comes
 pub piece_among : (z : Fraction) (hs : List Fraction) (i : ℕ) (p : Piece) → IsFraction z → (comes_to z p ≡ true → Among hs (height_of z p)) →
-    EachVertex (InColumn z (Among hs)) (vertices_of i p) → Each (Among hs) (heights_of z p)
+    AllByRecursion (InColumn z (Among hs)) (vertices_of i p) → AllByRecursion (Among hs) (heights_of z p)
 piece_among z hs i (Edge a b) j h k =
     let e = edge_between a b in
-    if_cases (Each (Among hs)) (is_vertical e) (if_in_column z a (whole a.y ∷ whole b.y ∷ [])) (if reaches e z then height_at e z ∷ [] else [])
-    (λ u. if_cases (Each (Among hs)) (fraction_eq (whole a.x) z) (whole a.y ∷ whole b.y ∷ []) []
+    if_cases (AllByRecursion (Among hs)) (is_vertical e) (if_in_column z a (whole a.y ∷ whole b.y ∷ [])) (if reaches e z then height_at e z ∷ [] else [])
+    (λ u. if_cases (AllByRecursion (Among hs)) (fraction_eq (whole a.x) z) (whole a.y ∷ whole b.y ∷ []) []
     (λ t.
-    let ends = if_true (EachVertex (InColumn z (Among hs))) (is_vertical e) (vertex (upper_end e) Top i ∷ vertex (lower_end e) Bottom i ∷ []) (vertex (left_end e) Begin i ∷ vertex (right_end e) End i ∷ []) u k in
+    let ends = if_true (AllByRecursion (InColumn z (Among hs))) (is_vertical e) (vertex (upper_end e) Top i ∷ vertex (lower_end e) Bottom i ∷ []) (vertex (left_end e) Begin i ∷ vertex (right_end e) End i ∷ []) u k in
     let both = both_ends (Among hs) a b (ends.0 (ap (λ x. fraction_eq (whole x) z) (upper_column a b u) ∙ t)) (ends.1.0 (ap (λ x. fraction_eq (whole x) z) (lower_column a b u) ∙ t)) in
     (both.0, (both.1, tt)))
     (λ _. tt))
-    (λ s. if_cases (Each (Among hs)) (reaches e z) (height_at e z ∷ []) []
+    (λ s. if_cases (AllByRecursion (Among hs)) (reaches e z) (height_at e z ∷ []) []
     (λ r.
-    let ends = if_false (EachVertex (InColumn z (Among hs))) (is_vertical e) (vertex (upper_end e) Top i ∷ vertex (lower_end e) Bottom i ∷ []) (vertex (left_end e) Begin i ∷ vertex (right_end e) End i ∷ []) s k in
+    let ends = if_false (AllByRecursion (InColumn z (Among hs))) (is_vertical e) (vertex (upper_end e) Top i ∷ vertex (lower_end e) Bottom i ∷ []) (vertex (left_end e) Begin i ∷ vertex (right_end e) End i ∷ []) s k in
     (slanted_among z hs a b j s r h ends.0, tt))
     (λ _. tt))
-piece_among z hs i (Dot a) j h k = if_cases (Each (Among hs)) (fraction_eq (whole a.x) z) (whole a.y ∷ []) [] (λ t. (k.0 t, tt)) (λ _. tt)
+piece_among z hs i (Dot a) j h k = if_cases (AllByRecursion (Among hs)) (fraction_eq (whole a.x) z) (whole a.y ∷ []) [] (λ t. (k.0 t, tt)) (λ _. tt)
 
 -- ---- and the other way round
 -- the height at which a piece comes is one of its heights
@@ -164,10 +164,10 @@ upright_among z a b y u t m =
     (λ s. absurd (both_ways (is_vertical (edge_between a b)) s u))
 
 -- the height of each vertex of a piece in the column is one of the heights of the piece
-pub vertices_among : (z : Fraction) (i : ℕ) (p : Piece) → IsFraction z → EachVertex (InColumn z (Among (heights_of z p))) (vertices_of i p)
+pub vertices_among : (z : Fraction) (i : ℕ) (p : Piece) → IsFraction z → AllByRecursion (InColumn z (Among (heights_of z p))) (vertices_of i p)
 vertices_among z i (Edge a b) j =
     let e = edge_between a b in
-    if_cases (EachVertex (InColumn z (Among (heights_of z (Edge a b))))) (is_vertical e) (vertex (upper_end e) Top i ∷ vertex (lower_end e) Bottom i ∷ []) (vertex (left_end e) Begin i ∷ vertex (right_end e) End i ∷ [])
+    if_cases (AllByRecursion (InColumn z (Among (heights_of z (Edge a b))))) (is_vertical e) (vertex (upper_end e) Top i ∷ vertex (lower_end e) Bottom i ∷ []) (vertex (left_end e) Begin i ∷ vertex (right_end e) End i ∷ [])
     (λ u.
     let either = one_end (Among (whole a.y ∷ whole b.y ∷ [])) a b (inl refl) (inr (inl refl)) in (
       λ t. upright_among z a b (whole (upper_end e).y) u (ap (λ x. fraction_eq (whole x) z) (sym (upper_column a b u)) ∙ t) either.0,
@@ -195,36 +195,17 @@ vertices_among z i (Dot a) j =
     (λ t. if_cases (λ hs. Among hs (whole a.y)) (fraction_eq (whole a.x) z) (whole a.y ∷ []) [] (λ _. inl refl) (λ n. absurd (both_ways (fraction_eq (whole a.x) z) n t)), tt)
 
 -- ---- all pieces
--- a property of both of two lists
-EachVertex-parts : (P : Vertex → Type 0) (us vs : List Vertex) → EachVertex P (us ++ vs) → EachVertex P us × EachVertex P vs
-EachVertex-parts P [] vs h = (tt, h)
-EachVertex-parts P (u ∷ us) vs h = let k = EachVertex-parts P us vs h.1 in ((h.0, k.0), k.1)
-
--- a property of lists one after another
-EachVertex-append : (P : Vertex → Type 0) (us vs : List Vertex) → EachVertex P us → EachVertex P vs → EachVertex P (us ++ vs)
-EachVertex-append P [] vs h k = k
-EachVertex-append P (u ∷ us) vs h k = (h.0, EachVertex-append P us vs h.1 k)
-
--- a property that follows
-pub EachVertex-map : (P Q : Vertex → Type 0) (vs : List Vertex) → ((v : Vertex) → P v → Q v) → EachVertex P vs → EachVertex Q vs
-EachVertex-map P Q [] f h = tt
-EachVertex-map P Q (v ∷ vs) f h = (f v h.0, EachVertex-map P Q vs f h.1)
-
-pub EachActive-map : (P Q : Active → Type 0) (es : List Active) → ((a : Active) → P a → Q a) → EachActive P es → EachActive Q es
-EachActive-map P Q [] f h = tt
-EachActive-map P Q (a ∷ es) f h = (f a h.0, EachActive-map P Q es f h.1)
-
 -- all heights, from those of all vertices and of what comes
-pub pieces_among : (z : Fraction) (hs : List Fraction) (k : ℕ) (ps : List Piece) → IsFraction z → EachPiece (λ p. comes_to z p ≡ true → Among hs (height_of z p)) ps →
-    EachVertex (InColumn z (Among hs)) (all_vertices k ps) → Each (Among hs) (heights_in ps z)
+pub pieces_among : (z : Fraction) (hs : List Fraction) (k : ℕ) (ps : List Piece) → IsFraction z → AllByRecursion (λ p. comes_to z p ≡ true → Among hs (height_of z p)) ps →
+    AllByRecursion (InColumn z (Among hs)) (all_vertices k ps) → AllByRecursion (Among hs) (heights_in ps z)
 pieces_among z hs k [] i h v = tt
 pieces_among z hs k (p ∷ ps) i h v =
-    let parts = EachVertex-parts (InColumn z (Among hs)) (vertices_of k p) (all_vertices (k + 1) ps) v in
-    Each-append (Among hs) (heights_of z p) (heights_in ps z) (piece_among z hs k p i h.0 parts.0) (pieces_among z hs (k + 1) ps i h.1 parts.1)
+    let parts = each-parts (InColumn z (Among hs)) (vertices_of k p) (all_vertices (k + 1) ps) v in
+    each-append (Among hs) (heights_of z p) (heights_in ps z) (piece_among z hs k p i h.0 parts.0) (pieces_among z hs (k + 1) ps i h.1 parts.1)
 
 -- the height at which a piece comes is one of the heights of all pieces
 pub all_come_among : (z : Fraction) (hs : List Fraction) (ps : List Piece) → IsFraction z → ((h : Fraction) → Among (heights_in ps z) h → Among hs h) →
-    EachPiece (λ p. comes_to z p ≡ true → Among hs (height_of z p)) ps
+    AllByRecursion (λ p. comes_to z p ≡ true → Among hs (height_of z p)) ps
 all_come_among z hs [] i f = tt
 all_come_among z hs (p ∷ ps) i f = (
   λ t. f (height_of z p) (Among-left (heights_of z p) (heights_in ps z) (height_of z p) (comes_among z p i t)),
@@ -233,22 +214,22 @@ all_come_among z hs (p ∷ ps) i f = (
 
 -- so is the height of each vertex in the column
 pub all_vertices_among : (z : Fraction) (hs : List Fraction) (k : ℕ) (ps : List Piece) → IsFraction z → ((h : Fraction) → Among (heights_in ps z) h → Among hs h) →
-    EachVertex (InColumn z (Among hs)) (all_vertices k ps)
+    AllByRecursion (InColumn z (Among hs)) (all_vertices k ps)
 all_vertices_among z hs k [] i f = tt
 all_vertices_among z hs k (p ∷ ps) i f =
-    EachVertex-append (InColumn z (Among hs)) (vertices_of k p) (all_vertices (k + 1) ps)
-    (EachVertex-map (InColumn z (Among (heights_of z p))) (InColumn z (Among hs)) (vertices_of k p) (λ v g t. f (vertex_height v) (Among-left (heights_of z p) (heights_in ps z) (vertex_height v) (g t)))
+    each-append (InColumn z (Among hs)) (vertices_of k p) (all_vertices (k + 1) ps)
+    (each-map (InColumn z (Among (heights_of z p))) (InColumn z (Among hs)) (vertices_of k p) (λ v g t. f (vertex_height v) (Among-left (heights_of z p) (heights_in ps z) (vertex_height v) (g t)))
     (vertices_among z k p i))
     (all_vertices_among z hs (k + 1) ps i (λ h a. f h (Among-right (heights_of z p) (heights_in ps z) h a)))
 
 -- ---- from a list of vertices to all that it stands for, and back
 -- a sum of zeros
-sum_zero : (f : Vertex → ℕ) (vs : List Vertex) → EachVertex (λ v. f v ≡ 0) vs → sum_by f vs ≡ 0
+sum_zero : (f : Vertex → ℕ) (vs : List Vertex) → AllByRecursion (λ v. f v ≡ 0) vs → sum_by f vs ≡ 0
 sum_zero f [] h = refl
 sum_zero f (v ∷ vs) h = sum_by-cons f v vs ∙ ap (λ n. n + sum_by f vs) h.0 ∙ ap (λ n. 0 + n) (sum_zero f vs h.1)
 
 -- and the other way round
-zero_sum : (f : Vertex → ℕ) (vs : List Vertex) → sum_by f vs ≡ 0 → EachVertex (λ v. f v ≡ 0) vs
+zero_sum : (f : Vertex → ℕ) (vs : List Vertex) → sum_by f vs ≡ 0 → AllByRecursion (λ v. f v ≡ 0) vs
 zero_sum f [] h = tt
 zero_sum f (v ∷ vs) h =
     let e = sum_by-cons f v vs in
@@ -266,12 +247,12 @@ true_unless true e = refl
 true_unless false e = absurd (omega arith)
 
 -- a test that all vertices of the list pass is passed by all that it stands for
-pub vertices_all : (pieces : List Piece) (s t : Vertex → Bool) (vs : List Vertex) → AreVertices pieces s vs → EachVertex (λ v. t v ≡ true) vs →
-    EachVertex (λ v. s v ≡ true → t v ≡ true) (all_vertices 0 pieces)
+pub vertices_all : (pieces : List Piece) (s t : Vertex → Bool) (vs : List Vertex) → AreVertices pieces s vs → AllByRecursion (λ v. t v ≡ true) vs →
+    AllByRecursion (λ v. s v ≡ true → t v ≡ true) (all_vertices 0 pieces)
 vertices_all pieces s t vs h k =
-    EachVertex-map (λ v. (if s v then cond (t v) 0 1 else 0) ≡ 0) (λ v. s v ≡ true → t v ≡ true) (all_vertices 0 pieces) (λ v. told (s v) (t v))
+    each-map (λ v. (if s v then cond (t v) 0 1 else 0) ≡ 0) (λ v. s v ≡ true → t v ≡ true) (all_vertices 0 pieces) (λ v. told (s v) (t v))
     (zero_sum (λ v. if s v then cond (t v) 0 1 else 0) (all_vertices 0 pieces)
-    (sym (h (λ v. cond (t v) 0 1)) ∙ sum_zero (λ v. cond (t v) 0 1) vs (EachVertex-map (λ v. t v ≡ true) (λ v. cond (t v) 0 1 ≡ 0) vs (λ v. unless_true (t v)) k)))
+    (sym (h (λ v. cond (t v) 0 1)) ∙ sum_zero (λ v. cond (t v) 0 1) vs (each-map (λ v. t v ≡ true) (λ v. cond (t v) 0 1 ≡ 0) vs (λ v. unless_true (t v)) k)))
   where
     told : (b c : Bool) → ◌≡◌ {A = ℕ} (if b then cond c 0 1 else 0) 0 → b ≡ true → c ≡ true
     told true c e f = true_unless c e
@@ -279,13 +260,13 @@ vertices_all pieces s t vs h k =
 
 -- and the other way round
 pub vertices_each : (pieces : List Piece) (s t : Vertex → Bool) (vs : List Vertex) → AreVertices pieces s vs →
-    EachVertex (λ v. s v ≡ true → t v ≡ true) (all_vertices 0 pieces) → EachVertex (λ v. t v ≡ true) vs
+    AllByRecursion (λ v. s v ≡ true → t v ≡ true) (all_vertices 0 pieces) → AllByRecursion (λ v. t v ≡ true) vs
 vertices_each pieces s t vs h k =
-    EachVertex-map (λ v. cond (t v) 0 1 ≡ 0) (λ v. t v ≡ true) vs (λ v. true_unless (t v))
+    each-map (λ v. cond (t v) 0 1 ≡ 0) (λ v. t v ≡ true) vs (λ v. true_unless (t v))
     (zero_sum (λ v. cond (t v) 0 1) vs
     (h (λ v. cond (t v) 0 1)
     ∙ sum_zero (λ v. if s v then cond (t v) 0 1 else 0) (all_vertices 0 pieces)
-    (EachVertex-map (λ v. s v ≡ true → t v ≡ true) (λ v. (if s v then cond (t v) 0 1 else 0) ≡ 0) (all_vertices 0 pieces) (λ v. tell (s v) (t v)) k)))
+    (each-map (λ v. s v ≡ true → t v ≡ true) (λ v. (if s v then cond (t v) 0 1 else 0) ≡ 0) (all_vertices 0 pieces) (λ v. tell (s v) (t v)) k)))
   where
     tell : (b c : Bool) → (b ≡ true → c ≡ true) → ◌≡◌ {A = ℕ} (if b then cond c 0 1 else 0) 0
     tell true c f = unless_true c (f refl)
@@ -300,19 +281,19 @@ entry_height f z (Some (Edge p q)) a h =
 entry_height f z (Some (Dot p)) a h = absurd h
 
 -- of each edge of the list
-pub each_entry_height : (f : Fraction → Bool) (z : Fraction) (pieces : List Piece) (es : List Active) → EachActive (IsEntry pieces) es →
-    EachActive (λ a. f (active_height z a) ≡ passes_at (λ p. f (height_of z p)) (piece_at pieces a.piece)) es
-each_entry_height f z pieces es h = EachActive-map (IsEntry pieces) _ es (λ a k. entry_height f z (piece_at pieces a.piece) a k) h
+pub each_entry_height : (f : Fraction → Bool) (z : Fraction) (pieces : List Piece) (es : List Active) → AllByRecursion (IsEntry pieces) es →
+    AllByRecursion (λ a. f (active_height z a) ≡ passes_at (λ p. f (height_of z p)) (piece_at pieces a.piece)) es
+each_entry_height f z pieces es h = each-map (IsEntry pieces) _ es (λ a k. entry_height f z (piece_at pieces a.piece) a k) h
 
 -- no edge is chosen by what does not hold
-all_fail : (t : Active → Bool) (es : List Active) → EachActive (λ a. t a ≡ true) es → chosen (λ a. not (t a)) es ≡ []
+all_fail : (t : Active → Bool) (es : List Active) → AllByRecursion (λ a. t a ≡ true) es → chosen (λ a. not (t a)) es ≡ []
 all_fail t [] h = refl
 all_fail t (a ∷ es) h =
     ap (λ b. if not b then a ∷ chosen (λ c. not (t c)) es else chosen (λ c. not (t c)) es) h.0 ∙ all_fail t es h.1
 
 -- a test of heights that all edges of the list pass is passed by the pieces that they stand for
-pub edges_all : (z : Fraction) (pieces : List Piece) (s : Piece → Bool) (t : Fraction → Bool) (es : List Active) → EachActive (IsEntry pieces) es →
-    SameNumbers (pieces_of es) (numbers_from 0 s pieces) → EachActive (λ a. t (active_height z a) ≡ true) es → EachPiece (λ p. s p ≡ true → t (height_of z p) ≡ true) pieces
+pub edges_all : (z : Fraction) (pieces : List Piece) (s : Piece → Bool) (t : Fraction → Bool) (es : List Active) → AllByRecursion (IsEntry pieces) es →
+    SameNumbers (pieces_of es) (numbers_from 0 s pieces) → AllByRecursion (λ a. t (active_height z a) ≡ true) es → AllByRecursion (λ p. s p ≡ true → t (height_of z p) ≡ true) pieces
 edges_all z pieces s t es e h k =
     each_told pieces
     (SameNumbers-none (λ p. s p && not (t (height_of z p))) pieces
@@ -324,15 +305,15 @@ edges_all z pieces s t es e h k =
     told true false e f = absurd (both_ways true e refl)
     told false false e f = absurd (both_ways false refl f)
 
-    each_told : (ps : List Piece) → EachPiece (λ p. (s p && not (t (height_of z p))) ≡ false) ps → EachPiece (λ p. s p ≡ true → t (height_of z p) ≡ true) ps
+    each_told : (ps : List Piece) → AllByRecursion (λ p. (s p && not (t (height_of z p))) ≡ false) ps → AllByRecursion (λ p. s p ≡ true → t (height_of z p) ≡ true) ps
     each_told [] g = tt
     each_told (p ∷ ps) g = (told (s p) (t (height_of z p)) g.0, each_told ps g.1)
 
 -- and the other way round
-pub edges_each : (z : Fraction) (pieces : List Piece) (s : Piece → Bool) (t : Fraction → Bool) (es : List Active) → EachActive (IsEntry pieces) es →
-    SameNumbers (pieces_of es) (numbers_from 0 s pieces) → EachPiece (λ p. s p ≡ true → t (height_of z p) ≡ true) pieces → EachActive (λ a. t (active_height z a) ≡ true) es
+pub edges_each : (z : Fraction) (pieces : List Piece) (s : Piece → Bool) (t : Fraction → Bool) (es : List Active) → AllByRecursion (IsEntry pieces) es →
+    SameNumbers (pieces_of es) (numbers_from 0 s pieces) → AllByRecursion (λ p. s p ≡ true → t (height_of z p) ≡ true) pieces → AllByRecursion (λ a. t (active_height z a) ≡ true) es
 edges_each z pieces s t es e h k =
-    EachActive-map (λ a. not (t (active_height z a)) ≡ false) (λ a. t (active_height z a) ≡ true) es (λ a. back (t (active_height z a)))
+    each-map (λ a. not (t (active_height z a)) ≡ false) (λ a. t (active_height z a) ≡ true) es (λ a. back (t (active_height z a)))
     (SameNumbers-chosen_none pieces s (λ p. not (t (height_of z p))) (λ a. not (t (active_height z a))) es h (each_entry_height (λ q. not (t q)) z pieces es e) (none pieces k))
   where
     back : (b : Bool) → not b ≡ false → b ≡ true
@@ -343,49 +324,38 @@ edges_each z pieces s t es e h k =
     tell true c f = ap not (f refl)
     tell false c f = refl
 
-    none : (ps : List Piece) → EachPiece (λ p. s p ≡ true → t (height_of z p) ≡ true) ps → EachPiece (λ p. (s p && not (t (height_of z p))) ≡ false) ps
+    none : (ps : List Piece) → AllByRecursion (λ p. s p ≡ true → t (height_of z p) ≡ true) ps → AllByRecursion (λ p. (s p && not (t (height_of z p))) ≡ false) ps
     none [] g = tt
     none (p ∷ ps) g = (tell (s p) (t (height_of z p)) g.0, none ps g.1)
 
 -- ---- the levels' heights
--- a property of the first ones and of the rest
-EachActive-parts : (P : Active → Type 0) (n : ℕ) (es : List Active) → EachActive P (take n es) → EachActive P (drop n es) → EachActive P es
-EachActive-parts P zero es h k = k
-EachActive-parts P (suc n) [] h k = tt
-EachActive-parts P (suc n) (a ∷ es) h k = (h.0, EachActive-parts P n es h.1 k)
-
-EachVertex-taken : (P : Vertex → Type 0) (n : ℕ) (vs : List Vertex) → EachVertex P (take n vs) → EachVertex P (drop n vs) → EachVertex P vs
-EachVertex-taken P zero vs h k = k
-EachVertex-taken P (suc n) [] h k = tt
-EachVertex-taken P (suc n) (v ∷ vs) h k = (h.0, EachVertex-taken P n vs h.1 k)
-
 -- each edge, and each vertex, is at one of the levels' heights
 pub edges_leveled : (z : Fraction) (es : List Active) (vs : List Vertex) (ls : List Level) (qs : List Fraction) → Leveled z es vs ls qs →
-    EachActive (λ a. Among qs (active_height z a)) es
-edges_leveled z es vs [] [] h = subst (λ fs. EachActive (λ a. Among [] (active_height z a)) fs) (sym h.0) tt
+    AllByRecursion (λ a. Among qs (active_height z a)) es
+edges_leveled z es vs [] [] h = subst (λ fs. AllByRecursion (λ a. Among [] (active_height z a)) fs) (sym h.0) tt
 edges_leveled z es vs [] (q ∷ qs) h = absurd h
 edges_leveled z es vs (l ∷ ls) [] h = absurd h
 edges_leveled z es vs (l ∷ ls) (q ∷ qs) h =
-    EachActive-parts (λ a. Among (q ∷ qs) (active_height z a)) l.edges es
-    (EachActive-map (λ a. Same (active_height z a) q) (λ a. Among (q ∷ qs) (active_height z a)) (take l.edges es) (λ a e. inl e) h.0.edges)
-    (EachActive-map (λ a. Among qs (active_height z a)) (λ a. Among (q ∷ qs) (active_height z a)) (drop l.edges es) (λ a m. inr m)
+    each-join (λ a. Among (q ∷ qs) (active_height z a)) l.edges es
+    (each-map (λ a. Same (active_height z a) q) (λ a. Among (q ∷ qs) (active_height z a)) (take l.edges es) (λ a e. inl e) h.0.edges)
+    (each-map (λ a. Among qs (active_height z a)) (λ a. Among (q ∷ qs) (active_height z a)) (drop l.edges es) (λ a m. inr m)
     (edges_leveled z (drop l.edges es) (drop l.vertices vs) ls qs h.1))
 
 pub vertices_leveled : (z : Fraction) (es : List Active) (vs : List Vertex) (ls : List Level) (qs : List Fraction) → Leveled z es vs ls qs →
-    EachVertex (λ v. Among qs (vertex_height v)) vs
-vertices_leveled z es vs [] [] h = subst (λ us. EachVertex (λ v. Among [] (vertex_height v)) us) (sym h.1) tt
+    AllByRecursion (λ v. Among qs (vertex_height v)) vs
+vertices_leveled z es vs [] [] h = subst (λ us. AllByRecursion (λ v. Among [] (vertex_height v)) us) (sym h.1) tt
 vertices_leveled z es vs [] (q ∷ qs) h = absurd h
 vertices_leveled z es vs (l ∷ ls) [] h = absurd h
 vertices_leveled z es vs (l ∷ ls) (q ∷ qs) h =
-    EachVertex-taken (λ v. Among (q ∷ qs) (vertex_height v)) l.vertices vs
-    (EachVertex-map (λ v. Same (vertex_height v) q) (λ v. Among (q ∷ qs) (vertex_height v)) (take l.vertices vs) (λ v e. inl e) h.0.vertices)
-    (EachVertex-map (λ v. Among qs (vertex_height v)) (λ v. Among (q ∷ qs) (vertex_height v)) (drop l.vertices vs) (λ v m. inr m)
+    each-join (λ v. Among (q ∷ qs) (vertex_height v)) l.vertices vs
+    (each-map (λ v. Same (vertex_height v) q) (λ v. Among (q ∷ qs) (vertex_height v)) (take l.vertices vs) (λ v e. inl e) h.0.vertices)
+    (each-map (λ v. Among qs (vertex_height v)) (λ v. Among (q ∷ qs) (vertex_height v)) (drop l.vertices vs) (λ v m. inr m)
     (vertices_leveled z (drop l.edges es) (drop l.vertices vs) ls qs h.1))
 
 -- what holds of the heights of all edges and vertices holds of a level's height
 pub level_some : (P : Fraction → Type 0) (z q : Fraction) (es : List Active) (vs : List Vertex) (n m : ℕ) → IsFraction z →
     ((h k : Fraction) → IsFraction h → IsFraction k → Same k h → P h → P k) → IsAtLevel z q es vs n m →
-    EachActive (λ a. P (active_height z a)) es → EachVertex (λ v. P (vertex_height v)) vs → P q
+    AllByRecursion (λ a. P (active_height z a)) es → AllByRecursion (λ v. P (vertex_height v)) vs → P q
 level_some P z q [] vs (suc n) m i f l e v = absurd (omega (arith, l.edges_fit))
 level_some P z q (a ∷ es) vs (suc n) m i f l e v = f (active_height z a) q (active_height-number z a i) l.number (sym l.edges.0) e.0
 level_some P z q es [] zero (suc m) i f l e v = absurd (omega (arith, l.vertices_fit))
@@ -401,7 +371,7 @@ leveled_numbers z es vs (l ∷ ls) (q ∷ qs) h = (h.0.number, leveled_numbers z
 
 -- the heights fall
 pub leveled_fall : (z q : Fraction) (es : List Active) (vs : List Vertex) (ls : List Level) (qs : List Fraction) → IsFraction z → IsFraction q →
-    EachActive (λ a. fraction_lt (active_height z a) q ≡ true) es → EachVertex (λ v. fraction_lt (vertex_height v) q ≡ true) vs →
+    AllByRecursion (λ a. fraction_lt (active_height z a) q ≡ true) es → AllByRecursion (λ v. fraction_lt (vertex_height v) q ≡ true) vs →
     Leveled z es vs ls qs → FollowFrom (λ h k. fraction_lt k h) q qs
 leveled_fall z q es vs [] [] i j e v h = tt
 leveled_fall z q es vs [] (r ∷ rs) i j e v h = absurd h
@@ -414,7 +384,7 @@ leveled_fall z q es vs (l ∷ ls) (r ∷ rs) i j e v h = (
 -- what holds of the heights of all edges and vertices holds of all levels
 pub leveled_each : (P : Fraction → Type 0) (z : Fraction) (es : List Active) (vs : List Vertex) (ls : List Level) (qs : List Fraction) → IsFraction z →
     ((h k : Fraction) → IsFraction h → IsFraction k → Same k h → P h → P k) → Leveled z es vs ls qs →
-    EachActive (λ a. P (active_height z a)) es → EachVertex (λ v. P (vertex_height v)) vs → Each P qs
+    AllByRecursion (λ a. P (active_height z a)) es → AllByRecursion (λ v. P (vertex_height v)) vs → AllByRecursion P qs
 leveled_each P z es vs [] [] i f h e v = tt
 leveled_each P z es vs [] (q ∷ qs) i f h e v = absurd h
 leveled_each P z es vs (l ∷ ls) [] i f h e v = absurd h
@@ -436,7 +406,7 @@ leveled_order z es vs (l ∷ ls) (q ∷ qs) i h =
 
 -- the levels' heights are a listing of the column's
 pub leveled_heights : (pieces : List Piece) (z : Fraction) (es : List Active) (vs : List Vertex) (ls : List Level) (qs : List Fraction) → IsFraction z →
-    EachActive (IsEntry pieces) es → SameNumbers (pieces_of es) (numbers_from 0 (comes_to z) pieces) → AreVertices pieces (in_column z) vs →
+    AllByRecursion (IsEntry pieces) es → SameNumbers (pieces_of es) (numbers_from 0 (comes_to z) pieces) → AreVertices pieces (in_column z) vs →
     Leveled z es vs ls qs → IsHeights pieces z qs
 leveled_heights pieces z es vs ls qs i entries coming are h =
     let hs = heights_in pieces z in
@@ -446,25 +416,25 @@ leveled_heights pieces z es vs ls qs i entries coming are h =
       has_all =
           pieces_among z qs 0 pieces i
           (told_pieces pieces (edges_all z pieces (comes_to z) (is_among qs) es entries coming
-          (EachActive-map (λ a. Among qs (active_height z a)) (λ a. is_among qs (active_height z a) ≡ true) es (λ a. test_from_among qs (active_height z a)) (edges_leveled z es vs ls qs h))))
-          (EachVertex-map (λ v. in_column z v ≡ true → is_among qs (vertex_height v) ≡ true) (InColumn z (Among qs)) (all_vertices 0 pieces)
+          (each-map (λ a. Among qs (active_height z a)) (λ a. is_among qs (active_height z a) ≡ true) es (λ a. test_from_among qs (active_height z a)) (edges_leveled z es vs ls qs h))))
+          (each-map (λ v. in_column z v ≡ true → is_among qs (vertex_height v) ≡ true) (InColumn z (Among qs)) (all_vertices 0 pieces)
           (λ v g t. among_from_test qs (vertex_height v) (g t))
           (vertices_all pieces (in_column z) (λ v. is_among qs (vertex_height v)) vs are
-          (EachVertex-map (λ v. Among qs (vertex_height v)) (λ v. is_among qs (vertex_height v) ≡ true) vs (λ v. test_from_among qs (vertex_height v)) (vertices_leveled z es vs ls qs h))));
+          (each-map (λ v. Among qs (vertex_height v)) (λ v. is_among qs (vertex_height v) ≡ true) vs (λ v. test_from_among qs (vertex_height v)) (vertices_leveled z es vs ls qs h))));
       has_no_other =
           leveled_each (Among hs) z es vs ls qs i (λ a b na nb same m. Among-same hs a b na same m) h
-          (EachActive-map (λ a. is_among hs (active_height z a) ≡ true) (λ a. Among hs (active_height z a)) es (λ a. among_from_test hs (active_height z a))
+          (each-map (λ a. is_among hs (active_height z a) ≡ true) (λ a. Among hs (active_height z a)) es (λ a. among_from_test hs (active_height z a))
           (edges_each z pieces (comes_to z) (is_among hs) es entries coming (tell_pieces pieces (all_come_among z hs pieces i (λ q m. m)))))
-          (EachVertex-map (λ v. is_among hs (vertex_height v) ≡ true) (λ v. Among hs (vertex_height v)) vs (λ v. among_from_test hs (vertex_height v))
+          (each-map (λ v. is_among hs (vertex_height v) ≡ true) (λ v. Among hs (vertex_height v)) vs (λ v. among_from_test hs (vertex_height v))
           (vertices_each pieces (in_column z) (λ v. is_among hs (vertex_height v)) vs are
-          (EachVertex-map (InColumn z (Among hs)) (λ v. in_column z v ≡ true → is_among hs (vertex_height v) ≡ true) (all_vertices 0 pieces) (λ v g t. test_from_among hs (vertex_height v) (g t)) (all_vertices_among z hs 0 pieces i (λ q m. m)))));
+          (each-map (InColumn z (Among hs)) (λ v. in_column z v ≡ true → is_among hs (vertex_height v) ≡ true) (all_vertices 0 pieces) (λ v g t. test_from_among hs (vertex_height v) (g t)) (all_vertices_among z hs 0 pieces i (λ q m. m)))));
     }
   where
-    told_pieces : (ps : List Piece) → EachPiece (λ p. comes_to z p ≡ true → is_among qs (height_of z p) ≡ true) ps → EachPiece (λ p. comes_to z p ≡ true → Among qs (height_of z p)) ps
+    told_pieces : (ps : List Piece) → AllByRecursion (λ p. comes_to z p ≡ true → is_among qs (height_of z p) ≡ true) ps → AllByRecursion (λ p. comes_to z p ≡ true → Among qs (height_of z p)) ps
     told_pieces [] g = tt
     told_pieces (p ∷ ps) g = (λ t. among_from_test qs (height_of z p) (g.0 t), told_pieces ps g.1)
 
-    tell_pieces : (ps : List Piece) → EachPiece (λ p. comes_to z p ≡ true → Among (heights_in pieces z) (height_of z p)) ps →
-        EachPiece (λ p. comes_to z p ≡ true → is_among (heights_in pieces z) (height_of z p) ≡ true) ps
+    tell_pieces : (ps : List Piece) → AllByRecursion (λ p. comes_to z p ≡ true → Among (heights_in pieces z) (height_of z p)) ps →
+        AllByRecursion (λ p. comes_to z p ≡ true → is_among (heights_in pieces z) (height_of z p) ≡ true) ps
     tell_pieces [] g = tt
     tell_pieces (p ∷ ps) g = (λ t. test_from_among (heights_in pieces z) (height_of z p) (g.0 t), tell_pieces ps g.1)

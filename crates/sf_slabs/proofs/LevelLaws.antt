@@ -1,5 +1,6 @@
 -- The cells of a column, from the top: at each height the point and the gap below it, where what is above grows by what goes on.
 use Rattle.std.proofs.Common.{◌≡◌, refl, ap, sym, ◌∙◌, ℕ, ℤ, pos, ◌+ℤ◌, ◌-ℤ◌, ◌*ℤ◌, ◌<ℤ◌, ◌<◌, arith, Bool, true, false, ◌||◌, List, [], ◌∷◌, map, ◌⊎◌, inl, inr}
+use Rattle.std.specs.List.{AllByRecursion}
 use Rattle.std.proofs.lemmas.Bool.{both_ways, cases_Bool}
 use Rattle.std.proofs.lemmas.Int.{ints}
 use Rattle.sf_grid.specs.Fraction.{Fraction, IsFraction, fraction_lt, middle, one_less}
@@ -18,6 +19,7 @@ use Rattle.sf_slabs.proofs.CellLaws.{AgreeOn, numbers_from-agree}
 use Rattle.sf_slabs.proofs.MarkLaws.{middle-number}
 use Rattle.sf_slabs.proofs.NumberLaws.{Among, Each-before, Numbers, before_among, falling_order, rising_order}
 use Rattle.sf_slabs.proofs.SampleLaws.{FollowFrom}
+use Rattle.sf_slabs.proofs.EachLaws.{each-map}
 
 -- ---- a height in a column: what is on it, what goes on from it, and what is on the gap below it
 pub record Level : Type 0 where
@@ -82,11 +84,6 @@ one_less-below q i = test_from_lt _ _ (mul_lt _ _ q.den i.positive (smaller q.nu
     smaller n d h = omega (arith, ints)
 
 -- ---- where pieces stand against the heights from q on
--- every piece of a list has a property
-abbrev pub EachPiece : (Piece → Type 0) → List Piece → Type 0
-EachPiece P [] = Unit {0}
-EachPiece P (p ∷ ps) = P p × EachPiece P ps
-
 -- a piece that goes on does so above q, or at q or a later height
 abbrev pub Placed : Fraction → Fraction → List Fraction → Piece → Type 0
 Placed x q qs p = passes x p ≡ true → IsFraction (height_of x p) × ((fraction_lt q (height_of x p) ≡ true) ⊎ Among (q ∷ qs) (height_of x p))
@@ -154,15 +151,11 @@ stands_last x q m p h t =
 
 -- ---- tests that agree on a list of pieces, step by step
 grown : (x q m : Fraction) (above : Piece → Bool) (ps : List Piece) → IsFraction q → IsFraction m → fraction_lt m q ≡ true →
-    EachPiece (Stands x q m) ps → AgreeOn (is_above (point_at x q)) above ps →
+    AllByRecursion (Stands x q m) ps → AgreeOn (is_above (point_at x q)) above ps →
     AgreeOn (is_above (point_at x m)) (λ p. above p || goes_on_from x q p) ps
 grown x q m above [] i j l h a = tt
 grown x q m above (p ∷ ps) i j l h a =
     (is_above-lower x q m p i j l h.0 ∙ ap (λ b. b || goes_on_from x q p) a.0, grown x q m above ps i j l h.1 a.1)
-
-pub EachPiece-map : (P Q : Piece → Type 0) (ps : List Piece) → ((p : Piece) → P p → Q p) → EachPiece P ps → EachPiece Q ps
-EachPiece-map P Q [] f h = tt
-EachPiece-map P Q (p ∷ ps) f h = (f p h.0, EachPiece-map P Q ps f h.1)
 
 pub cell-agree : (dim : ℕ) (on above above' : Piece → Bool) (ps : List Piece) → AgreeOn above above' ps → cell_by dim on above ps ≡ cell_by dim on above' ps
 cell-agree dim on above above' ps a =
@@ -174,14 +167,14 @@ two_cells c c' d d' cs cs' e f g = ap (λ z. z ∷ d ∷ cs) e ∙ ap (λ z. c' 
 
 -- the cells of a column from the height q down
 pub cells-levels : (x : Mark) (q : Fraction) (qs : List Fraction) (above : Piece → Bool) (pieces : List Piece) → IsFraction q → Numbers qs →
-    FollowFrom (λ a b. fraction_lt b a) q qs → EachPiece (Placed x.place q qs) pieces → AgreeOn (is_above (point_at x.place q)) above pieces →
+    FollowFrom (λ a b. fraction_lt b a) q qs → AllByRecursion (Placed x.place q qs) pieces → AgreeOn (is_above (point_at x.place q)) above pieces →
     map (λ y. cell_of pieces (sample_at x y)) (marks_from one_less q qs) ≡ level_cells x.listed pieces above (levels_from x.place q qs)
 cells-levels x q [] above pieces i n f h a =
     two_cells _ _ _ _ _ _
     (cell-agree (dimension x.listed true) (is_on (point_at x.place q)) (is_above (point_at x.place q)) above pieces a)
     (cell-agree (dimension x.listed false) (is_on (point_at x.place (one_less q))) (is_above (point_at x.place (one_less q))) (λ p. above p || goes_on_from x.place q p) pieces
     (grown x.place q (one_less q) above pieces i (record { positive = i.positive }) (one_less-below q i)
-    (EachPiece-map (Placed x.place q []) (Stands x.place q (one_less q)) pieces (λ p k. stands_last x.place q (one_less q) p k) h) a))
+    (each-map (Placed x.place q []) (Stands x.place q (one_less q)) pieces (λ p k. stands_last x.place q (one_less q) p k) h) a))
     refl
 cells-levels x q (r ∷ rs) above pieces i n f h a =
     let m = middle q r in
@@ -190,10 +183,10 @@ cells-levels x q (r ∷ rs) above pieces i n f h a =
     (cell-agree (dimension x.listed true) (is_on (point_at x.place q)) (is_above (point_at x.place q)) above pieces a)
     (cell-agree (dimension x.listed false) (is_on (point_at x.place m)) (is_above (point_at x.place m)) (λ p. above p || goes_on_from x.place q p) pieces
     (grown x.place q m above pieces i im (middle-below q r i n.0 f.0)
-    (EachPiece-map (Placed x.place q (r ∷ rs)) (Stands x.place q m) pieces
+    (each-map (Placed x.place q (r ∷ rs)) (Stands x.place q m) pieces
     (λ p k. stands_from x.place q r m rs p i n.0 im n.1 f.1 (inr (middle-above q r i n.0 f.0)) k) h) a))
     (cells-levels x r rs (λ p. above p || goes_on_from x.place q p) pieces n.0 n.1 f.1
-    (EachPiece-map (Placed x.place q (r ∷ rs)) (Placed x.place r rs) pieces (λ p k. placed_next x.place q r rs p i n.0 f.0 k) h)
+    (each-map (Placed x.place q (r ∷ rs)) (Placed x.place r rs) pieces (λ p k. placed_next x.place q r rs p i n.0 f.0 k) h)
     (grown x.place q r above pieces i n.0 f.0
-    (EachPiece-map (Placed x.place q (r ∷ rs)) (Stands x.place q r) pieces
+    (each-map (Placed x.place q (r ∷ rs)) (Stands x.place q r) pieces
     (λ p k. stands_from x.place q r r rs p i n.0 n.0 n.1 f.1 (inl refl) k) h) a))

@@ -2,7 +2,7 @@
 use Rattle.std.proofs.Common.{◌≡◌, refl, ap, sym, subst, ◌∙◌, ℕ, ◌+◌, ℤ, pos, ◌+ℤ◌, ◌-ℤ◌, ◌*ℤ◌, ◌≤ℤ◌, ◌<ℤ◌, lit<, arith, Bool, true, false, cond, not, ◌&&◌, ◌||◌, [], ◌∷◌, inl, inr, unsigned_abs}
 use Rattle.std.specs.Prelude.{if◌then◌else◌, int_le, int_lt}
 use Rattle.std.specs.Int.{int_max, int_min}
-use Rattle.std.specs.List.{sum_by}
+use Rattle.std.specs.List.{AllByRecursion, sum_by}
 use Rattle.std.specs.Ordering.{int_eq}
 use Rattle.std.proofs.lemmas.Bool.{and_from, and_parts, both_ways, cases_Bool}
 use Rattle.std.proofs.lemmas.Int.{clamps, ints}
@@ -29,7 +29,6 @@ use Rattle.sf_slabs.proofs.GapLaws.{IsGap, Parted, is_on-gap, one_of, within-who
 use Rattle.sf_slabs.proofs.LeveledLaws.{vertex_height}
 use Rattle.sf_slabs.proofs.NumberLaws.{Same-trans}
 use Rattle.sf_slabs.proofs.OnLaws.{on_edge-height, on_edge-vertical, same_point-at}
-use Rattle.sf_slabs.proofs.SampleLaws.{Each}
 use Rattle.sf_slabs.proofs.Shapes.{comes_to, in_column}
 use Rattle.sf_columns.proofs.SideLaws.{goes_on}
 use Rattle.sf_slabs.proofs.SlabLaws.{reached_from}
@@ -637,16 +636,16 @@ swapped false false = refl
 
 -- both ends of a vertical edge of the column are parted
 ends_parted : (z q r : Fraction) (a b : Coordinates) → is_vertical (edge_between a b) ≡ true → fraction_eq (whole a.x) z ≡ true →
-    Each (Parted q r) (heights_of z (Edge a b)) → Parted q r (whole (int_min a.y b.y)) × Parted q r (whole (int_max a.y b.y))
+    AllByRecursion (Parted q r) (heights_of z (Edge a b)) → Parted q r (whole (int_min a.y b.y)) × Parted q r (whole (int_max a.y b.y))
 ends_parted z q r a b upright t h =
     let e = edge_between a b in
     let both =
-    if_true (Each (Parted q r)) (fraction_eq (whole a.x) z) (whole a.y ∷ whole b.y ∷ []) [] t
-    (if_true (Each (Parted q r)) (is_vertical e) (if_in_column z a (whole a.y ∷ whole b.y ∷ [])) (if reaches e z then height_at e z ∷ [] else []) upright h) in
+    if_true (AllByRecursion (Parted q r)) (fraction_eq (whole a.x) z) (whole a.y ∷ whole b.y ∷ []) [] t
+    (if_true (AllByRecursion (Parted q r)) (is_vertical e) (if_in_column z a (whole a.y ∷ whole b.y ∷ [])) (if reaches e z then height_at e z ∷ [] else []) upright h) in
     one_of (λ y. Parted q r (whole y)) a.y b.y both.0 both.1.0
 
 -- the gap below a height
-pub on_gap-under : (z q r m : Fraction) (p : Piece) → IsFraction z → IsGap q r m → Each (Parted q r) (heights_of z p) → is_on (point_at z m) p ≡ under z q p
+pub on_gap-under : (z q r m : Fraction) (p : Piece) → IsFraction z → IsGap q r m → AllByRecursion (Parted q r) (heights_of z p) → is_on (point_at z m) p ≡ under z q p
 on_gap-under z q r m (Edge a b) i g h =
     let e = edge_between a b in
     elim (cases_Bool (is_vertical e)) [
@@ -666,7 +665,7 @@ on_gap-under z q r m (Edge a b) i g h =
 on_gap-under z q r m (Dot a) i g h = is_on-gap z q r m (Dot a) i g h
 
 -- and above a height
-pub on_gap-over : (z q r m : Fraction) (p : Piece) → IsFraction z → IsGap q r m → Each (Parted q r) (heights_of z p) → is_on (point_at z m) p ≡ over z r p
+pub on_gap-over : (z q r m : Fraction) (p : Piece) → IsFraction z → IsGap q r m → AllByRecursion (Parted q r) (heights_of z p) → is_on (point_at z m) p ≡ over z r p
 on_gap-over z q r m (Edge a b) i g h =
     let e = edge_between a b in
     elim (cases_Bool (is_vertical e)) [
@@ -686,11 +685,11 @@ on_gap-over z q r m (Edge a b) i g h =
 on_gap-over z q r m (Dot a) i g h = is_on-gap z q r m (Dot a) i g h
 
 -- no vertical edge is across the highest height, and none across the lowest
-pub none_over : (z q : Fraction) (p : Piece) → Each (λ h. fraction_lt q h ≡ false) (heights_of z p) → over z q p ≡ false
+pub none_over : (z q : Fraction) (p : Piece) → AllByRecursion (λ h. fraction_lt q h ≡ false) (heights_of z p) → over z q p ≡ false
 none_over z q (Edge a b) h = by_cases (is_vertical e) (fraction_eq (whole a.x) z) (fraction_lt q (whole (int_max a.y b.y))) (fraction_le (whole (int_min a.y b.y)) q) (λ u t.
     let both =
-    if_true (Each (λ h. fraction_lt q h ≡ false)) (fraction_eq (whole a.x) z) (whole a.y ∷ whole b.y ∷ []) [] t
-    (if_true (Each (λ h. fraction_lt q h ≡ false)) (is_vertical e) (if_in_column z a (whole a.y ∷ whole b.y ∷ [])) (if reaches e z then height_at e z ∷ [] else []) u h) in
+    if_true (AllByRecursion (λ h. fraction_lt q h ≡ false)) (fraction_eq (whole a.x) z) (whole a.y ∷ whole b.y ∷ []) [] t
+    (if_true (AllByRecursion (λ h. fraction_lt q h ≡ false)) (is_vertical e) (if_in_column z a (whole a.y ∷ whole b.y ∷ [])) (if reaches e z then height_at e z ∷ [] else []) u h) in
     (one_of (λ y. fraction_lt q (whole y) ≡ false) a.y b.y both.0 both.1.0).1)
   where
     e : Line
@@ -703,11 +702,11 @@ none_over z q (Edge a b) h = by_cases (is_vertical e) (fraction_eq (whole a.x) z
 none_over z q (Dot a) h = refl
 
 -- and none below the lowest
-pub none_under : (z q : Fraction) (p : Piece) → Each (λ h. fraction_lt h q ≡ false) (heights_of z p) → under z q p ≡ false
+pub none_under : (z q : Fraction) (p : Piece) → AllByRecursion (λ h. fraction_lt h q ≡ false) (heights_of z p) → under z q p ≡ false
 none_under z q (Edge a b) h = by_cases (is_vertical e) (fraction_eq (whole a.x) z) (fraction_le q (whole (int_max a.y b.y))) (fraction_lt (whole (int_min a.y b.y)) q) (λ u t.
     let both =
-    if_true (Each (λ h. fraction_lt h q ≡ false)) (fraction_eq (whole a.x) z) (whole a.y ∷ whole b.y ∷ []) [] t
-    (if_true (Each (λ h. fraction_lt h q ≡ false)) (is_vertical e) (if_in_column z a (whole a.y ∷ whole b.y ∷ [])) (if reaches e z then height_at e z ∷ [] else []) u h) in
+    if_true (AllByRecursion (λ h. fraction_lt h q ≡ false)) (fraction_eq (whole a.x) z) (whole a.y ∷ whole b.y ∷ []) [] t
+    (if_true (AllByRecursion (λ h. fraction_lt h q ≡ false)) (is_vertical e) (if_in_column z a (whole a.y ∷ whole b.y ∷ [])) (if reaches e z then height_at e z ∷ [] else []) u h) in
     (one_of (λ y. fraction_lt (whole y) q ≡ false) a.y b.y both.0 both.1.0).0)
   where
     e : Line

@@ -1,6 +1,6 @@
 -- The levels of a column from the top: each has just the edges and vertices of one height, and the rest is below it.
 use Rattle.std.proofs.Common.{◌≡◌, refl, ap, sym, subst, ◌∙◌, ℕ, zero, suc, ◌+◌, ◌<◌, ◌≤◌, ℤ, pos, ◌*ℤ◌, ◌≤ℤ◌, ◌<ℤ◌, lit<, arith, Bool, true, false, cond, ◌&&◌, ◌||◌, List, [], ◌∷◌, length, take, drop, Option}
-use Rattle.std.specs.List.{prefix_len}
+use Rattle.std.specs.List.{AllByRecursion, prefix_len}
 use Rattle.std.specs.Ordering.{int_eq}
 use Rattle.std.specs.Prelude.{int_lt}
 use Rattle.std.specs.declared.cmp.Ordering.{Ordering}
@@ -19,7 +19,7 @@ use Rattle.sf_columns.specs.declared.contact.Contact.{Contact}
 use Rattle.sf_columns.specs.declared.level.Level.{Level}
 use Rattle.sf_columns.specs.declared.slanted.Slanted.{Slanted}
 use Rattle.sf_columns.specs.declared.vertex.Vertex.{Vertex}
-use Rattle.sf_columns.specs.Fronts.{EachActive, line_of, touches}
+use Rattle.sf_columns.specs.Fronts.{line_of, touches}
 use Rattle.sf_columns.specs.Levels.{AreTops, IsTop, group_length, level_by, run_length, top_level}
 use Rattle.sf_columns.specs.Order.{height_in}
 use Rattle.sf_columns.specs.Slanted.{side_of}
@@ -27,7 +27,7 @@ use Rattle.sf_slabs.proofs.FallsLaws.{edge_of, height_in-edge_of}
 use Rattle.sf_slabs.proofs.HeightsLaws.{height_at-same}
 use Rattle.sf_slabs.proofs.LocateLaws.{height_in-number, less_from_lt}
 use Rattle.sf_slabs.proofs.NumberLaws.{Same-trans, rising_order}
-use Rattle.sf_slabs.proofs.Shapes.{EachVertex, InOrder, InOrderFrom, StepsAt, StepsAtFrom, in_column, step_by}
+use Rattle.sf_slabs.proofs.Shapes.{InOrder, InOrderFrom, StepsAt, StepsAtFrom, in_column, step_by}
 
 -- ---- heights
 -- of an edge in the column z, and of a vertex
@@ -78,12 +78,12 @@ cmp-same p q r i j k e = by_order (fraction_cmp p q) refl
 -- ---- a list of edges, parted at the number n: at the height q, and below it
 abbrev pub ActiveParts : Fraction → Fraction → ℕ → List Active → Type 0
 ActiveParts z q n es =
-    EachActive (λ a. Same (active_height z a) q) (take n es) × EachActive (λ a. fraction_lt (active_height z a) q ≡ true) (drop n es)
+    AllByRecursion (λ a. Same (active_height z a) q) (take n es) × AllByRecursion (λ a. fraction_lt (active_height z a) q ≡ true) (drop n es)
 
 -- the same of a list of vertices
 abbrev pub VertexParts : Fraction → ℕ → List Vertex → Type 0
 VertexParts q n vs =
-    EachVertex (λ v. Same (vertex_height v) q) (take n vs) × EachVertex (λ v. fraction_lt (vertex_height v) q ≡ true) (drop n vs)
+    AllByRecursion (λ v. Same (vertex_height v) q) (take n vs) × AllByRecursion (λ v. fraction_lt (vertex_height v) q ≡ true) (drop n vs)
 
 -- the two ways to write one more
 one_more_is : (n : ℕ) → 1 + n ≡ suc n
@@ -91,7 +91,7 @@ one_more_is n = omega arith
 
 -- below an edge that is below q
 steps_below : (z q : Fraction) (column : Option Fraction) (a : Active) (es : List Active) (cs : List Contact) → IsFraction z → IsFraction q →
-    StepsAtFrom z column a es cs → fraction_lt (active_height z a) q ≡ true → EachActive (λ b. fraction_lt (active_height z b) q ≡ true) es
+    StepsAtFrom z column a es cs → fraction_lt (active_height z a) q ≡ true → AllByRecursion (λ b. fraction_lt (active_height z b) q ≡ true) es
 steps_below z q column a [] cs i j h l = tt
 steps_below z q column a (b ∷ bs) [] i j h l = absurd h
 steps_below z q column a (b ∷ bs) (c ∷ cs) i j h l =
@@ -117,7 +117,7 @@ steps_from z q column a (b ∷ bs) (c ∷ cs) i j h e =
 
     by_step : (t : Bool) → fraction_cmp (active_height z b) (active_height z a) ≡ step_by t →
         (Same (active_height z b) q → ActiveParts z q n bs × (n ≤ length bs)) →
-        (fraction_lt (active_height z b) q ≡ true → EachActive (λ b. fraction_lt (active_height z b) q ≡ true) bs) →
+        (fraction_lt (active_height z b) q ≡ true → AllByRecursion (λ b. fraction_lt (active_height z b) q ≡ true) bs) →
         ActiveParts z q (cond t (1 + n) 0) (b ∷ bs) × (cond t (1 + n) 0 ≤ length (b ∷ bs))
     by_step true f rest _ =
         let same = Same-trans (active_height z b) (active_height z a) q (active_height-number z a i) (same_from_equal (active_height z b) (active_height z a) f) e in
@@ -155,7 +155,7 @@ not_higher a b c d e h = ge_from_test c d (by_test (int_lt a b) (int_eq a b) (in
     by_test false false u e h = cc
 
 -- the heights of vertices in order fall
-fall_from : (z : Fraction) (u : Vertex) (vs : List Vertex) → IsFraction z → in_column z u ≡ true → EachVertex (λ v. in_column z v ≡ true) vs →
+fall_from : (z : Fraction) (u : Vertex) (vs : List Vertex) → IsFraction z → in_column z u ≡ true → AllByRecursion (λ v. in_column z v ≡ true) vs →
     InOrderFrom u vs → FallFrom u.at.y vs
 fall_from z u [] i h k o = tt
 fall_from z u (v ∷ vs) i h k o = (not_higher v.at.x u.at.x u.at.y v.at.y (one_column z u v i h k.0) o.0, fall_from z v vs i k.0 k.1 o.1)
@@ -168,7 +168,7 @@ whole_lt a b h = test_from_lt _ _ (scaled a b h)
     scaled a b h = omega (arith, ints)
 
 -- below a vertex that is below y
-fall_below : (y c : ℤ) (vs : List Vertex) → FallFrom c vs → c <ℤ y → EachVertex (λ v. fraction_lt (vertex_height v) (whole y) ≡ true) vs
+fall_below : (y c : ℤ) (vs : List Vertex) → FallFrom c vs → c <ℤ y → AllByRecursion (λ v. fraction_lt (vertex_height v) (whole y) ≡ true) vs
 fall_below y c [] h l = tt
 fall_below y c (v ∷ vs) h l =
     let here : v.at.y <ℤ y = lower v.at.y c y h.0 l in
@@ -201,7 +201,7 @@ fall_fits : (y : ℤ) (vs : List Vertex) → prefix_len (λ u. int_eq u.at.y y) 
 fall_fits y vs = prefix_len-le-length (λ u. int_eq u.at.y y) vs
 
 -- the vertices at the place of the first one
-pub group_parts : (z : Fraction) (v : Vertex) (vs : List Vertex) → IsFraction z → EachVertex (λ u. in_column z u ≡ true) (v ∷ vs) → InOrder (v ∷ vs) →
+pub group_parts : (z : Fraction) (v : Vertex) (vs : List Vertex) → IsFraction z → AllByRecursion (λ u. in_column z u ≡ true) (v ∷ vs) → InOrder (v ∷ vs) →
     VertexParts (vertex_height v) (group_length (v ∷ vs)) (v ∷ vs) × (group_length (v ∷ vs) ≤ length (v ∷ vs))
 group_parts z v vs i h o =
     let k = fall_parts v.at.y vs (fall_from z v vs i h.0 h.1 o) in
@@ -216,11 +216,11 @@ lower_number a b q h l = test_from_lt _ _ (lower (a *ℤ pos q.den) (b *ℤ pos 
     lower a b c h k = omega (arith, ints)
 
 -- all of a column's vertices are below q where the first one is
-group_below : (z q : Fraction) (v : Vertex) (vs : List Vertex) → IsFraction z → IsFraction q → EachVertex (λ u. in_column z u ≡ true) (v ∷ vs) → InOrder (v ∷ vs) →
-    fraction_lt (vertex_height v) q ≡ true → EachVertex (λ u. fraction_lt (vertex_height u) q ≡ true) (v ∷ vs)
+group_below : (z q : Fraction) (v : Vertex) (vs : List Vertex) → IsFraction z → IsFraction q → AllByRecursion (λ u. in_column z u ≡ true) (v ∷ vs) → InOrder (v ∷ vs) →
+    fraction_lt (vertex_height v) q ≡ true → AllByRecursion (λ u. fraction_lt (vertex_height u) q ≡ true) (v ∷ vs)
 group_below z q v vs i j h o l = (l, all_below v.at.y vs (fall_from z v vs i h.0 h.1 o) l)
   where
-    all_below : (y : ℤ) (us : List Vertex) → FallFrom y us → fraction_lt (whole y) q ≡ true → EachVertex (λ u. fraction_lt (vertex_height u) q ≡ true) us
+    all_below : (y : ℤ) (us : List Vertex) → FallFrom y us → fraction_lt (whole y) q ≡ true → AllByRecursion (λ u. fraction_lt (vertex_height u) q ≡ true) us
     all_below y [] f l = tt
     all_below y (u ∷ us) f l =
         let here = lower_number u.at.y y q f.0 l in
@@ -232,10 +232,10 @@ pub record IsAtLevel (z q : Fraction) (es : List Active) (vs : List Vertex) (n m
   pub some : 0 < n + m
   pub edges_fit : n ≤ length es
   pub vertices_fit : m ≤ length vs
-  pub edges : EachActive (λ a. Same (active_height z a) q) (take n es)
-  pub vertices : EachVertex (λ v. Same (vertex_height v) q) (take m vs)
-  pub edges_below : EachActive (λ a. fraction_lt (active_height z a) q ≡ true) (drop n es)
-  pub vertices_below : EachVertex (λ v. fraction_lt (vertex_height v) q ≡ true) (drop m vs)
+  pub edges : AllByRecursion (λ a. Same (active_height z a) q) (take n es)
+  pub vertices : AllByRecursion (λ v. Same (vertex_height v) q) (take m vs)
+  pub edges_below : AllByRecursion (λ a. fraction_lt (active_height z a) q ≡ true) (drop n es)
+  pub vertices_below : AllByRecursion (λ v. fraction_lt (vertex_height v) q ≡ true) (drop m vs)
 
 -- the levels one after another, at these heights
 abbrev pub Leveled : Fraction → List Active → List Vertex → List Level → List Fraction → Type 0
@@ -259,7 +259,7 @@ side_of-active z a v i h =
 
 -- the highest level of what is left, if it takes up anything, has a height
 top_is_level : (z : Fraction) (column : Option Fraction) (es : List Active) (cs : List Contact) (vs : List Vertex) → IsFraction z →
-    StepsAt z column es cs → EachVertex (λ v. in_column z v ≡ true) vs → InOrder vs →
+    StepsAt z column es cs → AllByRecursion (λ v. in_column z v ≡ true) vs → InOrder vs →
     0 < (top_level column es cs vs).edges + (top_level column es cs vs).vertices →
     HasLevel z es vs (top_level column es cs vs).edges (top_level column es cs vs).vertices
 top_is_level z column [] cs [] i s h o p = absurd (omega arith)
@@ -326,9 +326,9 @@ top_is_level z column (a ∷ es) cs (v ∷ vs) i s h o p =
             some = p;
             edges_fit = omega (arith, r.1);
             vertices_fit = k.1;
-            edges = subst (λ n. EachActive (λ b. Same (active_height z b) (vertex_height v)) (take n (a ∷ es))) (sym (one_more_is (prefix_len (touches column) cs))) (same, r.0.0);
+            edges = subst (λ n. AllByRecursion (λ b. Same (active_height z b) (vertex_height v)) (take n (a ∷ es))) (sym (one_more_is (prefix_len (touches column) cs))) (same, r.0.0);
             vertices = k.0.0;
-            edges_below = subst (λ n. EachActive (λ b. fraction_lt (active_height z b) (vertex_height v) ≡ true) (drop n (a ∷ es))) (sym (one_more_is (prefix_len (touches column) cs))) r.0.1;
+            edges_below = subst (λ n. AllByRecursion (λ b. fraction_lt (active_height z b) (vertex_height v) ≡ true) (drop n (a ∷ es))) (sym (one_more_is (prefix_len (touches column) cs))) r.0.1;
             vertices_below = k.0.1;
           },
         )
@@ -350,7 +350,7 @@ top_is_level z column (a ∷ es) cs (v ∷ vs) i s h o p =
 
 -- so has a level that takes up the same
 top_has_level : (z : Fraction) (column : Option Fraction) (es : List Active) (cs : List Contact) (vs : List Vertex) (l : Level) → IsFraction z →
-    StepsAt z column es cs → EachVertex (λ v. in_column z v ≡ true) vs → InOrder vs → IsTop column es cs vs l → HasLevel z es vs l.edges l.vertices
+    StepsAt z column es cs → AllByRecursion (λ v. in_column z v ≡ true) vs → InOrder vs → IsTop column es cs vs l → HasLevel z es vs l.edges l.vertices
 top_has_level z column es cs vs l i s h o t =
     moved l.edges l.vertices (top_level column es cs vs).edges (top_level column es cs vs).vertices t.edges t.vertices t.some
     (λ p. top_is_level z column es cs vs i s h o p)
@@ -361,12 +361,12 @@ top_has_level z column es cs vs l i s h o t =
         subst (λ c. HasLevel z es vs c m) (sym e) (subst (λ c. HasLevel z es vs k c) (sym f) (g r))
 
 -- ---- what is left after a level
-pub drop-each_active : (P : Active → Type 0) (n : ℕ) (es : List Active) → EachActive P es → EachActive P (drop n es)
+pub drop-each_active : (P : Active → Type 0) (n : ℕ) (es : List Active) → AllByRecursion P es → AllByRecursion P (drop n es)
 drop-each_active P zero es h = h
 drop-each_active P (suc n) [] h = tt
 drop-each_active P (suc n) (a ∷ es) h = drop-each_active P n es h.1
 
-pub drop-each_vertex : (P : Vertex → Type 0) (n : ℕ) (vs : List Vertex) → EachVertex P vs → EachVertex P (drop n vs)
+pub drop-each_vertex : (P : Vertex → Type 0) (n : ℕ) (vs : List Vertex) → AllByRecursion P vs → AllByRecursion P (drop n vs)
 drop-each_vertex P zero vs h = h
 drop-each_vertex P (suc n) [] h = tt
 drop-each_vertex P (suc n) (v ∷ vs) h = drop-each_vertex P n vs h.1
@@ -402,7 +402,7 @@ drop-steps z column (suc n) (a ∷ b ∷ es) (c ∷ cs) h = drop-steps z column 
 
 -- the levels of a column have heights
 pub leveled : (z : Fraction) (column : Option Fraction) (es : List Active) (cs : List Contact) (vs : List Vertex) (ls : List Level) → IsFraction z →
-    StepsAt z column es cs → EachVertex (λ v. in_column z v ≡ true) vs → InOrder vs → AreTops column es cs vs ls →
+    StepsAt z column es cs → AllByRecursion (λ v. in_column z v ≡ true) vs → InOrder vs → AreTops column es cs vs ls →
     (qs : List Fraction) × Leveled z es vs ls qs
 leveled z column es cs vs [] i s h o t = ([], t)
 leveled z column es cs vs (l ∷ ls) i s h o t =

@@ -1,3 +1,4 @@
+pub mod EachLaws
 mod Computed
 pub mod SampleLaws
 pub mod OnLaws

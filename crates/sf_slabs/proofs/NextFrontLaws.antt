@@ -22,7 +22,7 @@ use Rattle.sf_columns.specs.declared.piece.Piece.TheVariants.{Dot, Edge}
 use Rattle.sf_columns.specs.declared.vertex.Role.TheVariants.{Begin, Bottom, End, Top}
 use Rattle.sf_columns.specs.declared.vertex.Vertex.{Vertex}
 use Rattle.sf_cells.specs.Cells.{numbers_from}
-use Rattle.sf_columns.specs.Fronts.{AreContacts, Descend, DescendFrom, EachActive, IsEntry, IsEntryIn, SameNumbers, line_of, pieces_of}
+use Rattle.sf_columns.specs.Fronts.{AreContacts, Descend, DescendFrom, IsEntry, IsEntryIn, SameNumbers, line_of, pieces_of}
 use Rattle.sf_cells.specs.Hands.{Stop, stops}
 use Rattle.sf_columns.specs.Levels.{AreOnward, AreStarts, AreTops, IsOnward, SlopesFall, SlopesFallFrom, StartsWith, goes_past, going_past, if_begins}
 use Rattle.sf_cells.specs.Pieces.{heights_of, is_on}
@@ -33,62 +33,23 @@ use Rattle.sf_slabs.proofs.LeveledLaws.{IsAtLevel, Leveled, active_height, activ
 use Rattle.sf_slabs.proofs.CellLaws.{AgreeOn, numbers_from-agree}
 use Rattle.sf_slabs.proofs.ColumnLaws.{IsHeights}
 use Rattle.sf_slabs.proofs.LevelHeightsLaws.{leveled_heights}
-use Rattle.sf_slabs.proofs.LevelLaws.{EachPiece, Level as PieceLevel, levels_from}
+use Rattle.sf_slabs.proofs.LevelLaws.{Level as PieceLevel, levels_from}
 use Rattle.sf_slabs.proofs.LevelPiecesLaws.{height-left}
 use Rattle.sf_slabs.proofs.LocateLaws.{less_from_lt}
 use Rattle.sf_slabs.proofs.NumberLaws.{Among, Follow-rest, Numbers, Same-trans, rising_order}
-use Rattle.sf_slabs.proofs.SampleLaws.{Each, Follow, FollowFrom}
+use Rattle.sf_slabs.proofs.SampleLaws.{Follow, FollowFrom}
 use Rattle.sf_slabs.proofs.TopLaws.{passes-listed}
-use Rattle.sf_slabs.proofs.Shapes.{EachVertex, Fits, IsColumnOf, IsComing, IsFront, in_column}
+use Rattle.sf_slabs.proofs.Shapes.{Fits, IsColumnOf, IsComing, IsFront, in_column}
 use Rattle.sf_slabs.proofs.WeightLaws.{numbers_from-none, pieces_of-append}
+use Rattle.sf_slabs.proofs.EachLaws.{each-append, each-join, each-map, each-permuted, each-take}
 
 -- ---- every edge of a list
-pub each-join : (P : Active → Type 0) (n : ℕ) (os : List Active) → EachActive P (take n os) → EachActive P (drop n os) → EachActive P os
-each-join P zero os h k = k
-each-join P (suc n) [] h k = tt
-each-join P (suc n) (a ∷ os) h k = (h.0, each-join P n os h.1 k)
-
-pub each-append : (P : Active → Type 0) (es fs : List Active) → EachActive P es → EachActive P fs → EachActive P (es ++ fs)
-each-append P [] fs h k = k
-each-append P (a ∷ es) fs h k = (h.0, each-append P es fs h.1 k)
-
-to_recursion : (P : Active → Type 0) (os : List Active) → EachActive P os → AllByRecursion P os
-to_recursion P [] h = tt
-to_recursion P (a ∷ os) h = (h.0, to_recursion P os h.1)
-
-from_recursion : (P : Active → Type 0) (os : List Active) → AllByRecursion P os → EachActive P os
-from_recursion P [] h = tt
-from_recursion P (a ∷ os) h = (h.0, from_recursion P os h.1)
-
-pub all_of : (P : Active → Type 0) (os : List Active) → EachActive P os → All P os
-all_of P os h = All-from_recursion P os (to_recursion P os h)
-
-pub each_of : (P : Active → Type 0) (os : List Active) → All P os → EachActive P os
-each_of P os h = from_recursion P os (recursion_from_All P os h)
-
-pub each-permuted : (P : Active → Type 0) (es fs : List Active) → IsPermutation es fs → EachActive P es → EachActive P fs
-each-permuted P es fs s h = each_of P fs (All-permutation P es fs s (all_of P es h))
-
-pub each-map : (P Q : Active → Type 0) (os : List Active) → ((a : Active) → P a → Q a) → EachActive P os → EachActive Q os
-each-map P Q [] f h = tt
-each-map P Q (a ∷ os) f h = (f a h.0, each-map P Q os f h.1)
-
-pub each-take : (P : Active → Type 0) (n : ℕ) (os : List Active) → EachActive P os → EachActive P (take n os)
-each-take P zero os h = tt
-each-take P (suc n) [] h = tt
-each-take P (suc n) (a ∷ os) h = (h.0, each-take P n os h.1)
-
-pub each-take_vertex : (P : Vertex → Type 0) (n : ℕ) (vs : List Vertex) → EachVertex P vs → EachVertex P (take n vs)
-each-take_vertex P zero vs h = tt
-each-take_vertex P (suc n) [] h = tt
-each-take_vertex P (suc n) (v ∷ vs) h = (h.0, each-take_vertex P n vs h.1)
-
 -- those that go on are among all
-going-each : (P : Active → Type 0) (vs : List Vertex) (es : List Active) → EachActive P es → EachActive P (going_past vs es)
+going-each : (P : Active → Type 0) (vs : List Vertex) (es : List Active) → AllByRecursion P es → AllByRecursion P (going_past vs es)
 going-each P vs [] h = tt
 going-each P vs (a ∷ es) h = by_test (goes_past vs a) (going-each P vs es h.1)
   where
-    by_test : (t : Bool) → EachActive P (going_past vs es) → EachActive P (cond t (a ∷ going_past vs es) (going_past vs es))
+    by_test : (t : Bool) → AllByRecursion P (going_past vs es) → AllByRecursion P (cond t (a ∷ going_past vs es) (going_past vs es))
     by_test true rest = (h.0, rest)
     by_test false rest = rest
 
@@ -144,19 +105,19 @@ start_at pieces z q v a h b e k =
           (subst (λ (c : Coordinates). Same (whole c.y) q) (sym left) h.at_height);
     }
 
-starts_at : (pieces : List Piece) (z q : Fraction) (vs : List Vertex) (ss : List Active) → EachVertex (LiesAt pieces z q) vs → AreStarts pieces vs ss →
-    EachActive (StandsAt pieces z q) ss
-starts_at pieces z q [] ss h k = subst (EachActive (StandsAt pieces z q)) (sym k) tt
+starts_at : (pieces : List Piece) (z q : Fraction) (vs : List Vertex) (ss : List Active) → AllByRecursion (LiesAt pieces z q) vs → AreStarts pieces vs ss →
+    AllByRecursion (StandsAt pieces z q) ss
+starts_at pieces z q [] ss h k = subst (AllByRecursion (StandsAt pieces z q)) (sym k) tt
 starts_at pieces z q (v ∷ vs) ss h k = by_role (begins v.role) refl (λ ss. starts_at pieces z q vs ss h.1) ss k
   where
-    by_role : (b : Bool) → begins v.role ≡ b → ((ss : List Active) → AreStarts pieces vs ss → EachActive (StandsAt pieces z q) ss) → (ss : List Active) →
-        if_begins b (StartsWith pieces v.piece (AreStarts pieces vs)) (AreStarts pieces vs) ss → EachActive (StandsAt pieces z q) ss
+    by_role : (b : Bool) → begins v.role ≡ b → ((ss : List Active) → AreStarts pieces vs ss → AllByRecursion (StandsAt pieces z q) ss) → (ss : List Active) →
+        if_begins b (StartsWith pieces v.piece (AreStarts pieces vs)) (AreStarts pieces vs) ss → AllByRecursion (StandsAt pieces z q) ss
     by_role false e rest ss k = rest ss k
     by_role true e rest [] k = absurd k
     by_role true e rest (a ∷ ss) k = (start_at pieces z q v a h.0 e k.0 k.1.0, rest ss k.1.1)
 
-pub onward_at : (pieces : List Piece) (z q : Fraction) (run : List Active) (group : List Vertex) (onward : List Active) → EachActive (StandsAt pieces z q) run →
-    EachVertex (LiesAt pieces z q) group → IsOnward pieces run group onward → EachActive (StandsAt pieces z q) onward
+pub onward_at : (pieces : List Piece) (z q : Fraction) (run : List Active) (group : List Vertex) (onward : List Active) → AllByRecursion (StandsAt pieces z q) run →
+    AllByRecursion (LiesAt pieces z q) group → IsOnward pieces run group onward → AllByRecursion (StandsAt pieces z q) onward
 onward_at pieces z q run group onward h k o =
     each-permuted (StandsAt pieces z q) (going_past group run ++ o.starts) onward o.same
     (each-append (StandsAt pieces z q) (going_past group run) o.starts
@@ -164,22 +125,22 @@ onward_at pieces z q run group onward h k o =
     (starts_at pieces z q group o.starts k o.are_starts))
 
 -- ---- level after level
-paired : (pieces : List Piece) (z q : Fraction) (es : List Active) → EachActive (IsEntry pieces) es → EachActive (λ a. Same (active_height z a) q) es →
-    EachActive (StandsAt pieces z q) es
+paired : (pieces : List Piece) (z q : Fraction) (es : List Active) → AllByRecursion (IsEntry pieces) es → AllByRecursion (λ a. Same (active_height z a) q) es →
+    AllByRecursion (StandsAt pieces z q) es
 paired pieces z q [] h k = tt
 paired pieces z q (a ∷ es) h k = (record { entry = h.0; at_height = k.0 }, paired pieces z q es h.1 k.1)
 
-paired_vertices : (pieces : List Piece) (z q : Fraction) (vs : List Vertex) → EachVertex (IsVertexOf pieces) vs → EachVertex (λ v. in_column z v ≡ true) vs →
-    EachVertex (λ v. Same (vertex_height v) q) vs → EachVertex (LiesAt pieces z q) vs
+paired_vertices : (pieces : List Piece) (z q : Fraction) (vs : List Vertex) → AllByRecursion (IsVertexOf pieces) vs → AllByRecursion (λ v. in_column z v ≡ true) vs →
+    AllByRecursion (λ v. Same (vertex_height v) q) vs → AllByRecursion (LiesAt pieces z q) vs
 paired_vertices pieces z q [] h i k = tt
 paired_vertices pieces z q (v ∷ vs) h i k = (record { of_piece = h.0; here = i.0; at_height = k.0 }, paired_vertices pieces z q vs h.1 i.1 k.1)
 
 -- what is left of a column
 pub record IsLeft (pieces : List Piece) (z : Fraction) (es : List Active) (vs : List Vertex) : Type 0 where
   pub place : IsFraction z
-  pub entries : EachActive (IsEntry pieces) es
-  pub each : EachVertex (IsVertexOf pieces) vs
-  pub here : EachVertex (λ v. in_column z v ≡ true) vs
+  pub entries : AllByRecursion (IsEntry pieces) es
+  pub each : AllByRecursion (IsVertexOf pieces) vs
+  pub here : AllByRecursion (λ v. in_column z v ≡ true) vs
 
 left_after : (pieces : List Piece) (z : Fraction) (es : List Active) (vs : List Vertex) (n m : ℕ) → IsLeft pieces z es vs → IsLeft pieces z (drop n es) (drop m vs)
 left_after pieces z es vs n m l =
@@ -191,17 +152,17 @@ left_after pieces z es vs n m l =
     }
 
 pub level_onward : (pieces : List Piece) (z q : Fraction) (es : List Active) (vs : List Vertex) (n m : ℕ) (onward : List Active) → IsLeft pieces z es vs →
-    IsAtLevel z q es vs n m → IsOnward pieces (take n es) (take m vs) onward → EachActive (StandsAt pieces z q) onward
+    IsAtLevel z q es vs n m → IsOnward pieces (take n es) (take m vs) onward → AllByRecursion (StandsAt pieces z q) onward
 level_onward pieces z q es vs n m onward l h o =
     onward_at pieces z q (take n es) (take m vs) onward
     (paired pieces z q (take n es) (each-take (IsEntry pieces) n es l.entries) h.edges)
-    (paired_vertices pieces z q (take m vs) (each-take_vertex (IsVertexOf pieces) m vs l.each) (each-take_vertex (λ v. in_column z v ≡ true) m vs l.here) h.vertices)
+    (paired_vertices pieces z q (take m vs) (each-take (IsVertexOf pieces) m vs l.each) (each-take (λ v. in_column z v ≡ true) m vs l.here) h.vertices)
     o
 
 -- every edge that goes on is one of the pieces
 pub onward_entries : (pieces : List Piece) (z : Fraction) (es : List Active) (vs : List Vertex) (os : List Active) (ls : List Level) (qs : List Fraction) →
-    IsLeft pieces z es vs → Leveled z es vs ls qs → AreOnward pieces es vs os ls → EachActive (IsEntry pieces) os
-onward_entries pieces z es vs os [] qs l h o = subst (EachActive (IsEntry pieces)) (sym o) tt
+    IsLeft pieces z es vs → Leveled z es vs ls qs → AreOnward pieces es vs os ls → AllByRecursion (IsEntry pieces) os
+onward_entries pieces z es vs os [] qs l h o = subst (AllByRecursion (IsEntry pieces)) (sym o) tt
 onward_entries pieces z es vs os (k ∷ ls) [] l h o = absurd h
 onward_entries pieces z es vs os (k ∷ ls) (q ∷ qs) l h o =
     each-join (IsEntry pieces) k.onward os
@@ -226,23 +187,23 @@ below_it x a b q i j h l =
 
 -- a segment at one height by falling slope, and what is below it
 descend_from : (x q : Fraction) (a : Active) (segment rest : List Active) → IsFraction x → IsFraction q → Same (active_height x a) q →
-    EachActive (λ b. Same (active_height x b) q) segment → SlopesFallFrom a segment → EachActive (λ b. fraction_lt (active_height x b) q ≡ true) rest → Descend x rest →
+    AllByRecursion (λ b. Same (active_height x b) q) segment → SlopesFallFrom a segment → AllByRecursion (λ b. fraction_lt (active_height x b) q ≡ true) rest → Descend x rest →
     DescendFrom x a (segment ++ rest)
 descend_from x q a [] [] i j h k s l d = tt
 descend_from x q a [] (b ∷ rest) i j h k s l d = (inl (below_it x a b q i j h l.0), d)
 descend_from x q a (b ∷ segment) rest i j h k s l d =
     (inr (level_with x a b q j h k.0, s.0), descend_from x q b segment rest i j k.0 k.1 s.1 l d)
 
-descend_join : (x q : Fraction) (segment rest : List Active) → IsFraction x → IsFraction q → EachActive (λ b. Same (active_height x b) q) segment → SlopesFall segment →
-    EachActive (λ b. fraction_lt (active_height x b) q ≡ true) rest → Descend x rest → Descend x (segment ++ rest)
+descend_join : (x q : Fraction) (segment rest : List Active) → IsFraction x → IsFraction q → AllByRecursion (λ b. Same (active_height x b) q) segment → SlopesFall segment →
+    AllByRecursion (λ b. fraction_lt (active_height x b) q ≡ true) rest → Descend x rest → Descend x (segment ++ rest)
 descend_join x q [] rest i j k s l d = d
 descend_join x q (a ∷ segment) rest i j k s l d = descend_from x q a segment rest i j k.0 k.1 s l d
 
 -- what goes on from heights below q is below q
 onward_below : (pieces : List Piece) (x q : Fraction) (es : List Active) (vs : List Vertex) (os : List Active) (ls : List Level) (qs : List Fraction) → IsFraction q → Numbers qs →
     FollowFrom (λ a b. fraction_lt b a) q qs → IsLeft pieces x es vs → Leveled x es vs ls qs → AreOnward pieces es vs os ls →
-    EachActive (λ b. fraction_lt (active_height x b) q ≡ true) os
-onward_below pieces x q es vs os [] qs j n f l h o = subst (EachActive (λ b. fraction_lt (active_height x b) q ≡ true)) (sym o) tt
+    AllByRecursion (λ b. fraction_lt (active_height x b) q ≡ true) os
+onward_below pieces x q es vs os [] qs j n f l h o = subst (AllByRecursion (λ b. fraction_lt (active_height x b) q ≡ true)) (sym o) tt
 onward_below pieces x q es vs os (k ∷ ls) [] j n f l h o = absurd h
 onward_below pieces x q es vs os (k ∷ ls) (r ∷ rs) j n f l h o =
     each-join (λ b. fraction_lt (active_height x b) q ≡ true) k.onward os
@@ -346,7 +307,7 @@ active_from pieces z q qs os gap ss i l e f =
     none : numbers_from 0 (λ _. false) pieces ≡ []
     none = numbers_from-none 0 (λ _. false) pieces (every_piece (λ p. false ≡ false) pieces (λ p. refl))
 
-    agree : (ps : List Piece) → EachPiece (λ p. Each (λ h. IsFraction h × Among (q ∷ qs) h) (heights_of z p)) ps →
+    agree : (ps : List Piece) → AllByRecursion (λ p. AllByRecursion (λ h. IsFraction h × Among (q ∷ qs) h) (heights_of z p)) ps →
         AgreeOn (in_the_end (λ _. false) (levels_from z q qs)) (passes z) ps
     agree [] k = tt
     agree (p ∷ ps) k = (
@@ -361,7 +322,7 @@ active_from pieces z q qs os gap ss i l e f =
 active_bare : (pieces : List Piece) (z : Fraction) → IsFraction z → IsHeights pieces z [] → SameNumbers [] (numbers_from 0 (passes z) pieces)
 active_bare pieces z i l = λ w. ap (sum_by w) (sym (numbers_from-none 0 (passes z) pieces (none pieces (all_listed z [] pieces i l.has_all))))
   where
-    none : (ps : List Piece) → EachPiece (λ p. Each (λ h. IsFraction h × Among [] h) (heights_of z p)) ps → EachPiece (λ p. passes z p ≡ false) ps
+    none : (ps : List Piece) → AllByRecursion (λ p. AllByRecursion (λ h. IsFraction h × Among [] h) (heights_of z p)) ps → AllByRecursion (λ p. passes z p ≡ false) ps
     none [] k = tt
     none (p ∷ ps) k = (
       elim (cases_Bool (passes z p)) [
@@ -382,7 +343,7 @@ onward_active pieces z (q ∷ qs) es vs os ls i l r h o =
 -- ---- the front right of a column
 -- each edge that goes on is one of the pieces
 pub entries-after : (pieces : List Piece) (x : Fraction) (column : Option Fraction) (es : List Active) (cs : List Contact) (vs : List Vertex) (os : List Active) (ls : List Level) →
-    IsComing pieces x column es cs → IsColumnOf pieces x vs → AreTops column es cs vs ls → AreOnward pieces es vs os ls → EachActive (IsEntry pieces) os
+    IsComing pieces x column es cs → IsColumnOf pieces x vs → AreTops column es cs vs ls → AreOnward pieces es vs os ls → AllByRecursion (IsEntry pieces) os
 entries-after pieces x column es cs vs os ls c v t o =
     let l = leveled x column es cs vs ls c.place c.steps v.here v.in_order t in
     onward_entries pieces x es vs os ls l.0 (record { place = c.place; entries = c.entries; each = v.each; here = v.here }) l.1 o

@@ -1,5 +1,6 @@
 -- Up to the next candidate no two pieces cross.
 use Rattle.std.proofs.Common.{◌≡◌, ◌≢◌, refl, ap, sym, ◌∙◌, subst, ℕ, ℤ, pos, ◌-ℤ◌, ◌*ℤ◌, ◌≤ℤ◌, arith, true, List, [], ◌∷◌, Option, Some, None, inl, inr}
+use Rattle.std.specs.List.{AllByRecursion}
 use Rattle.std.specs.declared.cmp.Ordering.TheVariants.{Equal, Less}
 use Rattle.std.proofs.lemmas.Bool.{and_from, and_parts, cases_Bool}
 use Rattle.std.proofs.lemmas.Int.{ints}
@@ -18,18 +19,17 @@ use Rattle.sf_columns.specs.declared.piece.Piece.{Piece}
 use Rattle.sf_columns.specs.declared.piece.Piece.TheVariants.{Dot, Edge}
 use Rattle.sf_columns.specs.declared.active.Active.{Active}
 use Rattle.sf_columns.specs.declared.contact.Contact.{Contact}
-use Rattle.sf_columns.specs.Fronts.{EachActive, IsEntry, IsEntryIn, IsRun, line_of}
+use Rattle.sf_columns.specs.Fronts.{IsEntry, IsEntryIn, IsRun, line_of}
 use Rattle.sf_cells.specs.Pieces.{ends_of}
 use Rattle.sf_cells.specs.Samples.{crossing_place, crossings_of}
 use Rattle.sf_columns.specs.Vertices.{piece_at}
 use Rattle.sf_slabs.proofs.AboveLaws.{passes}
 use Rattle.sf_slabs.proofs.CrossLaws.{IsCrossing, both_at-level, is-crossing, level_at-point, place-IsFraction, run-on_both, on_both-run}
-use Rattle.sf_slabs.proofs.EndLaws.{Each-left, Later, SomeActive, le_of_not_lt, passes-places, some_entry, whole-number, passes_at-piece, EachPiece-found}
+use Rattle.sf_slabs.proofs.EndLaws.{Each-left, Later, SomeActive, le_of_not_lt, passes-places, some_entry, whole-number, passes_at-piece, each_piece-found}
 use Rattle.sf_slabs.proofs.FollowLaws.{EachPair, Ordered, Runs, le_le-places, lt_le-places, not_le-lt, spans-line_of}
 use Rattle.sf_slabs.proofs.FrontLaws.{IsClear, front_ordered, front_runs}
 use Rattle.sf_slabs.proofs.NumberLaws.{Same-trans, rising_order}
 use Rattle.sf_slabs.proofs.OnLaws.{IsPoint-point_at, x_of-point_at}
-use Rattle.sf_slabs.proofs.SampleLaws.{Each}
 use Rattle.sf_slabs.proofs.Shapes.{IsFront}
 use Rattle.sf_slabs.proofs.SlabLaws.{IsSlab, Spans, StaysLevel}
 
@@ -101,7 +101,7 @@ ordered_apart x y a b e f c s q r i j o h m n =
         s.apart
 
 -- some edge of the list has both properties
-some_with : (P E : Active → Type 0) (os : List Active) → SomeActive P os → EachActive E os → SomeActive (λ a. P a × E a) os
+some_with : (P E : Active → Type 0) (os : List Active) → SomeActive P os → AllByRecursion E os → SomeActive (λ a. P a × E a) os
 some_with P E [] h e = h
 some_with P E (a ∷ os) h e = elim h [ inl here ↦ inl (here, e.0) | inr later ↦ inr (some_with P E os later e.1) ]
 
@@ -129,7 +129,7 @@ none_together R P Q (a ∷ os) o h k one before after =
 abbrev IsNumbered : List Piece → Fraction → Fraction → ℕ → Active → Type 0
 IsNumbered pieces x y i a = (a.piece ≡ i) × (IsEntry pieces a × Runs x y a)
 
-numbered : (pieces : List Piece) (x y : Fraction) (os : List Active) (i : ℕ) → EachActive (IsEntry pieces) os → EachActive (Runs x y) os →
+numbered : (pieces : List Piece) (x y : Fraction) (os : List Active) (i : ℕ) → AllByRecursion (IsEntry pieces) os → AllByRecursion (Runs x y) os →
     SomeActive (λ a. a.piece ≡ i) os → SomeActive (IsNumbered pieces x y i) os
 numbered pieces x y [] i e r h = h
 numbered pieces x y (a ∷ os) i e r h = elim h [ inl here ↦ inl (here, (e.0, r.0)) | inr later ↦ inr (numbered pieces x y os i e.1 r.1 later) ]
@@ -139,7 +139,7 @@ run_of pieces i s t a e n h =
     subst (λ (o : Option Piece). IsEntryIn o a) e (subst (λ (j : ℕ). IsEntryIn (piece_at pieces j) a) n h)
 
 -- a piece with a point strictly between x and y goes on from x
-passes_between : (x y : Fraction) (s t : Coordinates) (c : Point) → IsFraction x → IsFraction y → IsFraction (x_of c) → Each (Later x y) (ends_of (Edge s t)) →
+passes_between : (x y : Fraction) (s t : Coordinates) (c : Point) → IsFraction x → IsFraction y → IsFraction (x_of c) → AllByRecursion (Later x y) (ends_of (Edge s t)) →
     reaches (edge_between s t) (x_of c) ≡ true → fraction_lt x (x_of c) ≡ true → fraction_lt (x_of c) y ≡ true → passes x (Edge s t) ≡ true
 passes_between x y s t c i j k h r m n =
     passes-places x s t
@@ -194,7 +194,7 @@ no_crossing pieces x y os cs f k i j a b s t c first second h m n =
     slab : IsSlab x y
     slab = record { left = f.place; right = k.place; apart = k.ahead }
 
-    runs : EachActive (Runs x y) os
+    runs : AllByRecursion (Runs x y) os
     runs = front_runs pieces x y os cs f k
 
     one_line : Some (Edge a b) ≡ Some (Edge s t) → edge_between a b ≡ edge_between s t
@@ -203,16 +203,16 @@ no_crossing pieces x y os cs f k i j a b s t c first second h m n =
     going : (l : ℕ) (u v : Coordinates) → piece_at pieces l ≡ Some (Edge u v) → reaches (edge_between u v) (x_of c) ≡ true → passes x (Edge u v) ≡ true
     going l u v is r =
         passes_between x y u v c f.place k.place (place-IsFraction c h.point)
-        (EachPiece-found (λ p. Each (Later x y) (ends_of p)) pieces l (Edge u v) is k.ends) r m n
+        (each_piece-found (λ p. AllByRecursion (Later x y) (ends_of p)) pieces l (Edge u v) is k.ends) r m n
 
 -- so each crossing right of x is at y or further right
 pub crossings_later : (pieces : List Piece) (x y : Fraction) (os : List Active) (cs : List Contact) → IsFront pieces x os cs → IsClear pieces x y cs →
-    (i j : ℕ) (p r : Piece) → piece_at pieces i ≡ Some p → piece_at pieces j ≡ Some r → Each (Later x y) (crossings_of p r)
+    (i j : ℕ) (p r : Piece) → piece_at pieces i ≡ Some p → piece_at pieces j ≡ Some r → AllByRecursion (Later x y) (crossings_of p r)
 crossings_later pieces x y os cs f k i j (Dot a) r first second = tt
 crossings_later pieces x y os cs f k i j (Edge a b) (Dot c) first second = tt
 crossings_later pieces x y os cs f k i j (Edge a b) (Edge s t) first second = by_crossing (crossing (edge_between a b) (edge_between s t)) refl
   where
-    by_crossing : (o : Option Point) → crossing (edge_between a b) (edge_between s t) ≡ o → Each (Later x y) (crossing_place o)
+    by_crossing : (o : Option Point) → crossing (edge_between a b) (edge_between s t) ≡ o → AllByRecursion (Later x y) (crossing_place o)
     by_crossing None e = tt
     by_crossing (Some c) e = (
       λ m.

@@ -1,5 +1,6 @@
 -- Two lists in one strict order that have the same numbers are equal place by place, as numbers.
 use Rattle.std.proofs.Common.{◌≡◌, refl, ap, sym, ◌∙◌, ℤ, pos, ◌*ℤ◌, ◌≤ℤ◌, ◌<ℤ◌, arith, Bool, true, List, [], ◌∷◌, inl, inr}
+use Rattle.std.specs.List.{AllByRecursion}
 use Rattle.std.proofs.lemmas.Int.{ints}
 use Rattle.sf_grid.specs.Fraction.{Fraction, IsFraction, fraction_lt}
 use Rattle.sf_grid.proofs.FractionLaws.{le}
@@ -8,7 +9,8 @@ use Rattle.sf_grid.proofs.PointLaws.{Same, eq_from_mul}
 use Rattle.sf_grid.proofs.Ring.{ring, var, mul}
 use Rattle.sf_grid.proofs.NumberTests.{lt_from_test, test_from_lt}
 use Rattle.sf_cells.specs.Samples.{sorted_by}
-use Rattle.sf_slabs.proofs.SampleLaws.{Each, Each-sorted_by, Follow, Follow-sorted_by, FollowFrom, Level, Some_of, Some_of-sorted_by, same_number}
+use Rattle.sf_slabs.proofs.SampleLaws.{Each-sorted_by, Follow, Follow-sorted_by, FollowFrom, Level, Some_of, Some_of-sorted_by, same_number}
+use Rattle.sf_slabs.proofs.EachLaws.{each-map}
 
 -- ---- one number written as different fractions
 pub Same-trans : (p q r : Fraction) → IsFraction q → Same p q → Same q r → Same p r
@@ -75,16 +77,16 @@ Among rs q = Some_of (Same q) rs
 
 -- all of them are numbers
 abbrev pub Numbers : List Fraction → Type 0
-Numbers qs = Each IsFraction qs
+Numbers qs = AllByRecursion IsFraction qs
 
 -- the first of a list is before each later one
 pub Each-before : (before : Fraction → Fraction → Bool) → IsOrder before → (q : Fraction) (rs : List Fraction) →
-    IsFraction q → Numbers rs → FollowFrom before q rs → Each (λ r. before q r ≡ true) rs
+    IsFraction q → Numbers rs → FollowFrom before q rs → AllByRecursion (λ r. before q r ≡ true) rs
 Each-before before o q [] i n f = tt
 Each-before before o q (r ∷ rs) i n f =
     (f.0, carried rs n.1 (Each-before before o r rs n.0 n.1 f.1))
   where
-    carried : (ss : List Fraction) → Numbers ss → Each (λ s. before r s ≡ true) ss → Each (λ s. before q s ≡ true) ss
+    carried : (ss : List Fraction) → Numbers ss → AllByRecursion (λ s. before r s ≡ true) ss → AllByRecursion (λ s. before q s ≡ true) ss
     carried [] m g = tt
     carried (s ∷ ss) m g = (o.trans q r s i n.0 m.0 f.0 g.0, carried ss m.1 g.1)
 
@@ -94,7 +96,7 @@ Follow-rest before q (r ∷ rs) f = f.1
 
 -- a number that stands in a list after q is before it, if q is before all of them
 pub before_among : (before : Fraction → Fraction → Bool) → IsOrder before → (q p : Fraction) (rs : List Fraction) →
-    IsFraction q → IsFraction p → Numbers rs → Each (λ r. before q r ≡ true) rs → Among rs p → before q p ≡ true
+    IsFraction q → IsFraction p → Numbers rs → AllByRecursion (λ r. before q r ≡ true) rs → Among rs p → before q p ≡ true
 before_among before o q p [] i j n f a = absurd a
 before_among before o q p (r ∷ rs) i j n f a =
     elim a [
@@ -121,8 +123,8 @@ same_first before o q r qs rs i j n m f g a b =
 
 -- what comes later stands among what comes later
 rest_among : (before : Fraction → Fraction → Bool) → IsOrder before → (q r : Fraction) (qs rs : List Fraction) →
-    IsFraction q → IsFraction r → Numbers qs → Same q r → Each (λ p. before q p ≡ true) qs →
-    Each (Among (r ∷ rs)) qs → Each (Among rs) qs
+    IsFraction q → IsFraction r → Numbers qs → Same q r → AllByRecursion (λ p. before q p ≡ true) qs →
+    AllByRecursion (Among (r ∷ rs)) qs → AllByRecursion (Among rs) qs
 rest_among before o q r [] rs i j n e f a = tt
 rest_among before o q r (p ∷ qs) rs i j n e f a = (
   elim a.0 as (λ _. Among rs p) [
@@ -134,7 +136,7 @@ rest_among before o q r (p ∷ qs) rs i j n e f a = (
 
 -- two lists in order with the same numbers
 pub Pairs-same : (before : Fraction → Fraction → Bool) → IsOrder before → (qs rs : List Fraction) →
-    Numbers qs → Numbers rs → Follow before qs → Follow before rs → Each (Among rs) qs → Each (Among qs) rs → Pairs Same qs rs
+    Numbers qs → Numbers rs → Follow before qs → Follow before rs → AllByRecursion (Among rs) qs → AllByRecursion (Among qs) rs → Pairs Same qs rs
 Pairs-same before o [] [] n m f g a b = tt
 Pairs-same before o [] (r ∷ rs) n m f g a b = b.0
 Pairs-same before o (q ∷ qs) [] n m f g a b = a.0
@@ -150,12 +152,8 @@ Pairs-same before o (q ∷ qs) (r ∷ rs) n m f g a b =
 pub record IsListing (before : Fraction → Fraction → Bool) (qs rs : List Fraction) : Type 0 where
   pub numbers : Numbers rs
   pub in_order : Follow before rs
-  pub has_all : Each (Among rs) qs
-  pub has_no_other : Each (Among qs) rs
-
-pub Each-map : (P Q : Fraction → Type 0) (qs : List Fraction) → ((q : Fraction) → P q → Q q) → Each P qs → Each Q qs
-Each-map P Q [] f h = tt
-Each-map P Q (q ∷ qs) f h = (f q h.0, Each-map P Q qs f h.1)
+  pub has_all : AllByRecursion (Among rs) qs
+  pub has_no_other : AllByRecursion (Among qs) rs
 
 -- a number that stands in a list stands in it once sorted
 pub Among-sorted_by : (before : Fraction → Fraction → Bool) → IsOrder before → (qs : List Fraction) (p : Fraction) →
@@ -169,4 +167,4 @@ pub sorted_by-listing : (before : Fraction → Fraction → Bool) → IsOrder be
 sorted_by-listing before o qs rs n l =
     Pairs-same before o (sorted_by before qs) rs (Each-sorted_by IsFraction before qs n) l.numbers (Follow-sorted_by before qs) l.in_order
     (Each-sorted_by (Among rs) before qs l.has_all)
-    (Each-map (Among qs) (Among (sorted_by before qs)) rs (λ p a. Among-sorted_by before o qs p n a) l.has_no_other)
+    (each-map (Among qs) (Among (sorted_by before qs)) rs (λ p a. Among-sorted_by before o qs p n a) l.has_no_other)

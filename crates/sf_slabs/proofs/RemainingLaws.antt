@@ -1,12 +1,12 @@
 -- The cells that are left, column by column: from each event on to the next one. What is there at the start of a sweep, and which vertices lie in the next column.
 use Rattle.std.proofs.Common.{◌≡◌, refl, ap, sym, subst, ◌∙◌, ℕ, zero, suc, ◌+◌, ◌<◌, ℤ, pos, ◌*ℤ◌, ◌≤ℤ◌, lit<, arith, Bool, true, false, cond, ◌&&◌, ◌||◌, List, [], ◌∷◌, ◌++◌, length, take, drop, Option, Some, None, inl, inr}
 use Rattle.std.specs.Prelude.{if◌then◌else◌, int_le, int_lt}
-use Rattle.std.specs.List.{All, Contains, flat_map, prefix_len, sum_by}
+use Rattle.std.specs.List.{All, AllByRecursion, Contains, flat_map, prefix_len, sum_by}
 use Rattle.std.specs.List.Sorted.{IsPermutation, IsSortedBy}
 use Rattle.std.specs.Ordering.{int_eq}
 use Rattle.std.proofs.lemmas.Bool.{cases_Bool}
 use Rattle.std.proofs.lemmas.Int.{ints}
-use Rattle.std.proofs.lemmas.List.Elements.{All-cons, All-contains_itself, All-head, All-nil, All-tail}
+use Rattle.std.proofs.lemmas.List.Elements.{All-cons, All-contains_itself, All-from_recursion, All-head, All-nil, All-tail, recursion_from_All}
 use Rattle.std.proofs.lemmas.List.Sorted.{All-permutation, sum_by-IsPermutation}
 use Rattle.std.proofs.lemmas.List.Sums.{sum_by-cons}
 use Rattle.sf_grid.specs.Fraction.{Fraction, IsFraction, fraction_eq, fraction_le, fraction_lt, middle, one_less, one_more, whole}
@@ -21,12 +21,12 @@ use Rattle.sf_columns.specs.declared.vertex.Vertex.{Vertex}
 use Rattle.sf_cells.specs.Cells.{cells, numbers_from}
 use Rattle.sf_cells.specs.Pieces.{ends_of}
 use Rattle.sf_cells.specs.Samples.{Mark, crossings_of, events, listed, marks, marks_from, sorted_by, unlisted}
-use Rattle.sf_slabs.specs.Sweeps.{AreVertices, EachVertex, InOrder, InOrderFrom, IsAhead, IsColumnOf, IsComing, IsFront, cells_in, comes_to, passes, right_of}
+use Rattle.sf_slabs.specs.Sweeps.{AreVertices, InOrder, InOrderFrom, IsAhead, IsColumnOf, IsComing, IsFront, cells_in, comes_to, passes, right_of}
 use Rattle.sf_columns.specs.Vertices.{IsVertexIn, IsVertexOf, all_vertices, in_column, lower_end, piece_at, upper_end, vertex, vertex_before, vertices_of}
 use Rattle.sf_slabs.proofs.CellLaws.{SameMark}
 use Rattle.sf_slabs.proofs.ColumnLaws.{cells-columns, column_cells-heights, event_places, falling_heights, flat_map-Pairs}
 use Rattle.sf_slabs.proofs.EventLaws.{event_places-numbers}
-use Rattle.sf_slabs.proofs.EndLaws.{EachPiece, EachVertex-append, EachVertex-map, Each-left, Later, all_vertices-ends, le_of_not_lt, no_vertices, passes-places, whole-number}
+use Rattle.sf_slabs.proofs.EndLaws.{Each-left, Later, all_vertices-ends, le_of_not_lt, no_vertices, passes-places, whole-number}
 use Rattle.sf_slabs.proofs.FollowLaws.{le_lt-places, le_of_lt, lt_le-places, not_le-lt}
 use Rattle.sf_slabs.proofs.HeightsLaws.{heights_in, heights_in-numbers}
 use Rattle.sf_slabs.proofs.LevelHeightsLaws.{vertices_each}
@@ -34,11 +34,11 @@ use Rattle.sf_slabs.proofs.LevelLaws.{one_less-below}
 use Rattle.sf_slabs.proofs.LeveledLaws.{InOrder-rest, drop-each_vertex, drop-in_order}
 use Rattle.sf_slabs.proofs.MarkLaws.{marks-same, middle-number, middle-same, one_less-step, one_more-step}
 use Rattle.sf_slabs.proofs.NextLaws.{IsLast, IsNext}
-use Rattle.sf_slabs.proofs.NumberLaws.{Among, Among-sorted_by, Each-before, Each-map, Follow-rest, IsListing, IsOrder, Numbers, Pairs, before_among, falling_order, rising_order}
+use Rattle.sf_slabs.proofs.NumberLaws.{Among, Among-sorted_by, Each-before, Follow-rest, IsListing, IsOrder, Numbers, Pairs, before_among, falling_order, rising_order}
 use Rattle.sf_columns.proofs.OnwardLaws.{sorted-first, sorted-rest}
-use Rattle.sf_slabs.proofs.SampleLaws.{Each, Each-sorted_by, Follow, Follow-sorted_by, FollowFrom}
-use Rattle.sf_slabs.proofs.TopLaws.{Each-parts}
+use Rattle.sf_slabs.proofs.SampleLaws.{Each-sorted_by, Follow, Follow-sorted_by, FollowFrom}
 use Rattle.sf_slabs.proofs.WeightLaws.{AreVertices-chosen, chosen-drop_vertices, chosen-take_vertices, sum_by-agree}
+use Rattle.sf_slabs.proofs.EachLaws.{each-append, each-both, each-map, each-parts}
 
 -- ---- the definitions
 -- those of a list that are right of x
@@ -67,9 +67,9 @@ left pieces (Some y) = 1 + length (later y (events pieces))
 
 -- ---- the same column has the same cells
 -- each of a list stands in it
-each_among : (qs : List Fraction) → Each (Among qs) qs
+each_among : (qs : List Fraction) → AllByRecursion (Among qs) qs
 each_among [] = tt
-each_among (q ∷ qs) = (inl refl, Each-map (Among qs) (Among (q ∷ qs)) qs (λ p a. inr a) (each_among qs))
+each_among (q ∷ qs) = (inl refl, each-map (Among qs) (Among (q ∷ qs)) qs (λ p a. inr a) (each_among qs))
 
 -- a sorted list has the numbers of the list that was sorted
 sorted_by-itself : (before : Fraction → Fraction → Bool) → IsOrder before → (qs : List Fraction) → Numbers qs → IsListing before qs (sorted_by before qs)
@@ -77,7 +77,7 @@ sorted_by-itself before o qs n =
     record {
       numbers = Each-sorted_by IsFraction before qs n;
       in_order = Follow-sorted_by before qs;
-      has_all = Each-map (Among qs) (Among (sorted_by before qs)) qs (λ p a. Among-sorted_by before o qs p n a) (each_among qs);
+      has_all = each-map (Among qs) (Among (sorted_by before qs)) qs (λ p a. Among-sorted_by before o qs p n a) (each_among qs);
       has_no_other = Each-sorted_by (Among qs) before qs (each_among qs);
     }
 
@@ -96,7 +96,7 @@ later-skip : (x q : Fraction) (qs : List Fraction) → fraction_lt x q ≡ false
 later-skip x q qs h = ap (λ b. if b then q ∷ later x qs else later x qs) h
 
 -- where all are right of x, these are all
-later-all : (x : Fraction) (qs : List Fraction) → Each (λ q. fraction_lt x q ≡ true) qs → later x qs ≡ qs
+later-all : (x : Fraction) (qs : List Fraction) → AllByRecursion (λ q. fraction_lt x q ≡ true) qs → later x qs ≡ qs
 later-all x [] h = refl
 later-all x (q ∷ qs) h = later-pass x q qs h.0 ∙ ap (λ rs. q ∷ rs) (later-all x qs h.1)
 
@@ -126,7 +126,7 @@ later-rest : (x q : Fraction) (qs : List Fraction) → IsFraction x → IsFracti
 later-rest x q qs i j n f e =
     later-skip x q qs (not_later x q (le_of_same q x e)) ∙ later-all x qs (all_later qs n (Each-before fraction_lt rising_order q qs j n f))
   where
-    all_later : (rs : List Fraction) → Numbers rs → Each (λ r. fraction_lt q r ≡ true) rs → Each (λ r. fraction_lt x r ≡ true) rs
+    all_later : (rs : List Fraction) → Numbers rs → AllByRecursion (λ r. fraction_lt q r ≡ true) rs → AllByRecursion (λ r. fraction_lt x r ≡ true) rs
     all_later [] m h = tt
     all_later (r ∷ rs) m h = (rising_order.same_first x q r i j m.0 (sym e) h.0, all_later rs m.1 h.1)
 
@@ -141,7 +141,7 @@ pub record LaterNext (x y : Fraction) (qs : List Fraction) : Type 0 where
 
 -- the next number of a rising list, and what is behind it
 later-next : (x y : Fraction) (qs : List Fraction) → IsFraction x → IsFraction y → Numbers qs → Follow fraction_lt qs → fraction_lt x y ≡ true →
-    Among qs y → Each (λ q. fraction_lt x q ≡ true → fraction_le y q ≡ true) qs → LaterNext x y qs
+    Among qs y → AllByRecursion (λ q. fraction_lt x q ≡ true → fraction_le y q ≡ true) qs → LaterNext x y qs
 later-next x y [] i j n f h a l = absurd a
 later-next x y (q ∷ qs) i j n f h a l =
     elim (cases_Bool (fraction_lt x q)) [
@@ -149,7 +149,7 @@ later-next x y (q ∷ qs) i j n f h a l =
       | inr s ↦ further s (λ b. later-next x y qs i j n.1 (Follow-rest fraction_lt q qs f) h b l.1)
     ]
   where
-    after : Each (λ r. fraction_lt q r ≡ true) qs
+    after : AllByRecursion (λ r. fraction_lt q r ≡ true) qs
     after = Each-before fraction_lt rising_order q qs n.0 n.1 f
 
     here : fraction_lt x q ≡ true → LaterNext x y (q ∷ qs)
@@ -164,7 +164,7 @@ later-next x y (q ∷ qs) i j n f h a l =
           next = later-rest y q qs j n.0 n.1 f same;
         }
       where
-        all_later : (rs : List Fraction) → Numbers rs → Each (λ r. fraction_lt q r ≡ true) rs → Each (λ r. fraction_lt x r ≡ true) rs
+        all_later : (rs : List Fraction) → Numbers rs → AllByRecursion (λ r. fraction_lt q r ≡ true) rs → AllByRecursion (λ r. fraction_lt x r ≡ true) rs
         all_later [] m k = tt
         all_later (r ∷ rs) m k = (rising_order.trans x q r i n.0 m.0 t k.0, all_later rs m.1 k.1)
 
@@ -212,24 +212,24 @@ ahead-number pieces = by_list (events pieces) (events-numbers pieces)
     by_list (q ∷ qs) n = record { positive = n.0.positive }
 
 -- it is left of all numbers of a list that rises, and so of all event places
-ahead-each : (qs : List Fraction) → Numbers qs → Follow fraction_lt qs → Each (λ q. fraction_lt (ahead_of qs) q ≡ true) qs
+ahead-each : (qs : List Fraction) → Numbers qs → Follow fraction_lt qs → AllByRecursion (λ q. fraction_lt (ahead_of qs) q ≡ true) qs
 ahead-each [] n f = tt
 ahead-each (q ∷ qs) n f = (below, all_later qs n.1 (Each-before fraction_lt rising_order q qs n.0 n.1 f))
   where
     below : fraction_lt (one_less q) q ≡ true
     below = one_less-below q n.0
 
-    all_later : (rs : List Fraction) → Numbers rs → Each (λ r. fraction_lt q r ≡ true) rs → Each (λ r. fraction_lt (one_less q) r ≡ true) rs
+    all_later : (rs : List Fraction) → Numbers rs → AllByRecursion (λ r. fraction_lt q r ≡ true) rs → AllByRecursion (λ r. fraction_lt (one_less q) r ≡ true) rs
     all_later [] m k = tt
     all_later (r ∷ rs) m k = (rising_order.trans (one_less q) q r (record { positive = n.0.positive }) n.0 m.0 below k.0, all_later rs m.1 k.1)
 
-pub ahead-before : (pieces : List Piece) → Each (λ q. fraction_lt (ahead_of_all pieces) q ≡ true) (event_places pieces)
+pub ahead-before : (pieces : List Piece) → AllByRecursion (λ q. fraction_lt (ahead_of_all pieces) q ≡ true) (event_places pieces)
 ahead-before pieces = each_of (event_places pieces) (event_places-numbers pieces) (all_listed (event_places-numbers pieces))
   where
-    all_listed : Numbers (event_places pieces) → Each (Among (events pieces)) (event_places pieces)
+    all_listed : Numbers (event_places pieces) → AllByRecursion (Among (events pieces)) (event_places pieces)
     all_listed n = (sorted_by-itself fraction_lt rising_order (event_places pieces) n).has_all
 
-    below_among : (p : Fraction) (rs : List Fraction) → IsFraction p → Numbers rs → Each (λ q. fraction_lt (ahead_of_all pieces) q ≡ true) rs →
+    below_among : (p : Fraction) (rs : List Fraction) → IsFraction p → Numbers rs → AllByRecursion (λ q. fraction_lt (ahead_of_all pieces) q ≡ true) rs →
         Among rs p → fraction_lt (ahead_of_all pieces) p ≡ true
     below_among p [] i m k a = absurd a
     below_among p (r ∷ rs) i m k a =
@@ -238,7 +238,7 @@ ahead-before pieces = each_of (event_places pieces) (event_places-numbers pieces
           | inr b ↦ below_among p rs i m.1 k.1 b
         ]
 
-    each_of : (ps : List Fraction) → Numbers ps → Each (Among (events pieces)) ps → Each (λ q. fraction_lt (ahead_of_all pieces) q ≡ true) ps
+    each_of : (ps : List Fraction) → Numbers ps → AllByRecursion (Among (events pieces)) ps → AllByRecursion (λ q. fraction_lt (ahead_of_all pieces) q ≡ true) ps
     each_of [] m k = tt
     each_of (p ∷ ps) m k =
         (below_among p (events pieces) m.0 (events-numbers pieces) (ahead-each (events pieces) (events-numbers pieces) (events-follow pieces)) k.0, each_of ps m.1 k.1)
@@ -273,7 +273,7 @@ cells-first pieces y h =
     rest_is : (q r : Fraction) (qs rs : List Fraction) → ◌≡◌ {A = List Fraction} (q ∷ qs) (r ∷ rs) → qs ≡ rs
     rest_is q r qs rs e = cc
 
-    from_list : (qs : List Fraction) → Numbers qs → Each (λ q. fraction_lt (ahead_of qs) q ≡ true) qs → LaterNext (ahead_of qs) y qs →
+    from_list : (qs : List Fraction) → Numbers qs → AllByRecursion (λ q. fraction_lt (ahead_of qs) q ≡ true) qs → LaterNext (ahead_of qs) y qs →
         flat_map (cells_in pieces) (marks one_less one_more qs)
         ≡ cells_in pieces (unlisted (ahead_of qs)) ++ flat_map (cells_in pieces) (marks_from one_more y (later y qs))
     from_list [] n k l = absurd (none l.first l.rest l.from)
@@ -293,7 +293,7 @@ cells-none pieces h =
     cells-columns pieces
     ∙ from_list (events pieces) (Each-sorted_by (λ q. fraction_lt (ahead_of_all pieces) q ≡ true → ⊥) fraction_lt (event_places pieces) h) (ahead-each (events pieces) (events-numbers pieces) (events-follow pieces))
   where
-    from_list : (qs : List Fraction) → IsLast qs (ahead_of qs) → Each (λ q. fraction_lt (ahead_of qs) q ≡ true) qs →
+    from_list : (qs : List Fraction) → IsLast qs (ahead_of qs) → AllByRecursion (λ q. fraction_lt (ahead_of qs) q ≡ true) qs →
         flat_map (cells_in pieces) (marks one_less one_more qs) ≡ cells_in pieces (unlisted (ahead_of qs)) ++ []
     from_list [] l k = refl
     from_list (q ∷ qs) l k = absurd (l.0 k.0)
@@ -333,18 +333,18 @@ left-next pieces y y' i h =
 
 -- ---- the start of a sweep: left of all events there is nothing
 -- what holds of all ends holds of each piece's
-pub ends-each : (P : Fraction → Type 0) (ps : List Piece) → Each P (flat_map ends_of ps) → EachPiece (λ p. Each P (ends_of p)) ps
+pub ends-each : (P : Fraction → Type 0) (ps : List Piece) → AllByRecursion P (flat_map ends_of ps) → AllByRecursion (λ p. AllByRecursion P (ends_of p)) ps
 ends-each P [] h = tt
-ends-each P (p ∷ ps) h = let parts = Each-parts P (ends_of p) (flat_map ends_of ps) h in (parts.0, ends-each P ps parts.1)
+ends-each P (p ∷ ps) h = let parts = each-parts P (ends_of p) (flat_map ends_of ps) h in (parts.0, ends-each P ps parts.1)
 
 -- what holds of all event places holds of each piece's ends
-pub event_places-ends : (P : Fraction → Type 0) (pieces : List Piece) → Each P (event_places pieces) → EachPiece (λ p. Each P (ends_of p)) pieces
+pub event_places-ends : (P : Fraction → Type 0) (pieces : List Piece) → AllByRecursion P (event_places pieces) → AllByRecursion (λ p. AllByRecursion P (ends_of p)) pieces
 event_places-ends P pieces h =
-    ends-each P pieces (Each-parts P (flat_map ends_of pieces) (flat_map (λ p. flat_map (crossings_of p) pieces) pieces) h).0
+    ends-each P pieces (each-parts P (flat_map ends_of pieces) (flat_map (λ p. flat_map (crossings_of p) pieces) pieces) h).0
 
 -- all pieces begin right of x
 abbrev AreRight : List Piece → Fraction → Type 0
-AreRight pieces x = EachPiece (λ p. Each (λ q. fraction_lt x q ≡ true) (ends_of p)) pieces
+AreRight pieces x = AllByRecursion (λ p. AllByRecursion (λ q. fraction_lt x q ≡ true) (ends_of p)) pieces
 
 start-right : (pieces : List Piece) → AreRight pieces (ahead_of_all pieces)
 start-right pieces = event_places-ends (λ q. fraction_lt (ahead_of_all pieces) q ≡ true) pieces (ahead-before pieces)
@@ -360,21 +360,21 @@ not_at_most x q h =
     elim (cases_Bool (fraction_le q x)) [ inl t ↦ absurd (not_le-lt q x t h) | inr f ↦ f ]
 
 -- no edge goes on from x or comes to it
-right-passes : (x : Fraction) (p : Piece) → Each (λ q. fraction_lt x q ≡ true) (ends_of p) → passes x p ≡ false
+right-passes : (x : Fraction) (p : Piece) → AllByRecursion (λ q. fraction_lt x q ≡ true) (ends_of p) → passes x p ≡ false
 right-passes x (Edge a b) h =
     passes-places x a b
     ∙ failed_first (fraction_le (whole (left_end (edge_between a b)).x) x) (fraction_lt x (whole (right_end (edge_between a b)).x))
     (not_at_most x (whole (left_end (edge_between a b)).x) (Each-left (λ q. fraction_lt x q ≡ true) a b h))
 right-passes x (Dot a) h = refl
 
-right-comes : (x : Fraction) (p : Piece) → Each (λ q. fraction_lt x q ≡ true) (ends_of p) → comes_to x p ≡ false
+right-comes : (x : Fraction) (p : Piece) → AllByRecursion (λ q. fraction_lt x q ≡ true) (ends_of p) → comes_to x p ≡ false
 right-comes x (Edge a b) h =
     failed_first (fraction_lt (whole (left_end (edge_between a b)).x) x) (fraction_le x (whole (right_end (edge_between a b)).x))
     (not_later (whole (left_end (edge_between a b)).x) x (le_of_lt x (whole (left_end (edge_between a b)).x) (Each-left (λ q. fraction_lt x q ≡ true) a b h)))
 right-comes x (Dot a) h = refl
 
 -- a test that fails for all pieces that are right of x gives no numbers
-right-none : (x : Fraction) (t : Piece → Bool) (k : ℕ) (ps : List Piece) → ((p : Piece) → Each (λ q. fraction_lt x q ≡ true) (ends_of p) → t p ≡ false) → AreRight ps x →
+right-none : (x : Fraction) (t : Piece → Bool) (k : ℕ) (ps : List Piece) → ((p : Piece) → AllByRecursion (λ q. fraction_lt x q ≡ true) (ends_of p) → t p ≡ false) → AreRight ps x →
     numbers_from k t ps ≡ []
 right-none x t k [] f h = refl
 right-none x t k (p ∷ ps) f h =
@@ -410,7 +410,7 @@ apart_right x q h =
     ]
 
 -- all vertices are right of the start
-start-vertices : (pieces : List Piece) → EachVertex (λ v. right_of (ahead_of_all pieces) v ≡ true) (all_vertices 0 pieces)
+start-vertices : (pieces : List Piece) → AllByRecursion (λ v. right_of (ahead_of_all pieces) v ≡ true) (all_vertices 0 pieces)
 start-vertices pieces = all_vertices-ends (λ q. fraction_lt (ahead_of_all pieces) q ≡ true) 0 pieces (start-right pieces)
 
 -- no vertex is in the column of the start
@@ -419,7 +419,7 @@ start-column pieces =
     record {
       are =
           no_vertices pieces (in_column (ahead_of_all pieces))
-          (EachVertex-map (λ v. right_of (ahead_of_all pieces) v ≡ true) (λ v. in_column (ahead_of_all pieces) v ≡ false) (all_vertices 0 pieces)
+          (each-map (λ v. right_of (ahead_of_all pieces) v ≡ true) (λ v. in_column (ahead_of_all pieces) v ≡ false) (all_vertices 0 pieces)
           (λ v h. apart_right (ahead_of_all pieces) (whole v.at.x) h)
           (start-vertices pieces));
       each = tt;
@@ -429,39 +429,25 @@ start-column pieces =
 
 -- ---- all vertices, in order, are ahead of the start
 -- a vertex of the piece with the number k is one of the vertices that this piece has
-vertices_of-own : (k : ℕ) (p : Piece) → EachVertex (λ v. v.piece ≡ k) (vertices_of k p)
+vertices_of-own : (k : ℕ) (p : Piece) → AllByRecursion (λ v. v.piece ≡ k) (vertices_of k p)
 vertices_of-own k (Dot a) = (refl, tt)
 vertices_of-own k (Edge a b) = by_test (is_vertical (edge_between a b))
   where
-    by_test : (t : Bool) → EachVertex (λ v. v.piece ≡ k)
+    by_test : (t : Bool) → AllByRecursion (λ v. v.piece ≡ k)
         (if t
         then vertex (upper_end (edge_between a b)) Top k ∷ vertex (lower_end (edge_between a b)) Bottom k ∷ []
         else vertex (left_end (edge_between a b)) Begin k ∷ vertex (right_end (edge_between a b)) End k ∷ [])
     by_test true = (refl, (refl, tt))
     by_test false = (refl, (refl, tt))
 
--- a fact of each vertex, by places or from the first one on
-EachVertex-all : (P : Vertex → Type 0) (vs : List Vertex) → EachVertex P vs → All P vs
-EachVertex-all P [] h = All-nil P
-EachVertex-all P (v ∷ vs) h = All-cons P v vs h.0 (EachVertex-all P vs h.1)
-
-all-EachVertex : (P : Vertex → Type 0) (vs : List Vertex) → All P vs → EachVertex P vs
-all-EachVertex P [] h = tt
-all-EachVertex P (v ∷ vs) h = (All-head P v vs h, all-EachVertex P vs (All-tail P v vs h))
-
--- a fact that follows from two
-EachVertex-both : (P Q R : Vertex → Type 0) (vs : List Vertex) → ((v : Vertex) → P v → Q v → R v) → EachVertex P vs → EachVertex Q vs → EachVertex R vs
-EachVertex-both P Q R [] f h k = tt
-EachVertex-both P Q R (v ∷ vs) f h k = (f v h.0 k.0, EachVertex-both P Q R vs f h.1 k.1)
-
 -- the vertices of the pieces from the number k on are vertices of the pieces
 all_vertices-from : (pieces : List Piece) (k : ℕ) (ps : List Piece) → ((i : ℕ) → piece_at pieces (k + i) ≡ piece_at ps i) →
-    EachVertex (IsVertexOf pieces) (all_vertices k ps)
+    AllByRecursion (IsVertexOf pieces) (all_vertices k ps)
 all_vertices-from pieces k [] h = tt
 all_vertices-from pieces k (p ∷ ps) h =
-    EachVertex-append (IsVertexOf pieces) (vertices_of k p) (all_vertices (k + 1) ps)
-    (EachVertex-both (λ v. v.piece ≡ k) (Contains (vertices_of k p)) (IsVertexOf pieces) (vertices_of k p) own (vertices_of-own k p)
-    (all-EachVertex (Contains (vertices_of k p)) (vertices_of k p) (All-contains_itself (vertices_of k p))))
+    each-append (IsVertexOf pieces) (vertices_of k p) (all_vertices (k + 1) ps)
+    (each-both (λ v. v.piece ≡ k) (Contains (vertices_of k p)) (IsVertexOf pieces) (vertices_of k p) own (vertices_of-own k p)
+    (recursion_from_All (Contains (vertices_of k p)) (vertices_of k p) (All-contains_itself (vertices_of k p))))
     (all_vertices-from pieces (k + 1) ps (λ i. ap (piece_at pieces) (shifted k i) ∙ h (suc i)))
   where
     shifted : (m n : ℕ) → (m + 1) + n ≡ m + suc n
@@ -475,7 +461,7 @@ all_vertices-from pieces k (p ∷ ps) h =
         subst (λ o. IsVertexIn o v) (sym (ap (piece_at pieces) (e ∙ plain k) ∙ h 0)) (subst (λ n. Contains (vertices_of n p) v) (sym e) c)
 
 -- all vertices are vertices of the pieces
-pub all_vertices-are : (pieces : List Piece) → EachVertex (IsVertexOf pieces) (all_vertices 0 pieces)
+pub all_vertices-are : (pieces : List Piece) → AllByRecursion (IsVertexOf pieces) (all_vertices 0 pieces)
 all_vertices-are pieces = all_vertices-from pieces 0 pieces (λ i. ap (piece_at pieces) (plain i))
   where
     plain : (n : ℕ) → 0 + n ≡ n
@@ -491,7 +477,7 @@ sorted-in_order [] h = tt
 sorted-in_order (v ∷ vs) h = sorted_from v vs h
 
 -- where all pass a test, those that pass it are all
-sum-all_pass : (w : Vertex → ℕ) (t : Vertex → Bool) (vs : List Vertex) → EachVertex (λ v. t v ≡ true) vs → sum_by w vs ≡ sum_by (λ v. if t v then w v else 0) vs
+sum-all_pass : (w : Vertex → ℕ) (t : Vertex → Bool) (vs : List Vertex) → AllByRecursion (λ v. t v ≡ true) vs → sum_by w vs ≡ sum_by (λ v. if t v then w v else 0) vs
 sum-all_pass w t [] h = refl
 sum-all_pass w t (v ∷ vs) h =
     sum_by-cons w v vs
@@ -509,8 +495,8 @@ start-ahead pieces vs p s =
       in_order = sorted-in_order vs s;
     }
   where
-    moved : (P : Vertex → Type 0) → EachVertex P (all_vertices 0 pieces) → EachVertex P vs
-    moved P h = all-EachVertex P vs (All-permutation P (all_vertices 0 pieces) vs p (EachVertex-all P (all_vertices 0 pieces) h))
+    moved : (P : Vertex → Type 0) → AllByRecursion P (all_vertices 0 pieces) → AllByRecursion P vs
+    moved P h = recursion_from_All P vs (All-permutation P (all_vertices 0 pieces) vs p (All-from_recursion P (all_vertices 0 pieces) h))
 
 -- ---- of the vertices ahead of x, those in the next column come first
 -- two ways to write the number after n
@@ -525,7 +511,7 @@ not_left u v h = test_from_le (u.at.x *ℤ pos 1) (v.at.x *ℤ pos 1) (places u.
     places a b c d h = grind (arith, ints)
 
 -- after a vertex right of y, all are right of y
-all_right : (y : Fraction) (u : Vertex) (vs : List Vertex) → IsFraction y → right_of y u ≡ true → InOrderFrom u vs → EachVertex (λ v. right_of y v ≡ true) vs
+all_right : (y : Fraction) (u : Vertex) (vs : List Vertex) → IsFraction y → right_of y u ≡ true → InOrderFrom u vs → AllByRecursion (λ v. right_of y v ≡ true) vs
 all_right y u [] i h o = tt
 all_right y u (v ∷ vs) i h o =
     let here = lt_le-places y (whole u.at.x) (whole v.at.x) i (whole-number u.at.x) (whole-number v.at.x) h (not_left u v o.0) in
@@ -539,13 +525,13 @@ beyond y q h k = by_number (y.num *ℤ pos q.den) (q.num *ℤ pos y.den) h k
     by_number a b h k = grind (arith, ints)
 
 -- the first ones are in the column y, and the others are right of it
-column_parts : (y : Fraction) (vs : List Vertex) → IsFraction y → EachVertex (λ v. fraction_le y (whole v.at.x) ≡ true) vs → InOrder vs →
-    EachVertex (λ v. in_column y v ≡ true) (take (prefix_len (in_column y) vs) vs) × EachVertex (λ v. right_of y v ≡ true) (drop (prefix_len (in_column y) vs) vs)
+column_parts : (y : Fraction) (vs : List Vertex) → IsFraction y → AllByRecursion (λ v. fraction_le y (whole v.at.x) ≡ true) vs → InOrder vs →
+    AllByRecursion (λ v. in_column y v ≡ true) (take (prefix_len (in_column y) vs) vs) × AllByRecursion (λ v. right_of y v ≡ true) (drop (prefix_len (in_column y) vs) vs)
 column_parts y [] i h o = (tt, tt)
 column_parts y (v ∷ vs) i h o = by_test (in_column y v) refl (column_parts y vs i h.1 (InOrder-rest v vs o))
   where
     Parts : ℕ → List Vertex → Type 0
-    Parts n us = EachVertex (λ v. in_column y v ≡ true) (take n us) × EachVertex (λ v. right_of y v ≡ true) (drop n us)
+    Parts n us = AllByRecursion (λ v. in_column y v ≡ true) (take n us) × AllByRecursion (λ v. right_of y v ≡ true) (drop n us)
 
     by_test : (t : Bool) → in_column y v ≡ t → Parts (prefix_len (in_column y) vs) vs → Parts (cond t (1 + prefix_len (in_column y) vs) 0) (v ∷ vs)
     by_test true e k = subst (λ n. Parts n (v ∷ vs)) (sym (one_more_is (prefix_len (in_column y) vs))) ((e, k.0), k.1)
@@ -556,7 +542,7 @@ AreVertices-agree : (pieces : List Piece) (s t : Vertex → Bool) (vs : List Ver
 AreVertices-agree pieces s t vs e h = λ w. h w ∙ sum_by-agree _ _ (all_vertices 0 pieces) (λ v. ap (λ b. if b then w v else 0) (e v))
 
 -- the first n vertices keep what each has, and their order
-take-each_vertex : (P : Vertex → Type 0) (n : ℕ) (vs : List Vertex) → EachVertex P vs → EachVertex P (take n vs)
+take-each_vertex : (P : Vertex → Type 0) (n : ℕ) (vs : List Vertex) → AllByRecursion P vs → AllByRecursion P (take n vs)
 take-each_vertex P zero vs h = tt
 take-each_vertex P (suc n) [] h = tt
 take-each_vertex P (suc n) (v ∷ vs) h = (h.0, take-each_vertex P n vs h.1)
@@ -587,7 +573,7 @@ ahead-parted pieces x y vs i a h = (
         (λ v. second_implies (right_of x v) (in_column y v) (λ e. rising_order.same_second x y (whole v.at.x) i h.number (whole-number v.at.x) h.above (sym (eq_from_test _ _ e))))
         (subst (AreVertices pieces (λ v. right_of x v && in_column y v))
         (chosen-take_vertices (in_column y) n vs parts.0
-        (EachVertex-map (λ v. right_of y v ≡ true) (λ v. in_column y v ≡ false) (drop n vs) (λ v e. apart_right y (whole v.at.x) e) parts.1))
+        (each-map (λ v. right_of y v ≡ true) (λ v. in_column y v ≡ false) (drop n vs) (λ v e. apart_right y (whole v.at.x) e) parts.1))
         (AreVertices-chosen pieces (right_of x) (in_column y) vs a.are));
     each = take-each_vertex (IsVertexOf pieces) n vs a.each;
     here = parts.0;
@@ -599,7 +585,7 @@ ahead-parted pieces x y vs i a h = (
         (λ v. second_implies (right_of x v) (right_of y v) (λ e. rising_order.trans x y (whole v.at.x) i h.number (whole-number v.at.x) h.above e))
         (subst (AreVertices pieces (λ v. right_of x v && right_of y v))
         (chosen-drop_vertices (right_of y) n vs
-        (EachVertex-map (λ v. in_column y v ≡ true) (λ v. right_of y v ≡ false) (take n vs) (λ v e. not_later y (whole v.at.x) (le_of_same (whole v.at.x) y (eq_from_test _ _ e))) parts.0)
+        (each-map (λ v. in_column y v ≡ true) (λ v. right_of y v ≡ false) (take n vs) (λ v e. not_later y (whole v.at.x) (le_of_same (whole v.at.x) y (eq_from_test _ _ e))) parts.0)
         parts.1)
         (AreVertices-chosen pieces (right_of x) (right_of y) vs a.are));
     each = drop-each_vertex (IsVertexOf pieces) n vs a.each;
@@ -611,7 +597,7 @@ ahead-parted pieces x y vs i a h = (
     n : ℕ
     n = prefix_len (in_column y) vs
 
-    parts : EachVertex (λ v. in_column y v ≡ true) (take n vs) × EachVertex (λ v. right_of y v ≡ true) (drop n vs)
+    parts : AllByRecursion (λ v. in_column y v ≡ true) (take n vs) × AllByRecursion (λ v. right_of y v ≡ true) (drop n vs)
     parts =
         column_parts y vs h.number
         (vertices_each pieces (right_of x) (λ v. fraction_le y (whole v.at.x)) vs a.are

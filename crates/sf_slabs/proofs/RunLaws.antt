@@ -2,7 +2,7 @@
 use Rattle.std.proofs.Common.{◌≡◌, refl, ap, sym, subst, ◌∙◌, ℕ, ◌+◌, ◌*◌, ◌≤◌, ◌<◌, ℤ, pos, ◌+ℤ◌, ◌*ℤ◌, ◌≤ℤ◌, arith, true, false, List, [], ◌∷◌, ◌++◌, length, map, Option, Some, None, take, drop}
 use Rattle.std.specs.Prelude.{IfNone, IfSome, int_lt}
 use Rattle.std.specs.Ordering.{int_eq}
-use Rattle.std.specs.List.{fold, prefix_len}
+use Rattle.std.specs.List.{AllByRecursion, fold, prefix_len}
 use Rattle.std.specs.List.Sorted.{IsPermutation, IsSortedBy}
 use Rattle.std.proofs.lemmas.Bool.{false≢true}
 use Rattle.std.proofs.lemmas.Int.{ints}
@@ -26,7 +26,7 @@ use Rattle.sf_slabs.specs.Walks.{IsReady, IsSlabOf}
 use Rattle.sf_slabs.proofs.ColumnLaws.{event_places}
 use Rattle.sf_cells.proofs.CountLaws.{fold-append}
 use Rattle.sf_slabs.proofs.CrossLaws.{place-IsFraction}
-use Rattle.sf_slabs.proofs.FollowLaws.{EachContact, Waits}
+use Rattle.sf_slabs.proofs.FollowLaws.{Waits}
 use Rattle.sf_slabs.proofs.FrontLaws.{IsClear, column_inside, column_none, coming_inside, coming_next, coming_none}
 use Rattle.sf_slabs.proofs.LevelLaws.{middle-above, middle-below}
 use Rattle.sf_slabs.proofs.MarkLaws.{middle-number}
@@ -75,14 +75,14 @@ contact_apart e f x y (Ahead p) i j l w k t =
     strictly a b h t = grind (arith, ints)
 contact_apart e f x y Throughout i j l w k t = absurd (false≢true (sym t))
 
-apart_from : (x y : Fraction) (a : Active) (os : List Active) (cs : List Contact) → IsFraction x → IsFraction y → fraction_lt x y ≡ true → EachContact (Waits y) cs →
+apart_from : (x y : Fraction) (a : Active) (os : List Active) (cs : List Contact) → IsFraction x → IsFraction y → fraction_lt x y ≡ true → AllByRecursion (Waits y) cs →
     AreContactsFrom x a os cs → AreApartFrom y a os cs
 apart_from x y a [] cs i j l w k = k
 apart_from x y a (b ∷ os) [] i j l w k = absurd k
 apart_from x y a (b ∷ os) (c ∷ cs) i j l w k =
     (contact_apart (line_of a) (line_of b) x y c i j l w.0 k.0, apart_from x y b os cs i j l w.1 k.1)
 
-contacts_apart : (x y : Fraction) (os : List Active) (cs : List Contact) → IsFraction x → IsFraction y → fraction_lt x y ≡ true → EachContact (Waits y) cs →
+contacts_apart : (x y : Fraction) (os : List Active) (cs : List Contact) → IsFraction x → IsFraction y → fraction_lt x y ≡ true → AllByRecursion (Waits y) cs →
     AreContacts x os cs → AreApart y os cs
 contacts_apart x y [] cs i j l w k = k
 contacts_apart x y (a ∷ os) cs i j l w k = apart_from x y a os cs i j l w k

@@ -16,15 +16,15 @@ use Rattle.sf_columns.specs.declared.piece.Piece.TheVariants.{Dot, Edge}
 use Rattle.sf_columns.specs.declared.vertex.Role.TheVariants.{Begin, Bottom, End, Top}
 use Rattle.sf_columns.specs.declared.vertex.Vertex.{Vertex}
 use Rattle.sf_cells.specs.Cells.{numbers_from}
-use Rattle.sf_columns.specs.Fronts.{AreContacts, EachActive, IsEntry, IsEntryIn, SameNumbers, pieces_of}
+use Rattle.sf_columns.specs.Fronts.{AreContacts, IsEntry, IsEntryIn, SameNumbers, pieces_of}
 use Rattle.sf_cells.specs.Groups.{counts, group_count, item_of, numbers}
 use Rattle.sf_cells.specs.Hands.{Balanced, stop_items, stops}
 use Rattle.sf_columns.specs.Levels.{AreOnward, AreTops}
-use Rattle.sf_slabs.specs.Sweeps.{EachVertex, IsColumnOf, IsComing, IsFront, StepsAt, StepsAtFrom, cells_in, comes_to, passes}
+use Rattle.sf_slabs.specs.Sweeps.{IsColumnOf, IsComing, IsFront, StepsAt, StepsAtFrom, cells_in, comes_to, passes}
 use Rattle.sf_columns.specs.Vertices.{IsVertexOf, all_vertices, lower_end, piece_at, upper_end, vertex, vertices_of}
 use Rattle.sf_slabs.proofs.ColumnIsLaws.{column-is}
 use Rattle.sf_slabs.proofs.ColumnLaws.{column_cells-heights}
-use Rattle.sf_slabs.proofs.NextFrontLaws.{active-after, all_of, entries-after, front-after}
+use Rattle.sf_slabs.proofs.NextFrontLaws.{active-after, entries-after, front-after}
 use Rattle.sf_slabs.proofs.Shapes.{IsColumn}
 use Rattle.sf_columns.proofs.VertexLaws.{piece_at-below, vertex-below}
 
@@ -76,18 +76,18 @@ entry-below pieces a h = by_piece (piece_at pieces a.piece) refl h
     by_piece None e k = absurd k
     by_piece (Some p) e k = piece_at-below pieces a.piece p e
 
-pub edges-below : (pieces : List Piece) (n : ℕ) (es es' : List Active) → n ≡ length pieces → es' ≡ es → EachActive (IsEntry pieces) es → All (λ e. e.piece < n) es'
+pub edges-below : (pieces : List Piece) (n : ℕ) (es es' : List Active) → n ≡ length pieces → es' ≡ es → AllByRecursion (IsEntry pieces) es → All (λ e. e.piece < n) es'
 edges-below pieces n es es' e f h =
-    subst (λ fs. All (λ a. a.piece < n) fs) (sym f) (subst (λ m. All (λ a. a.piece < m) es) (sym e) (all_of (λ a. a.piece < length pieces) es (each es h)))
+    subst (λ fs. All (λ a. a.piece < n) fs) (sym f) (subst (λ m. All (λ a. a.piece < m) es) (sym e) (All-from_recursion (λ a. a.piece < length pieces) es (each es h)))
   where
-    each : (es : List Active) → EachActive (IsEntry pieces) es → EachActive (λ a. a.piece < length pieces) es
+    each : (es : List Active) → AllByRecursion (IsEntry pieces) es → AllByRecursion (λ a. a.piece < length pieces) es
     each [] h = tt
     each (a ∷ es) h = (entry-below pieces a h.0, each es h.1)
 
-pub vertices-below : (pieces : List Piece) (n : ℕ) (vs : List Vertex) → n ≡ length pieces → EachVertex (IsVertexOf pieces) vs → All (λ v. v.piece < n) vs
+pub vertices-below : (pieces : List Piece) (n : ℕ) (vs : List Vertex) → n ≡ length pieces → AllByRecursion (IsVertexOf pieces) vs → All (λ v. v.piece < n) vs
 vertices-below pieces n vs e h = subst (λ m. All (λ v. v.piece < m) vs) (sym e) (All-from_recursion (λ v. v.piece < length pieces) vs (each vs h))
   where
-    each : (vs : List Vertex) → EachVertex (IsVertexOf pieces) vs → AllByRecursion (λ v. v.piece < length pieces) vs
+    each : (vs : List Vertex) → AllByRecursion (IsVertexOf pieces) vs → AllByRecursion (λ v. v.piece < length pieces) vs
     each [] h = tt
     each (v ∷ vs) h = (vertex-below pieces v h.0, each vs h.1)
 
@@ -124,7 +124,7 @@ cut-front pieces z column es es' cs cs' ds vs os os' ls w e k =
 
 -- the edges that go on are those of pieces
 pub cut-entries : (pieces : List Piece) (z : Fraction) (column : Option Fraction) (es es' : List Active) (cs cs' : List Contact) (vs : List Vertex) (os : List Active) (ls : List Level) →
-    WasCut pieces z column es es' cs cs' vs os ls → EachActive (IsEntry pieces) os
+    WasCut pieces z column es es' cs cs' vs os ls → AllByRecursion (IsEntry pieces) os
 cut-entries pieces z column es es' cs cs' vs os ls w =
     entries-after pieces z column es cs vs os ls w.coming w.vertices (moved_tops column es es' cs cs' vs ls w.edges_are w.contacts_are w.tops)
     (moved_onward pieces es es' vs os ls w.edges_are w.onward)

@@ -1,7 +1,7 @@
 -- The cells of a whole column: the gap above its highest place, and then height by height.
 use Rattle.std.proofs.Common.{◌≡◌, refl, ap, ◌∙◌, ℕ, ℤ, pos, ◌+ℤ◌, ◌*ℤ◌, ◌≤ℤ◌, ◌<ℤ◌, ◌<◌, arith, Bool, true, false, ◌&&◌, List, [], ◌∷◌, ◌++◌, map, inl, inr}
 use Rattle.std.specs.Prelude.{if◌then◌else◌, int_le, int_lt}
-use Rattle.std.specs.List.{flat_map}
+use Rattle.std.specs.List.{AllByRecursion, flat_map}
 use Rattle.std.proofs.lemmas.Bool.{and_parts, both_ways, cases_Bool, false≢true}
 use Rattle.std.proofs.lemmas.Int.{ints}
 use Rattle.sf_grid.specs.Fraction.{Fraction, IsFraction, fraction_lt, one_less, one_more, whole}
@@ -18,11 +18,12 @@ use Rattle.sf_cells.specs.Cells.{cell_of}
 use Rattle.sf_slabs.proofs.AboveLaws.{goes_on-vertical, height_of, is_above-height, passes}
 use Rattle.sf_slabs.proofs.CellLaws.{AgreeOn}
 use Rattle.sf_slabs.proofs.ColumnLaws.{IsHeights, column_cells}
-use Rattle.sf_slabs.proofs.LevelLaws.{EachPiece, Placed, cell-agree, cell_by, cells-levels, level_cells, levels_from, not_above, not_above_higher}
+use Rattle.sf_slabs.proofs.LevelLaws.{Placed, cell-agree, cell_by, cells-levels, level_cells, levels_from, not_above, not_above_higher}
 use Rattle.sf_slabs.proofs.NumberLaws.{Among, Numbers}
-use Rattle.sf_slabs.proofs.SampleLaws.{Each, FollowFrom}
+use Rattle.sf_slabs.proofs.SampleLaws.{FollowFrom}
 use Rattle.sf_columns.proofs.SideLaws.{goes_on}
 use Rattle.sf_slabs.proofs.SlabLaws.{reached_from}
+use Rattle.sf_slabs.proofs.EachLaws.{each-parts}
 
 -- ---- the height of a piece that goes on is listed
 pub if_false : {A : Type 0} (P : A → Type 0) (b : Bool) (s t : A) → b ≡ false → P (if b then s else t) → P t
@@ -52,34 +53,30 @@ passes-number x (Edge a b) i h =
     height-IsFraction e x (record { slants = goes_on-slants e x h; reached = goes_on-reaches e x h }) i
 passes-number x (Dot a) i h = absurd (false≢true h)
 
-pub passes-listed : (P : Fraction → Type 0) (x : Fraction) (p : Piece) → passes x p ≡ true → Each P (heights_of x p) → P (height_of x p)
+pub passes-listed : (P : Fraction → Type 0) (x : Fraction) (p : Piece) → passes x p ≡ true → AllByRecursion P (heights_of x p) → P (height_of x p)
 passes-listed P x (Edge a b) h k =
     let e = edge_between a b in
-    (if_true (Each P) (reaches e x) (height_at e x ∷ []) [] (goes_on-reaches e x h)
-    (if_false (Each P) (is_vertical e) (if_in_column x a (whole a.y ∷ whole b.y ∷ [])) (if reaches e x then height_at e x ∷ [] else []) (goes_on-slants e x h) k)).0
+    (if_true (AllByRecursion P) (reaches e x) (height_at e x ∷ []) [] (goes_on-reaches e x h)
+    (if_false (AllByRecursion P) (is_vertical e) (if_in_column x a (whole a.y ∷ whole b.y ∷ [])) (if reaches e x then height_at e x ∷ [] else []) (goes_on-slants e x h) k)).0
 passes-listed P x (Dot a) h k = absurd (false≢true h)
 
 -- ---- the pieces of a list against a listing of the column's heights
-pub Each-parts : (P : Fraction → Type 0) (qs rs : List Fraction) → Each P (qs ++ rs) → Each P qs × Each P rs
-Each-parts P [] rs h = (tt, h)
-Each-parts P (q ∷ qs) rs h = let k = Each-parts P qs rs h.1 in ((h.0, k.0), k.1)
-
-placed_at : (x q : Fraction) (qs : List Fraction) (p : Piece) → IsFraction x → Each (Among (q ∷ qs)) (heights_of x p) → Placed x q qs p
+placed_at : (x q : Fraction) (qs : List Fraction) (p : Piece) → IsFraction x → AllByRecursion (Among (q ∷ qs)) (heights_of x p) → Placed x q qs p
 placed_at x q qs p i h t = (passes-number x p i t, inr (passes-listed (Among (q ∷ qs)) x p t h))
 
-all_placed : (x q : Fraction) (qs : List Fraction) (ps : List Piece) → IsFraction x → Each (Among (q ∷ qs)) (flat_map (heights_of x) ps) → EachPiece (Placed x q qs) ps
+all_placed : (x q : Fraction) (qs : List Fraction) (ps : List Piece) → IsFraction x → AllByRecursion (Among (q ∷ qs)) (flat_map (heights_of x) ps) → AllByRecursion (Placed x q qs) ps
 all_placed x q qs [] i h = tt
 all_placed x q qs (p ∷ ps) i h =
-    let k = Each-parts (Among (q ∷ qs)) (heights_of x p) (flat_map (heights_of x) ps) h in
+    let k = each-parts (Among (q ∷ qs)) (heights_of x p) (flat_map (heights_of x) ps) h in
     (placed_at x q qs p i k.0, all_placed x q qs ps i k.1)
 
 -- no edge is above the highest place, or above a place higher up
 none_above : (x q m : Fraction) (qs : List Fraction) (ps : List Piece) → IsFraction x → IsFraction q → IsFraction m → Numbers qs →
     FollowFrom (λ a b. fraction_lt b a) q qs → ((h : Fraction) → IsFraction h → fraction_lt q h ≡ false → fraction_lt m h ≡ false) →
-    Each (Among (q ∷ qs)) (flat_map (heights_of x) ps) → AgreeOn (is_above (point_at x m)) (λ _. false) ps
+    AllByRecursion (Among (q ∷ qs)) (flat_map (heights_of x) ps) → AgreeOn (is_above (point_at x m)) (λ _. false) ps
 none_above x q m qs [] i j k n f c h = tt
 none_above x q m qs (p ∷ ps) i j k n f c h =
-    let parts = Each-parts (Among (q ∷ qs)) (heights_of x p) (flat_map (heights_of x) ps) h in (
+    let parts = each-parts (Among (q ∷ qs)) (heights_of x p) (flat_map (heights_of x) ps) h in (
       is_above-height x m p k ∙ never (passes x p) (fraction_lt m (height_of x p))
           (λ t. c (height_of x p) (passes-number x p i t) (not_above q (height_of x p) qs j (passes-number x p i t) n f (passes-listed (Among (q ∷ qs)) x p t parts.0))),
       none_above x q m qs ps i j k n f c parts.1,

@@ -1,17 +1,16 @@
 -- The same numbers in whatever order: for every weight the sums are equal. Sums over the pieces that pass a test, and over their vertices.
 use Rattle.std.proofs.Common.{◌≡◌, refl, ap, sym, ◌∙◌, ℕ, zero, suc, ◌+◌, arith, Bool, true, false, not, ◌&&◌, ◌||◌, List, [], ◌∷◌, ◌++◌, take, drop, Option, Some, None}
 use Rattle.std.specs.Prelude.{if◌then◌else◌}
-use Rattle.std.specs.List.{sum_by}
+use Rattle.std.specs.List.{AllByRecursion, sum_by}
 use Rattle.std.proofs.lemmas.List.Sums.{sum_by-append, sum_by-cons}
 use Rattle.sf_columns.specs.declared.piece.Piece.{Piece}
 use Rattle.sf_columns.specs.declared.active.Active.{Active}
 use Rattle.sf_columns.specs.declared.vertex.Role.{Role}
 use Rattle.sf_columns.specs.declared.vertex.Vertex.{Vertex}
 use Rattle.sf_cells.specs.Cells.{numbers_from}
-use Rattle.sf_columns.specs.Fronts.{EachActive, SameNumbers, pieces_of}
+use Rattle.sf_columns.specs.Fronts.{SameNumbers, pieces_of}
 use Rattle.sf_columns.specs.Vertices.{all_vertices, piece_at, pieces_with, vertices_of}
-use Rattle.sf_slabs.proofs.LevelLaws.{EachPiece}
-use Rattle.sf_slabs.proofs.Shapes.{AreVertices, EachVertex}
+use Rattle.sf_slabs.proofs.Shapes.{AreVertices}
 
 -- ---- the same numbers
 pub SameNumbers-refl : (ms : List ℕ) → SameNumbers ms ms
@@ -67,7 +66,7 @@ regrouped : (a b c d e f : ℕ) → a ≡ b + c → d ≡ e + f → a + d ≡ (b
 regrouped a b c d e f h k = omega arith
 
 -- the sum over the pieces that pass one test or the other
-total-either : (w : ℕ → ℕ) (k : ℕ) (d a b : Piece → Bool) (ps : List Piece) → EachPiece (λ p. IsEither (d p) (a p) (b p)) ps →
+total-either : (w : ℕ → ℕ) (k : ℕ) (d a b : Piece → Bool) (ps : List Piece) → AllByRecursion (λ p. IsEither (d p) (a p) (b p)) ps →
     total w k d ps ≡ total w k a ps + total w k b ps
 total-either w k d a b [] h = refl
 total-either w k d a b (p ∷ ps) h =
@@ -75,7 +74,7 @@ total-either w k d a b (p ∷ ps) h =
 
 -- the numbers of two lists, those of the pieces that pass one test or the other
 pub SameNumbers-either : (ms ns : List ℕ) (d a b : Piece → Bool) (ps : List Piece) → SameNumbers ms (numbers_from 0 a ps) →
-    SameNumbers ns (numbers_from 0 b ps) → EachPiece (λ p. IsEither (d p) (a p) (b p)) ps → SameNumbers (ms ++ ns) (numbers_from 0 d ps)
+    SameNumbers ns (numbers_from 0 b ps) → AllByRecursion (λ p. IsEither (d p) (a p) (b p)) ps → SameNumbers (ms ++ ns) (numbers_from 0 d ps)
 SameNumbers-either ms ns d a b ps h k e =
     λ w.
     sum_by-append w ms ns
@@ -85,14 +84,14 @@ SameNumbers-either ms ns d a b ps h k e =
     ∙ sym (sum-numbers_from w 0 d ps)
 
 -- tests that agree have one sum
-total-agree : (w : ℕ → ℕ) (k : ℕ) (s t : Piece → Bool) (ps : List Piece) → EachPiece (λ p. s p ≡ t p) ps → total w k s ps ≡ total w k t ps
+total-agree : (w : ℕ → ℕ) (k : ℕ) (s t : Piece → Bool) (ps : List Piece) → AllByRecursion (λ p. s p ≡ t p) ps → total w k s ps ≡ total w k t ps
 total-agree w k s t [] h = refl
 total-agree w k s t (p ∷ ps) h =
     ap (λ b. (if b then w k else 0) + total w (k + 1) s ps) h.0 ∙ ap (λ n. (if t p then w k else 0) + n) (total-agree w (k + 1) s t ps h.1)
 
 -- numbers of pieces that pass a test are those of the pieces that pass one that agrees
 pub SameNumbers-agree : (ms : List ℕ) (s t : Piece → Bool) (ps : List Piece) → SameNumbers ms (numbers_from 0 s ps) →
-    EachPiece (λ p. s p ≡ t p) ps → SameNumbers ms (numbers_from 0 t ps)
+    AllByRecursion (λ p. s p ≡ t p) ps → SameNumbers ms (numbers_from 0 t ps)
 SameNumbers-agree ms s t ps h e = λ w. h w ∙ sum-numbers_from w 0 s ps ∙ total-agree w 0 s t ps e ∙ sym (sum-numbers_from w 0 t ps)
 
 -- ---- no piece passes
@@ -104,23 +103,23 @@ fails true h = absurd (omega arith)
 fails false h = refl
 
 -- where a sum of ones is 0, no piece passes
-none_pass : (k : ℕ) (t : Piece → Bool) (ps : List Piece) → total (λ _. 1) k t ps ≡ 0 → EachPiece (λ p. t p ≡ false) ps
+none_pass : (k : ℕ) (t : Piece → Bool) (ps : List Piece) → total (λ _. 1) k t ps ≡ 0 → AllByRecursion (λ p. t p ≡ false) ps
 none_pass k t [] h = tt
 none_pass k t (p ∷ ps) h =
     let parts = no_part (if t p then 1 else 0) (total (λ _. 1) (k + 1) t ps) h in
     (fails (t p) parts.0, none_pass (k + 1) t ps parts.1)
 
 -- a test whose pieces have the numbers of no list passes none
-pub SameNumbers-none : (t : Piece → Bool) (ps : List Piece) → SameNumbers [] (numbers_from 0 t ps) → EachPiece (λ p. t p ≡ false) ps
+pub SameNumbers-none : (t : Piece → Bool) (ps : List Piece) → SameNumbers [] (numbers_from 0 t ps) → AllByRecursion (λ p. t p ≡ false) ps
 SameNumbers-none t ps h = none_pass 0 t ps (sym (sum-numbers_from (λ _. 1) 0 t ps) ∙ sym (h (λ _. 1)))
 
 -- and the other way round: the sum is 0, and the list is empty
-total-none : (w : ℕ → ℕ) (k : ℕ) (t : Piece → Bool) (ps : List Piece) → EachPiece (λ p. t p ≡ false) ps → total w k t ps ≡ 0
+total-none : (w : ℕ → ℕ) (k : ℕ) (t : Piece → Bool) (ps : List Piece) → AllByRecursion (λ p. t p ≡ false) ps → total w k t ps ≡ 0
 total-none w k t [] h = refl
 total-none w k t (p ∷ ps) h =
     ap (λ b. (if b then w k else 0) + total w (k + 1) t ps) h.0 ∙ ap (λ n. 0 + n) (total-none w (k + 1) t ps h.1)
 
-pub numbers_from-none : (k : ℕ) (t : Piece → Bool) (ps : List Piece) → EachPiece (λ p. t p ≡ false) ps → numbers_from k t ps ≡ []
+pub numbers_from-none : (k : ℕ) (t : Piece → Bool) (ps : List Piece) → AllByRecursion (λ p. t p ≡ false) ps → numbers_from k t ps ≡ []
 numbers_from-none k t [] h = refl
 numbers_from-none k t (p ∷ ps) h =
     ap (λ b. if b then k ∷ numbers_from (k + 1) t ps else numbers_from (k + 1) t ps) h.0 ∙ numbers_from-none (k + 1) t ps h.1
@@ -172,7 +171,7 @@ chosen t [] = []
 chosen t (x ∷ xs) = if t x then x ∷ chosen t xs else chosen t xs
 
 -- the first ones pass, and no other does
-pub chosen-take : (t : Active → Bool) (n : ℕ) (es : List Active) → EachActive (λ a. t a ≡ true) (take n es) → EachActive (λ a. t a ≡ false) (drop n es) →
+pub chosen-take : (t : Active → Bool) (n : ℕ) (es : List Active) → AllByRecursion (λ a. t a ≡ true) (take n es) → AllByRecursion (λ a. t a ≡ false) (drop n es) →
     chosen t es ≡ take n es
 chosen-take t zero [] h k = refl
 chosen-take t zero (a ∷ es) h k = ap (λ b. if b then a ∷ chosen t es else chosen t es) k.0 ∙ chosen-take t zero es tt k.1
@@ -180,7 +179,7 @@ chosen-take t (suc n) [] h k = refl
 chosen-take t (suc n) (a ∷ es) h k = ap (λ b. if b then a ∷ chosen t es else chosen t es) h.0 ∙ ap (λ fs. a ∷ fs) (chosen-take t n es h.1 k)
 
 -- the first ones do not pass, and all others do
-pub chosen-drop : (t : Active → Bool) (n : ℕ) (es : List Active) → EachActive (λ a. t a ≡ false) (take n es) → EachActive (λ a. t a ≡ true) (drop n es) →
+pub chosen-drop : (t : Active → Bool) (n : ℕ) (es : List Active) → AllByRecursion (λ a. t a ≡ false) (take n es) → AllByRecursion (λ a. t a ≡ true) (drop n es) →
     chosen t es ≡ drop n es
 chosen-drop t zero [] h k = refl
 chosen-drop t zero (a ∷ es) h k = ap (λ b. if b then a ∷ chosen t es else chosen t es) k.0 ∙ ap (λ fs. a ∷ fs) (chosen-drop t zero es tt k.1)
@@ -188,14 +187,14 @@ chosen-drop t (suc n) [] h k = refl
 chosen-drop t (suc n) (a ∷ es) h k = ap (λ b. if b then a ∷ chosen t es else chosen t es) h.0 ∙ chosen-drop t n es h.1 k
 
 -- the same of vertices
-pub chosen-take_vertices : (t : Vertex → Bool) (n : ℕ) (vs : List Vertex) → EachVertex (λ v. t v ≡ true) (take n vs) → EachVertex (λ v. t v ≡ false) (drop n vs) →
+pub chosen-take_vertices : (t : Vertex → Bool) (n : ℕ) (vs : List Vertex) → AllByRecursion (λ v. t v ≡ true) (take n vs) → AllByRecursion (λ v. t v ≡ false) (drop n vs) →
     chosen t vs ≡ take n vs
 chosen-take_vertices t zero [] h k = refl
 chosen-take_vertices t zero (v ∷ vs) h k = ap (λ b. if b then v ∷ chosen t vs else chosen t vs) k.0 ∙ chosen-take_vertices t zero vs tt k.1
 chosen-take_vertices t (suc n) [] h k = refl
 chosen-take_vertices t (suc n) (v ∷ vs) h k = ap (λ b. if b then v ∷ chosen t vs else chosen t vs) h.0 ∙ ap (λ us. v ∷ us) (chosen-take_vertices t n vs h.1 k)
 
-pub chosen-drop_vertices : (t : Vertex → Bool) (n : ℕ) (vs : List Vertex) → EachVertex (λ v. t v ≡ false) (take n vs) → EachVertex (λ v. t v ≡ true) (drop n vs) →
+pub chosen-drop_vertices : (t : Vertex → Bool) (n : ℕ) (vs : List Vertex) → AllByRecursion (λ v. t v ≡ false) (take n vs) → AllByRecursion (λ v. t v ≡ true) (drop n vs) →
     chosen t vs ≡ drop n vs
 chosen-drop_vertices t zero [] h k = refl
 chosen-drop_vertices t zero (v ∷ vs) h k = ap (λ b. if b then v ∷ chosen t vs else chosen t vs) k.0 ∙ ap (λ us. v ∷ us) (chosen-drop_vertices t zero vs tt k.1)
@@ -204,7 +203,7 @@ chosen-drop_vertices t (suc n) (v ∷ vs) h k = ap (λ b. if b then v ∷ chosen
 
 -- ---- the edges of a list that pass a test
 sum-chosen_active : (pieces : List Piece) (w : ℕ → ℕ) (t : Active → Bool) (u : Piece → Bool) (es : List Active) →
-    EachActive (λ a. t a ≡ passes_at u (piece_at pieces a.piece)) es → sum_by w (pieces_of (chosen t es)) ≡ sum_by (weight_if pieces u w) (pieces_of es)
+    AllByRecursion (λ a. t a ≡ passes_at u (piece_at pieces a.piece)) es → sum_by w (pieces_of (chosen t es)) ≡ sum_by (weight_if pieces u w) (pieces_of es)
 sum-chosen_active pieces w t u [] h = refl
 sum-chosen_active pieces w t u (a ∷ es) h =
     by_test (t a)
@@ -218,7 +217,7 @@ sum-chosen_active pieces w t u (a ∷ es) h =
 
 -- where a test of the edges agrees with one of their pieces
 pub SameNumbers-chosen : (pieces : List Piece) (s u : Piece → Bool) (t : Active → Bool) (es : List Active) → SameNumbers (pieces_of es) (numbers_from 0 s pieces) →
-    EachActive (λ a. t a ≡ passes_at u (piece_at pieces a.piece)) es → SameNumbers (pieces_of (chosen t es)) (numbers_from 0 (λ p. s p && u p) pieces)
+    AllByRecursion (λ a. t a ≡ passes_at u (piece_at pieces a.piece)) es → SameNumbers (pieces_of (chosen t es)) (numbers_from 0 (λ p. s p && u p) pieces)
 SameNumbers-chosen pieces s u t es h e =
     λ w.
     sum-chosen_active pieces w t u es e
@@ -231,18 +230,18 @@ SameNumbers-chosen pieces s u t es h e =
     none_more j = omega arith
 
 -- where nothing is chosen, no edge passes
-none_chosen : (t : Active → Bool) (es : List Active) → sum_by (λ _. 1) (pieces_of (chosen t es)) ≡ 0 → EachActive (λ a. t a ≡ false) es
+none_chosen : (t : Active → Bool) (es : List Active) → sum_by (λ _. 1) (pieces_of (chosen t es)) ≡ 0 → AllByRecursion (λ a. t a ≡ false) es
 none_chosen t [] h = tt
 none_chosen t (a ∷ es) h = by_test (t a) refl h (none_chosen t es)
   where
     by_test : (b : Bool) → t a ≡ b → sum_by (λ _. 1) (pieces_of (if b then a ∷ chosen t es else chosen t es)) ≡ 0 →
-        (sum_by (λ _. 1) (pieces_of (chosen t es)) ≡ 0 → EachActive (λ a. t a ≡ false) es) → EachActive (λ a. t a ≡ false) (a ∷ es)
+        (sum_by (λ _. 1) (pieces_of (chosen t es)) ≡ 0 → AllByRecursion (λ a. t a ≡ false) es) → AllByRecursion (λ a. t a ≡ false) (a ∷ es)
     by_test true e h rest = absurd (omega (arith, sum_by-cons (λ _. 1) a.piece (pieces_of (chosen t es))))
     by_test false e h rest = (e, rest h)
 
 -- no edge of the list passes, where no piece passes both tests
 pub SameNumbers-chosen_none : (pieces : List Piece) (s u : Piece → Bool) (t : Active → Bool) (es : List Active) → SameNumbers (pieces_of es) (numbers_from 0 s pieces) →
-    EachActive (λ a. t a ≡ passes_at u (piece_at pieces a.piece)) es → EachPiece (λ p. (s p && u p) ≡ false) pieces → EachActive (λ a. t a ≡ false) es
+    AllByRecursion (λ a. t a ≡ passes_at u (piece_at pieces a.piece)) es → AllByRecursion (λ p. (s p && u p) ≡ false) pieces → AllByRecursion (λ a. t a ≡ false) es
 SameNumbers-chosen_none pieces s u t es h e n =
     none_chosen t es
     (SameNumbers-chosen pieces s u t es h e (λ _. 1)
@@ -251,11 +250,11 @@ SameNumbers-chosen_none pieces s u t es h e n =
 
 -- each edge of the list is of a piece that passes
 pub each_passes : (pieces : List Piece) (s : Piece → Bool) (es : List Active) → SameNumbers (pieces_of es) (numbers_from 0 s pieces) →
-    EachActive (λ a. passes_at (λ p. not (s p)) (piece_at pieces a.piece) ≡ false) es
+    AllByRecursion (λ a. passes_at (λ p. not (s p)) (piece_at pieces a.piece) ≡ false) es
 each_passes pieces s es h =
     SameNumbers-chosen_none pieces s (λ p. not (s p)) (λ a. passes_at (λ p. not (s p)) (piece_at pieces a.piece)) es h (each_refl es) (contradicts pieces)
   where
-    each_refl : (fs : List Active) → EachActive (λ a. passes_at (λ p. not (s p)) (piece_at pieces a.piece) ≡ passes_at (λ p. not (s p)) (piece_at pieces a.piece)) fs
+    each_refl : (fs : List Active) → AllByRecursion (λ a. passes_at (λ p. not (s p)) (piece_at pieces a.piece) ≡ passes_at (λ p. not (s p)) (piece_at pieces a.piece)) fs
     each_refl [] = tt
     each_refl (a ∷ fs) = (refl, each_refl fs)
 
@@ -263,7 +262,7 @@ each_passes pieces s es h =
     never true = refl
     never false = refl
 
-    contradicts : (ps : List Piece) → EachPiece (λ p. (s p && not (s p)) ≡ false) ps
+    contradicts : (ps : List Piece) → AllByRecursion (λ p. (s p && not (s p)) ≡ false) ps
     contradicts [] = tt
     contradicts (p ∷ ps) = (never (s p), contradicts ps)
 

@@ -1,6 +1,6 @@
 -- The lists of a sweep: what comes to a column from the left, what lies in it, and what goes on from it.
 use Rattle.std.specs.Prelude.{◌≡◌, ℕ, Bool, true, false, ◌&&◌, pos, ◌*ℤ◌, int_le, int_lt, List, [], ◌∷◌, map, Option, if◌then◌else◌}
-use Rattle.std.specs.List.{sum_by}
+use Rattle.std.specs.List.{AllByRecursion, sum_by}
 use Rattle.std.specs.declared.cmp.Ordering.{Ordering}
 use Rattle.std.specs.declared.cmp.Ordering.TheVariants.{Equal, Less}
 use Rattle.sf_grid.specs.Fraction.{Fraction, IsFraction, fraction_eq, fraction_le, fraction_lt, whole}
@@ -12,7 +12,7 @@ use Rattle.sf_cells.specs.declared.cell.Cell.{Cell}
 use Rattle.sf_columns.specs.declared.contact.Contact.{Contact}
 use Rattle.sf_columns.specs.declared.vertex.Vertex.{Vertex}
 use Rattle.sf_cells.specs.Cells.{cell_of, numbers_from}
-use Rattle.sf_columns.specs.Fronts.{AreContacts, Descend, EachActive, IsEntry, SameNumbers, line_of, pieces_of, touches}
+use Rattle.sf_columns.specs.Fronts.{AreContacts, Descend, IsEntry, SameNumbers, line_of, pieces_of, touches}
 use Rattle.sf_cells.specs.Samples.{Mark, levels, sample_at}
 use Rattle.sf_columns.specs.Slanted.{goes_on}
 use Rattle.sf_columns.specs.Vertices.{IsVertexOf, all_vertices, in_column, vertex_before}
@@ -44,11 +44,6 @@ abbrev pub StepsAt : Fraction → Option Fraction → List Active → List Conta
 StepsAt z column [] cs = cs ≡ []
 StepsAt z column (a ∷ es) cs = StepsAtFrom z column a es cs
 
--- every vertex of the list has a property
-abbrev pub EachVertex : (Vertex → Type 0) → List Vertex → Type 0
-EachVertex P [] = Unit {0}
-EachVertex P (v ∷ vs) = P v × EachVertex P vs
-
 -- the vertices are just those of the pieces that pass a test, each as often
 abbrev pub AreVertices : List Piece → (Vertex → Bool) → List Vertex → Type 0
 AreVertices pieces test vs =
@@ -69,28 +64,28 @@ InOrder (v ∷ vs) = InOrderFrom v vs
 -- the vertices of a column
 pub record IsColumnOf (pieces : List Piece) (z : Fraction) (vs : List Vertex) : Type 0 where
   pub are : AreVertices pieces (in_column z) vs
-  pub each : EachVertex (IsVertexOf pieces) vs
-  pub here : EachVertex (λ v. in_column z v ≡ true) vs
+  pub each : AllByRecursion (IsVertexOf pieces) vs
+  pub here : AllByRecursion (λ v. in_column z v ≡ true) vs
   pub in_order : InOrder vs
 
 -- the vertices right of the column x
 pub record IsAhead (pieces : List Piece) (x : Fraction) (vs : List Vertex) : Type 0 where
   pub are : AreVertices pieces (right_of x) vs
-  pub each : EachVertex (IsVertexOf pieces) vs
-  pub later : EachVertex (λ v. right_of x v ≡ true) vs
+  pub each : AllByRecursion (IsVertexOf pieces) vs
+  pub later : AllByRecursion (λ v. right_of x v ≡ true) vs
   pub in_order : InOrder vs
 
 -- the edges that come to the column z from the left, from the top
 pub record IsComing (pieces : List Piece) (z : Fraction) (column : Option Fraction) (es : List Active) (cs : List Contact) : Type 0 where
   pub place : IsFraction z
-  pub entries : EachActive (IsEntry pieces) es
+  pub entries : AllByRecursion (IsEntry pieces) es
   pub coming : SameNumbers (pieces_of es) (numbers_from 0 (comes_to z) pieces)
   pub steps : StepsAt z column es cs
 
 -- the edges that go on to the right of the column x, from the top
 pub record IsFront (pieces : List Piece) (x : Fraction) (os : List Active) (cs : List Contact) : Type 0 where
   pub place : IsFraction x
-  pub entries : EachActive (IsEntry pieces) os
+  pub entries : AllByRecursion (IsEntry pieces) os
   pub active : SameNumbers (pieces_of os) (numbers_from 0 (passes x) pieces)
   pub descend : Descend x os
   pub contacts : AreContacts x os cs
