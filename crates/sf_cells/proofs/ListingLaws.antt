@@ -1,11 +1,11 @@
--- Where each piece is a group of its own, the groups that have a count are the pieces again; and where the room did, what was recorded are the cells.
-use Rattle.std.proofs.Common.{◌≡◌, refl, ap, sym, ◌∙◌, add-one, subst, ℕ, zero, suc, ◌+◌, ◌≤◌, ◌<◌, ◌^◌, arith, Bool, true, false, ◌&&◌, nat_lt, List, [], ◌∷◌, ◌++◌, map, take, drop, length, slice_index, ◌==◌, cond, inl, inr}
+-- Where each piece is a group of its own, the groups that have a count are the pieces again; and in the room that was measured, what is recorded are the cells.
+use Rattle.std.proofs.Common.{◌≡◌, refl, ap, sym, ◌∙◌, add-one, subst, ℕ, zero, suc, ◌+◌, ◌-◌, ◌≤◌, ◌<◌, ◌^◌, arith, Bool, true, false, ◌&&◌, nat_lt, List, [], ◌∷◌, ◌++◌, map, take, drop, length, slice_index, ◌==◌, cond, inl, inr}
 use Rattle.std.specs.Prelude.{if◌then◌else◌}
 use Rattle.std.specs.List.{All, count_by, flat_map, fold}
-use Rattle.std.proofs.lemmas.Bool.{eq-eqb}
+use Rattle.std.proofs.lemmas.Bool.{eq-eqb, lt-ltb}
 use Rattle.std.proofs.lemmas.Bool.Decides.{eqb_tells}
-use Rattle.std.proofs.lemmas.List.{append-nil, append_assoc, length-append}
-use Rattle.std.proofs.lemmas.List.Elements.{All-cons, All-nil}
+use Rattle.std.proofs.lemmas.List.{append-nil, append_assoc, length-append, length-map}
+use Rattle.std.proofs.lemmas.List.Elements.{All-append, All-cons, All-head, All-nil, All-tail}
 use Rattle.std.proofs.lemmas.List.Sums.{sum_by-cons}
 use Rattle.std.proofs.Math.Seq.{drop-append_seam, take-append_seam}
 use Rattle.sf_cells.specs.declared.cell.Cell.{Cell}
@@ -13,10 +13,10 @@ use Rattle.sf_cells.specs.declared.listing.Head.{Head}
 use Rattle.sf_columns.specs.declared.piece.Piece.{Piece}
 use Rattle.sf_cells.specs.Cells.{cell_of, cells, numbers_from}
 use Rattle.sf_cells.specs.Groups.{Item, counts, group_count, item_of, numbers}
-use Rattle.sf_cells.specs.Listing.{Listing, counted, fall_short, head_of, is_counted, record_item, recorded_cells, total, with_head, with_number}
+use Rattle.sf_cells.specs.Listing.{Listing, Measured, counted, head_of, is_counted, measure, record_item, recorded_cells, total, with_head, with_number}
 use Rattle.sf_cells.specs.Pieces.{is_above, is_on}
 use Rattle.sf_cells.specs.Samples.{Sample, samples}
-use Rattle.sf_cells.proofs.CountLaws.{counts-numbers_from, tally}
+use Rattle.sf_cells.proofs.CountLaws.{counts-numbers_from, fold-append, tally}
 use Rattle.sf_cells.proofs.TallyLaws.{length-numbers}
 
 -- ---- groups of one piece each
@@ -161,12 +161,17 @@ cells-back pieces (s ∷ ss) =
 pub cells-from_items : (pieces : List Piece) → map cell_from (map (item_of (numbers 0 (length pieces))) (cells pieces)) ≡ cells pieces
 cells-from_items pieces = cells-back pieces (samples pieces)
 
--- ---- what is recorded where the room does
--- the second listing has these heads and numbers more, and the first one isn't short
-pub record Grew (l m : Listing) (hs : List Head) (ns : List ℕ) : Type 0 where
-  pub heads : m.heads ≡ l.heads ++ hs
-  pub numbers : m.numbers ≡ l.numbers ++ ns
-  pub before : l.short ≡ false
+-- ---- what is recorded where there is room
+-- the second listing has these heads and numbers more, and the same room in all
+record Grew (l m : Listing) (hs : List Head) (ns : List ℕ) : Type 0 where
+  heads : m.heads ≡ l.heads ++ hs
+  numbers : m.numbers ≡ l.numbers ++ ns
+  head_room : m.head_room ≡ l.head_room
+  number_room : m.number_room ≡ l.number_room
+
+-- nothing more
+Grew-none : (l : Listing) → Grew l l [] []
+Grew-none l = record { heads = sym (append-nil l.heads); numbers = sym (append-nil l.numbers); head_room = refl; number_room = refl }
 
 -- one growth after another
 Grew-then : {l m o : Listing} {hs gs : List Head} {ns ks : List ℕ} → Grew l m hs ns → Grew m o gs ks → Grew l o (hs ++ gs) (ns ++ ks)
@@ -174,58 +179,85 @@ Grew-then {l} {m} {o} {hs} {gs} {ns} {ks} g h =
     record {
       heads = h.heads ∙ ap (λ z. z ++ gs) g.heads ∙ append_assoc l.heads hs gs;
       numbers = h.numbers ∙ ap (λ z. z ++ ks) g.numbers ∙ append_assoc l.numbers ns ks;
-      before = g.before;
+      head_room = h.head_room ∙ g.head_room;
+      number_room = h.number_room ∙ g.number_room;
     }
 
--- a further number, if the listing isn't short after it
-Grew-number : (l : Listing) (n : ℕ) → (with_number l n).short ≡ false → Grew l (with_number l n) [] (n ∷ [])
-Grew-number l n h = by_room (nat_lt n (2 ^ 32) && nat_lt (length l.numbers) l.number_room) h
+-- how many heads there are then
+Grew-heads_length : (l m : Listing) (hs : List Head) (ns : List ℕ) → Grew l m hs ns → length m.heads ≡ length l.heads + length hs
+Grew-heads_length l m hs ns g = ap length g.heads ∙ length-append l.heads hs
+
+-- and how many numbers
+Grew-numbers_length : (l m : Listing) (hs : List Head) (ns : List ℕ) → Grew l m hs ns → length m.numbers ≡ length l.numbers + length ns
+Grew-numbers_length l m hs ns g = ap length g.numbers ∙ length-append l.numbers ns
+
+-- a further number of 32 bits, where there is room for it
+Grew-number : (l : Listing) (n : ℕ) → n < 2 ^ 32 → length l.numbers < l.number_room → Grew l (with_number l n) [] (n ∷ [])
+Grew-number l n small room =
+    by_room (nat_lt n (2 ^ 32) && nat_lt (length l.numbers) l.number_room)
+    (ap (λ b. b && nat_lt (length l.numbers) l.number_room) (lt-ltb n (2 ^ 32) small) ∙ lt-ltb (length l.numbers) l.number_room room)
   where
     grown : Listing
-    grown = record { heads = l.heads; numbers = l.numbers ++ n ∷ []; head_room = l.head_room; number_room = l.number_room; short = l.short }
+    grown = record { heads = l.heads; numbers = l.numbers ++ n ∷ []; head_room = l.head_room; number_room = l.number_room }
 
-    by_room : (b : Bool) → (if b then grown else fall_short l).short ≡ false → Grew l (if b then grown else fall_short l) [] (n ∷ [])
-    by_room true k = record { heads = sym (append-nil l.heads); numbers = refl; before = k }
-    by_room false k = cc
+    by_room : (b : Bool) → b ≡ true → Grew l (if b then grown else l) [] (n ∷ [])
+    by_room true e = record { heads = sym (append-nil l.heads); numbers = refl; head_room = refl; number_room = refl }
+    by_room false e = cc
 
 -- further numbers
-Grew-numbers : (ns : List ℕ) (l : Listing) → (fold with_number l ns).short ≡ false → Grew l (fold with_number l ns) [] ns
-Grew-numbers [] l h = record { heads = sym (append-nil l.heads); numbers = sym (append-nil l.numbers); before = h }
-Grew-numbers (n ∷ ns) l h =
-    let later = Grew-numbers ns (with_number l n) h in
-    Grew-then (Grew-number l n later.before) later
+Grew-numbers : (ns : List ℕ) (l : Listing) → All (λ n. n < 2 ^ 32) ns → length l.numbers + length ns ≤ l.number_room → Grew l (fold with_number l ns) [] ns
+Grew-numbers [] l small room = Grew-none l
+Grew-numbers (n ∷ ns) l small room =
+    let here = Grew-number l n (All-head (λ k. k < 2 ^ 32) n ns small) (omega arith) in
+    let longer = Grew-numbers_length l (with_number l n) [] (n ∷ []) here in
+    Grew-then here (Grew-numbers ns (with_number l n) (All-tail (λ k. k < 2 ^ 32) n ns small) (omega arith))
 
--- a further head
-Grew-head : (l : Listing) (h : Head) → (with_head l h).short ≡ false → Grew l (with_head l h) (h ∷ []) []
-Grew-head l h e = by_room (nat_lt (length l.heads) l.head_room) e
+-- a further head, where there is room for it
+Grew-head : (l : Listing) (h : Head) → length l.heads < l.head_room → Grew l (with_head l h) (h ∷ []) []
+Grew-head l h room = by_room (nat_lt (length l.heads) l.head_room) (lt-ltb (length l.heads) l.head_room room)
   where
     grown : Listing
-    grown = record { heads = l.heads ++ h ∷ []; numbers = l.numbers; head_room = l.head_room; number_room = l.number_room; short = l.short }
+    grown = record { heads = l.heads ++ h ∷ []; numbers = l.numbers; head_room = l.head_room; number_room = l.number_room }
 
-    by_room : (b : Bool) → (if b then grown else fall_short l).short ≡ false → Grew l (if b then grown else fall_short l) (h ∷ []) []
-    by_room true k = record { heads = refl; numbers = sym (append-nil l.numbers); before = k }
-    by_room false k = cc
+    by_room : (b : Bool) → b ≡ true → Grew l (if b then grown else l) (h ∷ []) []
+    by_room true e = record { heads = refl; numbers = sym (append-nil l.numbers); head_room = refl; number_room = refl }
+    by_room false e = cc
 
 -- the numbers of an item
 abbrev pub item_numbers : Item → List ℕ
 item_numbers i = counted i.on ++ counted i.above
 
--- a further item
-Grew-item : (l : Listing) (i : Item) → (record_item l i).short ≡ false → Grew l (record_item l i) (head_of i ∷ []) (item_numbers i)
-Grew-item l i h =
-    let head = Grew-head (fold with_number (fold with_number l (counted i.on)) (counted i.above)) (head_of i) h in
-    let above = Grew-numbers (counted i.above) (fold with_number l (counted i.on)) head.before in
-    let on = Grew-numbers (counted i.on) l above.before in
-    let all = Grew-then (Grew-then on above) head in
-    record { heads = all.heads; numbers = all.numbers ∙ ap (λ ns. l.numbers ++ ns) (append-nil (item_numbers i)); before = all.before }
+-- they have 32 bits
+abbrev HasSmallNumbers : Item → Type 0
+HasSmallNumbers i = All (λ n. n < 2 ^ 32) (item_numbers i)
 
--- all items
-Grew-items : (is : List Item) (l : Listing) → (fold record_item l is).short ≡ false →
+-- a further item, where there is room for it
+Grew-item : (l : Listing) (i : Item) → HasSmallNumbers i → length l.heads < l.head_room → length l.numbers + length (item_numbers i) ≤ l.number_room →
+    Grew l (record_item l i) (head_of i ∷ []) (item_numbers i)
+Grew-item l i small head_room number_room =
+    let filled = fold with_number (fold with_number l (counted i.on)) (counted i.above) in
+    let numbers = subst (λ m. Grew l m [] (item_numbers i)) (fold-append with_number l (counted i.on) (counted i.above))
+    (Grew-numbers (item_numbers i) l small number_room) in
+    let as_many = Grew-heads_length l filled [] (item_numbers i) numbers in
+    let all = Grew-then numbers (Grew-head filled (head_of i) (omega arith)) in
+    record {
+      heads = all.heads;
+      numbers = all.numbers ∙ ap (λ ns. l.numbers ++ ns) (append-nil (item_numbers i));
+      head_room = all.head_room;
+      number_room = all.number_room;
+    }
+
+-- all items, where there is room for them
+Grew-items : (is : List Item) (l : Listing) → All HasSmallNumbers is → length l.heads + length is ≤ l.head_room →
+    length l.numbers + length (flat_map item_numbers is) ≤ l.number_room →
     Grew l (fold record_item l is) (map head_of is) (flat_map item_numbers is)
-Grew-items [] l h = record { heads = sym (append-nil l.heads); numbers = sym (append-nil l.numbers); before = h }
-Grew-items (i ∷ is) l h =
-    let later = Grew-items is (record_item l i) h in
-    Grew-then (Grew-item l i later.before) later
+Grew-items [] l small head_room number_room = Grew-none l
+Grew-items (i ∷ is) l small head_room number_room =
+    let both = length-append (item_numbers i) (flat_map item_numbers is) in
+    let here = Grew-item l i (All-head HasSmallNumbers i is small) (omega arith) (omega arith) in
+    let more_heads = Grew-heads_length l (record_item l i) (head_of i ∷ []) (item_numbers i) here in
+    let more_numbers = Grew-numbers_length l (record_item l i) (head_of i ∷ []) (item_numbers i) here in
+    Grew-then here (Grew-items is (record_item l i) (All-tail HasSmallNumbers i is small) (omega arith) (omega arith))
 
 -- ---- from what is recorded to the cells
 -- the first of three lists one after another, and what is behind it
@@ -283,23 +315,98 @@ recorded-items (i ∷ is) =
     ∙ ap (λ z. cell_from i ∷ recorded_cells (map head_of is) z) (drop-one h.above (counted i.above) rest e)
     ∙ ap (λ cs. cell_from i ∷ cs) (recorded-items is)
 
--- what a walk over pieces of one group each has recorded, if the room did
+-- ---- how much room is measured
+-- as many cells as items, where that is less than the greatest number
+measure-cells : (is : List Item) (m : Measured) → (fold measure m is).cells < 2 ^ 64 - 1 → (fold measure m is).cells ≡ m.cells + length is
+measure-cells [] m small = omega arith
+measure-cells (i ∷ is) m small =
+    let later = measure-cells is (measure m i) small in
+    omega arith
+
+-- as many numbers as the items have, where that is less than the greatest number
+measure-numbers : (is : List Item) (m : Measured) → (fold measure m is).numbers < 2 ^ 64 - 1 →
+    (fold measure m is).numbers ≡ m.numbers + length (flat_map item_numbers is)
+measure-numbers [] m small = omega arith
+measure-numbers (i ∷ is) m small =
+    let on = length-numbers_from 0 i.on in
+    let above = length-numbers_from 0 i.above in
+    let later = measure-numbers is (measure m i) small in
+    let both = length-append (counted i.on) (counted i.above) in
+    let all = length-append (item_numbers i) (flat_map item_numbers is) in
+    omega arith
+
+-- ---- how great the numbers are
+-- the numbers from k on of some members are below a limit that is no less than k and the members
+numbers_from-below : {A : Type 0} (limit k : ℕ) (test : A → Bool) (xs : List A) → k + length xs ≤ limit → All (λ n. n < limit) (numbers_from k test xs)
+numbers_from-below limit k test [] h = All-nil (λ n. n < limit)
+numbers_from-below limit k test (x ∷ xs) h = chosen (test x) (numbers_from-below limit (k + 1) test xs (omega arith))
+  where
+    chosen : (b : Bool) → All (λ n. n < limit) (numbers_from (k + 1) test xs) →
+        All (λ n. n < limit) (if b then k ∷ numbers_from (k + 1) test xs else numbers_from (k + 1) test xs)
+    chosen true later = All-cons (λ n. n < limit) k (numbers_from (k + 1) test xs) (omega arith) later
+    chosen false later = later
+
+-- the groups that have a count are below a limit that is no less than the groups
+counted-below : (limit : ℕ) (groups ps : List ℕ) → group_count groups ≤ limit → All (λ n. n < limit) (counted (counts groups ps))
+counted-below limit groups ps h =
+    let all = length-map (numbers 0 (group_count groups)) (λ g. count_by (λ i. slice_index groups i == g) ps) in
+    let as_many = length-numbers 0 (group_count groups) in
+    numbers_from-below limit 0 is_counted (counts groups ps) (omega arith)
+
+-- the numbers of the items have 32 bits where the groups are that few
+small-items : (groups : List ℕ) (cs : List Cell) → group_count groups ≤ 2 ^ 32 → All HasSmallNumbers (map (item_of groups) cs)
+small-items groups [] h = All-nil HasSmallNumbers
+small-items groups (c ∷ cs) h =
+    All-cons HasSmallNumbers (item_of groups c) (map (item_of groups) cs)
+    (All-append (λ n. n < 2 ^ 32) (counted (counts groups c.on)) (counted (counts groups c.above)) (counted-below (2 ^ 32) groups c.on h) (counted-below (2 ^ 32) groups c.above h))
+    (small-items groups cs h)
+
+-- ---- what a second walk records in the room that a first one measured
+-- nothing is put down yet, and there is as much room as was measured: less than the greatest number, since it was made
+pub record HasMeasuredRoom (m : Measured) (l : Listing) : Type 0 where
+  pub heads : l.heads ≡ []
+  pub numbers : l.numbers ≡ []
+  pub head_room : l.head_room ≡ m.cells
+  pub number_room : l.number_room ≡ m.numbers
+  pub few_heads : l.head_room < 2 ^ 63
+  pub few_numbers : l.number_room < 2 ^ 63
+
+-- there is room for all items
+Grew-measured : (is : List Item) (m : Measured) (l : Listing) → m ≡ fold measure (record { cells = 0; numbers = 0 }) is → HasMeasuredRoom m l →
+    All HasSmallNumbers is → Grew l (fold record_item l is) (map head_of is) (flat_map item_numbers is)
+Grew-measured is m l measured room small =
+    let none : Measured = record { cells = 0; numbers = 0 } in
+    let cells_are : m.cells ≡ (fold measure none is).cells = ap (λ n. n.cells) measured in
+    let numbers_are : m.numbers ≡ (fold measure none is).numbers = ap (λ n. n.numbers) measured in
+    let no_head : length l.heads ≡ 0 = ap length room.heads in
+    let no_number : length l.numbers ≡ 0 = ap length room.numbers in
+    let few_cells : (fold measure none is).cells < 2 ^ 64 - 1 = omega arith in
+    let few_numbers : (fold measure none is).numbers < 2 ^ 64 - 1 = omega arith in
+    let all_cells = measure-cells is none few_cells in
+    let all_numbers = measure-numbers is none few_numbers in
+    Grew-items is l small (omega arith) (omega arith)
+
+-- what a walk over pieces of one group each has recorded
 pub record IsRecorded (pieces : List Piece) (heads : List Head) (ns : List ℕ) : Type 0 where
   pub takes : total heads ≤ length ns
   pub are_cells : recorded_cells heads ns ≡ cells pieces
 
--- from an empty listing that isn't short in the end, to slices of its heads and numbers
-pub IsRecorded-walk : (pieces : List Piece) (groups : List ℕ) (start end : Listing) (heads : List Head) (ns : List ℕ) → groups ≡ numbers 0 (length pieces) →
-    start.heads ≡ [] → start.numbers ≡ [] → end ≡ fold record_item start (map (item_of groups) (cells pieces)) → end.short ≡ false →
-    heads ≡ end.heads → ns ≡ end.numbers → IsRecorded pieces heads ns
-IsRecorded-walk pieces groups start end heads ns own no_head no_number walked room are_heads are_numbers =
+-- from two lists of such groups, what the first walk measured and an empty listing of that room, to slices of its heads and numbers after the second walk
+pub IsRecorded-walk : (pieces : List Piece) (first second : List ℕ) (measured : Measured) (start end : Listing) (heads : List Head) (ns : List ℕ) →
+    length pieces ≤ 65535 → first ≡ numbers 0 (length pieces) → second ≡ numbers 0 (length pieces) →
+    measured ≡ fold measure (record { cells = 0; numbers = 0 }) (map (item_of first) (cells pieces)) → HasMeasuredRoom measured start →
+    end ≡ fold record_item start (map (item_of second) (cells pieces)) → heads ≡ end.heads → ns ≡ end.numbers → IsRecorded pieces heads ns
+IsRecorded-walk pieces first second measured start end heads ns few first_own second_own measures room walked are_heads are_numbers =
+    let groups = numbers 0 (length pieces) in
     let is = map (item_of groups) (cells pieces) in
-    let grew = Grew-items is start (ap (λ l. l.short) (sym walked) ∙ room) in
-    let hs : heads ≡ map head_of is = are_heads ∙ ap (λ l. l.heads) walked ∙ grew.heads ∙ ap (λ z. z ++ map head_of is) no_head in
-    let ks : ns ≡ flat_map item_numbers is = are_numbers ∙ ap (λ l. l.numbers) walked ∙ grew.numbers ∙ ap (λ z. z ++ flat_map item_numbers is) no_number in
+    let as_many : group_count groups ≡ length pieces = group_count-numbers (length pieces) in
+    let measures_own = measures ∙ ap (λ gs. fold measure (record { cells = 0; numbers = 0 }) (map (item_of gs) (cells pieces))) first_own in
+    let walked_own : end ≡ fold record_item start is = walked ∙ ap (λ gs. fold record_item start (map (item_of gs) (cells pieces))) second_own in
+    let grew = Grew-measured is measured start measures_own room (small-items groups (cells pieces) (omega arith)) in
+    let hs : heads ≡ map head_of is = are_heads ∙ ap (λ l. l.heads) walked_own ∙ grew.heads ∙ ap (λ z. z ++ map head_of is) room.heads in
+    let ks : ns ≡ flat_map item_numbers is = are_numbers ∙ ap (λ l. l.numbers) walked_own ∙ grew.numbers ∙ ap (λ z. z ++ flat_map item_numbers is) room.numbers in
     let taken : total heads ≡ length ns = ap total hs ∙ total-items is ∙ ap length (sym ks) in
     record {
-      takes = omega (arith, taken);
-      are_cells = ap (λ z. recorded_cells z ns) hs ∙ ap (λ z. recorded_cells (map head_of is) z) ks ∙ recorded-items is
-          ∙ ap (λ gs. map cell_from (map (item_of gs) (cells pieces))) own ∙ cells-from_items pieces;
+      takes = omega arith;
+      are_cells = ap (λ z. recorded_cells z ns) hs ∙ ap (λ z. recorded_cells (map head_of is) z) ks ∙ recorded-items is ∙ cells-from_items pieces;
     }

@@ -1,5 +1,5 @@
 -- The cells as they are recorded while they are handed out: a head for each cell, and the numbers of all of them one after another.
-use Rattle.std.specs.Prelude.{ℕ, ◌+◌, ◌-◌, ◌^◌, Bool, true, ◌&&◌, nat_lt, min, List, [], ◌∷◌, ◌++◌, take, drop, length, vec_capacity, if◌then◌else◌}
+use Rattle.std.specs.Prelude.{ℕ, ◌+◌, ◌-◌, ◌^◌, Bool, ◌&&◌, nat_lt, min, List, [], ◌∷◌, ◌++◌, take, drop, length, vec_capacity, if◌then◌else◌}
 use Rattle.std.specs.List.{count_by, fold}
 use Rattle.sf_cells.specs.declared.cell.Cell.{Cell}
 use Rattle.sf_cells.specs.declared.listing.Head.{Head}
@@ -35,13 +35,12 @@ measure m i =
     }
 
 -- ---- what is recorded
--- the heads and numbers so far, for how many there is room in all, and whether that was too little
+-- the heads and numbers so far, and for how many there is room in all
 pub record Listing : Type 0 where
   pub heads : List Head
   pub numbers : List ℕ
   pub head_room : ℕ
   pub number_room : ℕ
-  pub short : Bool
 
 abbrev pub listing_of : Recorder → Listing
 listing_of r =
@@ -50,25 +49,21 @@ listing_of r =
       numbers = r.numbers.items;
       head_room = vec_capacity r.heads;
       number_room = vec_capacity r.numbers;
-      short = r.short;
     }
-
-abbrev pub fall_short : Listing → Listing
-fall_short l = record { heads = l.heads; numbers = l.numbers; head_room = l.head_room; number_room = l.number_room; short = true }
 
 -- with a further number, where there is room for it
 abbrev pub with_number : Listing → ℕ → Listing
 with_number l n =
     if nat_lt n (2 ^ 32) && nat_lt (length l.numbers) l.number_room
-    then record { heads = l.heads; numbers = l.numbers ++ n ∷ []; head_room = l.head_room; number_room = l.number_room; short = l.short }
-    else fall_short l
+    then record { heads = l.heads; numbers = l.numbers ++ n ∷ []; head_room = l.head_room; number_room = l.number_room }
+    else l
 
 -- with a further head, where there is room for it
 abbrev pub with_head : Listing → Head → Listing
 with_head l h =
     if nat_lt (length l.heads) l.head_room
-    then record { heads = l.heads ++ h ∷ []; numbers = l.numbers; head_room = l.head_room; number_room = l.number_room; short = l.short }
-    else fall_short l
+    then record { heads = l.heads ++ h ∷ []; numbers = l.numbers; head_room = l.head_room; number_room = l.number_room }
+    else l
 
 -- the head of an item: its dimension, and how many numbers are on and above it
 abbrev pub head_of : Item → Head

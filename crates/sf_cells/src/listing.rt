@@ -1,6 +1,6 @@
 //! The cells as they are handed out, put down where there is room for all of them.
 
-ghost use Rattle.std.specs.Prelude.{◌≡◌, ◌≤◌, [], false, length, vec_capacity, IfOk};
+ghost use Rattle.std.specs.Prelude.{◌≡◌, ◌≤◌, [], length, vec_capacity, IfOk};
 ghost use Rattle.std.specs.List.{count_by, fold};
 ghost use Rattle.sf_cells.specs.Listing.{Listing, Measured, counted, is_counted, listing_of, measure, measured_by, record_item, recorded_cells, total, with_head, with_number};
 
@@ -48,12 +48,12 @@ pub struct Head {
 }
 
 /// The heads of the cells, and the numbers of all of them one after another: of each cell those on
-/// it and then those above it. `short` says that the room was too little.
+/// it and then those above it. What there is no room for isn't put down, so whoever makes a recorder
+/// measures the room first.
 #[derive(Drop)]
 pub struct Recorder {
     pub heads: Vec<Head>,
     pub numbers: Vec<u32>,
-    pub short: bool,
 }
 
 impl Recorder {
@@ -61,14 +61,12 @@ impl Recorder {
     pub fn new(alloc: Global, cells: usize, numbers: usize) -> Result<Recorder, AllocError>
         ensures heads { IfOk result (λ r. r.heads.items ≡ []) }
         ensures numbers { IfOk result (λ r. r.numbers.items ≡ []) }
-        ensures short { IfOk result (λ r. r.short ≡ false) }
         ensures head_room { IfOk result (λ r. vec_capacity r.heads ≡ cells) }
         ensures number_room { IfOk result (λ r. vec_capacity r.numbers ≡ numbers) }
     {
         Ok(Recorder {
             heads: Vec::with_capacity(alloc, cells)?,
             numbers: Vec::with_capacity(alloc, numbers)?,
-            short: false,
         })
     }
 
@@ -83,25 +81,21 @@ impl Recorder {
         }
     }
 
-    /// Puts down a number.
+    /// Puts down a number, where there is room for it.
     fn push_number(&mut self, number: usize)
         ensures { listing_of self.new ≡ with_number (listing_of self.old) number }
     {
         if number <= u32::MAX as usize && self.numbers.len() < self.numbers.capacity() {
             self.numbers.push_reserved(number as u32);
-        } else {
-            self.short = true;
         }
     }
 
-    /// Puts down a head.
+    /// Puts down a head, where there is room for it.
     fn push_head(&mut self, head: Head)
         ensures { listing_of self.new ≡ with_head (listing_of self.old) head }
     {
         if self.heads.len() < self.heads.capacity() {
             self.heads.push_reserved(head);
-        } else {
-            self.short = true;
         }
     }
 }

@@ -26,10 +26,6 @@ pub fn decompose(alloc: Global, pieces: &[Piece]) -> Result<Vec<Cell>, AllocErro
     walk(alloc, pieces, groups.as_slice(), &mut measure)?;
     let mut recorder = Recorder::new(alloc, measure.cells, measure.numbers)?;
     walk(alloc, pieces, groups.as_slice(), &mut recorder)?;
-    if recorder.short {
-        // It doesn't happen: the second walk has the cells of the first one.
-        return Err(AllocError);
-    }
     recorded(
         alloc,
         recorder.heads.as_slice(),
