@@ -1,12 +1,12 @@
 -- The cells that are left, column by column: from each event on to the next one. What is there at the start of a sweep, and which vertices lie in the next column.
 use Rattle.std.proofs.Common.{◌≡◌, refl, ap, sym, subst, ◌∙◌, ℕ, zero, suc, ◌+◌, ◌<◌, ℤ, pos, ◌*ℤ◌, ◌≤ℤ◌, lit<, arith, Bool, true, false, cond, ◌&&◌, ◌||◌, List, [], ◌∷◌, ◌++◌, length, take, drop, Option, Some, None, inl, inr}
 use Rattle.std.specs.Prelude.{if◌then◌else◌, int_le, int_lt}
-use Rattle.std.specs.List.{All, AllByRecursion, Contains, flat_map, prefix_len, sum_by}
+use Rattle.std.specs.List.{AllByRecursion, Contains, flat_map, prefix_len, sum_by}
 use Rattle.std.specs.List.Sorted.{IsPermutation, IsSortedBy}
 use Rattle.std.specs.Ordering.{int_eq}
 use Rattle.std.proofs.lemmas.Bool.{cases_Bool}
 use Rattle.std.proofs.lemmas.Int.{ints}
-use Rattle.std.proofs.lemmas.List.Elements.{All-cons, All-contains_itself, All-from_recursion, All-head, All-nil, All-tail, recursion_from_All}
+use Rattle.std.proofs.lemmas.List.Elements.{All-contains_itself, All-from_recursion, recursion_from_All}
 use Rattle.std.proofs.lemmas.List.Sorted.{All-permutation, sum_by-IsPermutation}
 use Rattle.std.proofs.lemmas.List.Sums.{sum_by-cons}
 use Rattle.sf_grid.specs.Fraction.{Fraction, IsFraction, fraction_eq, fraction_le, fraction_lt, middle, one_less, one_more, whole}
