@@ -8,7 +8,7 @@ ghost use Rattle.sf_grid.specs.Plane.{IsOnGrid, grid_point};
 use crate::GridPoint;
 
 /// How far `a` is above `b`.
-pub fn difference(a: i32, b: i32) -> i64
+pub(crate) fn difference(a: i32, b: i32) -> i64
     requires first_on_grid { IsCoordinate a }
     requires second_on_grid { IsCoordinate b }
     ensures value { result ≡ a -ℤ b }
@@ -18,7 +18,7 @@ pub fn difference(a: i32, b: i32) -> i64
 }
 
 /// The product of two coordinates.
-pub fn coordinate_product(a: i32, b: i32) -> i64
+pub(crate) fn coordinate_product(a: i32, b: i32) -> i64
     requires first_on_grid { IsCoordinate a }
     requires second_on_grid { IsCoordinate b }
     ensures value { result ≡ a *ℤ b }
@@ -28,7 +28,7 @@ pub fn coordinate_product(a: i32, b: i32) -> i64
 }
 
 /// The product of two differences of coordinates.
-pub fn product(a: i64, b: i64) -> i64
+pub(crate) fn product(a: i64, b: i64) -> i64
     requires first_small { unsigned_abs a ≤ difference_bound }
     requires second_small { unsigned_abs b ≤ difference_bound }
     ensures value { result ≡ a *ℤ b }
@@ -39,7 +39,7 @@ pub fn product(a: i64, b: i64) -> i64
 
 /// A product that needs more than 64 bits: of two numerators and denominators, or of what is
 /// smaller.
-pub fn wide_product(a: i128, b: i128) -> i128
+pub(crate) fn wide_product(a: i128, b: i128) -> i128
     requires first_small { unsigned_abs a ≤ numerator_bound }
     requires second_small { unsigned_abs b ≤ denominator_end }
     ensures value { result ≡ a *ℤ b }
@@ -49,7 +49,7 @@ pub fn wide_product(a: i128, b: i128) -> i128
 }
 
 /// The cross product of `b - a` with `c - a`: positive where `c` is to the left.
-pub fn cross(a: GridPoint, b: GridPoint, c: GridPoint) -> i64
+pub(crate) fn cross(a: GridPoint, b: GridPoint, c: GridPoint) -> i64
     ensures value { result ≡ cross_of a b (grid_point c) }
     ensures bound { unsigned_abs result ≤ cross_bound }
     ensures on_grid { IsOnGrid a × IsOnGrid b × IsOnGrid c }
@@ -59,7 +59,7 @@ pub fn cross(a: GridPoint, b: GridPoint, c: GridPoint) -> i64
 }
 
 /// The sum of two coordinates, each as often as its weight says.
-pub fn weighted_sum(a: i32, b: i32, first: u64, second: u64) -> i128
+pub(crate) fn weighted_sum(a: i32, b: i32, first: u64, second: u64) -> i128
     requires first_on_grid { IsCoordinate a }
     requires second_on_grid { IsCoordinate b }
     requires small { first + second < denominator_end }

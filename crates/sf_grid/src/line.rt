@@ -18,7 +18,7 @@ pub struct Line {
 
 impl Line {
     /// The line from one point to another that is not in its column.
-    pub fn through(from: GridPoint, to: GridPoint) -> Line
+    pub(crate) fn through(from: GridPoint, to: GridPoint) -> Line
         ensures run { result.run ≡ to.x -ℤ from.x }
         ensures rise { result.rise ≡ to.y -ℤ from.y }
         ensures offset { result.offset ≡ from.y *ℤ to.x -ℤ from.x *ℤ to.y }
@@ -31,7 +31,7 @@ impl Line {
 
     /// How far this line is above the other in the column x, times both runs and the
     /// denominator of x.
-    pub fn gap(&self, other: &Line, x: &Frac) -> i128
+    pub(crate) fn gap(&self, other: &Line, x: &Frac) -> i128
         ensures value { result ≡
             (self.now.offset *ℤ other.now.run -ℤ other.now.offset *ℤ self.now.run) *ℤ pos x.now.den
             +ℤ x.now.num *ℤ (self.now.rise *ℤ other.now.run -ℤ other.now.rise *ℤ self.now.run) }
