@@ -1,15 +1,17 @@
 -- Handing out a column level by level: what holds of the levels that are left, and of the tallies there.
-use Rattle.std.proofs.Common.{add-one, drop-cons, get_or, ◌≡◌, refl, ap, sym, ◌∙◌, subst, arith, ℕ, ◌+◌, ◌-◌, ◌^◌, ◌≤◌, ◌<◌, Bool, true, false, List, [], ◌∷◌, ◌++◌, length, take, drop, map}
+use Rattle.std.proofs.Common.{add-one, drop-cons, get_or, ◌≡◌, refl, ap, sym, ◌∙◌, subst, arith, ℕ, suc, ◌+◌, ◌-◌, ◌^◌, ◌≤◌, ◌<◌, Bool, true, false, List, [], ◌∷◌, ◌++◌, length, take, drop, map}
 use Rattle.std.specs.List.{All, fold}
-use Rattle.std.proofs.lemmas.List.{drop_all, length-append, length-drop, length-take, map-append, take-append-drop}
+use Rattle.std.proofs.lemmas.List.{drop_all, length-append, length-drop, map-append, take-append-drop}
 use Rattle.std.proofs.lemmas.List.Elements.{All-cons, All-drop, All-nil}
 use Rattle.sf_columns.specs.declared.active.Active.{Active}
 use Rattle.sf_columns.specs.declared.level.Level.{Level}
+use Rattle.sf_columns.specs.declared.part.Part.{Part}
 use Rattle.sf_columns.specs.declared.vertex.Vertex.{Vertex}
 use Rattle.sf_columns.specs.Fronts.{pieces_of}
 use Rattle.sf_cells.specs.Groups.{Item, counts, group_count, numbers}
-use Rattle.sf_cells.specs.Hands.{AtMost, Balanced, item, minus, on_gap, on_level, plus, stop_items, stop_of, stops}
+use Rattle.sf_cells.specs.Hands.{Balanced, item, minus, on_gap, on_level, plus, stop_items, stop_of, stops}
 use Rattle.sf_columns.specs.Levels.{TakeAll}
+use Rattle.sf_columns.specs.Parts.{levels_of}
 use Rattle.sf_cells.specs.Samples.{dimension}
 use Rattle.sf_columns.specs.Vertices.{enters, leaves, pieces_with}
 use Rattle.sf_cells.proofs.TallyLaws.{HasRoom, add_both, add_none, counts-append, length-added, length-counts, length-taken, members, room_added, room_fewer, room_taken}
@@ -109,7 +111,7 @@ above-room limit o groups above os h r =
     (room_fewer limit (length os) (o + length (drop o os)) above more r)
 
 -- after a level
-Left-next : (groups total : List ℕ) (es : List Active) (vs : List Vertex) (os : List Active) (l : Level) (ls : List Level) (on above : List ℕ) →
+pub Left-next : (groups total : List ℕ) (es : List Active) (vs : List Vertex) (os : List Active) (l : Level) (ls : List Level) (on above : List ℕ) →
     Left groups total es vs os (l ∷ ls) on above →
     Left groups total (drop l.edges es) (drop l.vertices vs) (drop l.onward os) ls
     (on_gap groups on (stop_of l es vs os)) (plus above (counts groups (pieces_of (take l.onward os))))
@@ -146,41 +148,24 @@ entered groups on es vs = plus on (counts groups (pieces_of es ++ pieces_with en
 abbrev pub gone : List ℕ → List ℕ → List Active → List Vertex → List ℕ
 gone groups on es vs = minus (entered groups on es vs) (counts groups (pieces_of es ++ pieces_with leaves vs))
 
--- the level at the index i
-pub level-next : (all : List Level) (i : ℕ) (l : Level) → i < length all → drop i all ≡ get_or all i l ∷ drop (i + 1) all
-level-next all i l h = drop-cons all i l h ∙ ap (λ n. get_or all i l ∷ drop n all) (sym (add-one i))
+-- from the part at the index i on, the levels are its own and those of the parts below it
+pub part-next : (all : List Part) (i : ℕ) (none p : Part) → i < length all → get_or all i none ≡ p → levels_of (drop i all) ≡ levels_of (p ∷ drop (i + 1) all)
+part-next all i none p h e =
+    ap levels_of (drop-cons all i none h) ∙ ap (λ z. levels_of (z ∷ drop (suc i) all)) e ∙ ap (λ n. levels_of (p ∷ drop n all)) (sym (add-one i))
 
--- the levels that are left begin with the one at the index i
-pub Left-here : {groups total : List ℕ} {es : List Active} {vs : List Vertex} {os : List Active} {on above : List ℕ} (all : List Level) (i : ℕ) (l : Level) → i < length all →
-    Left groups total es vs os (drop i all) on above → Left groups total es vs os (get_or all i l ∷ drop (i + 1) all) on above
-Left-here {groups = groups} {total = total} {es = es} {vs = vs} {os = os} {on = on} {above = above} all i l h k =
+-- what is left, where its levels are given by an equation
+pub Left-of : {groups total : List ℕ} {es : List Active} {vs : List Vertex} {os : List Active} {ls ls' : List Level} {on above : List ℕ} → ls ≡ ls' →
+    Left groups total es vs os ls on above → Left groups total es vs os ls' on above
+Left-of {groups = groups} {total = total} {es = es} {vs = vs} {os = os} {on = on} {above = above} e h =
     let P : List Level → Type 0 = λ z. Left groups total es vs os z on above in
-    subst P (level-next all i l h) k
-
--- what leaves the level is on it
-pub level-there : (groups on : List ℕ) (es here : List Active) (vs here_too : List Vertex) → here ≡ es → here_too ≡ vs →
-    AtMost (counts groups (pieces_of es ++ pieces_with leaves vs)) (entered groups on es vs) →
-    AtMost (counts groups (pieces_of here ++ pieces_with leaves here_too)) (entered groups on here here_too)
-level-there groups on es here vs here_too e v a =
-    let A : List Active → Type 0 = λ z. AtMost (counts groups (pieces_of z ++ pieces_with leaves vs)) (entered groups on z vs) in
-    let B : List Vertex → Type 0 = λ z. AtMost (counts groups (pieces_of here ++ pieces_with leaves z)) (entered groups on here z) in
-    subst B (sym v) (subst A (sym e) a)
-
--- there is room for the level
-pub level-room : (limit e v : ℕ) (t : List ℕ) (es here : List Active) (vs here_too : List Vertex) → here ≡ take e es → here_too ≡ take v vs →
-    HasRoom limit (length es + length vs) t → HasRoom limit (length here + length here_too) t
-level-room limit e v t es here vs here_too f g r =
-    room_fewer limit (length es + length vs) (length here + length here_too) t (omega (arith, ap length f ∙ length-take e es, ap length g ∙ length-take v vs)) r
-
-pub level-room_above : (limit o : ℕ) (t : List ℕ) (os here_on : List Active) → here_on ≡ take o os → HasRoom limit (length os) t → HasRoom limit (length here_on) t
-level-room_above limit o t os here_on f r = room_fewer limit (length os) (length here_on) t (omega (arith, ap length f ∙ length-take o os)) r
+    subst P e h
 
 -- one number of a level's edges and vertices, where these are given by equations
 same_level : {A : Type 0} (f : List Active → List Vertex → A) (es here : List Active) (vs here_too : List Vertex) → here ≡ es → here_too ≡ vs → f here here_too ≡ f es vs
 same_level f es here vs here_too e v = ap (λ z. f z here_too) e ∙ ap (λ z. f es z) v
 
--- what is left, where its parts are given by equations
-Left-same : (groups total : List ℕ) (es es' : List Active) (vs vs' : List Vertex) (os os' : List Active) (ls : List Level) (on on' above above' : List ℕ) →
+-- what is left, where its lists are given by equations
+pub Left-same : (groups total : List ℕ) (es es' : List Active) (vs vs' : List Vertex) (os os' : List Active) (ls : List Level) (on on' above above' : List ℕ) →
     es' ≡ es → vs' ≡ vs → os' ≡ os → on' ≡ on → above' ≡ above → Left groups total es vs os ls on above → Left groups total es' vs' os' ls on' above'
 Left-same groups total es es' vs vs' os os' ls on on' above above' e v o n a h =
     let A : List Active → Type 0 = λ z. Left groups total z vs os ls on above in
@@ -223,28 +208,24 @@ items-level groups event l ls es here es' vs here_too vs' os here_on os' on on' 
     ∙ ap (λ z. first ∷ second ∷ stop_items groups event (on_gap groups on (stop_of l es vs os)) (plus above (counts groups (pieces_of (take l.onward os)))) (stops (drop l.edges es) (drop l.vertices vs) z ls))
     cut.later_onward
 
--- a sink that was handed the gap and the level at the index i gathers from what is left what it would have gathered from there down
-pub handed-step : {C : Type 0} (after : C → Item → C) (content content' final : C) (groups : List ℕ) (event : Bool) (all : List Level) (i : ℕ) (l : Level)
+-- a sink that was handed the gap and the level gathers from what is left what it would have gathered from there down
+pub handed-step : {C : Type 0} (after : C → Item → C) (content content' final : C) (groups : List ℕ) (event : Bool) (l : Level) (ls : List Level)
     {es here es' : List Active} {vs here_too vs' : List Vertex} {os here_on os' : List Active} (on on' above above' : List ℕ) →
-    i < length all → IsCut (get_or all i l) es here es' vs here_too vs' os here_on os' →
+    IsCut l es here es' vs here_too vs' os here_on os' →
     on' ≡ gone groups on here here_too → above' ≡ plus above (counts groups (pieces_of here_on)) →
     content' ≡ fold after content (item (dimension event false) on above ∷ item (dimension event true) (entered groups on here here_too) above ∷ []) →
-    fold after content (stop_items groups event on above (stops es vs os (drop i all))) ≡ final →
-    fold after content' (stop_items groups event on' above' (stops es' vs' os' (drop (i + 1) all))) ≡ final
-handed-step after content content' final groups event all i l {es = es} {here = here} {es' = es'} {vs = vs} {here_too = here_too} {vs' = vs'} {os = os} {here_on = here_on} {os' = os'}
-    on on' above above' h cut n a k f =
-    ap (λ z. fold after z (stop_items groups event on' above' (stops es' vs' os' (drop (i + 1) all)))) k
-    ∙ ap (fold after content) (items-level groups event (get_or all i l) (drop (i + 1) all) es here es' vs here_too vs' os here_on os' on on' above above' cut n a)
-    ∙ ap (λ z. fold after content (stop_items groups event on above (stops es vs os z))) (sym (level-next all i l h))
+    fold after content (stop_items groups event on above (stops es vs os (l ∷ ls))) ≡ final →
+    fold after content' (stop_items groups event on' above' (stops es' vs' os' ls)) ≡ final
+handed-step after content content' final groups event l ls {es = es} {here = here} {es' = es'} {vs = vs} {here_too = here_too} {vs' = vs'} {os = os} {here_on = here_on} {os' = os'}
+    on on' above above' cut n a k f =
+    ap (λ z. fold after z (stop_items groups event on' above' (stops es' vs' os' ls))) k
+    ∙ ap (fold after content) (items-level groups event l ls es here es' vs here_too vs' os here_on os' on on' above above' cut n a)
     ∙ f
 
 -- ---- below the last level
--- past the last index no level is left
-pub Left-last : {groups total : List ℕ} {es : List Active} {vs : List Vertex} {os : List Active} {on above : List ℕ} (all : List Level) (i : ℕ) → length all ≤ i →
-    Left groups total es vs os (drop i all) on above → Left groups total es vs os [] on above
-Left-last {groups = groups} {total = total} {es = es} {vs = vs} {os = os} {on = on} {above = above} all i h k =
-    let P : List Level → Type 0 = λ z. Left groups total es vs os z on above in
-    subst P (drop_all i all h) k
+-- past the last part no level is left
+pub none-next : (all : List Part) (i : ℕ) → length all ≤ i → levels_of (drop i all) ≡ []
+none-next all i h = ap levels_of (drop_all i all h)
 
 -- all onward edges are above
 pub Left-above : {groups total : List ℕ} {es : List Active} {vs : List Vertex} {os : List Active} {on above : List ℕ} → Left groups total es vs os [] on above → above ≡ total
@@ -254,10 +235,39 @@ Left-above {groups = groups} {total = total} {os = os} {above = above} h = none_
     none_left [] e f = sym (add_none groups above) ∙ f
     none_left (a ∷ os) e f = absurd (omega arith)
 
--- a sink that was handed the last gap has gathered all
-pub handed-last : {C : Type 0} (after : C → Item → C) (content content' final : C) (groups : List ℕ) (event : Bool) (all : List Level) (i : ℕ)
-    (es : List Active) (vs : List Vertex) (os : List Active) (on above : List ℕ) →
-    length all ≤ i → content' ≡ after content (item (dimension event false) on above) →
-    fold after content (stop_items groups event on above (stops es vs os (drop i all))) ≡ final → content' ≡ final
-handed-last after content content' final groups event all i es vs os on above h k f =
-    k ∙ ap (λ z. fold after content (stop_items groups event on above (stops es vs os z))) (sym (drop_all i all h)) ∙ f
+-- ---- what is left of a column, from which a sink with this content gathers what is missing of `final`
+pub record Handing {C : Type 0} (after : C → Item → C) (groups total : List ℕ) (event : Bool) (final content : C) (on above : List ℕ)
+    (es : List Active) (vs : List Vertex) (os : List Active) (ls : List Level) : Type 0 where
+  pub left : Left groups total es vs os ls on above
+  pub handed : fold after content (stop_items groups event on above (stops es vs os ls)) ≡ final
+
+-- the same, where its levels are given by an equation
+pub Handing-of : {C : Type 0} {after : C → Item → C} {groups total : List ℕ} {event : Bool} {final content : C} {on above : List ℕ}
+    {es : List Active} {vs : List Vertex} {os : List Active} {ls ls' : List Level} → ls ≡ ls' →
+    Handing after groups total event final content on above es vs os ls → Handing after groups total event final content on above es vs os ls'
+Handing-of {after = after} {groups = groups} {total = total} {event = event} {final = final} {content = content} {on = on} {above = above} {es = es} {vs = vs} {os = os} e h =
+    let P : List Level → Type 0 = λ z. Handing after groups total event final content on above es vs os z in
+    subst P e h
+
+-- the same, where all but its levels is given by equations
+pub Handing-same : {C : Type 0} {after : C → Item → C} {groups total : List ℕ} {event : Bool} {final content content' : C} {on on' above above' : List ℕ}
+    {es es' : List Active} {vs vs' : List Vertex} {os os' : List Active} {ls : List Level} →
+    content' ≡ content → on' ≡ on → above' ≡ above → es' ≡ es → vs' ≡ vs → os' ≡ os →
+    Handing after groups total event final content on above es vs os ls → Handing after groups total event final content' on' above' es' vs' os' ls
+Handing-same {after = after} {groups = groups} {total = total} {event = event} {final = final} {content = content} {content' = content'} {on = on} {on' = on'} {above = above} {above' = above'}
+    {es = es} {es' = es'} {vs = vs} {vs' = vs'} {os = os} {os' = os'} {ls = ls} k n a e v o h =
+    rw (k, n, a, e, v, o) h
+
+-- what is left below a level
+pub Handing-level : {C : Type 0} {after : C → Item → C} {groups total : List ℕ} {event : Bool} {final content content' : C} {on on' above above' : List ℕ} {l : Level} {ls : List Level}
+    {es here es' : List Active} {vs here_too vs' : List Vertex} {os here_on os' : List Active} →
+    IsCut l es here es' vs here_too vs' os here_on os' →
+    on' ≡ gone groups on here here_too → above' ≡ plus above (counts groups (pieces_of here_on)) →
+    content' ≡ fold after content (item (dimension event false) on above ∷ item (dimension event true) (entered groups on here here_too) above ∷ []) →
+    Handing after groups total event final content on above es vs os (l ∷ ls) → Handing after groups total event final content' on' above' es' vs' os' ls
+Handing-level {after = after} {groups = groups} {event = event} {final = final} {content = content} {content' = content'} {on = on} {on' = on'} {above = above} {above' = above'} {l = l} {ls = ls}
+    cut n a k s =
+    record {
+      left = Left-step on' above' cut s.left n a;
+      handed = handed-step after content content' final groups event l ls on on' above above' cut n a k s.handed;
+    }

@@ -330,6 +330,30 @@ room_added limit most more groups t xs le h =
 pub room_taken : (limit more : ℕ) (groups t xs : List ℕ) → HasRoom limit more t → HasRoom limit more (minus t (counts groups xs))
 room_taken limit more groups t xs h = room-minus limit more (members groups xs) t (numbers 0 (group_count groups)) h
 
+-- ---- what was added can be taken off again
+-- what was added number by number is there
+plus-there : (t ns : List ℕ) → length t ≡ length ns → AtMost ns (plus t ns)
+plus-there t [] e = tt
+plus-there [] (n ∷ ns) e = absurd (omega arith)
+plus-there (m ∷ t) (n ∷ ns) e = (omega arith, plus-there t ns (omega arith))
+
+-- without it there is what was there before
+plus-taken : (t ns : List ℕ) → minus (plus t ns) ns ≡ t
+plus-taken [] ns = refl
+plus-taken (m ∷ t) [] = refl
+plus-taken (m ∷ t) (n ∷ ns) = ap (λ z. z ∷ minus (plus t ns) ns) (same m n) ∙ ap (λ zs. m ∷ zs) (plus-taken t ns)
+  where
+    same : (m n : ℕ) → (m + n) - n ≡ m
+    same m n = omega arith
+
+-- pieces that were added are there
+pub added_there : (groups t xs : List ℕ) → length t ≡ group_count groups → AtMost (counts groups xs) (plus t (counts groups xs))
+added_there groups t xs e = plus-there t (counts groups xs) (e ∙ sym (length-counts groups xs))
+
+-- once they are taken off, the tally is what it was
+pub added_taken : (groups t xs : List ℕ) → minus (plus t (counts groups xs)) (counts groups xs) ≡ t
+added_taken groups t xs = plus-taken t (counts groups xs)
+
 -- ---- all that was counted is taken off again
 same_and_none : (xs : List ℕ) → SameNumbers (xs ++ []) xs
 same_and_none xs = λ weight. ap (sum_by weight) (append-nil xs)

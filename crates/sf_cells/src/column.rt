@@ -1,17 +1,21 @@
 //! The cells of one column or slab, handed to a sink.
 
-ghost use Rattle.std.specs.Prelude.{◌≡◌, ◌<◌, ◌+◌, ◌^◌, ◌++◌, true, false, [], ◌∷◌, length};
+ghost use Rattle.std.specs.Prelude.{◌≡◌, ◌<◌, ◌+◌, ◌^◌, ◌++◌, List, true, false, [], ◌∷◌, length};
 ghost use Rattle.std.specs.List.{All, fold};
+ghost use Rattle.sf_columns.specs.declared.active.Active.{Active};
+ghost use Rattle.sf_columns.specs.declared.level.Level.{Level};
+ghost use Rattle.sf_columns.specs.declared.vertex.Vertex.{Vertex};
 ghost use Rattle.sf_columns.specs.Fronts.{pieces_of};
 ghost use Rattle.sf_cells.specs.Groups.{counts, group_count};
 ghost use Rattle.sf_cells.specs.Hands.{AtMost, Balanced, item, minus, plus, stop_items, stops};
 ghost use Rattle.sf_columns.specs.Levels.{TakeAll};
+ghost use Rattle.sf_columns.specs.Parts.{alone_levels, levels_of};
 ghost use Rattle.sf_cells.specs.Samples.{dimension};
 ghost use Rattle.sf_columns.specs.Vertices.{enters, leaves, pieces_with};
 
 use crate::sink::CellSink;
-use crate::tally::{add_edges, enter_level, leave_level, take_edges};
-use sf_columns::{Active, Level, Vertex};
+use crate::tally::{add_edges, add_piece, enter_level, leave_level, take_edges, take_piece};
+use sf_columns::{Active, Part, Vertex};
 
 /// Of each group, how many of its pieces are on the place that was reached, and how many of its
 /// edges are above it.
@@ -21,14 +25,14 @@ pub struct Tallies {
     pub above: Vec<u32>,
 }
 
-/// The levels of a column from the top, with the edges that come to it, its vertices and the edges
+/// The parts of a column from the top, with the edges that come to it, its vertices and the edges
 /// that go on from it.
 #[derive(Clone, Copy)]
 pub struct Column<'a> {
     pub edges: &'a [Active],
     pub vertices: &'a [Vertex],
     pub onward: &'a [Active],
-    pub levels: &'a [Level],
+    pub parts: &'a [Part],
 }
 
 /// Hands out the cells of a column: from the top, the gap above each level and the level, and in
@@ -47,39 +51,88 @@ pub fn hand_out<S: CellSink>(
     requires few { length column.now.edges.now + length column.now.vertices.now
         + length column.now.onward.now < 2 ^ 32 }
     requires levels { TakeAll (length column.now.edges.now) (length column.now.vertices.now)
-        (length column.now.onward.now) column.now.levels.now }
+        (length column.now.onward.now) (levels_of column.now.parts.now) }
     requires balanced { Balanced groups.now (counts groups.now [])
-        (stops column.now.edges.now column.now.vertices.now column.now.onward.now column.now.levels.now) }
+        (stops column.now.edges.now column.now.vertices.now column.now.onward.now (levels_of column.now.parts.now)) }
     requires none_on { tallies.old.on.items ≡ counts groups.now [] }
     requires none_above { tallies.old.above.items ≡ counts groups.now [] }
     ensures handed { S.content sink.new ≡ fold S.after (S.content sink.old)
         (stop_items groups.now event (counts groups.now []) (counts groups.now [])
-        (stops column.now.edges.now column.now.vertices.now column.now.onward.now column.now.levels.now)) }
+        (stops column.now.edges.now column.now.vertices.now column.now.onward.now (levels_of column.now.parts.now))) }
     ensures none_on { tallies.new.on.items ≡ counts groups.now [] }
     ensures none_above { tallies.new.above.items ≡ counts groups.now [] }
 {
     let mut edges = column.edges;
     let mut vertices = column.vertices;
     let mut onward = column.onward;
-    for level in column.levels {
-        let (level_edges, lower_edges) = edges.split_at(level.edges);
-        let (level_vertices, lower_vertices) = vertices.split_at(level.vertices);
-        let (level_onward, lower_onward) = onward.split_at(level.onward);
-        hand_level(
-            sink,
-            event,
-            groups,
-            tallies,
-            level_edges,
-            level_vertices,
-            level_onward,
-        );
-        edges = lower_edges;
-        vertices = lower_vertices;
-        onward = lower_onward;
+    for part in column.parts {
+        match *part {
+            Part::Alone(count) => {
+                let (alone, lower) = edges.split_at(count);
+                let (alone_onward, lower_onward) = onward.split_at(count);
+                hand_alone(sink, event, groups, tallies, alone, alone_onward);
+                edges = lower;
+                onward = lower_onward;
+            }
+            Part::Together(level) => {
+                let (level_edges, lower_edges) = edges.split_at(level.edges);
+                let (level_vertices, lower_vertices) = vertices.split_at(level.vertices);
+                let (level_onward, lower_onward) = onward.split_at(level.onward);
+                hand_level(
+                    sink,
+                    event,
+                    groups,
+                    tallies,
+                    level_edges,
+                    level_vertices,
+                    level_onward,
+                );
+                edges = lower_edges;
+                vertices = lower_vertices;
+                onward = lower_onward;
+            }
+        }
     }
     hand_gap(sink, event, tallies);
     take_edges(&mut tallies.above, groups, column.onward);
+}
+
+/// Hands out edges that go on and stand alone at their heights: from the top, the gap above each
+/// edge and the edge, and counts the edge that goes on as above from there on. Whatever is handed
+/// out below them, the sink has then gathered all.
+fn hand_alone<S: CellSink>(
+    sink: &mut S,
+    event: bool,
+    groups: &[u32],
+    tallies: &mut Tallies,
+    edges: &[Active],
+    onward: &[Active],
+)
+    requires edges { All (λ e. e.piece < length groups.now) edges.now }
+    requires onward { All (λ e. e.piece < length groups.now) onward.now }
+    requires pairs { length onward.now ≡ length edges.now }
+    requires counted_on { length tallies.old.on.items ≡ group_count groups.now }
+    requires counted_above { length tallies.old.above.items ≡ group_count groups.now }
+    requires room_on { All (λ n. n + length edges.now < 2 ^ 32) tallies.old.on.items }
+    requires room_above { All (λ n. n + length onward.now < 2 ^ 32) tallies.old.above.items }
+    ensures handed { (es : List Active) (vs : List Vertex) (os : List Active) (ls : List Level) →
+        fold S.after (S.content sink.new)
+        (stop_items groups.now event tallies.new.on.items tallies.new.above.items (stops es vs os ls))
+        ≡ fold S.after (S.content sink.old)
+        (stop_items groups.now event tallies.old.on.items tallies.old.above.items
+        (stops (edges.now ++ es) vs (onward.now ++ os) (alone_levels (length edges.now) ls))) }
+    ensures on { tallies.new.on.items ≡ tallies.old.on.items }
+    ensures above { tallies.new.above.items ≡ plus tallies.old.above.items (counts groups.now (pieces_of onward.now)) }
+{
+    let gap = gap_dimension(event);
+    let level = level_dimension(event);
+    for (edge, next) in edges.iter().zip(onward) {
+        sink.cell(gap, &tallies.on, &tallies.above);
+        add_piece(&mut tallies.on, groups, edge.piece);
+        sink.cell(level, &tallies.on, &tallies.above);
+        take_piece(&mut tallies.on, groups, edge.piece);
+        add_piece(&mut tallies.above, groups, next.piece);
+    }
 }
 
 /// Hands out the gap above a level and the level, and counts what is on the gap below it.

@@ -89,7 +89,7 @@ fn take_leaving(tally: &mut [u32], groups: &[u32], vertices: &[Vertex])
 }
 
 /// One more piece of its group.
-fn add_piece(tally: &mut [u32], groups: &[u32], piece: u32)
+pub fn add_piece(tally: &mut [u32], groups: &[u32], piece: u32)
     requires grouped { piece < length groups.now }
     requires counted { length tally.old ≡ group_count groups.now }
     requires room { All (λ n. n + 1 < 2 ^ 32) tally.old }
@@ -100,7 +100,7 @@ fn add_piece(tally: &mut [u32], groups: &[u32], piece: u32)
 }
 
 /// One piece less of its group.
-fn take_piece(tally: &mut [u32], groups: &[u32], piece: u32)
+pub fn take_piece(tally: &mut [u32], groups: &[u32], piece: u32)
     requires grouped { piece < length groups.now }
     requires counted { length tally.old ≡ group_count groups.now }
     requires there { AtMost (counts groups.now (piece ∷ [])) tally.old }

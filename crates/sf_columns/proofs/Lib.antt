@@ -4,4 +4,5 @@ pub mod NearestLaws
 pub mod VertexLaws
 pub mod OnwardLaws
 pub mod CutLaws
-pub mod NeighbourLaws
+pub mod ContactLaws
+pub mod AloneLaws

@@ -1,5 +1,5 @@
 -- The front of a sweep: the edges that go on to the right of a column, from the top, and what each does with the next one.
-use Rattle.std.specs.Prelude.{◌≡◌, ◌≢◌, ℕ, ◌+◌, Bool, true, false, List, [], ◌∷◌, map, Option, Some, None, ◌⊎◌, slice_set}
+use Rattle.std.specs.Prelude.{◌≡◌, ◌≢◌, ℕ, Bool, true, false, List, [], ◌∷◌, map, Option, Some, None, ◌⊎◌}
 use Rattle.std.specs.List.{sum_by}
 use Rattle.std.specs.declared.cmp.Ordering.TheVariants.{Equal, Greater, Less}
 use Rattle.sf_grid.specs.Fraction.{Fraction, fraction_eq}
@@ -90,8 +90,3 @@ AreApartFrom x a (b ∷ bs) (c ∷ cs) =
 abbrev pub AreApart : Fraction → List Active → List Contact → Type 0
 AreApart x [] cs = cs ≡ []
 AreApart x (a ∷ rest) cs = AreApartFrom x a rest cs
-
--- at the number of each edge's piece, the edge's place in the order, the first one's being k
-abbrev pub places_from : ℕ → List Active → List ℕ → List ℕ
-places_from k [] places = places
-places_from k (a ∷ rest) places = places_from (k + 1) rest (slice_set places a.piece k)

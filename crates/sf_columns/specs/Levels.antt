@@ -1,5 +1,5 @@
 -- The levels of a column, from the top: the edges of the order and the vertices that are at one height.
-use Rattle.std.specs.Prelude.{◌≡◌, ◌≢◌, ℕ, ◌+◌, ◌-◌, ◌≤◌, ◌<◌, Bool, true, false, int_lt, List, [], ◌∷◌, ◌++◌, take, drop, length, Option, if◌then◌else◌}
+use Rattle.std.specs.Prelude.{◌≡◌, ◌≢◌, ℕ, ◌+◌, ◌-◌, ◌≤◌, ◌<◌, Bool, true, false, int_lt, List, [], ◌∷◌, ◌++◌, take, drop, Option, if◌then◌else◌}
 use Rattle.std.specs.List.{prefix_len}
 use Rattle.std.specs.List.Sorted.{IsPermutation}
 use Rattle.std.specs.Ordering.{int_eq}
@@ -114,10 +114,3 @@ AreOnward pieces es vs os [] = os ≡ []
 AreOnward pieces es vs os (l ∷ ls) =
     IsOnward pieces (take l.edges es) (take l.vertices vs) (take l.onward os)
     × AreOnward pieces (drop l.edges es) (drop l.vertices vs) (drop l.onward os) ls
-
--- a level is put behind the levels, and what goes on from it behind the order
-pub record HasLevel (pieces : List Piece) (run : List Active) (group : List Vertex) (levels levels' : List Level) (order order' : List Active) : Type 0 where
-  pub segment : List Active
-  pub onward : IsOnward pieces run group segment
-  pub behind : levels' ≡ levels ++ record { edges = length run; vertices = length group; onward = length segment } ∷ []
-  pub order_behind : order' ≡ order ++ segment

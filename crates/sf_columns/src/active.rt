@@ -1,8 +1,10 @@
 ghost use Rattle.std.specs.Prelude.{◌≡◌};
 ghost use Rattle.sf_columns.specs.Levels.{goes_past as goes_past_of};
+ghost use Rattle.sf_columns.specs.Parts.{is_over as is_over_of};
 
 use crate::slanted::Slanted;
 use crate::vertex::Vertex;
+use std::cmp::Ordering;
 
 /// An edge in the order of a column, with the number of its piece.
 #[derive(Clone, Copy)]
@@ -19,6 +21,16 @@ impl Active {
     {
         match vertices.first() {
             Some(vertex) => vertex.at.x() < self.edge.right().x(),
+            None => true,
+        }
+    }
+
+    /// Whether the edge is above the first of the vertices of a column, where there is one.
+    pub fn is_over(&self, vertices: &[Vertex]) -> bool
+        ensures { result ≡ is_over_of vertices.now self.now }
+    {
+        match vertices.first() {
+            Some(vertex) => self.edge.side(vertex.at) == Ordering::Less,
             None => true,
         }
     }

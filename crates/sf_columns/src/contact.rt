@@ -49,7 +49,7 @@ impl Contact {
     }
 
     /// Whether the two edges are level in the column `x`.
-    pub fn is_level_in(&self, x: &Frac) -> bool
+    fn is_level_in(&self, x: &Frac) -> bool
         ensures { result ≡ touches_of (Some x.now) self.now }
     {
         match self {

@@ -1,129 +1,262 @@
-//! A column cut into levels, and the order of the edges right of it.
+//! A column cut into its parts, and the edges right of it in their order.
 
-ghost use Rattle.std.specs.Prelude.{◌≡◌, ◌+◌, ◌-◌, ◌≤◌, ◌<◌, [], None, drop, length, vec_capacity, vec_len};
+ghost use Rattle.std.specs.Prelude.{◌≡◌, ◌+◌, ◌-◌, ◌≤◌, ◌<◌, [], ◌∷◌, ◌++◌, None, Some, drop, length, vec_capacity, vec_len};
 ghost use Rattle.std.specs.List.{AllByRecursion};
-ghost use Rattle.sf_columns.specs.Levels.{AreOnward, AreTops, HasLevel, TakeAll};
+ghost use Rattle.sf_columns.specs.Fronts.{AreApart, AreContacts};
+ghost use Rattle.sf_columns.specs.Levels.{AreOnward, AreTops, TakeAll};
+ghost use Rattle.sf_columns.specs.declared.part.Part.TheVariants.{Alone};
+ghost use Rattle.sf_columns.specs.Parts.{HasLevel, alone_count, levels_of, stands_alone as stands_alone_in, touches_first};
 ghost use Rattle.sf_columns.specs.Vertices.{IsVertexOf};
 
 use crate::active::Active;
 use crate::contact::Contact;
 use crate::level::{Level, run_len};
 use crate::onward::onward;
+use crate::part::Part;
 use crate::piece::Piece;
 use crate::vertex::Vertex;
 use sf_grid::Frac;
 
-/// The levels of a column from the top, and the edges that go on from it, from the top.
+/// The parts of a column from the top, the edges that go on from it, from the top, and what each of
+/// those does with the next one.
 #[derive(Drop)]
 pub struct Cut {
-    pub levels: Vec<Level>,
+    pub parts: Vec<Part>,
     pub order: Vec<Active>,
+    pub contacts: Vec<Contact>,
     pub segment: Vec<Active>,
 }
 
 impl Cut {
-    /// Cuts a column into its levels: by the edges that come to it, from the top, what each does
-    /// with the next one, and the vertices in it, from the top.
+    /// Cuts the column `x`: by the edges that come to it, from the top, what each does with the next
+    /// one, and the vertices in it, from the top. Between edges that stand alone the contacts are
+    /// kept; only beside the other levels they are computed anew.
     pub fn column(
         &mut self,
         pieces: &[Piece],
-        column: &Option<Frac>,
+        x: &Frac,
         edges: &[Active],
         contacts: &[Contact],
         vertices: &[Vertex],
     )
         requires vertices { AllByRecursion (IsVertexOf pieces.now) vertices.now }
-        requires contacts { length contacts.now ≤ length edges.now - 1 }
-        requires room { length edges.now + length vertices.now ≤ vec_capacity self.old.levels }
+        requires apart { AreApart x.now edges.now contacts.now }
+        requires room { length edges.now + length vertices.now ≤ vec_capacity self.old.parts }
         requires order_room { length edges.now + length vertices.now ≤ vec_capacity self.old.order }
+        requires contacts_room { length edges.now + length vertices.now ≤ vec_capacity self.old.contacts }
         requires segment_room { length edges.now + length vertices.now ≤ vec_capacity self.old.segment }
-        ensures tops { AreTops column.now edges.now contacts.now vertices.now self.new.levels.items }
+        ensures tops { AreTops (Some x.now) edges.now contacts.now vertices.now
+            (levels_of self.new.parts.items) }
         ensures onward { AreOnward pieces.now edges.now vertices.now
-            self.new.order.items self.new.levels.items }
+            self.new.order.items (levels_of self.new.parts.items) }
         ensures all { TakeAll (length edges.now) (length vertices.now)
-            (length self.new.order.items) self.new.levels.items }
-        ensures room { vec_capacity self.old.levels ≤ vec_capacity self.new.levels }
+            (length self.new.order.items) (levels_of self.new.parts.items) }
+        ensures contacts { AreContacts x.now self.new.order.items self.new.contacts.items }
+        ensures room { vec_capacity self.old.parts ≤ vec_capacity self.new.parts }
         ensures order_room { vec_capacity self.old.order ≤ vec_capacity self.new.order }
+        ensures contacts_room { vec_capacity self.old.contacts ≤ vec_capacity self.new.contacts }
         ensures segment_room { vec_capacity self.old.segment ≤ vec_capacity self.new.segment }
     {
-        self.levels.clear();
+        self.parts.clear();
         self.order.clear();
+        self.contacts.clear();
+        let column = Some(*x);
         let mut edges = edges;
         let mut contacts = contacts;
         let mut vertices = vertices;
         while !edges.is_empty() || !vertices.is_empty() {
-            let top = Level::top(column, edges, contacts, vertices);
-            let (run, lower) = edges.split_at(top.edges);
-            let (group, later) = vertices.split_at(top.vertices);
-            self.push(pieces, run, group);
-            edges = lower;
-            contacts = skip(contacts, top.edges);
-            vertices = later;
+            let alone = alone_len(&column, edges, contacts, vertices);
+            if alone > 0 {
+                let (run, lower) = edges.split_at(alone);
+                self.push_alone(x, run, contacts.split_at(alone - 1).0);
+                edges = lower;
+                contacts = skip(contacts, alone);
+            } else {
+                let top = Level::top(&column, edges, contacts, vertices);
+                let (run, lower) = edges.split_at(top.edges);
+                let (group, later) = vertices.split_at(top.vertices);
+                self.push_level(pieces, x, run, group);
+                edges = lower;
+                contacts = skip(contacts, top.edges);
+                vertices = later;
+            }
         }
     }
 
-    /// Cuts a slab into its levels, each the edges that lie on one line: by the edges of the slab,
-    /// from the top, and what each does with the next one. All of them go on.
+    /// Cuts a slab into its parts: edges alone, and those that lie on one line together. By the
+    /// edges of the slab, from the top, and what each does with the next one. All of them go on.
     pub fn slab(&mut self, edges: &[Active], contacts: &[Contact])
         requires contacts { length contacts.now ≤ length edges.now - 1 }
-        requires room { length edges.now ≤ vec_capacity self.old.levels }
-        ensures tops { AreTops None edges.now contacts.now [] self.new.levels.items }
-        ensures onward { AllByRecursion (λ l. l.onward ≡ l.edges) self.new.levels.items }
-        ensures all { TakeAll (length edges.now) 0 (length edges.now) self.new.levels.items }
-        ensures room { vec_capacity self.old.levels ≤ vec_capacity self.new.levels }
+        requires room { length edges.now ≤ vec_capacity self.old.parts }
+        ensures tops { AreTops None edges.now contacts.now [] (levels_of self.new.parts.items) }
+        ensures onward { AllByRecursion (λ l. l.onward ≡ l.edges) (levels_of self.new.parts.items) }
+        ensures all { TakeAll (length edges.now) 0 (length edges.now) (levels_of self.new.parts.items) }
+        ensures room { vec_capacity self.old.parts ≤ vec_capacity self.new.parts }
         ensures order { self.new.order ≡ self.old.order }
+        ensures contacts { self.new.contacts ≡ self.old.contacts }
         ensures segment { self.new.segment ≡ self.old.segment }
     {
-        self.levels.clear();
+        self.parts.clear();
         let mut edges = edges;
         let mut contacts = contacts;
         while !edges.is_empty() {
-            let bundle = run_len(&None, edges, contacts);
-            self.levels.push_reserved(Level {
-                edges: bundle,
-                vertices: 0,
-                onward: bundle,
-            });
-            edges = edges.split_at(bundle).1;
-            contacts = skip(contacts, bundle);
+            let alone = alone_len(&None, edges, contacts, &[]);
+            let count = if alone > 0 {
+                self.parts.push_reserved(Part::Alone(alone));
+                alone
+            } else {
+                let bundle = run_len(&None, edges, contacts);
+                self.parts.push_reserved(Part::Together(Level {
+                    edges: bundle,
+                    vertices: 0,
+                    onward: bundle,
+                }));
+                bundle
+            };
+            edges = edges.split_at(count).1;
+            contacts = skip(contacts, count);
         }
     }
 
-    /// Pushes a level, and behind the order the edges that go on from it.
-    fn push(&mut self, pieces: &[Piece], run: &[Active], group: &[Vertex])
-        requires vertices { AllByRecursion (IsVertexOf pieces.now) group.now }
-        requires room { vec_len self.old.levels < vec_capacity self.old.levels }
-        requires order_room { vec_len self.old.order + (length run.now + length group.now)
-            ≤ vec_capacity self.old.order }
-        requires segment_room { length run.now + length group.now ≤ vec_capacity self.old.segment }
-        ensures pushed { HasLevel pieces.now run.now group.now
-            self.old.levels.items self.new.levels.items self.old.order.items self.new.order.items }
-        ensures len { vec_len self.new.levels ≡ vec_len self.old.levels + 1 }
-        ensures order_len { vec_len self.new.order
-            ≤ vec_len self.old.order + (length run.now + length group.now) }
-        ensures room { vec_capacity self.old.levels ≤ vec_capacity self.new.levels }
+    /// Pushes edges that stand alone, `kept` being the contacts between them.
+    fn push_alone(&mut self, x: &Frac, run: &[Active], kept: &[Contact])
+        requires kept { AreContacts x.now run.now kept.now }
+        requires contacts { AreContacts x.now self.old.order.items self.old.contacts.items }
+        requires room { vec_len self.old.parts < vec_capacity self.old.parts }
+        requires order_room { vec_len self.old.order + length run.now ≤ vec_capacity self.old.order }
+        requires contacts_room { vec_len self.old.order + length run.now ≤ vec_capacity self.old.contacts }
+        ensures parts { self.new.parts.items ≡ self.old.parts.items ++ Alone (length run.now) ∷ [] }
+        ensures order { self.new.order.items ≡ self.old.order.items ++ run.now }
+        ensures contacts { AreContacts x.now self.new.order.items self.new.contacts.items }
+        ensures len { vec_len self.new.parts ≡ vec_len self.old.parts + 1 }
+        ensures order_len { vec_len self.new.order ≡ vec_len self.old.order + length run.now }
+        ensures room { vec_capacity self.old.parts ≤ vec_capacity self.new.parts }
         ensures order_room { vec_capacity self.old.order ≤ vec_capacity self.new.order }
+        ensures contacts_room { vec_capacity self.old.contacts ≤ vec_capacity self.new.contacts }
         ensures segment_room { vec_capacity self.old.segment ≤ vec_capacity self.new.segment }
     {
-        if run.len() == 1 && group.is_empty() {
-            // It goes on alone, as most edges do in most columns.
-            self.levels.push_reserved(Level {
-                edges: 1,
-                vertices: 0,
-                onward: 1,
-            });
-            self.order.push_reserved(run[0]);
-            return;
+        if let Some((first, others)) = run.split_first() {
+            push_edge(x, first, &mut self.order, &mut self.contacts);
+            extend(&mut self.order, others);
+            extend(&mut self.contacts, kept);
         }
+        self.parts.push_reserved(Part::Alone(run.len()));
+    }
+
+    /// Pushes a level, and the edges that go on from it.
+    fn push_level(&mut self, pieces: &[Piece], x: &Frac, run: &[Active], group: &[Vertex])
+        requires vertices { AllByRecursion (IsVertexOf pieces.now) group.now }
+        requires contacts { AreContacts x.now self.old.order.items self.old.contacts.items }
+        requires room { vec_len self.old.parts < vec_capacity self.old.parts }
+        requires order_room { vec_len self.old.order + (length run.now + length group.now)
+            ≤ vec_capacity self.old.order }
+        requires contacts_room { vec_len self.old.order + (length run.now + length group.now)
+            ≤ vec_capacity self.old.contacts }
+        requires segment_room { length run.now + length group.now ≤ vec_capacity self.old.segment }
+        ensures pushed { HasLevel pieces.now run.now group.now
+            self.old.parts.items self.new.parts.items self.old.order.items self.new.order.items }
+        ensures contacts { AreContacts x.now self.new.order.items self.new.contacts.items }
+        ensures len { vec_len self.new.parts ≡ vec_len self.old.parts + 1 }
+        ensures order_len { vec_len self.new.order
+            ≤ vec_len self.old.order + (length run.now + length group.now) }
+        ensures room { vec_capacity self.old.parts ≤ vec_capacity self.new.parts }
+        ensures order_room { vec_capacity self.old.order ≤ vec_capacity self.new.order }
+        ensures contacts_room { vec_capacity self.old.contacts ≤ vec_capacity self.new.contacts }
+        ensures segment_room { vec_capacity self.old.segment ≤ vec_capacity self.new.segment }
+    {
         onward(pieces, run, group, &mut self.segment);
-        self.levels.push_reserved(Level {
+        self.parts.push_reserved(Part::Together(Level {
             edges: run.len(),
             vertices: group.len(),
             onward: self.segment.len(),
-        });
-        let Ok(()) = self.order.append(&mut self.segment) else {
-            unreachable!()
-        };
+        }));
+        push_edges(x, &self.segment, &mut self.order, &mut self.contacts);
+    }
+}
+
+/// Pushes edges behind an order, and the contacts of each with the edge above it.
+fn push_edges(x: &Frac, edges: &[Active], order: &mut Vec<Active>, contacts: &mut Vec<Contact>)
+    requires contacts { AreContacts x.now order.old.items contacts.old.items }
+    requires room { vec_len order.old + length edges.now ≤ vec_capacity order.old }
+    requires contacts_room { vec_len order.old + length edges.now ≤ vec_capacity contacts.old }
+    ensures order { order.new.items ≡ order.old.items ++ edges.now }
+    ensures contacts { AreContacts x.now order.new.items contacts.new.items }
+    ensures len { vec_len order.new ≡ vec_len order.old + length edges.now }
+    ensures room { vec_capacity order.new ≡ vec_capacity order.old }
+    ensures contacts_room { vec_capacity contacts.new ≡ vec_capacity contacts.old }
+{
+    for edge in edges {
+        push_edge(x, edge, order, contacts);
+    }
+}
+
+/// Pushes an edge behind an order, and its contact with the edge above it.
+fn push_edge(x: &Frac, edge: &Active, order: &mut Vec<Active>, contacts: &mut Vec<Contact>)
+    requires contacts { AreContacts x.now order.old.items contacts.old.items }
+    requires room { vec_len order.old < vec_capacity order.old }
+    requires contacts_room { vec_len order.old < vec_capacity contacts.old }
+    ensures order { order.new.items ≡ order.old.items ++ edge.now ∷ [] }
+    ensures contacts { AreContacts x.now order.new.items contacts.new.items }
+    ensures len { vec_len order.new ≡ vec_len order.old + 1 }
+    ensures room { vec_capacity order.new ≡ vec_capacity order.old }
+    ensures contacts_room { vec_capacity contacts.new ≡ vec_capacity contacts.old }
+{
+    if let Some(above) = order.last() {
+        contacts.push_reserved(Contact::between(&above.edge, &edge.edge, x));
+    }
+    order.push_reserved(*edge);
+}
+
+/// Puts all of `others` behind what there is; there is room for them.
+fn extend<T: Copy>(found: &mut Vec<T>, others: &[T])
+    requires room { vec_len found.old + length others.now ≤ vec_capacity found.old }
+    ensures items { found.new.items ≡ found.old.items ++ others.now }
+    ensures len { vec_len found.new ≡ vec_len found.old + length others.now }
+    ensures capacity { vec_capacity found.old ≤ vec_capacity found.new }
+{
+    let Ok(()) = found.extend_from_slice(others) else {
+        unreachable!()
+    };
+}
+
+/// How many edges from the first one on stand alone: none is level with the next one or with the
+/// first vertex, and all are above that.
+fn alone_len(
+    column: &Option<Frac>,
+    edges: &[Active],
+    contacts: &[Contact],
+    vertices: &[Vertex],
+) -> usize
+    ensures { result ≡ alone_count column.now edges.now contacts.now vertices.now }
+{
+    for (place, edge) in edges.iter().enumerate() {
+        if !stands_alone(column, edge, contacts, place, vertices) {
+            return place;
+        }
+    }
+    edges.len()
+}
+
+/// Whether the edge at a place, with only what is below it left, is the only thing at its height.
+fn stands_alone(
+    column: &Option<Frac>,
+    edge: &Active,
+    contacts: &[Contact],
+    place: usize,
+    vertices: &[Vertex],
+) -> bool
+    ensures { result ≡ stands_alone_in column.now edge.now (drop place contacts.now) vertices.now }
+{
+    !touches_next(column, contacts, place) && edge.is_over(vertices)
+}
+
+/// Whether the edge at a place is level with the next one.
+fn touches_next(column: &Option<Frac>, contacts: &[Contact], place: usize) -> bool
+    ensures { result ≡ touches_first column.now (drop place contacts.now) }
+{
+    match contacts.get(place) {
+        Some(contact) => contact.touches(column),
+        None => false,
     }
 }
 

@@ -3,22 +3,22 @@
 #![tactic(auto)]
 
 mod active;
-mod adjacency;
 mod contact;
 mod cut;
 mod level;
 mod next;
 mod onward;
+mod part;
 mod piece;
 mod slanted;
 mod vertex;
 
 pub use active::Active;
-pub use adjacency::{neighbours, note_places};
 pub use contact::Contact;
 pub use cut::Cut;
 pub use level::Level;
 pub use next::next_column;
+pub use part::Part;
 pub use piece::Piece;
 pub use slanted::Slanted;
 pub use vertex::{Role, Vertex, vertices};

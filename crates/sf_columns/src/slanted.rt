@@ -1,6 +1,6 @@
 //! Edges from left to right: on which side of them points lie, and how steep they are.
 
-ghost use Rattle.std.specs.Prelude.{◌≡◌, true, ◌≤◌, ◌-ℤ◌, ◌*ℤ◌, unsigned_abs, ◌↔◌, IfSome, IsNone, IsTrue};
+ghost use Rattle.std.specs.Prelude.{◌≡◌, ◌≤◌, ◌-ℤ◌, ◌*ℤ◌, unsigned_abs, ◌↔◌, IfSome, IsNone, IsTrue};
 ghost use Rattle.sf_grid.specs.Bounds.{difference_bound};
 ghost use Rattle.sf_grid.specs.Edge.{edge_between, is_vertical, left_end, right_end};
 ghost use Rattle.sf_grid.specs.Plane.{grid_point};
@@ -46,13 +46,6 @@ impl Slanted {
         ensures { result ≡ self.now.right }
     {
         self.right
-    }
-
-    /// Whether both are the edge between the same two points.
-    pub fn is(&self, other: &Slanted) -> bool
-        ensures { result ≡ true ↔ (self.now.left ≡ other.now.left) × (self.now.right ≡ other.now.right) }
-    {
-        self.left == other.left && self.right == other.right
     }
 
     /// Where `p` lies in its column: below the line of this edge, on it, or above it.

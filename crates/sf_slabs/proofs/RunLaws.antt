@@ -198,12 +198,11 @@ pub ready-fewer : (pieces : List Piece) (groups : List ℕ) (n m : ℕ) (s : Swe
 ready-fewer pieces groups n m s l r =
     record {
       order_room = less (length pieces) n m _ l r.order_room;
-      contacts_room = r.contacts_room;
-      found_room = r.found_room;
-      levels_room = less (length pieces) n m _ l r.levels_room;
+      contacts_room = less (length pieces) n m _ l r.contacts_room;
+      parts_room = less (length pieces) n m _ l r.parts_room;
       onward_room = less (length pieces) n m _ l r.onward_room;
+      onward_contacts_room = less (length pieces) n m _ l r.onward_contacts_room;
       segment_room = less (length pieces) n m _ l r.segment_room;
-      places = r.places;
       none_on = r.none_on;
       none_above = r.none_above;
     }

@@ -114,13 +114,11 @@ cut-column pieces z column es es' cs cs' vs os ls w =
     column-is pieces z column es cs vs os ls w.coming w.vertices (moved_tops column es es' cs cs' vs ls w.edges_are w.contacts_are w.tops)
     (moved_onward pieces es es' vs os ls w.edges_are w.onward)
 
-pub cut-front : (pieces : List Piece) (z : Fraction) (column : Option Fraction) (es es' : List Active) (cs cs' ds : List Contact) (vs : List Vertex) (os os' : List Active) (ls : List Level) →
-    WasCut pieces z column es es' cs cs' vs os ls → os' ≡ os → AreContacts z os' ds → IsFront pieces z os' ds
-cut-front pieces z column es es' cs cs' ds vs os os' ls w e k =
-    subst (λ fs. IsFront pieces z fs ds) (sym e)
-    (front-after pieces z column es cs ds vs os ls w.coming w.vertices (moved_tops column es es' cs cs' vs ls w.edges_are w.contacts_are w.tops)
-    (moved_onward pieces es es' vs os ls w.edges_are w.onward)
-    (subst (λ fs. AreContacts z fs ds) e k))
+pub cut-front : (pieces : List Piece) (z : Fraction) (column : Option Fraction) (es es' : List Active) (cs cs' ds : List Contact) (vs : List Vertex) (os : List Active) (ls : List Level) →
+    WasCut pieces z column es es' cs cs' vs os ls → AreContacts z os ds → IsFront pieces z os ds
+cut-front pieces z column es es' cs cs' ds vs os ls w k =
+    front-after pieces z column es cs ds vs os ls w.coming w.vertices (moved_tops column es es' cs cs' vs ls w.edges_are w.contacts_are w.tops)
+    (moved_onward pieces es es' vs os ls w.edges_are w.onward) k
 
 -- the edges that go on are those of pieces
 pub cut-entries : (pieces : List Piece) (z : Fraction) (column : Option Fraction) (es es' : List Active) (cs cs' : List Contact) (vs : List Vertex) (os : List Active) (ls : List Level) →

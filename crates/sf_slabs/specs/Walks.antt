@@ -11,12 +11,11 @@ use Rattle.sf_slabs.specs.Sweeps.{IsColumnOf, IsComing, IsFront}
 -- there is room for all pieces and n vertices more, and no count is left from a column before
 pub record IsReady (pieces : List Piece) (groups : List ℕ) (n : ℕ) (s : Sweep) : Type 0 where
   pub order_room : length pieces + n ≤ vec_capacity s.order
-  pub contacts_room : length pieces ≤ vec_capacity s.contacts
-  pub found_room : length pieces ≤ vec_capacity s.found
-  pub levels_room : length pieces + n ≤ vec_capacity s.cut.levels
+  pub contacts_room : length pieces + n ≤ vec_capacity s.contacts
+  pub parts_room : length pieces + n ≤ vec_capacity s.cut.parts
   pub onward_room : length pieces + n ≤ vec_capacity s.cut.order
+  pub onward_contacts_room : length pieces + n ≤ vec_capacity s.cut.contacts
   pub segment_room : length pieces + n ≤ vec_capacity s.cut.segment
-  pub places : length s.places.items ≡ length pieces
   pub none_on : s.tallies.on.items ≡ counts groups []
   pub none_above : s.tallies.above.items ≡ counts groups []
 

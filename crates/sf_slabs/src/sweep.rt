@@ -16,9 +16,7 @@ ghost use Rattle.sf_columns.specs.Vertices.{all_vertices, in_column, vertex_befo
 ghost use Rattle.sf_slabs.specs.Walks.{IsReady, IsSlabOf};
 
 use sf_cells::{CellSink, Column, Tallies, hand_out};
-use sf_columns::{
-    Active, Contact, Cut, Piece, Vertex, neighbours, next_column, note_places, vertices,
-};
+use sf_columns::{Active, Contact, Cut, Piece, Vertex, next_column, vertices};
 use sf_grid::{Frac, GridPoint};
 use std::alloc::{AllocError, Global};
 use std::mem::swap;
@@ -29,8 +27,6 @@ use std::mem::swap;
 pub struct Sweep {
     pub order: Vec<Active>,
     pub contacts: Vec<Contact>,
-    pub found: Vec<Contact>,
-    pub places: Vec<u32>,
     pub cut: Cut,
     pub tallies: Tallies,
 }
@@ -61,7 +57,7 @@ impl Sweep {
     {
         self.cut.column(
             pieces,
-            &Some(*x),
+            x,
             self.order.as_slice(),
             self.contacts.as_slice(),
             vertices,
@@ -70,20 +66,11 @@ impl Sweep {
             edges: self.order.as_slice(),
             vertices,
             onward: self.cut.order.as_slice(),
-            levels: self.cut.levels.as_slice(),
+            parts: self.cut.parts.as_slice(),
         };
         hand_out(sink, true, groups, &mut self.tallies, &column);
-        note_places(self.order.as_slice(), self.places.as_mut_slice());
-        neighbours(
-            x,
-            self.order.as_slice(),
-            self.contacts.as_slice(),
-            self.places.as_slice(),
-            self.cut.order.as_slice(),
-            &mut self.found,
-        );
         swap(&mut self.order, &mut self.cut.order);
-        swap(&mut self.contacts, &mut self.found);
+        swap(&mut self.contacts, &mut self.cut.contacts);
     }
 
     /// Hands out the cells of the slab right of the last column.
@@ -107,7 +94,7 @@ impl Sweep {
             edges: self.order.as_slice(),
             vertices: &[],
             onward: self.order.as_slice(),
-            levels: self.cut.levels.as_slice(),
+            parts: self.cut.parts.as_slice(),
         };
         hand_out(sink, false, groups, &mut self.tallies, &slab);
     }
@@ -129,12 +116,11 @@ impl Sweep {
         let room = pieces + vertices;
         Ok(Sweep {
             order: Vec::with_capacity(alloc, room)?,
-            contacts: Vec::with_capacity(alloc, pieces)?,
-            found: Vec::with_capacity(alloc, pieces)?,
-            places: Vec::from_elem(alloc, 0, pieces)?,
+            contacts: Vec::with_capacity(alloc, room)?,
             cut: Cut {
-                levels: Vec::with_capacity(alloc, room)?,
+                parts: Vec::with_capacity(alloc, room)?,
                 order: Vec::with_capacity(alloc, room)?,
+                contacts: Vec::with_capacity(alloc, room)?,
                 segment: Vec::with_capacity(alloc, room)?,
             },
             tallies: Tallies {

@@ -156,7 +156,7 @@ impl CellSink for Census {
     }
 }
 
-/// All cells folded into one word.
+/// All cells folded into one word. The word of a cell doesn't wait for that of the cell before it.
 #[derive(Drop)]
 struct Folded {
     word: u64,
@@ -170,14 +170,14 @@ impl CellSink for Folded {
     ghost after = { λ content cell. record {} };
 
     fn cell(&mut self, dim: u8, on: &[u32], above: &[u32]) {
-        let mut word = self.word.wrapping_mul(31).wrapping_add(u64::from(dim));
+        let mut cell = u64::from(dim);
         for count in on {
-            word = word.wrapping_mul(31).wrapping_add(u64::from(*count));
+            cell = cell.wrapping_mul(31).wrapping_add(u64::from(*count));
         }
         for count in above {
-            word = word.wrapping_mul(31).wrapping_add(u64::from(*count));
+            cell = cell.wrapping_mul(31).wrapping_add(u64::from(*count));
         }
-        self.word = word;
+        self.word = self.word.wrapping_mul(0x9e37_79b9).wrapping_add(cell);
     }
 }
 

@@ -1,23 +1,38 @@
 use Rattle.std.proofs.Common.{ap, sym, subst, ◌∙◌, Some, length, true}
 use Rattle.std.specs.List.{fold}
+use Rattle.sf_columns.specs.Parts.{levels_of}
 use Rattle.sf_slabs.specs.Sweeps.{IsFront}
-use Rattle.sf_slabs.proofs.SweepLaws.{WasCut, at_most-moved, coming-few, contacts-fewer, cut-balanced, cut-column, cut-entries, cut-few, cut-front, cut-items, edges-below, few-moved, fewer-moved, room-moved, vertices-below}
+use Rattle.sf_slabs.proofs.SweepLaws.{WasCut, coming-few, cut-balanced, cut-column, cut-entries, cut-few, cut-front, cut-items, edges-below, few-moved, room-moved, vertices-below}
 use Rattle.sf_slabs.proofs.sweep.Sweep.column.Goals as goal
 
-pub column-requires-clause-contacts : goal.column-requires-clause-contacts
-column-requires-clause-contacts g c =
-    fewer-moved _ _ _ _ (ap length c.as_slice-2.ensures.value) (ap length c.as_slice.ensures.value)
-    (contacts-fewer c.args.x.now (Some c.args.x.now) c.args.self.now.order.items c.args.self.now.contacts.items c.requires.coming.steps)
+-- the cut is one of the column, where it is handed out
+was_cut : (g : _) (c : goal.After-column-1 g) →
+    WasCut c.args.pieces.now c.args.x.now (Some c.args.x.now) c.args.self.now.order.items c.as_slice.result.now c.args.self.now.contacts.items c.as_slice-2.result.now
+    c.args.vertices.now c.column.new.self.order.items (levels_of c.column.new.self.parts.items)
+was_cut g c =
+    record {
+      coming = c.requires.coming;
+      vertices = c.requires.vertices;
+      edges_are = c.as_slice.ensures.value;
+      contacts_are = c.as_slice-2.ensures.value;
+      tops = c.column.ensures.tops;
+      onward = c.column.ensures.onward;
+    }
 
 pub column-requires-clause-room : goal.column-requires-clause-room
 column-requires-clause-room g c =
     room-moved _ _ _ (length c.args.pieces.now) _ (ap length c.as_slice.ensures.value)
-    (coming-few c.args.pieces.now c.args.x.now (Some c.args.x.now) c.args.self.now.order.items c.args.self.now.contacts.items c.requires.coming) c.requires.ready.levels_room
+    (coming-few c.args.pieces.now c.args.x.now (Some c.args.x.now) c.args.self.now.order.items c.args.self.now.contacts.items c.requires.coming) c.requires.ready.parts_room
 
 pub column-requires-clause-order_room : goal.column-requires-clause-order_room
 column-requires-clause-order_room g c =
     room-moved _ _ _ (length c.args.pieces.now) _ (ap length c.as_slice.ensures.value)
     (coming-few c.args.pieces.now c.args.x.now (Some c.args.x.now) c.args.self.now.order.items c.args.self.now.contacts.items c.requires.coming) c.requires.ready.onward_room
+
+pub column-requires-clause-contacts_room : goal.column-requires-clause-contacts_room
+column-requires-clause-contacts_room g c =
+    room-moved _ _ _ (length c.args.pieces.now) _ (ap length c.as_slice.ensures.value)
+    (coming-few c.args.pieces.now c.args.x.now (Some c.args.x.now) c.args.self.now.order.items c.args.self.now.contacts.items c.requires.coming) c.requires.ready.onward_contacts_room
 
 pub column-requires-clause-segment_room : goal.column-requires-clause-segment_room
 column-requires-clause-segment_room g c =
@@ -34,65 +49,26 @@ hand_out-requires-clause-vertices g c = vertices-below c.args.pieces.now (length
 
 pub hand_out-requires-clause-onward : goal.hand_out-requires-clause-onward
 hand_out-requires-clause-onward g c =
-    let w : WasCut c.args.pieces.now c.args.x.now (Some c.args.x.now) c.args.self.now.order.items c.as_slice.result.now c.args.self.now.contacts.items c.as_slice-2.result.now
-    c.args.vertices.now c.column.new.self.order.items c.column.new.self.levels.items =
-    record {
-      coming = c.requires.coming;
-      vertices = c.requires.vertices;
-      edges_are = c.as_slice.ensures.value;
-      contacts_are = c.as_slice-2.ensures.value;
-      tops = c.column.ensures.tops;
-      onward = c.column.ensures.onward;
-    } in
     edges-below c.args.pieces.now (length c.args.groups.now) c.column.new.self.order.items c.as_slice-4.result.now c.requires.one_group_each c.as_slice-4.ensures.value
-    (cut-entries _ _ _ _ _ _ _ _ _ _ w)
+    (cut-entries _ _ _ _ _ _ _ _ _ _ (was_cut g c))
 
 pub hand_out-requires-clause-few : goal.hand_out-requires-clause-few
 hand_out-requires-clause-few g c =
-    let w : WasCut c.args.pieces.now c.args.x.now (Some c.args.x.now) c.args.self.now.order.items c.as_slice.result.now c.args.self.now.contacts.items c.as_slice-2.result.now
-    c.args.vertices.now c.column.new.self.order.items c.column.new.self.levels.items =
-    record {
-      coming = c.requires.coming;
-      vertices = c.requires.vertices;
-      edges_are = c.as_slice.ensures.value;
-      contacts_are = c.as_slice-2.ensures.value;
-      tops = c.column.ensures.tops;
-      onward = c.column.ensures.onward;
-    } in
     few-moved _ _ _ _ _ (length c.args.pieces.now) (ap length c.as_slice-3.ensures.value) (ap length c.as_slice-4.ensures.value)
     (coming-few c.args.pieces.now c.args.x.now (Some c.args.x.now) c.args.self.now.order.items c.args.self.now.contacts.items c.requires.coming)
-    (cut-few _ _ _ _ _ _ _ _ _ _ w)
+    (cut-few _ _ _ _ _ _ _ _ _ _ (was_cut g c))
     c.requires.few c.requires.few_vertices
 
 pub hand_out-requires-clause-balanced : goal.hand_out-requires-clause-balanced
 hand_out-requires-clause-balanced g c =
-    let w : WasCut c.args.pieces.now c.args.x.now (Some c.args.x.now) c.args.self.now.order.items c.as_slice.result.now c.args.self.now.contacts.items c.as_slice-2.result.now
-    c.args.vertices.now c.column.new.self.order.items c.column.new.self.levels.items =
-    record {
-      coming = c.requires.coming;
-      vertices = c.requires.vertices;
-      edges_are = c.as_slice.ensures.value;
-      contacts_are = c.as_slice-2.ensures.value;
-      tops = c.column.ensures.tops;
-      onward = c.column.ensures.onward;
-    } in
     cut-balanced c.args.pieces.now c.args.x.now c.args.self.now.order.items c.as_slice-3.result.now c.args.vertices.now c.column.new.self.order.items c.as_slice-4.result.now
-    c.column.new.self.levels.items c.as_slice-5.result.now (cut-column _ _ _ _ _ _ _ _ _ _ w) c.as_slice-3.ensures.value c.as_slice-4.ensures.value c.as_slice-5.ensures.value c.args.groups.now
+    (levels_of c.column.new.self.parts.items) (levels_of c.as_slice-5.result.now) (cut-column _ _ _ _ _ _ _ _ _ _ (was_cut g c)) c.as_slice-3.ensures.value c.as_slice-4.ensures.value (ap levels_of c.as_slice-5.ensures.value) c.args.groups.now
 
-pub note_places-requires-clause-pieces : goal.note_places-requires-clause-pieces
-note_places-requires-clause-pieces g c =
-    edges-below c.args.pieces.now (length c.as_mut_slice.result.now) c.args.self.now.order.items c.as_slice-6.result.now
-    (ap length c.as_mut_slice.ensures.value ∙ c.requires.ready.places) c.as_slice-6.ensures.value c.requires.coming.entries
-
-pub note_places-requires-clause-few : goal.note_places-requires-clause-few
-note_places-requires-clause-few g c =
-    at_most-moved _ _ (length c.args.pieces.now) _ (ap length c.as_slice-6.ensures.value)
-    (coming-few c.args.pieces.now c.args.x.now (Some c.args.x.now) c.args.self.now.order.items c.args.self.now.contacts.items c.requires.coming) c.requires.few
-
-pub neighbours-requires-clause-room : goal.neighbours-requires-clause-room
-neighbours-requires-clause-room g c =
-    let w : WasCut c.args.pieces.now c.args.x.now (Some c.args.x.now) c.args.self.now.order.items c.as_slice.result.now c.args.self.now.contacts.items c.as_slice-2.result.now
-    c.args.vertices.now c.column.new.self.order.items c.column.new.self.levels.items =
+-- and is still where the column has been handed out
+was_cut_then : (g : _) (c : goal.After-swap-2 g) →
+    WasCut c.args.pieces.now c.args.x.now (Some c.args.x.now) c.args.self.now.order.items c.as_slice.result.now c.args.self.now.contacts.items c.as_slice-2.result.now
+    c.args.vertices.now c.column.new.self.order.items (levels_of c.column.new.self.parts.items)
+was_cut_then g c =
     record {
       coming = c.requires.coming;
       vertices = c.requires.vertices;
@@ -100,42 +76,21 @@ neighbours-requires-clause-room g c =
       contacts_are = c.as_slice-2.ensures.value;
       tops = c.column.ensures.tops;
       onward = c.column.ensures.onward;
-    } in
-    at_most-moved _ _ (length c.args.pieces.now) _ (ap length c.as_slice-10.ensures.value) (cut-few _ _ _ _ _ _ _ _ _ _ w) c.requires.ready.found_room
+    }
 
 pub returns-clause-front : goal.returns-clause-front
 returns-clause-front g c =
-    let w : WasCut c.args.pieces.now c.args.x.now (Some c.args.x.now) c.args.self.now.order.items c.as_slice.result.now c.args.self.now.contacts.items c.as_slice-2.result.now
-    c.args.vertices.now c.column.new.self.order.items c.column.new.self.levels.items =
-    record {
-      coming = c.requires.coming;
-      vertices = c.requires.vertices;
-      edges_are = c.as_slice.ensures.value;
-      contacts_are = c.as_slice-2.ensures.value;
-      tops = c.column.ensures.tops;
-      onward = c.column.ensures.onward;
-    } in
     let x = c.args.x.now in
     let after =
-    cut-front c.args.pieces.now x (Some x) c.args.self.now.order.items c.as_slice.result.now c.args.self.now.contacts.items c.as_slice-2.result.now c.neighbours.new.found.items
-    c.args.vertices.now c.column.new.self.order.items c.as_slice-10.result.now c.column.new.self.levels.items w c.as_slice-10.ensures.value c.neighbours.ensures.contacts in
-    subst (λ os. IsFront c.args.pieces.now x os c.swap-2.new.x.items) (c.as_slice-10.ensures.value ∙ sym (ap (λ v. v.items) c.swap.ensures.x_after))
-    (subst (λ cs. IsFront c.args.pieces.now x c.as_slice-10.result.now cs) (sym (ap (λ v. v.items) c.swap-2.ensures.x_after)) after)
+    cut-front c.args.pieces.now x (Some x) c.args.self.now.order.items c.as_slice.result.now c.args.self.now.contacts.items c.as_slice-2.result.now c.column.new.self.contacts.items
+    c.args.vertices.now c.column.new.self.order.items (levels_of c.column.new.self.parts.items) (was_cut_then g c) c.column.ensures.contacts in
+    subst (λ os. IsFront c.args.pieces.now x os c.swap-2.new.x.items) (sym (ap (λ v. v.items) c.swap.ensures.x_after))
+    (subst (λ cs. IsFront c.args.pieces.now x c.column.new.self.order.items cs) (sym (ap (λ v. v.items) c.swap-2.ensures.x_after)) after)
 
 pub returns-clause-handed : goal.returns-clause-handed
 returns-clause-handed g c =
-    let w : WasCut c.args.pieces.now c.args.x.now (Some c.args.x.now) c.args.self.now.order.items c.as_slice.result.now c.args.self.now.contacts.items c.as_slice-2.result.now
-    c.args.vertices.now c.column.new.self.order.items c.column.new.self.levels.items =
-    record {
-      coming = c.requires.coming;
-      vertices = c.requires.vertices;
-      edges_are = c.as_slice.ensures.value;
-      contacts_are = c.as_slice-2.ensures.value;
-      tops = c.column.ensures.tops;
-      onward = c.column.ensures.onward;
-    } in
     c.hand_out.ensures.handed
     ∙ ap (fold g.S.CellSink.after (g.S.CellSink.content c.args.sink.now))
     (cut-items c.args.pieces.now c.args.x.now c.args.self.now.order.items c.as_slice-3.result.now c.args.vertices.now c.column.new.self.order.items c.as_slice-4.result.now
-    c.column.new.self.levels.items c.as_slice-5.result.now c.requires.coming.place (cut-column _ _ _ _ _ _ _ _ _ _ w) c.as_slice-3.ensures.value c.as_slice-4.ensures.value c.as_slice-5.ensures.value
+    (levels_of c.column.new.self.parts.items) (levels_of c.as_slice-5.result.now) c.requires.coming.place (cut-column _ _ _ _ _ _ _ _ _ _ (was_cut_then g c)) c.as_slice-3.ensures.value c.as_slice-4.ensures.value (ap levels_of c.as_slice-5.ensures.value)
     c.args.groups.now true)

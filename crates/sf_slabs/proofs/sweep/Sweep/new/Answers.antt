@@ -12,12 +12,11 @@ pub returns-clause-ready : goal.returns-clause-ready
 returns-clause-ready c ps e gs f =
     record {
       order_room = together (length ps) c.args.pieces c.args.vertices _ (search rules) e;
-      contacts_room = exactly _ c.args.pieces _ (search rules) e;
-      found_room = exactly _ c.args.pieces _ (search rules) e;
-      levels_room = together (length ps) c.args.pieces c.args.vertices _ (search rules) e;
+      contacts_room = together (length ps) c.args.pieces c.args.vertices _ (search rules) e;
+      parts_room = together (length ps) c.args.pieces c.args.vertices _ (search rules) e;
       onward_room = together (length ps) c.args.pieces c.args.vertices _ (search rules) e;
+      onward_contacts_room = together (length ps) c.args.pieces c.args.vertices _ (search rules) e;
       segment_room = together (length ps) c.args.pieces c.args.vertices _ (search rules) e;
-      places = search rules;
-      none_on = c.in_ok-from_elem-2.ensures.items_if_clones_equal (λ y h. h) ∙ ap (λ n. replicate n 0) (sym f) ∙ sym (counts-none gs);
-      none_above = c.in_ok-from_elem-3.ensures.items_if_clones_equal (λ y h. h) ∙ ap (λ n. replicate n 0) (sym f) ∙ sym (counts-none gs);
+      none_on = c.in_ok-from_elem.ensures.items_if_clones_equal (λ y h. h) ∙ ap (λ n. replicate n 0) (sym f) ∙ sym (counts-none gs);
+      none_above = c.in_ok-from_elem-2.ensures.items_if_clones_equal (λ y h. h) ∙ ap (λ n. replicate n 0) (sym f) ∙ sym (counts-none gs);
     }

@@ -1,5 +1,6 @@
 use Rattle.std.proofs.Common.{ap, ◌∙◌, [], None, length, false, arith}
 use Rattle.std.specs.List.{fold}
+use Rattle.sf_columns.specs.Parts.{levels_of}
 use Rattle.sf_slabs.proofs.SlabCutLaws.{slab-column}
 use Rattle.sf_slabs.proofs.SweepLaws.{at_most-moved, coming-few, contacts-fewer, cut-balanced, cut-items, edges-below, few-moved, fewer-moved, room-whole}
 use Rattle.sf_slabs.proofs.sweep.Sweep.slab.Goals as goal
@@ -13,7 +14,7 @@ pub slab-requires-clause-room : goal.slab-requires-clause-room
 slab-requires-clause-room g c =
     at_most-moved _ _ (length c.args.pieces.now) _ (ap length c.as_slice.ensures.value)
     (coming-few c.args.pieces.now c.requires.slab.place None c.args.self.now.order.items c.args.self.now.contacts.items c.requires.slab.coming)
-    (room-whole (length c.args.pieces.now) _ c.requires.ready.levels_room)
+    (room-whole (length c.args.pieces.now) _ c.requires.ready.parts_room)
 
 pub hand_out-requires-clause-edges : goal.hand_out-requires-clause-edges
 hand_out-requires-clause-edges g c =
@@ -34,10 +35,10 @@ pub hand_out-requires-clause-balanced : goal.hand_out-requires-clause-balanced
 hand_out-requires-clause-balanced g c =
     let slab = c.requires.slab in
     let es = c.args.self.now.order.items in
-    cut-balanced c.args.pieces.now slab.place es c.as_slice-3.result.now [] es c.as_slice-4.result.now c.slab.new.self.levels.items c.as_slice-5.result.now
-    (slab-column c.args.pieces.now slab.left slab.place es c.as_slice.result.now c.args.self.now.contacts.items c.as_slice-2.result.now c.slab.new.self.levels.items
+    cut-balanced c.args.pieces.now slab.place es c.as_slice-3.result.now [] es c.as_slice-4.result.now (levels_of c.slab.new.self.parts.items) (levels_of c.as_slice-5.result.now)
+    (slab-column c.args.pieces.now slab.left slab.place es c.as_slice.result.now c.args.self.now.contacts.items c.as_slice-2.result.now (levels_of c.slab.new.self.parts.items)
     slab.front slab.coming slab.column c.as_slice.ensures.value c.as_slice-2.ensures.value c.slab.ensures.tops c.slab.ensures.onward)
-    c.as_slice-3.ensures.value c.as_slice-4.ensures.value c.as_slice-5.ensures.value c.args.groups.now
+    c.as_slice-3.ensures.value c.as_slice-4.ensures.value (ap levels_of c.as_slice-5.ensures.value) c.args.groups.now
 
 pub returns-clause-handed : goal.returns-clause-handed
 returns-clause-handed g c z coming column =
@@ -45,7 +46,7 @@ returns-clause-handed g c z coming column =
     let es = c.args.self.now.order.items in
     c.hand_out.ensures.handed
     ∙ ap (fold g.S.CellSink.after (g.S.CellSink.content c.args.sink.now))
-    (cut-items c.args.pieces.now z es c.as_slice-3.result.now [] es c.as_slice-4.result.now c.slab.new.self.levels.items c.as_slice-5.result.now coming.place
-    (slab-column c.args.pieces.now slab.left z es c.as_slice.result.now c.args.self.now.contacts.items c.as_slice-2.result.now c.slab.new.self.levels.items
+    (cut-items c.args.pieces.now z es c.as_slice-3.result.now [] es c.as_slice-4.result.now (levels_of c.slab.new.self.parts.items) (levels_of c.as_slice-5.result.now) coming.place
+    (slab-column c.args.pieces.now slab.left z es c.as_slice.result.now c.args.self.now.contacts.items c.as_slice-2.result.now (levels_of c.slab.new.self.parts.items)
     slab.front coming column c.as_slice.ensures.value c.as_slice-2.ensures.value c.slab.ensures.tops c.slab.ensures.onward)
-    c.as_slice-3.ensures.value c.as_slice-4.ensures.value c.as_slice-5.ensures.value c.args.groups.now false)
+    c.as_slice-3.ensures.value c.as_slice-4.ensures.value (ap levels_of c.as_slice-5.ensures.value) c.args.groups.now false)
