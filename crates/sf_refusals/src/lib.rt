@@ -1,0 +1,6 @@
+//! The refusals of the store, each with its number and its name.
+#![tactic(auto)]
+
+mod refusal;
+
+pub use refusal::Refusal;
