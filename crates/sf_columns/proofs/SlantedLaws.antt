@@ -54,7 +54,7 @@ lt_moved x a b k l i j e h =
     omega (arith, ints))
 
 -- where it isn't right of a column, the edges share none there
-pub none_after : (e f : Edge) (x : Fraction) (q : Point) → IsPoint q → IsSharing e f (At q) → fraction_cmp x (x_of q) ≢ Less → ShareNoneAfter e f x
-none_after e f x q j h n p i both l =
-    let same : IsSamePoint p q = (h p i).0 both in
-    n (is_less _ _ (lt_moved x p.x q.x p.d q.d i.positive j.positive (eq_from_test _ _ (and_parts _ _ same).0) (lt_from_test _ _ l)))
+pub none_after : (e f : Edge) (x : Fraction) (q : Point) → IsSharing e f (At q) → fraction_cmp x (x_of q) ≢ Less → ShareNoneAfter e f x
+none_after e f x q h n p i both l =
+    let same : IsSamePoint p q = (h.1 p i).0 both in
+    n (is_less _ _ (lt_moved x p.x q.x p.d q.d i.positive h.0.positive (eq_from_test _ _ (and_parts _ _ same).0) (lt_from_test _ _ l)))

@@ -26,7 +26,6 @@ slope_order u v s t = int_cmp ((v.y -ℤ u.y) *ℤ (t.x -ℤ s.x)) ((t.y -ℤ s.
 
 -- p is the only point that both edges have, and it is right of the column x
 pub record IsMeetingAfter (e f : Edge) (x : Fraction) (p : Point) : Type 0 where
-  pub point : IsPoint p
   pub only : IsSharing e f (At p)
   pub after : IsTrue (fraction_lt x (x_of p))
 

@@ -18,10 +18,10 @@ comes_before a b = int_lt a.x b.x || (int_eq a.x b.x && int_lt a.y b.y)
 abbrev pub IsOnBoth : Edge → Edge → Point → Type 0
 IsOnBoth e f p = IsOnEdge e p × IsOnEdge f p
 
--- the meeting says which points are on both edges: none, one, or those of one edge
+-- the meeting says which points are on both edges: none, one point of the plane, or those of one edge
 abbrev pub IsSharing : Edge → Edge → Meet → Type 0
 IsSharing e f Apart = (p : Point) → IsPoint p → ¬ (IsOnBoth e f p)
-IsSharing e f (At q) = (p : Point) → IsPoint p → IsOnBoth e f p ↔ IsSamePoint p q
+IsSharing e f (At q) = IsPoint q × ((p : Point) → IsPoint p → IsOnBoth e f p ↔ IsSamePoint p q)
 IsSharing e f (Along a b) =
     IsTrue (comes_before a b) × ((p : Point) → IsPoint p → IsOnBoth e f p ↔ IsOnEdge (edge_between a b) p)
 

@@ -139,12 +139,12 @@ meeting_event pieces x a b p i h k m =
     let meeting = meeting-run e f a b x p h.run k.run m in
     let both = meeting-on_both e f x p meeting in
     let apart = meeting-apart e f x p (front_height x h.start h.end a h.run h.passed) (front_height x k.start k.end b k.run k.passed) i meeting in
-    let is = crossing-is e f p apart m.point both in
+    let is = crossing-is e f p apart m.only.0 both in
     let same = eq_from_test ((meeting_of_lines e f).x *ℤ pos p.d) (p.x *ℤ pos (meeting_of_lines e f).d) (and_parts _ _ (meeting-same e f p both)).0 in
     let P : Option Point → Type 0 = λ o. Among (crossing_place o) (x_of p) in
     let among : Among (crossing_place (crossing e f)) (x_of p) = subst P (sym is) (inl (sym same)) in
     record {
-      number = place-IsFraction p m.point;
+      number = place-IsFraction p m.only.0;
       event =
           is-event pieces (x_of p)
           (inr (Some_in-map (λ r. r ≡ Edge h.start h.end) (λ r. Some_in (λ s. Among (crossings_of r s) (x_of p)) pieces) pieces

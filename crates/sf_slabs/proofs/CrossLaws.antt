@@ -123,7 +123,7 @@ level_from-gap : (e f : Line) (z : Fraction) → is_vertical e ≡ false → is_
 level_from-gap e f z s t i g = height_cmp-gap e f z s t i ∙ is_equal (edge_gap e f z) (pos 0) g
 
 -- parallel edges that are level in one column are level in every one
-level-parallel : (e f : Line) (x z : Fraction) → is_vertical e ≡ false → is_vertical f ≡ false → IsFraction x → IsFraction z →
+pub level-parallel : (e f : Line) (x z : Fraction) → is_vertical e ≡ false → is_vertical f ≡ false → IsFraction x → IsFraction z →
     cross_of_directions e f ≡ pos 0 → height_cmp e f x ≡ Equal → height_cmp e f z ≡ Equal
 level-parallel e f x z s t i j p l =
     level_from-gap e f z s t j
@@ -168,17 +168,17 @@ not_same_place x h p i j l m =
 
 -- the one point that two edges share is on both
 pub meeting-on_both : (e f : Line) (x : Fraction) (p : Point) → IsMeetingAfter e f x p → IsOnBoth e f p
-meeting-on_both e f x p m = (m.only p m.point).1 (same_point_is_equivalence.reflexive p)
+meeting-on_both e f x p m = (m.only.1 p m.only.0).1 (same_point_is_equivalence.reflexive p)
 
 -- two edges of the column x that share just one point, further right, aren't parallel
 pub meeting-apart : (e f : Line) (x : Fraction) (p : Point) → HasHeight e x → HasHeight f x → IsFraction x → IsMeetingAfter e f x p →
     cross_of_directions e f ≢ pos 0
 meeting-apart e f x p h k i m z =
-    let number = place-IsFraction p m.point in
-    let level = level_at-point e f p (x_of p) h.slants k.slants m.point number refl (meeting-on_both e f x p m) in
+    let number = place-IsFraction p m.only.0 in
+    let level = level_at-point e f p (x_of p) h.slants k.slants m.only.0 number refl (meeting-on_both e f x p m) in
     let both = both_at-level e f x h k i (level-parallel e f (x_of p) x h.slants k.slants number i z level) in
     let height = height-IsFraction e x h i in
-    not_same_place x (height_at e x) p i height m.after ((m.only (point_at x (height_at e x)) (IsPoint-point_at x (height_at e x) i height)).0 both)
+    not_same_place x (height_at e x) p i height m.after ((m.only.1 (point_at x (height_at e x)) (IsPoint-point_at x (height_at e x) i height)).0 both)
 
 -- the meeting of the lines is any common point
 no_more : (a k l y z : ℤ) → y ≡ pos 0 → z ≡ pos 0 → a +ℤ (k *ℤ y -ℤ l *ℤ z) ≡ a
@@ -335,7 +335,7 @@ run-on_both e f a b p r s h = (on_edge-run e a p r ∙ h.0, on_edge-run f b p s 
 pub meeting-run : (e f : Line) (a b : Active) (x : Fraction) (p : Point) → IsRun e a → IsRun f b → IsMeetingAfter (line_of a) (line_of b) x p → IsMeetingAfter e f x p
 meeting-run e f a b x p r s m =
     record {
-      point = m.point;
-      only = λ q i. (λ h. (m.only q i).0 (run-on_both e f a b q r s h), λ h. on_both-run e f a b q r s ((m.only q i).1 h));
+      only =
+          (m.only.0, λ q i. (λ h. (m.only.1 q i).0 (run-on_both e f a b q r s h), λ h. on_both-run e f a b q r s ((m.only.1 q i).1 h)));
       after = m.after;
     }

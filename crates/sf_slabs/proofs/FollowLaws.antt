@@ -180,13 +180,13 @@ follows-ahead x y a b p s q r d m w = record { ordered = inl below; inside = bel
     second = spans-line_of x y b s r
 
     place : IsFraction (x_of p)
-    place = place-IsFraction p m.point
+    place = place-IsFraction p m.only.0
 
     none_inside : ShareNoneInside (line_of b) (line_of a) x y
     none_inside o =
         let here = place-IsFraction o.point o.is_point in
         rising_order.apart (x_of o.point) (x_of p)
-        (eq_from_test _ _ (and_parts _ _ ((m.only o.point o.is_point).0 (o.on_both.1, o.on_both.0))).0)
+        (eq_from_test _ _ (and_parts _ _ ((m.only.1 o.point o.is_point).0 (o.on_both.1, o.on_both.0))).0)
         (lt_le-places (x_of o.point) y (x_of p) here s.right place o.before_second w)
 
     -- a common point in the column z is p
@@ -194,7 +194,7 @@ follows-ahead x y a b p s q r d m w = record { ordered = inl below; inside = bel
         IsSamePoint (point_at z (height_at (line_of b) z)) p
     same_at z i h k l =
         let both = both_at-level (line_of b) (line_of a) z h k i l in
-        (m.only (point_at z (height_at (line_of b) z)) (IsPoint-point_at z (height_at (line_of b) z) i (height-IsFraction (line_of b) z h i))).0 (both.1, both.0)
+        (m.only.1 (point_at z (height_at (line_of b) z)) (IsPoint-point_at z (height_at (line_of b) z) i (height-IsFraction (line_of b) z h i))).0 (both.1, both.0)
 
     below : StaysBelow x y (line_of a) (line_of b)
     below =
@@ -221,7 +221,7 @@ follows-ahead x y a b p s q r d m w = record { ordered = inl below; inside = bel
     by_test : (t : Bool) → fraction_eq (x_of p) y ≡ t → height_cmp (line_of b) (line_of a) y ≡ step_by t
     by_test true e =
         let both = meeting-on_both (line_of a) (line_of b) x p m in
-        level_at-point (line_of b) (line_of a) p y second.slants first.slants m.point s.right
+        level_at-point (line_of b) (line_of a) p y second.slants first.slants m.only.0 s.right
         (eq_from_test ((x_of p).num *ℤ pos y.den) (y.num *ℤ pos (x_of p).den) e) (both.1, both.0)
     by_test false e = less_from _ below.at_right (apart e)
 

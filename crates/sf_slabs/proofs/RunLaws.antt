@@ -69,7 +69,7 @@ contact_apart : (e f : Line) (x y : Fraction) (c : Contact) → IsFraction x →
 contact_apart e f x y Never i j l w k t =
     λ p ip both later. k p ip both (rising_order.trans x y (x_of p) i j (place-IsFraction p ip) l later)
 contact_apart e f x y (Ahead p) i j l w k t =
-    record { only = k.only; after = strictly (y.num *ℤ pos p.d) (p.x *ℤ pos y.den) (le_from_test _ _ w) t; point = k.point }
+    record { only = k.only; after = strictly (y.num *ℤ pos p.d) (p.x *ℤ pos y.den) (le_from_test _ _ w) t }
   where
     strictly : (a b : ℤ) → a ≤ℤ b → int_eq b a ≡ false → int_lt a b ≡ true
     strictly a b h t = grind (arith, ints)

@@ -19,7 +19,6 @@ returns-in_default c =
     (edge_between c.args.f.now.left c.args.f.now.right)
     c.args.x.now
     c.in-At.p
-    c.x.ensures.point
     (same_ends c.left.result c.right.result c.left-2.result c.right-2.result
     c.args.e.now.left c.args.e.now.right c.args.f.now.left c.args.f.now.right c.in-At.p
     c.left.ensures c.right.ensures c.left-2.ensures c.right-2.ensures c.in-At.ensures)
