@@ -2,7 +2,7 @@
 use Rattle.std.proofs.Common.{◌≡◌, ℕ, true, List, Option, None, Some, is_some, option_map, option_and_then, Ok, IsSome, IsSomeAnd, IfSome, slice_get, refl, ap, sym, subst, ◌∙◌}
 use Rattle.std.specs.Option.{option_map_or}
 use Rattle.sf_geometry.specs.declared.geometry.Geometry.{Geometry}
-use Rattle.sf_layers.specs.Content.{Content, LayerContent, FeatureContent, plain_feature, layer_of, place_of, has_layer, feature_of, feature_in, change_layer, change_at}
+use Rattle.sf_layers.specs.Content.{Content, LayerContent, FeatureContent, layer_of, place_of, has_layer, feature_of, feature_in, change_at}
 use Rattle.sf_layers.specs.WellFormed.{IsWellFormed}
 use Rattle.sf_layers.proofs.Added.{IsWellFormed-change_layer-at}
 use Rattle.sf_layers.proofs.Changes.{change_at-place_of, layer_of-place_of}

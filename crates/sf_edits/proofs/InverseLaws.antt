@@ -1,5 +1,5 @@
 -- An accepted step keeps a content well formed, and its inverse takes it back.
-use Rattle.std.proofs.Common.{◌≡◌, ℕ, ◌-◌, true, List, [], ◌∷◌, length, take, slice_get, None, Some, option_map, option_and_then, Ok, Err, inl, inr, refl, ap, sym, subst, ◌∙◌}
+use Rattle.std.proofs.Common.{◌≡◌, ℕ, ◌-◌, true, List, length, take, slice_get, None, Some, option_map, option_and_then, Ok, Err, inl, inr, refl, ap, sym, subst, ◌∙◌}
 use Rattle.std.specs.List.Sorted.{IsStrictlySortedBy}
 use Rattle.std.specs.Option.{option_map_or}
 use Rattle.sf_geometry.specs.declared.geometry.Geometry.{Geometry}

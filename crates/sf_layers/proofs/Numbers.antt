@@ -1,5 +1,5 @@
 -- Layers under their numbers: which one a name finds, and what a change makes of them.
-use Rattle.std.proofs.Common.{◌≡◌, ℕ, zero, suc, ◌+◌, ◌<◌, Bool, true, false, cond, not, ◌||◌, List, [], ◌∷◌, map, length, insert, remove, slice_get, Option, None, Some, is_some, bytes_eq, nat_eq, refl, ap, sym, subst, ◌∙◌, arith}
+use Rattle.std.proofs.Common.{◌≡◌, ℕ, zero, suc, ◌+◌, ◌<◌, Bool, true, false, cond, not, List, [], ◌∷◌, length, insert, remove, slice_get, Option, None, Some, is_some, bytes_eq, nat_eq, refl, ap, sym, subst, ◌∙◌, arith}
 use Rattle.std.proofs.lemmas.Bool.{eq-eqb}
 use Rattle.std.proofs.lemmas.Bool.Decides.{nat_tests}
 use Rattle.std.proofs.lemmas.Slice.Eq.{bytes_eq-Decides}
@@ -7,7 +7,7 @@ use Rattle.std.specs.Cmp.Lexicographic.{nat_list_eq_equiv}
 use Rattle.std.specs.List.{AllByRecursion, list_any, position_or_len, IsDistinct as IsUnique}
 use Rattle.std.specs.Map.{lookup, keys_of, values_of, update}
 use Rattle.indexmap.specs.IndexMap.{set_value_at}
-use Rattle.sf_layers.specs.Content.{Content, LayerContent, place_of, change_at}
+use Rattle.sf_layers.specs.Content.{LayerContent, place_of, change_at}
 use Rattle.sf_layers.specs.WellFormed.{IsDistinct, IsWellFormed}
 use Rattle.sf_layers.specs.Numbers.{Numbered, numbers_of, IsNumbered}
 use Rattle.sf_layers.proofs.Issued.{nat_eq-above}

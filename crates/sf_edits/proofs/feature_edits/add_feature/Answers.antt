@@ -1,4 +1,4 @@
-use Rattle.std.proofs.Common.{◌≡◌, ◌<◌, ◌∙◌, sym, ap, subst, None, Some, IsSomeAnd, slice_get}
+use Rattle.std.proofs.Common.{◌≡◌, ◌<◌, ◌∙◌, sym, ap, subst, None, IsSomeAnd, slice_get}
 use Rattle.sf_layers.specs.Content.{layer_of, place_of, change_layer, change_at, with_next_feature, plain_feature}
 use Rattle.sf_layers.specs.WellFormed.{IsWellFormed, id_end}
 use Rattle.sf_layers.proofs.Changes.{change_at-place_of}

@@ -1,5 +1,5 @@
-use Rattle.std.proofs.Common.{◌≡◌, ◌∙◌, sym, ap, subst, true, Some, IsSome, IsSomeAnd, is_some, slice_get}
-use Rattle.sf_layers.specs.Content.{layer_of, place_of, has_layer, feature_of, feature_in, change_at, without_last_feature}
+use Rattle.std.proofs.Common.{◌≡◌, ◌∙◌, sym, ap, subst, Some, IsSome, IsSomeAnd, slice_get}
+use Rattle.sf_layers.specs.Content.{has_layer, feature_of, feature_in, change_at, without_last_feature}
 use Rattle.sf_layers.specs.WellFormed.{IsWellFormed}
 use Rattle.sf_layers.proofs.Changes.{change_at-place_of}
 use Rattle.sf_edits.specs.declared.edit.Edit.TheVariants.{AddFeature}

@@ -1,8 +1,7 @@
 use Rattle.std.proofs.Common.{◌≡◌, ◌-◌, ◌∙◌, sym, ap, subst, arith, length, remove, slice_get, Some}
 use Rattle.sf_edits.specs.declared.edit.Edit.TheVariants.{AddLayer}
 use Rattle.sf_edits.specs.declared.inverse.Inverse.TheVariants.{TakeLayer}
-use Rattle.sf_edits.specs.Steps.{step}
-use Rattle.sf_edits.specs.Inverses.{adding_layer, taken_back, described, Restores}
+use Rattle.sf_edits.specs.Inverses.{adding_layer, described}
 use Rattle.sf_edits.proofs.LayerLaws.{LastLayer-Fits}
 use Rattle.sf_edits.proofs.InverseLaws.{Reverts-described}
 use Rattle.sf_edits.proofs.layer_edits.undo_add_layer.Goals as goal

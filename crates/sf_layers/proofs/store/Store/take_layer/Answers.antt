@@ -1,8 +1,7 @@
-use Rattle.std.proofs.Common.{◌≡◌, ◌∙◌, sym, ap, subst, ℕ, List, remove, Some, None, slice_get, option_map, bytes_eq}
+use Rattle.std.proofs.Common.{◌≡◌, ◌∙◌, sym, ap, subst, ℕ, List, remove, None, slice_get, option_map, bytes_eq}
 use Rattle.std.proofs.lemmas.Map.Text.{btree_map_updates_text}
 use Rattle.std.specs.BTreeMap.{get_by_text}
 use Rattle.std.specs.Map.{values_of, update}
-use Rattle.sf_layers.specs.WellFormed.{IsWellFormed}
 use Rattle.sf_layers.specs.Numbers.{IsNumbered}
 use Rattle.sf_layers.proofs.Kept.{IsWellFormed-remove}
 use Rattle.sf_layers.proofs.Numbers.{IsNumbered-remove}
