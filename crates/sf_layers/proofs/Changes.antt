@@ -1,6 +1,5 @@
 -- Changes of the layer of one name.
-use Rattle.std.proofs.Common.{◌≡◌, ℕ, zero, suc, ◌+◌, not, slice_get, is_some, ◌<◌, length, arith, Bool, true, false, cond, if◌then◌else◌, List, [], ◌∷◌, Some, None, option_map, bytes_eq, refl, ap, sym, subst, ◌∙◌}
-use Rattle.std.specs.Cmp.Lexicographic.{nat_list_eq_equiv}
+use Rattle.std.proofs.Common.{◌≡◌, ℕ, zero, suc, ◌+◌, not, slice_get, is_some, ◌<◌, length, arith, Bool, true, false, cond, if◌then◌else◌, List, [], ◌∷◌, Some, option_map, bytes_eq, refl, ap, sym, subst, ◌∙◌}
 use Rattle.std.specs.List.{AllByRecursion}
 use Rattle.std.specs.Map.{values_of}
 use Rattle.sf_layers.specs.Content.{Content, LayerContent, layer_of, place_of, has_layer, change_layer, change_at}
@@ -32,16 +31,6 @@ change_layer-at (e ∷ es) name layer f g found same = at_entry (λ there. chang
     at_entry later true h = let is : e.1 ≡ layer = cc in ap (λ l. (e.0, l) ∷ es) (ap f is ∙ same ∙ ap g (sym is))
     at_entry later false h = ap (λ rest. e ∷ rest) (later h)
 
--- where no layer has the name, nothing is changed
-pub change_layer-absent : (content : Content) (name : List ℕ) (f : LayerContent → LayerContent) → layer_of content name ≡ None → change_layer content name f ≡ content
-change_layer-absent [] name f absent = refl
-change_layer-absent (e ∷ es) name f absent = at_entry (change_layer-absent es name f) (bytes_eq name e.0) absent
-  where
-    at_entry : (layer_of es name ≡ None → change_layer es name f ≡ es) → (b : Bool) → cond b (Some e.1) (layer_of es name) ≡ None
-        → (if b then (e.0, f e.1) ∷ es else e ∷ change_layer es name f) ≡ e ∷ es
-    at_entry later true h = cc
-    at_entry later false h = ap (λ rest. e ∷ rest) (later h)
-
 -- the layer of the name after a change
 pub layer_of-change_layer : (content : Content) (name : List ℕ) (f : LayerContent → LayerContent) → layer_of (change_layer content name f) name ≡ option_map f (layer_of content name)
 layer_of-change_layer [] name f = refl
@@ -51,20 +40,6 @@ layer_of-change_layer (e ∷ es) name f = at_entry (layer_of-change_layer es nam
         → layer_of (if b then (e.0, f e.1) ∷ es else e ∷ change_layer es name f) name ≡ option_map f (cond b (Some e.1) (layer_of es name))
     at_entry later true is = ap (λ t. cond t (Some (f e.1)) (layer_of es name)) is
     at_entry later false is = ap (λ t. cond t (Some e.1) (layer_of (change_layer es name f) name)) is ∙ later
-
--- and the layer of another name
-pub layer_of-change_layer-other : (content : Content) (name other : List ℕ) (f : LayerContent → LayerContent) → bytes_eq name other ≡ false
-    → layer_of (change_layer content name f) other ≡ layer_of content other
-layer_of-change_layer-other [] name other f apart = refl
-layer_of-change_layer-other (e ∷ es) name other f apart = at_entry (layer_of-change_layer-other es name other f apart) (bytes_eq name e.0) refl
-  where
-    at_entry : layer_of (change_layer es name f) other ≡ layer_of es other → (b : Bool) → bytes_eq name e.0 ≡ b
-        → layer_of (if b then (e.0, f e.1) ∷ es else e ∷ change_layer es name f) other ≡ cond (bytes_eq other e.0) (Some e.1) (layer_of es other)
-    at_entry later true is =
-        let differs : bytes_eq other e.0 ≡ false =
-        nat_list_eq_equiv.symm other e.0 ∙ sym (nat_list_eq_equiv.congr name e.0 other is) ∙ apart in
-        ap (λ t. cond t (Some (f e.1)) (layer_of es other)) differs ∙ sym (ap (λ t. cond t (Some e.1) (layer_of es other)) differs)
-    at_entry later false is = ap (λ o. cond (bytes_eq other e.0) (Some e.1) o) later
 
 -- what holds of each layer holds of the one of a name
 pub IsLayer-layer_of : (content : Content) (name : List ℕ) (layer : LayerContent) → layer_of content name ≡ Some layer → AllByRecursion IsLayer (values_of content) → IsLayer layer
