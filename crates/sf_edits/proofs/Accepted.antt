@@ -75,3 +75,11 @@ FeaturePasses-passed content name geometry h = by (layer_of content name) refl h
         let second = passed (admits layer.kind (kind_of geometry)) WrongKind (unless (nat_lt layer.next_id id_end) IdsExhausted ∷ []) checked in
         let third = passed (nat_lt layer.next_id id_end) IdsExhausted [] second.1 in
         (layer, record { found = is; kind = second.0; room = ltb-true layer.next_id id_end third.0 })
+
+-- the checks of adding a feature to a layer that is there
+pub first_refusal-AddFeature : (content : Content) (name : List ℕ) (geometry : Geometry) (layer : LayerContent) → layer_of content name ≡ Some layer
+    → first_refusal (checks content (AddFeature name geometry))
+    ≡ first_refusal (unless (admits layer.kind (kind_of geometry)) WrongKind ∷ unless (nat_lt layer.next_id id_end) IdsExhausted ∷ [])
+first_refusal-AddFeature content name geometry layer found =
+    ap (λ o. first_refusal (unless (is_some o) NoLayer ∷ unless (option_map_or (λ l. admits l.kind (kind_of geometry)) o false) WrongKind
+    ∷ unless (option_map_or (λ l. nat_lt l.next_id id_end) o false) IdsExhausted ∷ [])) found

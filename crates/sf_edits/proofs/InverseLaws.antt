@@ -1,25 +1,27 @@
 -- An accepted step keeps a content well formed, and its inverse takes it back.
-use Rattle.std.proofs.Common.{◌≡◌, ℕ, ◌-◌, List, length, take, Some, Ok, refl, ap, sym, subst, ◌∙◌}
+use Rattle.std.proofs.Common.{◌≡◌, ℕ, ◌-◌, true, List, length, take, slice_get, None, Some, option_map, option_and_then, Ok, Err, inl, inr, refl, ap, sym, subst, ◌∙◌}
 use Rattle.std.specs.List.Sorted.{IsStrictlySortedBy}
 use Rattle.std.specs.Option.{option_map_or}
 use Rattle.sf_geometry.specs.declared.geometry.Geometry.{Geometry}
-use Rattle.sf_layers.specs.Content.{Content, LayerContent, empty_layer, plain_feature, layer_of, change_layer}
+use Rattle.sf_layers.specs.Content.{Content, LayerContent, empty_layer, plain_feature, layer_of, feature_of, change_layer, without_last_feature}
 use Rattle.sf_layers.specs.WellFormed.{IsFeature, IsLayer, IsWellFormed}
-use Rattle.sf_layers.proofs.Added.{IsWellFormed-push, IsWellFormed-change_layer-at, IsLayer-empty_layer, IsLayer-with_next_feature, remove_entry-with_next_feature}
-use Rattle.sf_layers.proofs.Changes.{change_layer-change_layer, change_layer-at, IsLayer-layer_of}
-use Rattle.sf_layers.proofs.Lookups.{change_layer-same}
+use Rattle.sf_layers.proofs.Added.{IsWellFormed-push, IsWellFormed-change_layer-at, IsLayer-empty_layer, IsLayer-with_next_feature, feature_of-with_next_feature, remove_entry-with_next_feature}
+use Rattle.sf_layers.proofs.Changes.{change_layer-change_layer, change_layer-at, change_layer-same, layer_of-change_layer, IsLayer-layer_of}
 use Rattle.sf_edits.specs.declared.answer.Answer.{Answer}
 use Rattle.sf_edits.specs.declared.edit.Edit.{Edit}
 use Rattle.sf_edits.specs.declared.edit.Edit.TheVariants.{AddLayer, AddFeature}
-use Rattle.sf_edits.specs.Steps.{add_feature, next_id_of, step}
-use Rattle.sf_edits.specs.Inverses.{take_feature, described, inverse_of, Accepts}
+use Rattle.sf_edits.specs.declared.inverse.Inverse.{Inverse}
+use Rattle.sf_edits.specs.declared.refusal.Refusal.{Refusal}
+use Rattle.sf_edits.specs.declared.refusal.Refusal.TheVariants.{Memory}
+use Rattle.sf_edits.specs.Steps.{first_refusal, checks, add_feature, next_id_of, effect, answer, result_of, step, memory_may_replace}
+use Rattle.sf_edits.specs.Inverses.{described, adding_layer, adding_feature, taken_back, inverse_of, answer_of, Restores, Fits, Accepts, Carries, Reverts}
 use Rattle.sf_edits.specs.Laws.{StepKeepsWellFormed, InverseTakesBack}
-use Rattle.sf_edits.proofs.Accepted.{Accepted, Accepted-step, LayerPasses-passed, FeaturePasses, FeaturePasses-passed}
-use Rattle.sf_edits.proofs.Ends.{take-last}
+use Rattle.sf_edits.proofs.Accepted.{Accepted, Accepted-step, LayerPasses-passed, FeaturePasses, FeaturePasses-passed, step-passed}
+use Rattle.sf_edits.proofs.Ends.{take-last, slice_get-last}
 
-pub IsFeature-plain_feature : (content : Content) (name : List ℕ) (geometry : Geometry) (layer : LayerContent) → FeaturePasses content name geometry layer → IsFeature layer (plain_feature geometry)
+pub IsFeature-plain_feature : (content : Content) (name : List ℕ) (geometry : Geometry) (layer : LayerContent) → FeaturePasses content name geometry layer → IsFeature layer.kind layer.columns (plain_feature geometry)
 unfolding IsStrictlySortedBy
-IsFeature-plain_feature content name geometry layer passes = record { kind = passes.kind; rising = tt; values = tt }
+IsFeature-plain_feature content name geometry layer passes = record { admitted = passes.kind; rising = tt; values = tt }
 
 -- the layer of a name, with a feature added that it takes
 pub IsLayer-add_feature : (content : Content) (name : List ℕ) (geometry : Geometry) (layer : LayerContent) → FeaturePasses content name geometry layer → IsWellFormed content → IsLayer (add_feature geometry layer)
@@ -38,8 +40,8 @@ IsWellFormed-step old new (AddFeature name geometry) given fine led =
     (IsWellFormed-change_layer-at old name passes.0 (add_feature geometry) passes.1.found (IsLayer-add_feature old name geometry passes.0 passes.1 fine) fine)
 
 -- a layer less the feature that was added is the layer
-pub take_feature-add_feature : (geometry : Geometry) (layer : LayerContent) → IsLayer layer → take_feature layer.next_id (add_feature geometry layer) ≡ layer
-take_feature-add_feature geometry layer h = ap (λ es. let l : LayerContent = record layer { features = es } in l) (remove_entry-with_next_feature layer (plain_feature geometry) h)
+without_last_feature-add_feature : (geometry : Geometry) (layer : LayerContent) → IsLayer layer → without_last_feature layer.next_id (add_feature geometry layer) ≡ layer
+without_last_feature-add_feature geometry layer h = ap (λ es. let l : LayerContent = record layer { features = es } in l) (remove_entry-with_next_feature layer (plain_feature geometry) h)
 
 pub next_id_of-found : (content : Content) (name : List ℕ) (layer : LayerContent) → layer_of content name ≡ Some layer → next_id_of content name ≡ layer.next_id
 next_id_of-found content name layer found = ap (λ o. option_map_or (λ l. l.next_id) o 0) found
@@ -51,42 +53,93 @@ described-inverse_of old new (AddLayer name kind) given fine accepted =
 described-inverse_of old new (AddFeature name geometry) given fine accepted =
     let passes = FeaturePasses-passed old name geometry accepted.passed in
     let layer : LayerContent = passes.0 in
-    let same : take_feature (next_id_of old name) (add_feature geometry layer) ≡ layer =
-    ap (λ id. take_feature id (add_feature geometry layer)) (next_id_of-found old name layer passes.1.found)
-    ∙ take_feature-add_feature geometry layer (IsLayer-layer_of old name layer passes.1.found fine.layers) in
-    sym (ap (λ content. change_layer content name (take_feature (next_id_of old name))) (sym accepted.effect)
-    ∙ change_layer-change_layer old name (add_feature geometry) (take_feature (next_id_of old name))
-    ∙ change_layer-at old name layer (λ l. take_feature (next_id_of old name) (add_feature geometry l)) (λ l. l) passes.1.found same
+    let same : without_last_feature (next_id_of old name) (add_feature geometry layer) ≡ layer =
+    ap (λ id. without_last_feature id (add_feature geometry layer)) (next_id_of-found old name layer passes.1.found)
+    ∙ without_last_feature-add_feature geometry layer (IsLayer-layer_of old name layer passes.1.found fine.layers) in
+    sym (ap (λ content. change_layer content name (without_last_feature (next_id_of old name))) (sym accepted.effect)
+    ∙ change_layer-change_layer old name (add_feature geometry) (without_last_feature (next_id_of old name))
+    ∙ change_layer-at old name layer (λ l. without_last_feature (next_id_of old name) (add_feature geometry l)) (λ l. l) passes.1.found same
     ∙ change_layer-same old name)
 
-pub Restores-inverse_of : InverseTakesBack
-Restores-inverse_of old new (AddLayer name kind) given fine led =
-    let accepted = Accepted-step old new (AddLayer name kind) given led in (
+-- the edit that the inverse of an edit takes back is that edit
+taken_back-inverse_of : (old new : Content) (edit : Edit) (given : Answer) → IsWellFormed old → Accepted old edit new given → taken_back new (inverse_of old edit) ≡ edit
+taken_back-inverse_of old new (AddLayer name kind) given fine accepted =
+    ap (λ content. adding_layer (slice_get content (length content - 1))) (sym accepted.effect) ∙ ap adding_layer (slice_get-last old (name, empty_layer kind))
+taken_back-inverse_of old new (AddFeature name geometry) given fine accepted =
+    let passes = FeaturePasses-passed old name geometry accepted.passed in
+    let layer : LayerContent = passes.0 in
+    let added : layer_of new name ≡ Some (add_feature geometry layer) =
+    ap (λ content. layer_of content name) (sym accepted.effect) ∙ layer_of-change_layer old name (add_feature geometry) ∙ ap (option_map (add_feature geometry)) passes.1.found in
+    ap (λ o. adding_feature name (option_and_then (λ l. feature_of l (next_id_of old name)) o)) added
+    ∙ ap (λ id. adding_feature name (feature_of (add_feature geometry layer) id)) (next_id_of-found old name layer passes.1.found)
+    ∙ ap (adding_feature name) (feature_of-with_next_feature layer (plain_feature geometry) (IsLayer-layer_of old name layer passes.1.found fine.layers))
+
+answer_of-inverse_of : (old : Content) (edit : Edit) → answer_of (inverse_of old edit) ≡ answer old edit
+answer_of-inverse_of old (AddLayer name kind) = refl
+answer_of-inverse_of old (AddFeature name geometry) = refl
+
+pub Accepts-inverse_of : InverseTakesBack
+Accepts-inverse_of old new edit given fine led =
+    let accepted = Accepted-step old new edit given led in
+    let back : taken_back new (inverse_of old edit) ≡ edit = taken_back-inverse_of old new edit given fine accepted in
+    let answered : answer_of (inverse_of old edit) ≡ given = answer_of-inverse_of old edit ∙ accepted.answer in
+    let leads : step old edit ≡ Ok (new, answer_of (inverse_of old edit)) = led ∙ ap (λ a. Ok (new, a)) (sym answered) in (
       record {
-        described_by = described-inverse_of old new (AddLayer name kind) given fine accepted;
-        well_formed = fine;
-        edit = AddLayer name kind;
-        answer = given;
-        taken_back = refl;
-        led = led;
+        led = leads;
+        restores = record {
+          described_by = described-inverse_of old new edit given fine accepted;
+          well_formed = fine;
+          led = ap (step old) back ∙ leads;
+          same = ap (inverse_of old) back;
+        };
+        same_edit = back;
       },
-      accepted.answer,
-    )
-Restores-inverse_of old new (AddFeature name geometry) given fine led =
-    let accepted = Accepted-step old new (AddFeature name geometry) given led in (
-      record {
-        described_by = described-inverse_of old new (AddFeature name geometry) given fine accepted;
-        well_formed = fine;
-        edit = AddFeature name geometry;
-        answer = given;
-        taken_back = refl;
-        led = led;
-      },
-      accepted.answer,
+      answered,
     )
 
--- the inverse of an edit whose step led here
-pub Accepts-inverse_of : (old new : Content) (edit : Edit) (given : Answer) → IsWellFormed old → step old edit ≡ Ok (new, given) → Accepts old edit (inverse_of old edit) new
-Accepts-inverse_of old new edit given fine led =
-    let back = Restores-inverse_of old new edit given fine led in
-    record { led = led ∙ ap (λ a. Ok (new, a)) (sym back.1); restores = back.0 }
+-- ---- what an edit's function has to show
+
+-- the edit passed its checks, its effect is there, and its inverse is given
+pub Carries-done : (old new : Content) (edit : Edit) (inverse : Inverse) → IsWellFormed old → first_refusal (checks old edit) ≡ None → effect old edit ≡ new → inverse ≡ inverse_of old edit
+    → Carries old edit (Ok inverse) new
+Carries-done old new edit inverse fine passed effected is =
+    let led : step old edit ≡ Ok (new, answer old edit) = step-passed old edit passed ∙ ap (λ content. Ok (content, answer old edit)) effected in
+    record {
+      accepted = subst (λ i. Accepts old edit i new) (sym is) (Accepts-inverse_of old new edit (answer old edit) fine led).0;
+      inverse = is;
+      refused = tt;
+      given_back = tt;
+      unchanged = tt;
+    }
+
+-- a check failed
+pub Carries-refused : (old new : Content) (edit back : Edit) (refusal : Refusal) → first_refusal (checks old edit) ≡ Some refusal → back ≡ edit → new ≡ old → Carries old edit (Err (back, refusal)) new
+Carries-refused old new edit back refusal failed is same = record {
+  accepted = tt;
+  inverse = tt;
+  refused = inl (ap (λ r. result_of r (effect old edit, answer old edit)) failed);
+  given_back = is;
+  unchanged = same;
+}
+
+-- no memory was found for the effect
+pub Carries-memory : (old new : Content) (edit back : Edit) → first_refusal (checks old edit) ≡ None → back ≡ edit → new ≡ old → Carries old edit (Err (back, Memory)) new
+Carries-memory old new edit back passed is same = record {
+  accepted = tt;
+  inverse = tt;
+  refused = inr (refl, ap (memory_may_replace edit) (step-passed old edit passed) ∙ may_replace_success edit);
+  given_back = is;
+  unchanged = same;
+}
+  where
+    may_replace_success : (e : Edit) → memory_may_replace e (Ok (effect old edit, answer old edit)) ≡ true
+    may_replace_success (AddLayer name kind) = refl
+    may_replace_success (AddFeature name geometry) = refl
+
+-- what takes an edit back leads to the content that its inverse describes, and gives the edit
+pub Reverts-described : (old new : Content) (inverse : Inverse) (edit : Edit) → Fits old inverse → new ≡ described old inverse → edit ≡ taken_back old inverse → Reverts old inverse edit new
+Reverts-described old new inverse edit fits is gives = record {
+  restored = subst (Restores old inverse) (sym is) fits;
+  gives = gives;
+  again = ap (step new) gives ∙ ap (λ content. step content (taken_back old inverse)) is ∙ fits.led;
+}

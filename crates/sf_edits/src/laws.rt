@@ -6,8 +6,8 @@ pub fn step_keeps_well_formed()
     ensures { StepKeepsWellFormed }
 {}
 
-/// The inverse of an accepted edit takes the content back to what it was, and has the edit's
-/// answer.
+/// The inverse of an accepted edit takes the content back to what it was and the edit back, and has
+/// the edit's answer.
 pub fn inverse_takes_back()
     ensures { InverseTakesBack }
 {}

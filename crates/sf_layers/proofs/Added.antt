@@ -7,12 +7,12 @@ use Rattle.std.specs.Map.{lookup, keys_of, values_of, remove_entry}
 use Rattle.std.specs.Ordering.{nat_cmp}
 use Rattle.std.specs.BTreeMap.{insert_entry}
 use Rattle.sf_layers.specs.Names.{is_name}
-use Rattle.sf_layers.specs.Content.{Content, LayerContent, FeatureContent, layer_of, change_layer, with_feature, with_next_id, empty_layer}
+use Rattle.sf_layers.specs.Content.{Content, LayerContent, FeatureContent, layer_of, change_layer, with_next_feature, empty_layer}
 use Rattle.sf_layers.specs.declared.layer_kind.LayerKind.{LayerKind}
 use Rattle.sf_layers.specs.WellFormed.{IsDistinct, IsFeature, IsLayer, IsWellFormed, IsIssued, id_end, layers_max}
 use Rattle.sf_layers.proofs.Changes.{all_layers-change_layer}
 use Rattle.sf_layers.proofs.Issued.{all-push, insert_entry-next, remove_entry-push, lookup-push, rising-push, IsIssued-next}
-use Rattle.sf_layers.proofs.Kept.{none_or, none-from, all-weaker, keys-change_layer, length-change_layer}
+use Rattle.sf_layers.proofs.Kept.{none_or, none-from, keys-change_layer, length-change_layer}
 
 -- ---- one layer more
 
@@ -69,12 +69,11 @@ IsLayer-empty_layer kind = record {
 -- ---- one feature more, under the next identifier
 
 -- the layer with one more feature
-pub IsLayer-with_next_feature : (layer : LayerContent) (feature : FeatureContent) → IsFeature layer feature → layer.next_id < id_end → IsLayer layer
-    → IsLayer (with_next_id (layer.next_id + 1) (with_feature layer.next_id feature layer))
+pub IsLayer-with_next_feature : (layer : LayerContent) (feature : FeatureContent) → IsFeature layer.kind layer.columns feature → layer.next_id < id_end → IsLayer layer
+    → IsLayer (with_next_feature feature layer)
 IsLayer-with_next_feature layer feature fits room h =
     let next = layer.next_id in
     let is : layer.features ++ (next, feature) ∷ [] ≡ insert_entry nat_cmp layer.features next feature = sym (insert_entry-next next layer.features feature h.ids) in
-    let new : LayerContent = with_next_id (next + 1) (with_feature next feature layer) in
     record {
       next_id = (omega (arith, h.next_id), omega (arith, room));
       next_column = h.next_column;
@@ -84,9 +83,8 @@ IsLayer-with_next_feature layer feature fits room h =
       rising = subst (λ es. IsStrictlySortedBy nat_cmp (keys_of es)) is (rising-push next layer.features feature h.ids h.rising);
       ids = subst (λ es. AllByRecursion (IsIssued (next + 1)) (keys_of es)) is
           (all-push (IsIssued (next + 1)) (λ entry. entry.0) layer.features (next, feature) (IsIssued-next next (keys_of layer.features) h.ids) (omega (arith, h.next_id), omega arith));
-      features = subst (λ es. AllByRecursion (IsFeature new) (values_of es)) is
-          (all-weaker (IsFeature layer) (IsFeature new) (λ f of. record { kind = of.kind; rising = of.rising; values = of.values }) (values_of (layer.features ++ (next, feature) ∷ []))
-          (all-push (IsFeature layer) (λ entry. entry.1) layer.features (next, feature) h.features fits));
+      features = subst (λ es. AllByRecursion (IsFeature layer.kind layer.columns) (values_of es)) is
+          (all-push (IsFeature layer.kind layer.columns) (λ entry. entry.1) layer.features (next, feature) h.features fits);
     }
 
 -- it has the feature

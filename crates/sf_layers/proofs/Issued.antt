@@ -13,7 +13,7 @@ use Rattle.sf_layers.specs.WellFormed.{IsIssued}
 nat_cmp-below : (m n : ℕ) → m < n → nat_cmp m n ≡ Less
 nat_cmp-below m n h = ap (λ b. cond b Less (cond (nat_eq m n) Equal Greater)) (lt-ltb m n h)
 
-nat_eq-above : (m n : ℕ) → m < n → nat_eq n m ≡ false
+pub nat_eq-above : (m n : ℕ) → m < n → nat_eq n m ≡ false
 nat_eq-above m n h = grind (arith, nat_tests)
 
 nat_cmp-above : (m n : ℕ) → m < n → nat_cmp n m ≡ Greater

@@ -4,12 +4,12 @@ use Rattle.std.specs.List.{list_any, AllByRecursion}
 use Rattle.std.specs.List.Sorted.{IsStrictlySortedBy}
 use Rattle.std.specs.Map.{keys_of, values_of, remove_entry}
 use Rattle.std.specs.Ordering.{nat_cmp}
-use Rattle.sf_layers.specs.Content.{Content, LayerContent, change_layer, without_feature}
+use Rattle.sf_layers.specs.Content.{Content, LayerContent, change_layer, change_at, without_feature}
 use Rattle.sf_layers.specs.WellFormed.{IsDistinct, IsFeature, IsLayer, IsWellFormed}
 
 -- ---- a list with one element out
 
-all-remove : {X Y : Type 0} (P : Y → Type 0) (f : X → Y) (xs : List X) (i : ℕ) → AllByRecursion P (map f xs) → AllByRecursion P (map f (remove xs i))
+pub all-remove : {X Y : Type 0} (P : Y → Type 0) (f : X → Y) (xs : List X) (i : ℕ) → AllByRecursion P (map f xs) → AllByRecursion P (map f (remove xs i))
 all-remove P f [] zero h = h
 all-remove P f [] (suc i) h = h
 all-remove P f (x ∷ xs) zero h = h.1
@@ -71,24 +71,30 @@ length-change_layer (e ∷ es) name f = at_entry (length-change_layer es name f)
     at_entry later true = refl
     at_entry later false = ap suc later
 
-layers-change_layer : (content : Content) (name : List ℕ) (f : LayerContent → LayerContent) → ((layer : LayerContent) → IsLayer layer → IsLayer (f layer))
-    → AllByRecursion IsLayer (values_of content) → AllByRecursion IsLayer (values_of (change_layer content name f))
-layers-change_layer [] name f keeps h = h
-layers-change_layer (e ∷ es) name f keeps h = at_entry (layers-change_layer es name f keeps h.1) (bytes_eq name e.0)
-  where
-    at_entry : AllByRecursion IsLayer (values_of (change_layer es name f)) → (b : Bool)
-        → AllByRecursion IsLayer (values_of (if b then (e.0, f e.1) ∷ es else e ∷ change_layer es name f))
-    at_entry later true = (keeps e.1 h.0, h.1)
-    at_entry later false = (h.0, later)
+layers-change_at : (content : Content) (place : ℕ) (f : LayerContent → LayerContent) → ((layer : LayerContent) → IsLayer layer → IsLayer (f layer))
+    → AllByRecursion IsLayer (values_of content) → AllByRecursion IsLayer (values_of (change_at place f content))
+layers-change_at [] place f keeps h = h
+layers-change_at (e ∷ es) zero f keeps h = (keeps e.1 h.0, h.1)
+layers-change_at (e ∷ es) (suc i) f keeps h = (h.0, layers-change_at es i f keeps h.1)
+
+pub keys-change_at : (content : Content) (place : ℕ) (f : LayerContent → LayerContent) → keys_of (change_at place f content) ≡ keys_of content
+keys-change_at [] place f = refl
+keys-change_at (e ∷ es) zero f = refl
+keys-change_at (e ∷ es) (suc i) f = ap (λ rest. e.0 ∷ rest) (keys-change_at es i f)
+
+length-change_at : (content : Content) (place : ℕ) (f : LayerContent → LayerContent) → length (change_at place f content) ≡ length content
+length-change_at [] place f = refl
+length-change_at (e ∷ es) zero f = refl
+length-change_at (e ∷ es) (suc i) f = ap suc (length-change_at es i f)
 
 -- a change that keeps a layer well formed keeps the content so
-pub IsWellFormed-change_layer : (content : Content) (name : List ℕ) (f : LayerContent → LayerContent) → ((layer : LayerContent) → IsLayer layer → IsLayer (f layer))
-    → IsWellFormed content → IsWellFormed (change_layer content name f)
-IsWellFormed-change_layer content name f keeps h = record {
-  few = omega (arith, length-change_layer content name f, h.few);
-  named = subst (AllByRecursion _) (sym (keys-change_layer content name f)) h.named;
-  distinct = subst (IsDistinct bytes_eq) (sym (keys-change_layer content name f)) h.distinct;
-  layers = layers-change_layer content name f keeps h.layers;
+pub IsWellFormed-change_at : (content : Content) (place : ℕ) (f : LayerContent → LayerContent) → ((layer : LayerContent) → IsLayer layer → IsLayer (f layer))
+    → IsWellFormed content → IsWellFormed (change_at place f content)
+IsWellFormed-change_at content place f keeps h = record {
+  few = omega (arith, length-change_at content place f, h.few);
+  named = subst (AllByRecursion _) (sym (keys-change_at content place f)) h.named;
+  distinct = subst (IsDistinct bytes_eq) (sym (keys-change_at content place f)) h.distinct;
+  layers = layers-change_at content place f keeps h.layers;
 }
 
 -- ---- a layer less a feature
@@ -110,10 +116,6 @@ rising-remove_entry {X} test (e ∷ es) h = at_entry (rising-remove_entry test e
     at_entry later true = h.1
     at_entry later false = (all-remove_entry _ (λ x. x.0) test es h.0, later)
 
-pub all-weaker : {X : Type 0} (P Q : X → Type 0) → ((x : X) → P x → Q x) → (xs : List X) → AllByRecursion P xs → AllByRecursion Q xs
-all-weaker P Q f [] h = h
-all-weaker P Q f (x ∷ xs) h = (f x h.0, all-weaker P Q f xs h.1)
-
 pub IsLayer-without_feature : (id : ℕ) (layer : LayerContent) → IsLayer layer → IsLayer (without_feature id layer)
 IsLayer-without_feature id layer h = record {
   next_id = h.next_id;
@@ -123,6 +125,5 @@ IsLayer-without_feature id layer h = record {
   column_numbers = h.column_numbers;
   rising = rising-remove_entry (nat_eq id) layer.features h.rising;
   ids = all-remove_entry _ (λ x. x.0) (nat_eq id) layer.features h.ids;
-  features = all-weaker (IsFeature layer) (IsFeature (without_feature id layer)) (λ feature is. record { kind = is.kind; rising = is.rising; values = is.values })
-      (values_of (remove_entry (nat_eq id) layer.features)) (all-remove_entry (IsFeature layer) (λ x. x.1) (nat_eq id) layer.features h.features);
+  features = all-remove_entry (IsFeature layer.kind layer.columns) (λ x. x.1) (nat_eq id) layer.features h.features;
 }

@@ -1,6 +1,7 @@
-ghost use Rattle.std.specs.Prelude.{◌≡◌, ℕ, Bool, false, length, option_copied, None, Some, IsSome, OnOk, OnErr, IfErr};
+ghost use Rattle.std.specs.Prelude.{◌≡◌, ℕ, ◌<◌, Bool, false, length, option_copied, None, Some, IsSome, OnOk, OnErr, IfOk, IfErr};
 ghost use Rattle.std.specs.Map.Iter.{ShowsInOrder, deref_pair};
-ghost use Rattle.sf_layers.specs.Content.{FeatureContent, empty_layer, feature_of, with_feature, without_feature, with_next_id};
+ghost use Rattle.sf_layers.specs.Content.{FeatureContent, empty_layer, feature_of, with_feature, without_feature, with_next_id, with_next_feature, without_last_feature};
+ghost use Rattle.sf_layers.specs.WellFormed.{id_end};
 
 use super::feature::Feature;
 use super::layer_kind::LayerKind;
@@ -125,6 +126,32 @@ impl Layer {
         ensures rest { self.new ≡ without_feature id self.old }
     {
         self.features.remove(&id).unwrap()
+    }
+
+    /// Puts a feature under the next identifier and raises the counter. An Err gives it back and
+    /// changes nothing.
+    pub(crate) fn push_feature(&mut self, alloc: Global, feature: Feature) -> Result<u32, Feature>
+        requires room { self.old.next_id < id_end }
+        requires free { feature_of self.old self.old.next_id ≡ None }
+        ensures pushed { OnOk result (self.new ≡ with_next_feature feature self.old) }
+        ensures id { IfOk result (λ id. id ≡ self.old.next_id) }
+        ensures given_back { IfErr result (λ back. back ≡ feature) }
+        ensures unchanged { OnErr result (self.new ≡ self.old) }
+    {
+        let id = self.next_id;
+        self.put_feature(alloc, id, feature)?;
+        self.next_id = id + 1;
+        Ok(id)
+    }
+
+    /// Takes the feature of an identifier out, which is the next one then.
+    pub(crate) fn pop_feature(&mut self, id: u32) -> Feature
+        requires { IsSome (feature_of self.old id) }
+        ensures taken { feature_of self.old id ≡ Some result }
+        ensures rest { self.new ≡ without_last_feature id self.old }
+    {
+        self.next_id = id;
+        self.take_feature(id)
     }
 
     /// Sets the identifier that the next feature takes.

@@ -12,12 +12,12 @@ fn layer_and_feature_are_put(rt: HostRuntime) -> Result<(), Fail> {
     let Ok(()) = store.put_layer(rt.alloc(), 0, name, layer) else {
         return Err(Fail::from("no memory"));
     };
-    store.set_next_id("wells", 2);
+    store.set_next_id(0, 2);
     let Some(point) = GridPoint::new(3, 4) else {
         return Err(Fail::from("off the grid"));
     };
     let feature = Feature::new(Geometry::Point(point));
-    let Ok(()) = store.put_feature(rt.alloc(), "wells", 1, feature) else {
+    let Ok(()) = store.put_feature(rt.alloc(), 0, 1, feature) else {
         return Err(Fail::from("no memory"));
     };
     let (name, layer) = store.layer_at(0).ok_or("no layer")?;

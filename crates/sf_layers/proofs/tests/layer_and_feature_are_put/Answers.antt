@@ -4,7 +4,7 @@ use Rattle.sf_geometry.specs.declared.geometry.Geometry.TheVariants as geometrie
 use Rattle.sf_geometry.specs.declared.kind.Kind.TheVariants.{Point}
 use Rattle.sf_grid.specs.Plane.{Coordinates}
 use Rattle.sf_layers.specs.declared.layer_kind.LayerKind.TheVariants.{Only}
-use Rattle.sf_layers.specs.Content.{Content, FeatureContent, plain_feature, change_layer, with_feature, with_next_id}
+use Rattle.sf_layers.specs.Content.{Content, FeatureContent, plain_feature, change_at, with_feature, with_next_id}
 use Rattle.sf_layers.specs.WellFormed.{IsWellFormed}
 use Rattle.sf_layers.proofs.tests.layer_and_feature_are_put.Goals as goal
 
@@ -28,7 +28,7 @@ IsWellFormed-one point = record {
       column_numbers = tt;
       rising = (tt, tt);
       ids = ((lit≤ tt, lit< tt), tt);
-      features = (record { kind = refl; rising = tt; values = tt }, tt);
+      features = (record { admitted = refl; rising = tt; values = tt }, tt);
     },
     tt,
   );
@@ -42,6 +42,6 @@ put_feature-requires-clause-fits g c =
     ∙ ap (λ n. let l : Content = (n, c.new-layer.result) ∷ [] in l) (c.from_string-name.ensures ∙ c.in_ok-from_str.ensures.ok)
     ∙ ap (λ n. let l : Content = (119 ∷ 101 ∷ 108 ∷ 108 ∷ 115 ∷ [], n) ∷ [] in l) c.new-layer.ensures in
     let raised : c.set_next_id.new.self ≡ wells 2 [] =
-    c.set_next_id.ensures ∙ ap (λ content. change_layer content (119 ∷ 101 ∷ 108 ∷ 108 ∷ 115 ∷ []) (with_next_id 2)) is in
-    subst (λ content. IsWellFormed (change_layer content (119 ∷ 101 ∷ 108 ∷ 108 ∷ 115 ∷ []) (with_feature 1 c.new-feature.result))) (sym raised)
+    c.set_next_id.ensures ∙ ap (λ content. change_at 0 (with_next_id 2) content) is in
+    subst (λ content. IsWellFormed (change_at 0 (with_feature 1 c.new-feature.result) content)) (sym raised)
     (subst (λ feature. IsWellFormed (wells 2 ((1, feature) ∷ []))) (sym c.new-feature.ensures) (IsWellFormed-one c.in-Some.point))

@@ -1,0 +1,5 @@
+/// How many layers a store has at most.
+pub const LAYERS_MAX: usize = 65_535;
+
+/// The next identifier of a layer that takes no more features.
+pub const ID_END: u32 = 4_294_967_295;
