@@ -1,5 +1,5 @@
 -- Counts of groups, number by number: of two lists of pieces one after another, and of what is left when some of them are taken off.
-use Rattle.std.proofs.Common.{◌≡◌, ◌≢◌, refl, ap, sym, ◌∙◌, ℕ, zero, suc, ◌+◌, ◌-◌, ◌≤◌, ◌<◌, arith, List, [], ◌∷◌, ◌++◌, inl, inr, map, length, false, slice_index, slice_index_or, slice_set, ◌==◌, cond}
+use Rattle.std.proofs.Common.{◌≡◌, ◌≢◌, refl, ap, sym, ◌∙◌, ℕ, zero, suc, ◌+◌, ◌-◌, ◌≤◌, ◌<◌, arith, List, [], ◌∷◌, ◌++◌, inl, inr, map, length, false, slice_index, slice_index_or, slice_set, ◌==◌, cond, replicate}
 use Rattle.std.specs.List.{All, sum_by}
 use Rattle.std.proofs.lemmas.Bool.{eq-eqb}
 use Rattle.std.proofs.lemmas.Bool.Decides.{eqb_tells}
@@ -365,3 +365,11 @@ all_there groups xs = counts-part groups xs [] xs (same_and_none xs)
 -- then nothing is counted
 pub all_taken : (groups xs : List ℕ) → minus (counts groups xs) (counts groups xs) ≡ counts groups []
 all_taken groups xs = counts-left groups xs [] xs (same_and_none xs)
+
+-- ---- counts of nothing
+zeros : (k n : ℕ) → map {B = ℕ} (λ _. 0) (numbers k n) ≡ replicate n 0
+zeros k zero = refl
+zeros k (suc n) = ap (λ ns. 0 ∷ ns) (zeros (k + 1) n)
+
+pub counts_none : (groups : List ℕ) → counts groups [] ≡ replicate (group_count groups) 0
+counts_none groups = zeros 0 (group_count groups)

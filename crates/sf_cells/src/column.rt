@@ -14,7 +14,7 @@ ghost use Rattle.sf_cells.specs.Samples.{dimension};
 ghost use Rattle.sf_columns.specs.Vertices.{enters, leaves, pieces_with};
 
 use crate::sink::CellSink;
-use crate::tally::{add_edges, add_piece, enter_level, leave_level, take_edges, take_piece};
+use crate::tally::{add_edges, add_piece, clear_edges, enter_level, leave_level, take_piece};
 use sf_columns::{Active, Part, Vertex};
 
 /// Of each group, how many of its pieces are on the place that was reached, and how many of its
@@ -94,7 +94,7 @@ pub fn hand_out<S: CellSink>(
         }
     }
     hand_gap(sink, event, tallies);
-    take_edges(&mut tallies.above, groups, column.onward);
+    clear_edges(&mut tallies.above, groups, column.onward);
 }
 
 /// Hands out edges that go on and stand alone at their heights: from the top, the gap above each

@@ -60,6 +60,20 @@ pub fn take_edges(tally: &mut [u32], groups: &[u32], edges: &[Active])
     }
 }
 
+/// Takes off the edges' pieces where the tally has no others: in as many steps as there are edges or
+/// groups, whichever are fewer.
+pub fn clear_edges(tally: &mut Vec<u32>, groups: &[u32], edges: &[Active])
+    requires edges { All (λ e. e.piece < length groups.now) edges.now }
+    requires counted { tally.old.items ≡ counts groups.now (pieces_of edges.now) }
+    ensures { tally.new.items ≡ counts groups.now [] }
+{
+    if tally.len() <= edges.len() {
+        tally.fill(0);
+    } else {
+        take_edges(tally, groups, edges);
+    }
+}
+
 /// Adds the pieces of the vertices that bring their piece to the level.
 fn add_entering(tally: &mut [u32], groups: &[u32], vertices: &[Vertex])
     requires vertices { All (λ v. v.piece < length groups.now) vertices.now }

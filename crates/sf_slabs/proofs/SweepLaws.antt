@@ -1,5 +1,5 @@
 -- A column of the sweep: its lists fit the room, and what is handed out for it are its cells.
-use Rattle.std.proofs.Common.{◌≡◌, refl, ap, sym, subst, ◌∙◌, ℕ, zero, suc, ◌+◌, ◌*◌, ◌-◌, ◌≤◌, ◌<◌, ◌^◌, arith, Bool, true, false, cond, List, [], ◌∷◌, length, map, replicate, Option, Some, None}
+use Rattle.std.proofs.Common.{◌≡◌, refl, ap, sym, subst, ◌∙◌, ℕ, zero, suc, ◌+◌, ◌*◌, ◌-◌, ◌≤◌, ◌<◌, ◌^◌, arith, Bool, true, false, cond, List, [], ◌∷◌, length, map, Option, Some, None}
 use Rattle.std.specs.List.{All, AllByRecursion, sum_by}
 use Rattle.std.specs.List.Sorted.{IsPermutation}
 use Rattle.std.proofs.lemmas.List.{length-append}
@@ -17,7 +17,7 @@ use Rattle.sf_columns.specs.declared.vertex.Role.TheVariants.{Begin, Bottom, End
 use Rattle.sf_columns.specs.declared.vertex.Vertex.{Vertex}
 use Rattle.sf_cells.specs.Cells.{numbers_from}
 use Rattle.sf_columns.specs.Fronts.{AreContacts, IsEntry, IsEntryIn, SameNumbers, pieces_of}
-use Rattle.sf_cells.specs.Groups.{counts, group_count, item_of, numbers}
+use Rattle.sf_cells.specs.Groups.{counts, item_of}
 use Rattle.sf_cells.specs.Hands.{Balanced, stop_items, stops}
 use Rattle.sf_columns.specs.Levels.{AreOnward, AreTops}
 use Rattle.sf_slabs.specs.Sweeps.{IsColumnOf, IsComing, IsFront, StepsAt, StepsAtFrom, cells_in, comes_to, passes}
@@ -172,14 +172,6 @@ cut-balanced pieces z es es' vs os os' ls ls' c e f h groups =
 
 pub room-whole : (p r : ℕ) → p + 0 ≤ r → p ≤ r
 room-whole p r h = omega arith
-
--- ---- counts of nothing
-zeros : (k n : ℕ) → map {B = ℕ} (λ _. 0) (numbers k n) ≡ replicate n 0
-zeros k zero = refl
-zeros k (suc n) = ap (λ ns. 0 ∷ ns) (zeros (k + 1) n)
-
-pub counts-none : (groups : List ℕ) → counts groups [] ≡ replicate (group_count groups) 0
-counts-none groups = zeros 0 (group_count groups)
 
 -- ---- two vertices of each piece at most
 few_of_piece : (k : ℕ) (p : Piece) → length (vertices_of k p) ≤ 2
