@@ -10,7 +10,7 @@ ghost use Rattle.sf_columns.specs.Vertices.{enters as enters_of, leaves as leave
 use sf_columns::{Active, Vertex};
 
 /// Adds the pieces that a level has and the gap above it hasn't.
-pub fn enter_level(tally: &mut [u32], groups: &[u32], edges: &[Active], vertices: &[Vertex])
+pub(crate) fn enter_level(tally: &mut [u32], groups: &[u32], edges: &[Active], vertices: &[Vertex])
     requires edges { All (λ e. e.piece < length groups.now) edges.now }
     requires vertices { All (λ v. v.piece < length groups.now) vertices.now }
     requires counted { length tally.old ≡ group_count groups.now }
@@ -23,7 +23,7 @@ pub fn enter_level(tally: &mut [u32], groups: &[u32], edges: &[Active], vertices
 }
 
 /// Takes off the pieces that a level has and the gap below it hasn't.
-pub fn leave_level(tally: &mut [u32], groups: &[u32], edges: &[Active], vertices: &[Vertex])
+pub(crate) fn leave_level(tally: &mut [u32], groups: &[u32], edges: &[Active], vertices: &[Vertex])
     requires edges { All (λ e. e.piece < length groups.now) edges.now }
     requires vertices { All (λ v. v.piece < length groups.now) vertices.now }
     requires counted { length tally.old ≡ group_count groups.now }
@@ -37,7 +37,7 @@ pub fn leave_level(tally: &mut [u32], groups: &[u32], edges: &[Active], vertices
 }
 
 /// Adds the edges' pieces.
-pub fn add_edges(tally: &mut [u32], groups: &[u32], edges: &[Active])
+pub(crate) fn add_edges(tally: &mut [u32], groups: &[u32], edges: &[Active])
     requires edges { All (λ e. e.piece < length groups.now) edges.now }
     requires counted { length tally.old ≡ group_count groups.now }
     requires room { All (λ n. n + length edges.now < 2 ^ 32) tally.old }
@@ -49,7 +49,7 @@ pub fn add_edges(tally: &mut [u32], groups: &[u32], edges: &[Active])
 }
 
 /// Takes off the edges' pieces.
-pub fn take_edges(tally: &mut [u32], groups: &[u32], edges: &[Active])
+pub(crate) fn take_edges(tally: &mut [u32], groups: &[u32], edges: &[Active])
     requires edges { All (λ e. e.piece < length groups.now) edges.now }
     requires counted { length tally.old ≡ group_count groups.now }
     requires there { AtMost (counts groups.now (pieces_of edges.now)) tally.old }
@@ -62,7 +62,7 @@ pub fn take_edges(tally: &mut [u32], groups: &[u32], edges: &[Active])
 
 /// Takes off the edges' pieces where the tally has no others: in as many steps as there are edges or
 /// groups, whichever are fewer.
-pub fn clear_edges(tally: &mut Vec<u32>, groups: &[u32], edges: &[Active])
+pub(crate) fn clear_edges(tally: &mut Vec<u32>, groups: &[u32], edges: &[Active])
     requires edges { All (λ e. e.piece < length groups.now) edges.now }
     requires counted { tally.old.items ≡ counts groups.now (pieces_of edges.now) }
     ensures { tally.new.items ≡ counts groups.now [] }
@@ -103,7 +103,7 @@ fn take_leaving(tally: &mut [u32], groups: &[u32], vertices: &[Vertex])
 }
 
 /// One more piece of its group.
-pub fn add_piece(tally: &mut [u32], groups: &[u32], piece: u32)
+pub(crate) fn add_piece(tally: &mut [u32], groups: &[u32], piece: u32)
     requires grouped { piece < length groups.now }
     requires counted { length tally.old ≡ group_count groups.now }
     requires room { All (λ n. n + 1 < 2 ^ 32) tally.old }
@@ -114,7 +114,7 @@ pub fn add_piece(tally: &mut [u32], groups: &[u32], piece: u32)
 }
 
 /// One piece less of its group.
-pub fn take_piece(tally: &mut [u32], groups: &[u32], piece: u32)
+pub(crate) fn take_piece(tally: &mut [u32], groups: &[u32], piece: u32)
     requires grouped { piece < length groups.now }
     requires counted { length tally.old ≡ group_count groups.now }
     requires there { AtMost (counts groups.now (piece ∷ [])) tally.old }

@@ -1,3 +1,4 @@
+pub mod Ahead
 pub mod EachLaws
 mod Computed
 pub mod SampleLaws

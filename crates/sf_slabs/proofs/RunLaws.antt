@@ -20,7 +20,8 @@ use Rattle.sf_cells.specs.Cells.{cells}
 use Rattle.sf_columns.specs.Fronts.{AreApart, AreApartFrom, AreContacts, AreContactsFrom, IsContact, line_of, touches}
 use Rattle.sf_columns.specs.Next.{IsLeastOf, candidates, first_place}
 use Rattle.sf_cells.specs.Samples.{listed, unlisted}
-use Rattle.sf_slabs.specs.Sweeps.{IsAhead, IsColumnOf, IsComing, IsFront, cells_in}
+use Rattle.sf_slabs.specs.Sweeps.{IsColumnOf, IsComing, IsFront, cells_in}
+use Rattle.sf_slabs.proofs.Ahead.{IsAhead}
 use Rattle.sf_columns.specs.Vertices.{all_vertices, in_column, vertex_before}
 use Rattle.sf_slabs.specs.Walks.{IsReady, IsSlabOf}
 use Rattle.sf_slabs.proofs.ColumnLaws.{event_places}
@@ -34,6 +35,7 @@ use Rattle.sf_slabs.proofs.NextEventLaws.{last-is, next-clear, next-is}
 use Rattle.sf_slabs.proofs.NextLaws.{IsNext}
 use Rattle.sf_slabs.proofs.NumberLaws.{rising_order}
 use Rattle.sf_slabs.proofs.RemainingLaws.{ahead-parted, ahead_of_all, cells-first, cells-none, left, left-next, remaining, remaining-last, remaining-next, start-ahead, start-column, start-coming, start-front}
+use Rattle.sf_slabs.proofs.SweepLaws.{room-fewer}
 use Rattle.sf_slabs.proofs.TopLaws.{one_more-above}
 use Rattle.sf_grid.proofs.NumberTests.{le_from_test}
 
@@ -199,10 +201,7 @@ ready-fewer pieces groups n m s l r =
     record {
       order_room = less (length pieces) n m _ l r.order_room;
       contacts_room = less (length pieces) n m _ l r.contacts_room;
-      parts_room = less (length pieces) n m _ l r.parts_room;
-      onward_room = less (length pieces) n m _ l r.onward_room;
-      onward_contacts_room = less (length pieces) n m _ l r.onward_contacts_room;
-      segment_room = less (length pieces) n m _ l r.segment_room;
+      cut_room = room-fewer (length pieces + n) (length pieces + m) s.cut (omega arith) r.cut_room;
       none_on = r.none_on;
       none_above = r.none_above;
     }

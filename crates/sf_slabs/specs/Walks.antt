@@ -4,6 +4,7 @@ use Rattle.sf_grid.specs.Fraction.{Fraction}
 use Rattle.sf_columns.specs.declared.active.Active.{Active}
 use Rattle.sf_columns.specs.declared.contact.Contact.{Contact}
 use Rattle.sf_columns.specs.declared.piece.Piece.{Piece}
+use Rattle.sf_columns.specs.Rooms.{HasRoom}
 use Rattle.sf_slabs.specs.declared.sweep.Sweep.{Sweep}
 use Rattle.sf_cells.specs.Groups.{counts}
 use Rattle.sf_slabs.specs.Sweeps.{IsColumnOf, IsComing, IsFront}
@@ -12,10 +13,7 @@ use Rattle.sf_slabs.specs.Sweeps.{IsColumnOf, IsComing, IsFront}
 pub record IsReady (pieces : List Piece) (groups : List ℕ) (n : ℕ) (s : Sweep) : Type 0 where
   pub order_room : length pieces + n ≤ vec_capacity s.order
   pub contacts_room : length pieces + n ≤ vec_capacity s.contacts
-  pub parts_room : length pieces + n ≤ vec_capacity s.cut.parts
-  pub onward_room : length pieces + n ≤ vec_capacity s.cut.order
-  pub onward_contacts_room : length pieces + n ≤ vec_capacity s.cut.contacts
-  pub segment_room : length pieces + n ≤ vec_capacity s.cut.segment
+  pub cut_room : HasRoom (length pieces + n) s.cut
   pub none_on : s.tallies.on.items ≡ counts groups []
   pub none_above : s.tallies.above.items ≡ counts groups []
 

@@ -5,6 +5,7 @@ use Rattle.std.proofs.lemmas.Slice.Zip.{zip_end, zip_turn}
 use Rattle.sf_columns.specs.Fronts.{pieces_of}
 use Rattle.sf_cells.specs.Groups.{counts, group_count}
 use Rattle.sf_cells.specs.Hands.{AtMost, minus, plus}
+use Rattle.sf_columns.specs.Strips.{is_column}
 use Rattle.sf_cells.proofs.TallyLaws.{HasRoom, added_there, length-added, room_fewer}
 use Rattle.sf_cells.proofs.TallySteps.{length-pieces_of, next_has_room}
 use Rattle.sf_cells.proofs.AloneSteps.{AreNext, WasAlone, same_item, Alone-start, Alone-step, alone-above, alone-handed}
@@ -35,7 +36,7 @@ counted g c = ap length c.loop-edge.invariant.unchanged ∙ c.requires.counted_o
 
 pub loop-edge-init : goal.loop-edge-init
 loop-edge-init g c =
-    Alone-start g.S.CellSink.after c.args.groups.now c.args.event c.args.edges.now c.args.onward.now (g.S.CellSink.content c.args.sink.now)
+    Alone-start g.S.CellSink.after c.args.groups.now (is_column c.args.strip.now) c.args.edges.now c.args.onward.now (g.S.CellSink.content c.args.sink.now)
     c.args.tallies.now.on.items c.args.tallies.now.above.items
 
 pub add_piece-requires-clause-counted : goal.add_piece-requires-clause-counted
@@ -84,7 +85,7 @@ loop-edge-preserved g c =
     let i = length c.loop-edge.yielded in
     let on = c.loop-edge.tallies.on.items in
     let above = c.loop-edge.tallies.above.items in
-    let was : WasAlone after groups c.args.event c.in-Some.edge.now c.in-Some.next.now (content c.loop-edge.sink) on above
+    let was : WasAlone after groups (is_column c.args.strip.now) c.in-Some.edge.now c.in-Some.next.now (content c.loop-edge.sink) on above
     (content c.cell-in-loop-edge.new.self) (with_items (with_items c.loop-edge.tallies.on c.add_piece.new.tally) c.take_piece.new.tally).items
     (with_items c.loop-edge.tallies.above c.add_piece-in-loop-edge.new.tally).items =
     record {

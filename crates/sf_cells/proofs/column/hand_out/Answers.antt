@@ -1,6 +1,7 @@
 use Rattle.std.proofs.Common.{ap, ◌∙◌}
 use Rattle.sf_columns.specs.declared.part.Part.TheVariants.{Alone, Together}
 use Rattle.sf_columns.specs.Parts.{levels_of}
+use Rattle.sf_columns.specs.Strips.{is_column}
 use Rattle.sf_cells.proofs.HandSteps.{Handing-level, Handing-of, Handing-same, IsCut, Left-above, Left-of, Left-start, gathered, gathered-start, none-next, part-next}
 use Rattle.sf_cells.proofs.AloneSteps.{Handing-alone, Left-alone}
 use Rattle.sf_cells.proofs.column.hand_out.Goals as goal
@@ -12,7 +13,7 @@ loop-part-init g c =
     record {
       left = Left-start c.args.groups.now c.args.tallies.now.on.items c.args.tallies.now.above.items column.edges.now column.vertices.now column.onward.now (levels_of column.parts.now)
           c.requires.edges c.requires.vertices c.requires.onward c.requires.few c.requires.levels c.requires.balanced c.requires.none_on c.requires.none_above;
-      handed = gathered-start g.S.CellSink.after (g.S.CellSink.content c.args.sink.now) c.args.groups.now c.args.event column.edges.now column.vertices.now column.onward.now (levels_of column.parts.now)
+      handed = gathered-start g.S.CellSink.after (g.S.CellSink.content c.args.sink.now) c.args.groups.now (is_column c.args.strip.now) column.edges.now column.vertices.now column.onward.now (levels_of column.parts.now)
           c.args.tallies.now.on.items c.args.tallies.now.above.items c.requires.none_on c.requires.none_above;
     }
 

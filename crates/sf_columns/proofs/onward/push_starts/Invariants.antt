@@ -7,7 +7,7 @@ use Rattle.sf_columns.proofs.onward.push_starts.Given as goal
 abbrev pub invariant-loop-vertex : goal.invariant-loop-vertex
 invariant-loop-vertex l =
     record {
-      starts : (later : List Active) → AreStarts l.pieces (drop l.vertex-index l.vertices) later → HasStarts l.pieces l.vertices l.fn.found.items (l.found.items ++ later);
+      starts : (later : List Active) → AreStarts (drop l.vertex-index l.vertices) later → HasStarts l.vertices l.fn.found.items (l.found.items ++ later);
       len : l.found.len ≤ l.fn.found.len + l.vertex-index;
       capacity : l.found.cap ≡ l.fn.found.cap;
     }

@@ -13,10 +13,13 @@ returns-clause-ready c ps e gs f =
     record {
       order_room = together (length ps) c.args.pieces c.args.vertices _ (search rules) e;
       contacts_room = together (length ps) c.args.pieces c.args.vertices _ (search rules) e;
-      parts_room = together (length ps) c.args.pieces c.args.vertices _ (search rules) e;
-      onward_room = together (length ps) c.args.pieces c.args.vertices _ (search rules) e;
-      onward_contacts_room = together (length ps) c.args.pieces c.args.vertices _ (search rules) e;
-      segment_room = together (length ps) c.args.pieces c.args.vertices _ (search rules) e;
+      cut_room =
+          record {
+            parts = together (length ps) c.args.pieces c.args.vertices _ (search rules) e;
+            order = together (length ps) c.args.pieces c.args.vertices _ (search rules) e;
+            contacts = together (length ps) c.args.pieces c.args.vertices _ (search rules) e;
+            segment = together (length ps) c.args.pieces c.args.vertices _ (search rules) e;
+          };
       none_on = c.in_ok-from_elem.ensures.items_if_clones_equal (λ y h. h) ∙ ap (λ n. replicate n 0) (sym f) ∙ sym (counts_none gs);
       none_above = c.in_ok-from_elem-2.ensures.items_if_clones_equal (λ y h. h) ∙ ap (λ n. replicate n 0) (sym f) ∙ sym (counts_none gs);
     }
