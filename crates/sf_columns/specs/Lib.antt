@@ -1,3 +1,4 @@
+pub mod Pieces
 pub mod Slanted
 pub mod Vertices
 pub mod Fronts
