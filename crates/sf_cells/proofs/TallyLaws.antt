@@ -3,7 +3,7 @@ use Rattle.std.proofs.Common.{◌≡◌, ◌≢◌, refl, ap, sym, ◌∙◌, �
 use Rattle.std.specs.List.{All, sum_by}
 use Rattle.std.proofs.lemmas.Bool.{eq-eqb}
 use Rattle.std.proofs.lemmas.Bool.Decides.{eqb_tells}
-use Rattle.std.proofs.lemmas.List.{append-nil, length-map}
+use Rattle.std.proofs.lemmas.List.{append-nil, get_or-set_same, length-map}
 use Rattle.std.proofs.lemmas.List.Elements.{All-cons, All-nil}
 use Rattle.std.proofs.lemmas.List.Sums.{count_by-le-length, sum_by-append, sum_by-cons}
 use Rattle.sf_columns.specs.Fronts.{SameNumbers}
@@ -225,6 +225,14 @@ add_one groups t p e h =
     let below : g < group_count groups = group_below groups p h in
     plus-one (members groups (p ∷ [])) g g 0 t (members-one groups p) (omega arith) (omega arith)
     ∙ ap (λ n. plus t (map (members groups (p ∷ [])) (numbers 0 n))) e
+
+-- its group has one more then
+pub one_more : (groups t : List ℕ) (p : ℕ) → length t ≡ group_count groups → p < length groups →
+    slice_index (plus t (counts groups (p ∷ []))) (slice_index groups p) ≡ slice_index t (slice_index groups p) + 1
+one_more groups t p e h =
+    let g = slice_index groups p in
+    let below : g < group_count groups = group_below groups p h in
+    ap (λ ns. slice_index ns g) (sym (add_one groups t p e h)) ∙ get_or-set_same t g (slice_index t g + 1) 0 (omega arith)
 
 -- one piece less of its group
 pub take_one : (groups t : List ℕ) (p : ℕ) → length t ≡ group_count groups → p < length groups →

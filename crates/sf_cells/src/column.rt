@@ -15,7 +15,7 @@ ghost use Rattle.sf_cells.specs.Samples.{dimension};
 ghost use Rattle.sf_columns.specs.Vertices.{enters, leaves, pieces_with};
 
 use crate::sink::CellSink;
-use crate::tally::{add_edges, add_piece, clear_edges, enter_level, leave_level, take_piece};
+use crate::tally::{add_edges, add_piece, clear_edges, count_of, enter_level, leave_level, put_back};
 use sf_columns::{Active, Part, Strip, Vertex};
 
 /// Of each group, how many of its pieces are on the place that was reached, and how many of its
@@ -128,9 +128,10 @@ fn hand_alone<S: CellSink>(
     let level = level_dimension(strip);
     for (edge, next) in edges.iter().zip(onward) {
         sink.cell(gap, &tallies.on, &tallies.above);
+        let count = count_of(&tallies.on, groups, edge.piece);
         add_piece(&mut tallies.on, groups, edge.piece);
         sink.cell(level, &tallies.on, &tallies.above);
-        take_piece(&mut tallies.on, groups, edge.piece);
+        put_back(&mut tallies.on, groups, edge.piece, count);
         add_piece(&mut tallies.above, groups, next.piece);
     }
 }

@@ -1,6 +1,6 @@
 //! Counts of pieces by groups.
 
-ghost use Rattle.std.specs.Prelude.{◌≡◌, ◌<◌, ◌+◌, ◌-◌, ◌^◌, ◌++◌, [], ◌∷◌, length};
+ghost use Rattle.std.specs.Prelude.{◌≡◌, ◌<◌, ◌+◌, ◌-◌, ◌^◌, ◌++◌, [], ◌∷◌, length, slice_index};
 ghost use Rattle.std.specs.List.{All};
 ghost use Rattle.sf_columns.specs.Fronts.{pieces_of};
 ghost use Rattle.sf_cells.specs.Groups.{counts, group_count};
@@ -102,6 +102,27 @@ fn take_leaving(tally: &mut [u32], groups: &[u32], vertices: &[Vertex])
     }
 }
 
+/// How many pieces a piece's group has.
+pub(crate) fn count_of(tally: &[u32], groups: &[u32], piece: u32) -> u32
+    requires grouped { piece < length groups.now }
+    requires counted { length tally.now ≡ group_count groups.now }
+    ensures { result ≡ slice_index tally.now (slice_index groups.now piece) }
+{
+    tally[groups[piece as usize] as usize]
+}
+
+/// One piece less of its group, which has `left` of them then. Nothing waits for the count that the
+/// tally has.
+pub(crate) fn put_back(tally: &mut [u32], groups: &[u32], piece: u32, left: u32)
+    requires grouped { piece < length groups.now }
+    requires counted { length tally.old ≡ group_count groups.now }
+    requires left { slice_index tally.old (slice_index groups.now piece) ≡ left + 1 }
+    ensures { tally.new ≡ minus tally.old (counts groups.now (piece ∷ [])) }
+{
+    let group = groups[piece as usize] as usize;
+    tally[group] = left;
+}
+
 /// One more piece of its group.
 pub(crate) fn add_piece(tally: &mut [u32], groups: &[u32], piece: u32)
     requires grouped { piece < length groups.now }
@@ -114,7 +135,7 @@ pub(crate) fn add_piece(tally: &mut [u32], groups: &[u32], piece: u32)
 }
 
 /// One piece less of its group.
-pub(crate) fn take_piece(tally: &mut [u32], groups: &[u32], piece: u32)
+fn take_piece(tally: &mut [u32], groups: &[u32], piece: u32)
     requires grouped { piece < length groups.now }
     requires counted { length tally.old ≡ group_count groups.now }
     requires there { AtMost (counts groups.now (piece ∷ [])) tally.old }
