@@ -15,7 +15,9 @@ ghost use Rattle.sf_cells.specs.Samples.{dimension};
 ghost use Rattle.sf_columns.specs.Vertices.{enters, leaves, pieces_with};
 
 use crate::sink::CellSink;
-use crate::tally::{add_edges, add_piece, clear_edges, count_of, enter_level, leave_level, put_back};
+use crate::tally::{
+    add_edges, add_piece, clear_edges, count_of, enter_level, leave_level, put_back,
+};
 use sf_columns::{Active, Part, Strip, Vertex};
 
 /// Of each group, how many of its pieces are on the place that was reached, and how many of its

@@ -14,7 +14,6 @@ use Rattle.sf_columns.specs.declared.contact.Contact.{Contact}
 use Rattle.sf_columns.specs.declared.level.Level.{Level}
 use Rattle.sf_columns.specs.declared.part.Part.{Part}
 use Rattle.sf_columns.specs.declared.part.Part.TheVariants.{Alone, Together}
-use Rattle.sf_columns.specs.declared.piece.Piece.{Piece}
 use Rattle.sf_columns.specs.declared.vertex.Vertex.{Vertex}
 use Rattle.sf_columns.specs.Fronts.{AreApart, AreApartFrom, AreContacts, AreContactsFrom, touches}
 use Rattle.sf_columns.specs.Levels.{AreOnward, AreTops, TakeAll, group_length, level, level_by, run_length, top_level}

@@ -1,5 +1,5 @@
 -- Edges that run from left to right: on which side of them points lie, how steep they are, and where they meet.
-use Rattle.std.specs.Prelude.{◌≡◌, Bool, true, false, ◌&&◌, IsTrue, ℤ, pos, ◌-ℤ◌, ◌*ℤ◌, int_le, int_lt, refl}
+use Rattle.std.specs.Prelude.{◌≡◌, Bool, true, false, ◌&&◌, IsTrue, pos, ◌-ℤ◌, ◌*ℤ◌, int_le, int_lt, refl}
 use Rattle.std.specs.Ordering.{int_cmp}
 use Rattle.std.specs.declared.cmp.Ordering.{Ordering}
 use Rattle.sf_grid.specs.declared.meet.Meet.TheVariants.{Along, At}

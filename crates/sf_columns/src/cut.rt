@@ -32,13 +32,7 @@ impl Cut {
     /// Cuts the column `x`: by the edges that come to it, from the top, what each does with the next
     /// one, and the vertices in it, from the top. Between edges that stand alone the contacts are
     /// kept; only beside the other levels they are computed anew.
-    pub fn column(
-        &mut self,
-        x: &Frac,
-        edges: &[Active],
-        contacts: &[Contact],
-        vertices: &[Vertex],
-    )
+    pub fn column(&mut self, x: &Frac, edges: &[Active], contacts: &[Contact], vertices: &[Vertex])
         requires apart { AreApart x.now edges.now contacts.now }
         requires room { HasRoom (length edges.now + length vertices.now) self.old }
         ensures tops { AreTops (Some x.now) edges.now contacts.now vertices.now

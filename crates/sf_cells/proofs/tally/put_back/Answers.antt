@@ -1,4 +1,4 @@
-use Rattle.std.proofs.Common.{◌≡◌, ◌+◌, ◌-◌, ℕ, ap, sym, ◌∙◌, arith, slice_index, slice_set}
+use Rattle.std.proofs.Common.{◌≡◌, ◌+◌, ◌-◌, ℕ, ap, ◌∙◌, arith, slice_index, slice_set}
 use Rattle.sf_cells.proofs.TallyLaws.{group_below, take_one}
 use Rattle.sf_cells.proofs.tally.put_back.Goals as goal
 
