@@ -1,5 +1,5 @@
 -- The levels of a column, from the top: the edges of the order and the vertices that are at one height.
-use Rattle.std.specs.Prelude.{◌≡◌, ◌≢◌, ℕ, ◌+◌, ◌-◌, ◌≤◌, ◌<◌, Bool, true, false, int_lt, List, [], ◌∷◌, ◌++◌, take, drop, Option, if◌then◌else◌}
+use Rattle.std.specs.Prelude.{◌≡◌, ◌≢◌, ℕ, ◌+◌, ◌-◌, ◌≤◌, ◌<◌, Bool, true, false, int_lt, List, [], ◌∷◌, ◌++◌, take, drop, length, Option, if◌then◌else◌}
 use Rattle.std.specs.List.{prefix_len}
 use Rattle.std.specs.List.Sorted.{IsPermutation}
 use Rattle.std.specs.Ordering.{int_eq}
@@ -14,7 +14,7 @@ use Rattle.sf_columns.specs.declared.vertex.Role.TheVariants.{Begin}
 use Rattle.sf_columns.specs.declared.vertex.Vertex.{Vertex}
 use Rattle.sf_columns.specs.Fronts.{touches}
 use Rattle.sf_columns.specs.Slanted.{side_of, slope_order}
-use Rattle.sf_columns.specs.Vertices.{begins}
+use Rattle.sf_columns.specs.Vertices.{begins, pieces_with}
 
 -- how many edges from the first one on are level with it
 abbrev pub run_length : Option Fraction → List Active → List Contact → ℕ
@@ -71,6 +71,10 @@ pub record HasStarts (vertices : List Vertex) (old new : List Active) : Type 0 w
   pub starts : List Active
   pub are : AreStarts vertices starts
   pub behind : new ≡ old ++ starts
+
+-- how many edges go on at most: those that come, and those that begin at vertices
+abbrev pub most_onward : List Active → List Vertex → ℕ
+most_onward es vs = length es + length (pieces_with begins vs)
 
 -- slopes fall
 abbrev pub SlopesFallFrom : Active → List Active → Type 0

@@ -2,12 +2,12 @@
 use Rattle.std.specs.Prelude.{ℕ, ◌+◌, ◌≤◌, ◌<◌, vec_capacity, vec_len}
 use Rattle.sf_columns.specs.declared.cut.Cut.{Cut}
 
--- there is room for so many of each
-pub record HasRoom (n : ℕ) (c : Cut) : Type 0 where
-  pub parts : n ≤ vec_capacity c.parts
-  pub order : n ≤ vec_capacity c.order
-  pub contacts : n ≤ vec_capacity c.contacts
-  pub segment : n ≤ vec_capacity c.segment
+-- there is room for so many levels, and for so many edges that go on
+pub record HasRoom (levels edges : ℕ) (c : Cut) : Type 0 where
+  pub parts : levels ≤ vec_capacity c.parts
+  pub order : edges ≤ vec_capacity c.order
+  pub contacts : edges ≤ vec_capacity c.contacts
+  pub segment : edges ≤ vec_capacity c.segment
 
 -- there is room for a further part, and for so many further edges
 pub record HasRoomFor (n : ℕ) (c : Cut) : Type 0 where

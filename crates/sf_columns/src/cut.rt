@@ -3,7 +3,7 @@
 ghost use Rattle.std.specs.Prelude.{◌≡◌, ◌+◌, ◌-◌, ◌≤◌, ◌<◌, [], ◌∷◌, ◌++◌, None, Some, drop, length, vec_capacity, vec_len};
 ghost use Rattle.std.specs.List.{AllByRecursion};
 ghost use Rattle.sf_columns.specs.Fronts.{AreApart, AreContacts};
-ghost use Rattle.sf_columns.specs.Levels.{AreOnward, AreTops, TakeAll};
+ghost use Rattle.sf_columns.specs.Levels.{AreOnward, AreTops, TakeAll, most_onward};
 ghost use Rattle.sf_columns.specs.declared.part.Part.TheVariants.{Alone};
 ghost use Rattle.sf_columns.specs.Parts.{HasLevel, alone_count, levels_of, stands_alone as stands_alone_in, touches_first};
 ghost use Rattle.sf_columns.specs.Rooms.{HasRoom, HasRoomFor, KeepsRoom};
@@ -34,7 +34,7 @@ impl Cut {
     /// kept; only beside the other levels they are computed anew.
     pub fn column(&mut self, x: &Frac, edges: &[Active], contacts: &[Contact], vertices: &[Vertex])
         requires apart { AreApart x.now edges.now contacts.now }
-        requires room { HasRoom (length edges.now + length vertices.now) self.old }
+        requires room { HasRoom (length edges.now + length vertices.now) (most_onward edges.now vertices.now) self.old }
         ensures tops { AreTops (Some x.now) edges.now contacts.now vertices.now
             (levels_of self.new.parts.items) }
         ensures onward { AreOnward edges.now vertices.now
@@ -128,13 +128,13 @@ impl Cut {
     /// Pushes a level, and the edges that go on from it.
     fn push_level(&mut self, x: &Frac, run: &[Active], group: &[Vertex])
         requires contacts { AreContacts x.now self.old.order.items self.old.contacts.items }
-        requires room { HasRoomFor (length run.now + length group.now) self.old }
+        requires room { HasRoomFor (most_onward run.now group.now) self.old }
         ensures pushed { HasLevel run.now group.now
             self.old.parts.items self.new.parts.items self.old.order.items self.new.order.items }
         ensures contacts { AreContacts x.now self.new.order.items self.new.contacts.items }
         ensures len { vec_len self.new.parts ≡ vec_len self.old.parts + 1 }
         ensures order_len { vec_len self.new.order
-            ≤ vec_len self.old.order + (length run.now + length group.now) }
+            ≤ vec_len self.old.order + most_onward run.now group.now }
         ensures room { KeepsRoom self.old self.new }
     {
         onward(run, group, &mut self.segment);

@@ -1,7 +1,8 @@
 //! The edges that go on to the right from a level of a column.
 
 ghost use Rattle.std.specs.Prelude.{◌≡◌, ◌+◌, ◌≤◌, ◌++◌, length, vec_capacity, vec_len};
-ghost use Rattle.sf_columns.specs.Levels.{HasStarts, IsOnward, going_past};
+ghost use Rattle.sf_columns.specs.Levels.{HasStarts, IsOnward, going_past, most_onward};
+ghost use Rattle.sf_columns.specs.Vertices.{begins, pieces_with};
 
 use crate::active::Active;
 use crate::vertex::{Role, Vertex};
@@ -9,9 +10,9 @@ use crate::vertex::{Role, Vertex};
 /// Puts in place of what `found` has the edges that go on from a level: of those that come to it
 /// the ones that don't end there, and those that begin there, by falling slope.
 pub(crate) fn onward(edges: &[Active], vertices: &[Vertex], found: &mut Vec<Active>)
-    requires { length edges.now + length vertices.now ≤ vec_capacity found.old }
+    requires { most_onward edges.now vertices.now ≤ vec_capacity found.old }
     ensures onward { IsOnward edges.now vertices.now found.new.items }
-    ensures few { vec_len found.new ≤ length edges.now + length vertices.now }
+    ensures few { vec_len found.new ≤ most_onward edges.now vertices.now }
     ensures capacity { vec_capacity found.new ≡ vec_capacity found.old }
 {
     found.clear();
@@ -38,9 +39,9 @@ fn push_going(edges: &[Active], vertices: &[Vertex], found: &mut Vec<Active>)
 
 /// Pushes the edges that begin at vertices.
 fn push_starts(vertices: &[Vertex], found: &mut Vec<Active>)
-    requires { vec_len found.old + length vertices.now ≤ vec_capacity found.old }
+    requires { vec_len found.old + length (pieces_with begins vertices.now) ≤ vec_capacity found.old }
     ensures starts { HasStarts vertices.now found.old.items found.new.items }
-    ensures few { vec_len found.new ≤ vec_len found.old + length vertices.now }
+    ensures few { vec_len found.new ≤ vec_len found.old + length (pieces_with begins vertices.now) }
     ensures capacity { vec_capacity found.new ≡ vec_capacity found.old }
 {
     for vertex in vertices {

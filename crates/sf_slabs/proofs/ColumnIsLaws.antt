@@ -79,7 +79,7 @@ at_not_below : (q h : Fraction) → Same h q → fraction_lt h q ≡ false
 at_not_below q h e = elim (cases_Bool (fraction_lt h q)) [ inl t ↦ absurd (rising_order.apart h q e t) | inr f ↦ f ]
 
 -- and one below it is not at it
-below_not_at : (q h : Fraction) → fraction_lt h q ≡ true → fraction_eq h q ≡ false
+pub below_not_at : (q h : Fraction) → fraction_lt h q ≡ true → fraction_eq h q ≡ false
 below_not_at q h l = elim (cases_Bool (fraction_eq h q)) [ inl t ↦ absurd (rising_order.apart h q (eq_from_test _ _ t) l) | inr f ↦ f ]
 
 -- tests of vertices that agree

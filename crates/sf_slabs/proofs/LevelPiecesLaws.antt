@@ -194,19 +194,19 @@ goes_past_at z (Edge a b) = fraction_lt z (whole (right_end (edge_between a b)).
 goes_past_at z (Dot a) = false
 
 -- ---- the vertices of a piece by role
-two_vertices : (f : Vertex → ℕ) (u v : Vertex) → sum_by f (u ∷ v ∷ []) ≡ f u + f v
+pub two_vertices : (f : Vertex → ℕ) (u v : Vertex) → sum_by f (u ∷ v ∷ []) ≡ f u + f v
 two_vertices f u v = omega (arith, sum_by-cons f u (v ∷ []), sum_by-cons f v [])
 
 -- the weight of one vertex
-one_vertex : (f : Vertex → ℕ) (u : Vertex) → sum_by f (u ∷ []) ≡ f u
+pub one_vertex : (f : Vertex → ℕ) (u : Vertex) → sum_by f (u ∷ []) ≡ f u
 one_vertex f u = omega (arith, sum_by-cons f u [])
 
-only_zero : (b : Bool) → ◌≡◌ {A = ℕ} (if b then 0 else 0) 0
+pub only_zero : (b : Bool) → ◌≡◌ {A = ℕ} (if b then 0 else 0) 0
 only_zero true = refl
 only_zero false = refl
 
 -- of two vertices, the weight of the one that has the role
-first_of_two : (b c : Bool) (n : ℕ) → (if b then n else 0) + (if c then 0 else 0) ≡ (if b then n else 0)
+pub first_of_two : (b c : Bool) (n : ℕ) → (if b then n else 0) + (if c then 0 else 0) ≡ (if b then n else 0)
 first_of_two b true n = omega arith
 first_of_two b false n = omega arith
 
@@ -214,7 +214,7 @@ second_of_two : (b c : Bool) (n : ℕ) → (if b then 0 else 0) + (if c then n e
 second_of_two true c n = omega arith
 second_of_two false c n = omega arith
 
-none_of_two : (b c : Bool) → (if b then 0 else 0) + (if c then 0 else 0) ≡ 0
+pub none_of_two : (b c : Bool) → (if b then 0 else 0) + (if c then 0 else 0) ≡ 0
 none_of_two true true = refl
 none_of_two true false = refl
 none_of_two false true = refl

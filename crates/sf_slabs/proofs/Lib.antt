@@ -33,6 +33,7 @@ pub mod NextFrontLaws
 pub mod CandidateLaws
 pub mod NoCrossingLaws
 pub mod NextEventLaws
+pub mod BegunLaws
 pub mod SweepLaws
 pub mod RemainingLaws
 pub mod SlabCutLaws

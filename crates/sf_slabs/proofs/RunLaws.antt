@@ -199,15 +199,12 @@ handed-two f after b c d all first second rest e h k =
 pub ready-fewer : (pieces : List Piece) (groups : List ℕ) (n m : ℕ) (s : Sweep) → m ≤ n → IsReady pieces groups n s → IsReady pieces groups m s
 ready-fewer pieces groups n m s l r =
     record {
-      order_room = less (length pieces) n m _ l r.order_room;
-      contacts_room = less (length pieces) n m _ l r.contacts_room;
-      cut_room = room-fewer (length pieces + n) (length pieces + m) s.cut (omega arith) r.cut_room;
+      order_room = r.order_room;
+      contacts_room = r.contacts_room;
+      cut_room = room-fewer (length pieces + n) (length pieces + m) (length pieces) (length pieces) s.cut (omega arith) (omega arith) r.cut_room;
       none_on = r.none_on;
       none_above = r.none_above;
     }
-  where
-    less : (p n m c : ℕ) → m ≤ n → p + n ≤ c → p + m ≤ c
-    less p n m c l h = omega arith
 
 -- ---- from the code's answer to the next column
 pub coming-next : (next : Option Fraction) (grid : Option Coordinates) (ds cs : List Contact) (vs : List Vertex) → IfSome next (λ y. IsLeastOf (candidates grid ds) y) →

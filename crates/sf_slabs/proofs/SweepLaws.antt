@@ -1,5 +1,5 @@
 -- A column of the sweep: its lists fit the room, and what is handed out for it are its cells.
-use Rattle.std.proofs.Common.{◌≡◌, refl, ap, sym, subst, ◌∙◌, ℕ, suc, ◌+◌, ◌*◌, ◌-◌, ◌≤◌, ◌<◌, ◌^◌, arith, Bool, true, false, cond, List, [], ◌∷◌, length, map, Option, Some, None, vec_capacity}
+use Rattle.std.proofs.Common.{◌≡◌, refl, ap, sym, subst, ◌∙◌, ℕ, suc, ◌+◌, ◌*◌, ◌-◌, ◌≤◌, ◌<◌, ◌^◌, arith, Bool, true, false, cond, List, [], ◌∷◌, length, map, Option, Some, None, vec_capacity, ◌||◌, ◌++◌}
 use Rattle.std.specs.List.{All, AllByRecursion, sum_by}
 use Rattle.std.specs.List.Sorted.{IsPermutation}
 use Rattle.std.proofs.lemmas.List.{length-append}
@@ -20,14 +20,15 @@ use Rattle.sf_cells.specs.Cells.{numbers_from}
 use Rattle.sf_columns.specs.Fronts.{AreContacts, IsEntry, IsEntryIn, SameNumbers, pieces_of}
 use Rattle.sf_cells.specs.Groups.{counts, item_of}
 use Rattle.sf_cells.specs.Hands.{Balanced, stop_items, stops}
-use Rattle.sf_columns.specs.Levels.{AreOnward, AreTops}
+use Rattle.sf_columns.specs.Levels.{AreOnward, AreTops, most_onward}
 use Rattle.sf_columns.specs.Rooms.{HasRoom}
 use Rattle.sf_slabs.specs.Sweeps.{IsColumnOf, IsComing, IsFront, StepsAt, StepsAtFrom, cells_in, comes_to, passes}
 use Rattle.sf_columns.specs.Slanted.{rightward_edge}
-use Rattle.sf_columns.specs.Vertices.{IsVertexOf, all_vertices, lower_end, piece_at, upper_end, vertex, vertices_of}
+use Rattle.sf_columns.specs.Vertices.{IsVertexOf, all_vertices, lower_end, piece_at, upper_end, vertex, vertices_of, begins, pieces_with}
 use Rattle.sf_slabs.proofs.ColumnIsLaws.{column-is}
 use Rattle.sf_slabs.proofs.ColumnLaws.{column_cells-heights}
 use Rattle.sf_slabs.proofs.NextFrontLaws.{active-after, entries-after, front-after}
+use Rattle.sf_slabs.proofs.BegunLaws.{begins_in, coming_or_begun}
 use Rattle.sf_slabs.proofs.Shapes.{IsColumn}
 use Rattle.sf_columns.proofs.VertexLaws.{piece_at-below, vertex-below}
 
@@ -51,15 +52,27 @@ numbers_from-few k t (p ∷ ps) = by_test (t p) (numbers_from-few (k + 1) t ps)
     by_test true h = omega arith
     by_test false h = omega arith
 
--- no more edges than pieces
-pub edges-few : (t : Piece → Bool) (pieces : List Piece) (es : List Active) → SameNumbers (pieces_of es) (numbers_from 0 t pieces) → length es ≤ length pieces
-edges-few t pieces es h =
-    fewer (length es) (length (numbers_from 0 t pieces)) (length pieces)
-    (sym (pieces_of-length es) ∙ sym (ones (pieces_of es)) ∙ h (λ _. 1) ∙ ones (numbers_from 0 t pieces))
-    (numbers_from-few 0 t pieces)
+-- no more numbers than pieces
+numbers-few : (t : Piece → Bool) (pieces : List Piece) (ns : List ℕ) → SameNumbers ns (numbers_from 0 t pieces) → length ns ≤ length pieces
+numbers-few t pieces ns h =
+    fewer (length ns) (length (numbers_from 0 t pieces)) (length pieces) (sym (ones ns) ∙ h (λ _. 1) ∙ ones (numbers_from 0 t pieces)) (numbers_from-few 0 t pieces)
   where
     fewer : (a b c : ℕ) → a ≡ b → b ≤ c → a ≤ c
     fewer a b c e h = omega arith
+
+-- no more edges than pieces
+pub edges-few : (t : Piece → Bool) (pieces : List Piece) (es : List Active) → SameNumbers (pieces_of es) (numbers_from 0 t pieces) → length es ≤ length pieces
+edges-few t pieces es h = subst (λ n. n ≤ length pieces) (pieces_of-length es) (numbers-few t pieces (pieces_of es) h)
+
+-- also with those that begin in the column to which they come
+pub onward-few : (pieces : List Piece) (z : Fraction) (column : Option Fraction) (es : List Active) (cs : List Contact) (vs : List Vertex) → IsComing pieces z column es cs →
+    IsColumnOf pieces z vs → most_onward es vs ≤ length pieces
+onward-few pieces z column es cs vs c v =
+    fewer _ _ _ _ _ (length-append (pieces_of es) (pieces_with begins vs)) (pieces_of-length es)
+    (numbers-few (λ p. comes_to z p || begins_in z p) pieces (pieces_of es ++ pieces_with begins vs) (coming_or_begun pieces z (pieces_of es) vs c.coming v.are))
+  where
+    fewer : (a b d e n : ℕ) → a ≡ b + d → b ≡ e → a ≤ n → e + d ≤ n
+    fewer a b d e n h k l = omega arith
 
 steps-fewer : (z : Fraction) (column : Option Fraction) (a : Active) (es : List Active) (cs : List Contact) → StepsAtFrom z column a es cs → length cs ≤ length es
 steps-fewer z column a [] cs h = omega (arith, ap length h)
@@ -142,17 +155,17 @@ pub coming-few : (pieces : List Piece) (z : Fraction) (column : Option Fraction)
 coming-few pieces z column es cs c = edges-few (comes_to z) pieces es c.coming
 
 -- ---- numbers of edges and of room
-pub room-fewer : (n m : ℕ) (c : Cut) → m ≤ n → HasRoom n c → HasRoom m c
-room-fewer n m c l r =
+pub room-fewer : (n m k l : ℕ) (c : Cut) → m ≤ n → l ≤ k → HasRoom n k c → HasRoom m l c
+room-fewer n m k l c h i r =
     record {
-      parts = less (vec_capacity c.parts) r.parts;
-      order = less (vec_capacity c.order) r.order;
-      contacts = less (vec_capacity c.contacts) r.contacts;
-      segment = less (vec_capacity c.segment) r.segment;
+      parts = less n m (vec_capacity c.parts) h r.parts;
+      order = less k l (vec_capacity c.order) i r.order;
+      contacts = less k l (vec_capacity c.contacts) i r.contacts;
+      segment = less k l (vec_capacity c.segment) i r.segment;
     }
   where
-    less : (k : ℕ) → n ≤ k → m ≤ k
-    less k h = omega arith
+    less : (n m c : ℕ) → m ≤ n → n ≤ c → m ≤ c
+    less n m c h i = omega arith
 
 pub few-moved : (a a' b c c' p : ℕ) → a' ≡ a → c' ≡ c → a ≤ p → c ≤ p → p ≤ 65535 → b ≤ 131070 → a' + b + c' < 2 ^ 32
 few-moved a a' b c c' p e f h k l m = omega arith

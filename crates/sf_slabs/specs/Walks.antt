@@ -9,11 +9,11 @@ use Rattle.sf_slabs.specs.declared.sweep.Sweep.{Sweep}
 use Rattle.sf_cells.specs.Groups.{counts}
 use Rattle.sf_slabs.specs.Sweeps.{IsColumnOf, IsComing, IsFront}
 
--- there is room for all pieces and n vertices more, and no count is left from a column before
+-- there is room for all pieces, and for the levels that they and n vertices can have, and no count is left from a column before
 pub record IsReady (pieces : List Piece) (groups : List ℕ) (n : ℕ) (s : Sweep) : Type 0 where
-  pub order_room : length pieces + n ≤ vec_capacity s.order
-  pub contacts_room : length pieces + n ≤ vec_capacity s.contacts
-  pub cut_room : HasRoom (length pieces + n) s.cut
+  pub order_room : length pieces ≤ vec_capacity s.order
+  pub contacts_room : length pieces ≤ vec_capacity s.contacts
+  pub cut_room : HasRoom (length pieces + n) (length pieces) s.cut
   pub none_on : s.tallies.on.items ≡ counts groups []
   pub none_above : s.tallies.above.items ≡ counts groups []
 

@@ -107,15 +107,14 @@ impl Sweep {
         ensures order { IfOk result (λ s. s.order.items ≡ []) }
         ensures contacts { IfOk result (λ s. s.contacts.items ≡ []) }
     {
-        let room = pieces + vertices;
         Ok(Sweep {
-            order: Vec::with_capacity(alloc, room)?,
-            contacts: Vec::with_capacity(alloc, room)?,
+            order: Vec::with_capacity(alloc, pieces)?,
+            contacts: Vec::with_capacity(alloc, pieces)?,
             cut: Cut {
-                parts: Vec::with_capacity(alloc, room)?,
-                order: Vec::with_capacity(alloc, room)?,
-                contacts: Vec::with_capacity(alloc, room)?,
-                segment: Vec::with_capacity(alloc, room)?,
+                parts: Vec::with_capacity(alloc, pieces + vertices)?,
+                order: Vec::with_capacity(alloc, pieces)?,
+                contacts: Vec::with_capacity(alloc, pieces)?,
+                segment: Vec::with_capacity(alloc, pieces)?,
             },
             tallies: Tallies {
                 on: Vec::from_elem(alloc, 0, groups)?,

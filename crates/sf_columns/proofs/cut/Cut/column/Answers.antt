@@ -3,6 +3,8 @@ use Rattle.sf_columns.specs.Parts.{levels_of}
 use Rattle.sf_columns.proofs.AloneLaws.{alone_count-le, contacts-kept}
 use Rattle.sf_columns.proofs.ContactLaws.{apart-at_most, apart-drop, apart-few}
 use Rattle.sf_columns.proofs.CutLaws.{IsWhole, Turn, cut-nothing, cut-whole, empty, no_more, one_more, room-left, top-some, top-within, turn-alone, turn-level}
+use Rattle.sf_columns.specs.Vertices.{begins, pieces_with}
+use Rattle.sf_columns.proofs.OnwardLaws.{begun-split}
 use Rattle.sf_columns.proofs.cut.Cut.column.Goals as goal
 use Rattle.sf_columns.proofs.cut.Cut.column.Goals.{else-not-is_empty+then-not-is_empty-2, then-not-is_empty}
 
@@ -93,6 +95,23 @@ turn c =
       pushed = c.push_level.ensures.pushed;
     }
 
+pub push_level-requires-clause-room : goal.push_level-requires-clause-room
+push_level-requires-clause-room c =
+    let i = c.loop-edges.invariant in
+    let run = c.split_at-else-alone-gt0.ensures in
+    let begun = begun-split c.top-top.result.vertices _ _ _ c.split_at-else-alone-gt0-2.ensures.front c.split_at-else-alone-gt0-2.ensures.back in
+    let left : 0 < length c.loop-edges.edges.now + length c.loop-edges.vertices.now =
+    elim c.if-not-is_empty.branch [
+      | then-not-is_empty w ↦ search rules
+      | else-not-is_empty+then-not-is_empty-2 w ↦ search rules
+    ] in
+    record {
+      parts = omega (arith, left, i.room, i.capacity, c.requires.room.parts);
+      order = omega (arith, begun, run.front_len, run.back_len, i.order_room, i.order_capacity, c.requires.room.order);
+      contacts = omega (arith, begun, run.front_len, run.back_len, i.order_room, i.contacts_capacity, c.requires.room.contacts);
+      segment = omega (arith, begun, run.front_len, run.back_len, i.order_room, i.segment_capacity, c.requires.room.segment);
+    }
+
 some_taken : (c : goal.After-skip-contacts-else-alone-gt0) → 0 < c.top-top.result.edges + c.top-top.result.vertices
 some_taken c =
     subst (λ l. 0 < l.edges + l.vertices) (sym c.top-top.ensures)
@@ -109,9 +128,10 @@ loop-edges-preserved c =
           (one_more _ _ c.top-top.result.edges c.top-top.result.vertices c.push_level.ensures.len (some_taken c))
           c.split_at-else-alone-gt0.ensures.back_len c.split_at-else-alone-gt0-2.ensures.back_len c.loop-edges.invariant.room;
       order_room =
-          room-left _ _ _ _ _ _ c.top-top.result.edges c.top-top.result.vertices _
-          (no_more _ _ c.top-top.result.edges c.top-top.result.vertices _ _ c.push_level.ensures.order_len c.split_at-else-alone-gt0.ensures.front_len c.split_at-else-alone-gt0-2.ensures.front_len)
-          c.split_at-else-alone-gt0.ensures.back_len c.split_at-else-alone-gt0-2.ensures.back_len c.loop-edges.invariant.order_room;
+          room-left _ _ _ _ _ _ c.top-top.result.edges (length (pieces_with begins c.split_at-else-alone-gt0-2.result.0.now)) _
+          (no_more _ _ c.top-top.result.edges _ _ _ c.push_level.ensures.order_len c.split_at-else-alone-gt0.ensures.front_len refl)
+          c.split_at-else-alone-gt0.ensures.back_len
+          (begun-split c.top-top.result.vertices _ _ _ c.split_at-else-alone-gt0-2.ensures.front c.split_at-else-alone-gt0-2.ensures.back) c.loop-edges.invariant.order_room;
       capacity = search rules;
       order_capacity = search rules;
       contacts_capacity = search rules;

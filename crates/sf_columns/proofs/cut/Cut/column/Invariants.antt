@@ -1,5 +1,6 @@
 use Rattle.std.proofs.Common.{◌+◌, ◌≤◌, Some, length}
 use Rattle.sf_columns.specs.Fronts.{AreApart, AreContacts}
+use Rattle.sf_columns.specs.Levels.{most_onward}
 use Rattle.sf_columns.specs.Parts.{levels_of}
 use Rattle.sf_columns.proofs.CutLaws.{CutOff}
 use Rattle.sf_columns.proofs.cut.Cut.column.Given as goal
@@ -12,7 +13,7 @@ invariant-loop-edges l =
       contacts : AreContacts l.x l.self.order.items l.self.contacts.items;
       apart : AreApart l.x l.edges l.contacts;
       room : l.self.parts.len + (length l.edges + length l.vertices) ≤ length l.fn.edges + length l.fn.vertices;
-      order_room : l.self.order.len + (length l.edges + length l.vertices) ≤ length l.fn.edges + length l.fn.vertices;
+      order_room : l.self.order.len + most_onward l.edges l.vertices ≤ most_onward l.fn.edges l.fn.vertices;
       capacity : l.fn.self.parts.cap ≤ l.self.parts.cap;
       order_capacity : l.fn.self.order.cap ≤ l.self.order.cap;
       contacts_capacity : l.fn.self.contacts.cap ≤ l.self.contacts.cap;
