@@ -1,5 +1,5 @@
 -- The edges that go on from a level, sorted by slope.
-use Rattle.std.proofs.Common.{◌≡◌, ◌≢◌, subst, ℕ, suc, ◌+◌, ◌<◌, ℤ, pos, ◌-ℤ◌, ◌*ℤ◌, ◌≤ℤ◌, ◌<ℤ◌, Bool, true, false, arith, List, [], ◌∷◌, slice_index_or, unsigned_abs, refl, ap, sym, ◌∙◌, zero, cond, length, take, drop}
+use Rattle.std.proofs.Common.{◌≡◌, ◌≢◌, subst, ℕ, suc, ◌+◌, ◌<◌, ℤ, pos, ◌-ℤ◌, ◌*ℤ◌, ◌≤ℤ◌, ◌<ℤ◌, Bool, true, false, arith, List, [], ◌∷◌, slice_index_or, unsigned_abs, ap, ◌∙◌, zero, cond, length, take, drop}
 use Rattle.std.specs.Prelude.{int_lt}
 use Rattle.std.specs.Cmp.{IsStrictWeakOrder}
 use Rattle.std.specs.List.Sorted.{IsSortedBy}

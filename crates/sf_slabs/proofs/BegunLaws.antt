@@ -1,7 +1,7 @@
 -- The pieces of the edges that come to a column and of those that begin in it are different pieces.
 use Rattle.std.proofs.Common.{◌≡◌, refl, ◌∙◌, ℕ, Bool, true, false, not, ◌&&◌, ◌||◌, List, [], ◌∷◌, ◌++◌}
 use Rattle.std.specs.Prelude.{if◌then◌else◌}
-use Rattle.std.specs.List.{AllByRecursion, sum_by}
+use Rattle.std.specs.List.{sum_by}
 use Rattle.sf_grid.specs.Fraction.{Fraction, fraction_eq, fraction_le, fraction_lt, whole}
 use Rattle.sf_grid.specs.Edge.{Edge as Line, edge_between, is_vertical, left_end, right_end}
 use Rattle.sf_columns.specs.declared.piece.Piece.{Piece}
