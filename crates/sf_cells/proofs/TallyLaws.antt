@@ -1,9 +1,9 @@
 -- Counts of groups, number by number: of two lists of pieces one after another, and of what is left when some of them are taken off.
-use Rattle.std.proofs.Common.{◌≡◌, ◌≢◌, refl, ap, sym, ◌∙◌, ℕ, zero, suc, ◌+◌, ◌-◌, ◌≤◌, ◌<◌, arith, List, [], ◌∷◌, ◌++◌, inl, inr, map, length, false, slice_index, slice_index_or, slice_set, ◌==◌, cond}
+use Rattle.std.proofs.Common.{◌≡◌, ◌≢◌, refl, ap, sym, ◌∙◌, ℕ, zero, suc, ◌+◌, ◌-◌, ◌≤◌, ◌<◌, arith, List, [], ◌∷◌, ◌++◌, inl, inr, map, length, false, slice_index, slice_index_or, slice_set, ◌==◌, cond, replicate}
 use Rattle.std.specs.List.{All, sum_by}
 use Rattle.std.proofs.lemmas.Bool.{eq-eqb}
 use Rattle.std.proofs.lemmas.Bool.Decides.{eqb_tells}
-use Rattle.std.proofs.lemmas.List.{append-nil, length-map}
+use Rattle.std.proofs.lemmas.List.{append-nil, get_or-set_same, length-map}
 use Rattle.std.proofs.lemmas.List.Elements.{All-cons, All-nil}
 use Rattle.std.proofs.lemmas.List.Sums.{count_by-le-length, sum_by-append, sum_by-cons}
 use Rattle.sf_columns.specs.Fronts.{SameNumbers}
@@ -226,6 +226,14 @@ add_one groups t p e h =
     plus-one (members groups (p ∷ [])) g g 0 t (members-one groups p) (omega arith) (omega arith)
     ∙ ap (λ n. plus t (map (members groups (p ∷ [])) (numbers 0 n))) e
 
+-- its group has one more then
+pub one_more : (groups t : List ℕ) (p : ℕ) → length t ≡ group_count groups → p < length groups →
+    slice_index (plus t (counts groups (p ∷ []))) (slice_index groups p) ≡ slice_index t (slice_index groups p) + 1
+one_more groups t p e h =
+    let g = slice_index groups p in
+    let below : g < group_count groups = group_below groups p h in
+    ap (λ ns. slice_index ns g) (sym (add_one groups t p e h)) ∙ get_or-set_same t g (slice_index t g + 1) 0 (omega arith)
+
 -- one piece less of its group
 pub take_one : (groups t : List ℕ) (p : ℕ) → length t ≡ group_count groups → p < length groups →
     slice_set t (slice_index groups p) (slice_index t (slice_index groups p) - 1) ≡ minus t (counts groups (p ∷ []))
@@ -365,3 +373,11 @@ all_there groups xs = counts-part groups xs [] xs (same_and_none xs)
 -- then nothing is counted
 pub all_taken : (groups xs : List ℕ) → minus (counts groups xs) (counts groups xs) ≡ counts groups []
 all_taken groups xs = counts-left groups xs [] xs (same_and_none xs)
+
+-- ---- counts of nothing
+zeros : (k n : ℕ) → map {B = ℕ} (λ _. 0) (numbers k n) ≡ replicate n 0
+zeros k zero = refl
+zeros k (suc n) = ap (λ ns. 0 ∷ ns) (zeros (k + 1) n)
+
+pub counts_none : (groups : List ℕ) → counts groups [] ≡ replicate (group_count groups) 0
+counts_none groups = zeros 0 (group_count groups)

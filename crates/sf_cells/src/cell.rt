@@ -2,7 +2,7 @@ ghost use Rattle.std.specs.Prelude.{◌≡◌};
 
 use std::marker::Model;
 
-/// Piece numbers in rising order.
+/// Piece numbers. Those of a cell are in rising order, as its definition lists them.
 #[derive(Drop)]
 pub struct Numbers {
     items: Vec<u32>,

@@ -10,12 +10,15 @@ ghost use Rattle.sf_cells.specs.Groups.{counts, group_count};
 ghost use Rattle.sf_cells.specs.Hands.{AtMost, Balanced, item, minus, plus, stop_items, stops};
 ghost use Rattle.sf_columns.specs.Levels.{TakeAll};
 ghost use Rattle.sf_columns.specs.Parts.{alone_levels, levels_of};
+ghost use Rattle.sf_columns.specs.Strips.{is_column};
 ghost use Rattle.sf_cells.specs.Samples.{dimension};
 ghost use Rattle.sf_columns.specs.Vertices.{enters, leaves, pieces_with};
 
 use crate::sink::CellSink;
-use crate::tally::{add_edges, add_piece, enter_level, leave_level, take_edges, take_piece};
-use sf_columns::{Active, Part, Vertex};
+use crate::tally::{
+    add_edges, add_piece, clear_edges, count_of, enter_level, leave_level, put_back,
+};
+use sf_columns::{Active, Part, Strip, Vertex};
 
 /// Of each group, how many of its pieces are on the place that was reached, and how many of its
 /// edges are above it.
@@ -25,7 +28,7 @@ pub struct Tallies {
     pub above: Vec<u32>,
 }
 
-/// The parts of a column from the top, with the edges that come to it, its vertices and the edges
+/// The parts of a column or slab from the top, with the edges that come to it, its vertices and the edges
 /// that go on from it.
 #[derive(Clone, Copy)]
 pub struct Column<'a> {
@@ -35,12 +38,11 @@ pub struct Column<'a> {
     pub parts: &'a [Part],
 }
 
-/// Hands out the cells of a column: from the top, the gap above each level and the level, and in
-/// the end the gap below the last one. `event` says that something begins, ends or meets in the
-/// column, so that its levels are points.
+/// Hands out the cells of a column or slab: from the top, the gap above each level and the level,
+/// and in the end the gap below the last one. The levels of a column are points.
 pub fn hand_out<S: CellSink>(
     sink: &mut S,
-    event: bool,
+    strip: &Strip,
     groups: &[u32],
     tallies: &mut Tallies,
     column: &Column,
@@ -57,7 +59,7 @@ pub fn hand_out<S: CellSink>(
     requires none_on { tallies.old.on.items ≡ counts groups.now [] }
     requires none_above { tallies.old.above.items ≡ counts groups.now [] }
     ensures handed { S.content sink.new ≡ fold S.after (S.content sink.old)
-        (stop_items groups.now event (counts groups.now []) (counts groups.now [])
+        (stop_items groups.now (is_column strip.now) (counts groups.now []) (counts groups.now [])
         (stops column.now.edges.now column.now.vertices.now column.now.onward.now (levels_of column.now.parts.now))) }
     ensures none_on { tallies.new.on.items ≡ counts groups.now [] }
     ensures none_above { tallies.new.above.items ≡ counts groups.now [] }
@@ -70,7 +72,7 @@ pub fn hand_out<S: CellSink>(
             Part::Alone(count) => {
                 let (alone, lower) = edges.split_at(count);
                 let (alone_onward, lower_onward) = onward.split_at(count);
-                hand_alone(sink, event, groups, tallies, alone, alone_onward);
+                hand_alone(sink, strip, groups, tallies, alone, alone_onward);
                 edges = lower;
                 onward = lower_onward;
             }
@@ -80,7 +82,7 @@ pub fn hand_out<S: CellSink>(
                 let (level_onward, lower_onward) = onward.split_at(level.onward);
                 hand_level(
                     sink,
-                    event,
+                    strip,
                     groups,
                     tallies,
                     level_edges,
@@ -93,8 +95,8 @@ pub fn hand_out<S: CellSink>(
             }
         }
     }
-    hand_gap(sink, event, tallies);
-    take_edges(&mut tallies.above, groups, column.onward);
+    hand_gap(sink, strip, tallies);
+    clear_edges(&mut tallies.above, groups, column.onward);
 }
 
 /// Hands out edges that go on and stand alone at their heights: from the top, the gap above each
@@ -102,7 +104,7 @@ pub fn hand_out<S: CellSink>(
 /// out below them, the sink has then gathered all.
 fn hand_alone<S: CellSink>(
     sink: &mut S,
-    event: bool,
+    strip: &Strip,
     groups: &[u32],
     tallies: &mut Tallies,
     edges: &[Active],
@@ -117,20 +119,21 @@ fn hand_alone<S: CellSink>(
     requires room_above { All (λ n. n + length onward.now < 2 ^ 32) tallies.old.above.items }
     ensures handed { (es : List Active) (vs : List Vertex) (os : List Active) (ls : List Level) →
         fold S.after (S.content sink.new)
-        (stop_items groups.now event tallies.new.on.items tallies.new.above.items (stops es vs os ls))
+        (stop_items groups.now (is_column strip.now) tallies.new.on.items tallies.new.above.items (stops es vs os ls))
         ≡ fold S.after (S.content sink.old)
-        (stop_items groups.now event tallies.old.on.items tallies.old.above.items
+        (stop_items groups.now (is_column strip.now) tallies.old.on.items tallies.old.above.items
         (stops (edges.now ++ es) vs (onward.now ++ os) (alone_levels (length edges.now) ls))) }
     ensures on { tallies.new.on.items ≡ tallies.old.on.items }
     ensures above { tallies.new.above.items ≡ plus tallies.old.above.items (counts groups.now (pieces_of onward.now)) }
 {
-    let gap = gap_dimension(event);
-    let level = level_dimension(event);
+    let gap = gap_dimension(strip);
+    let level = level_dimension(strip);
     for (edge, next) in edges.iter().zip(onward) {
         sink.cell(gap, &tallies.on, &tallies.above);
+        let count = count_of(&tallies.on, groups, edge.piece);
         add_piece(&mut tallies.on, groups, edge.piece);
         sink.cell(level, &tallies.on, &tallies.above);
-        take_piece(&mut tallies.on, groups, edge.piece);
+        put_back(&mut tallies.on, groups, edge.piece, count);
         add_piece(&mut tallies.above, groups, next.piece);
     }
 }
@@ -138,7 +141,7 @@ fn hand_alone<S: CellSink>(
 /// Hands out the gap above a level and the level, and counts what is on the gap below it.
 fn hand_level<S: CellSink>(
     sink: &mut S,
-    event: bool,
+    strip: &Strip,
     groups: &[u32],
     tallies: &mut Tallies,
     edges: &[Active],
@@ -155,8 +158,8 @@ fn hand_level<S: CellSink>(
     requires there { AtMost (counts groups.now (pieces_of edges.now ++ pieces_with leaves vertices.now))
         (plus tallies.old.on.items (counts groups.now (pieces_of edges.now ++ pieces_with enters vertices.now))) }
     ensures handed { S.content sink.new ≡ fold S.after (S.content sink.old)
-        (item (dimension event false) tallies.old.on.items tallies.old.above.items
-        ∷ item (dimension event true)
+        (item (dimension (is_column strip.now) false) tallies.old.on.items tallies.old.above.items
+        ∷ item (dimension (is_column strip.now) true)
         (plus tallies.old.on.items (counts groups.now (pieces_of edges.now ++ pieces_with enters vertices.now)))
         tallies.old.above.items ∷ []) }
     ensures on { tallies.new.on.items ≡ minus
@@ -164,31 +167,37 @@ fn hand_level<S: CellSink>(
         (counts groups.now (pieces_of edges.now ++ pieces_with leaves vertices.now)) }
     ensures above { tallies.new.above.items ≡ plus tallies.old.above.items (counts groups.now (pieces_of onward.now)) }
 {
-    hand_gap(sink, event, tallies);
+    hand_gap(sink, strip, tallies);
     enter_level(&mut tallies.on, groups, edges, vertices);
-    sink.cell(level_dimension(event), &tallies.on, &tallies.above);
+    sink.cell(level_dimension(strip), &tallies.on, &tallies.above);
     leave_level(&mut tallies.on, groups, edges, vertices);
     add_edges(&mut tallies.above, groups, onward);
 }
 
 /// Hands out a gap, also where no piece is on it or above it.
-fn hand_gap<S: CellSink>(sink: &mut S, event: bool, tallies: &Tallies)
+fn hand_gap<S: CellSink>(sink: &mut S, strip: &Strip, tallies: &Tallies)
     ensures { S.content sink.new ≡ S.after (S.content sink.old)
-        (item (dimension event false) tallies.now.on.items tallies.now.above.items) }
+        (item (dimension (is_column strip.now) false) tallies.now.on.items tallies.now.above.items) }
 {
-    sink.cell(gap_dimension(event), &tallies.on, &tallies.above);
+    sink.cell(gap_dimension(strip), &tallies.on, &tallies.above);
 }
 
 /// The dimension of a level.
-fn level_dimension(event: bool) -> u8
-    ensures { result ≡ dimension event true }
+fn level_dimension(strip: &Strip) -> u8
+    ensures { result ≡ dimension (is_column strip.now) true }
 {
-    if event { 0 } else { 1 }
+    match strip {
+        Strip::Column(_) => 0,
+        Strip::Slab => 1,
+    }
 }
 
 /// The dimension of a gap.
-fn gap_dimension(event: bool) -> u8
-    ensures { result ≡ dimension event false }
+fn gap_dimension(strip: &Strip) -> u8
+    ensures { result ≡ dimension (is_column strip.now) false }
 {
-    if event { 1 } else { 2 }
+    match strip {
+        Strip::Column(_) => 1,
+        Strip::Slab => 2,
+    }
 }

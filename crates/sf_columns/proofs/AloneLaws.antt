@@ -14,7 +14,6 @@ use Rattle.sf_columns.specs.declared.contact.Contact.{Contact}
 use Rattle.sf_columns.specs.declared.level.Level.{Level}
 use Rattle.sf_columns.specs.declared.part.Part.{Part}
 use Rattle.sf_columns.specs.declared.part.Part.TheVariants.{Alone, Together}
-use Rattle.sf_columns.specs.declared.piece.Piece.{Piece}
 use Rattle.sf_columns.specs.declared.vertex.Vertex.{Vertex}
 use Rattle.sf_columns.specs.Fronts.{AreApart, AreApartFrom, AreContacts, AreContactsFrom, touches}
 use Rattle.sf_columns.specs.Levels.{AreOnward, AreTops, TakeAll, group_length, level, level_by, run_length, top_level}
@@ -125,12 +124,12 @@ alone-tops column (suc n) (a ∷ es) cs vs ls h k =
     )
 
 -- each goes on
-pub alone-onward : (pieces : List Piece) (n : ℕ) (es : List Active) (vs : List Vertex) (os : List Active) (ls : List Level) → n ≤ length es →
-    AreOnward pieces (drop n es) vs os ls → AreOnward pieces es vs (take n es ++ os) (alone_levels n ls)
-alone-onward pieces zero es vs os ls h k = k
-alone-onward pieces (suc n) [] vs os ls h k = absurd (omega arith)
-alone-onward pieces (suc n) (a ∷ es) vs os ls h k =
-    (record { starts = []; are_starts = refl; same = IsPermutation-refl (a ∷ []); fall = tt }, alone-onward pieces n es vs os ls (omega arith) k)
+pub alone-onward : (n : ℕ) (es : List Active) (vs : List Vertex) (os : List Active) (ls : List Level) → n ≤ length es →
+    AreOnward (drop n es) vs os ls → AreOnward es vs (take n es ++ os) (alone_levels n ls)
+alone-onward zero es vs os ls h k = k
+alone-onward (suc n) [] vs os ls h k = absurd (omega arith)
+alone-onward (suc n) (a ∷ es) vs os ls h k =
+    (record { starts = []; are_starts = refl; same = IsPermutation-refl (a ∷ []); fall = tt }, alone-onward n es vs os ls (omega arith) k)
 
 -- each takes one edge and gives one
 pub alone-all : (n e v o : ℕ) (ls : List Level) → n ≤ e → TakeAll (e - n) v o ls → TakeAll e v (n + o) (alone_levels n ls)

@@ -1,5 +1,5 @@
 -- A column cut into its parts, one after another.
-use Rattle.std.proofs.Common.{◌≡◌, refl, ap, sym, subst, ◌∙◌, ℕ, zero, suc, ◌+◌, ◌-◌, ◌≤◌, ◌<◌, arith, List, [], ◌∷◌, ◌++◌, take, drop, length, None, Option}
+use Rattle.std.proofs.Common.{◌≡◌, refl, ap, sym, subst, ◌∙◌, ℕ, ◌+◌, ◌-◌, ◌≤◌, ◌<◌, arith, List, [], ◌∷◌, ◌++◌, take, drop, length, None, Option}
 use Rattle.std.specs.List.{AllByRecursion}
 use Rattle.std.specs.Ordering.{int_eq}
 use Rattle.std.specs.declared.cmp.Ordering.{Ordering}
@@ -14,7 +14,6 @@ use Rattle.sf_columns.specs.declared.contact.Contact.{Contact}
 use Rattle.sf_columns.specs.declared.level.Level.{Level}
 use Rattle.sf_columns.specs.declared.part.Part.{Part}
 use Rattle.sf_columns.specs.declared.part.Part.TheVariants.{Alone, Together}
-use Rattle.sf_columns.specs.declared.piece.Piece.{Piece}
 use Rattle.sf_columns.specs.declared.vertex.Vertex.{Vertex}
 use Rattle.sf_columns.specs.Fronts.{touches}
 use Rattle.sf_columns.specs.Levels.{AreOnward, AreTops, IsOnward, IsTop, TakeAll, group_length, level_by, run_length, top_level}
@@ -76,33 +75,33 @@ top-some column (a ∷ es) cs (v ∷ vs) h = by_side (side_of a.edge.left a.edge
 
 -- ---- what was cut off
 -- levels were cut off from the top, and edges go on from them: with whatever levels are left these are the levels of all
-pub record CutOff (pieces : List Piece) (column : Option Fraction) (es es' : List Active) (cs cs' : List Contact) (vs vs' : List Vertex)
+pub record CutOff (column : Option Fraction) (es es' : List Active) (cs cs' : List Contact) (vs vs' : List Vertex)
     (order : List Active) (levels : List Level) : Type 0 where
   pub tops : (ls : List Level) → AreTops column es' cs' vs' ls → AreTops column es cs vs (levels ++ ls)
-  pub onward : (os : List Active) (ls : List Level) → AreOnward pieces es' vs' os ls → AreOnward pieces es vs (order ++ os) (levels ++ ls)
+  pub onward : (os : List Active) (ls : List Level) → AreOnward es' vs' os ls → AreOnward es vs (order ++ os) (levels ++ ls)
   pub all : (n : ℕ) (ls : List Level) → TakeAll (length es') (length vs') n ls → TakeAll (length es) (length vs) (length order + n) (levels ++ ls)
 
 -- where nothing was cut off, all is left
-pub cut-nothing : (pieces : List Piece) (column : Option Fraction) (es : List Active) (cs : List Contact) (vs : List Vertex) (order : List Active) (levels : List Level) →
-    order ≡ [] → levels ≡ [] → CutOff pieces column es es cs cs vs vs order levels
-cut-nothing pieces column es cs vs order levels e f =
-    subst (λ zs. CutOff pieces column es es cs cs vs vs zs levels) (sym e)
-    (subst (CutOff pieces column es es cs cs vs vs []) (sym f)
+pub cut-nothing : (column : Option Fraction) (es : List Active) (cs : List Contact) (vs : List Vertex) (order : List Active) (levels : List Level) →
+    order ≡ [] → levels ≡ [] → CutOff column es es cs cs vs vs order levels
+cut-nothing column es cs vs order levels e f =
+    subst (λ zs. CutOff column es es cs cs vs vs zs levels) (sym e)
+    (subst (CutOff column es es cs cs vs vs []) (sym f)
     (record { tops = λ ls h. h; onward = λ os ls h. h; all = λ n ls h. subst (λ m. TakeAll (length es) (length vs) m ls) (nothing_before n) h }))
   where
     nothing_before : (n : ℕ) → n ≡ 0 + n
     nothing_before n = omega arith
 
 -- levels cut off behind others
-cut-behind : (pieces : List Piece) (column : Option Fraction) (es es' es'' : List Active) (cs cs' cs'' : List Contact) (vs vs' vs'' : List Vertex)
-    (order order' : List Active) (levels levels' : List Level) → CutOff pieces column es es' cs cs' vs vs' order levels →
-    CutOff pieces column es' es'' cs' cs'' vs' vs'' order' levels' → CutOff pieces column es es'' cs cs'' vs vs'' (order ++ order') (levels ++ levels')
-cut-behind pieces column es es' es'' cs cs' cs'' vs vs' vs'' order order' levels levels' p q =
+cut-behind : (column : Option Fraction) (es es' es'' : List Active) (cs cs' cs'' : List Contact) (vs vs' vs'' : List Vertex)
+    (order order' : List Active) (levels levels' : List Level) → CutOff column es es' cs cs' vs vs' order levels →
+    CutOff column es' es'' cs' cs'' vs' vs'' order' levels' → CutOff column es es'' cs cs'' vs vs'' (order ++ order') (levels ++ levels')
+cut-behind column es es' es'' cs cs' cs'' vs vs' vs'' order order' levels levels' p q =
     record {
       tops = λ ls h. subst (AreTops column es cs vs) (sym (append_assoc levels levels' ls)) (p.tops (levels' ++ ls) (q.tops ls h));
       onward = λ os ls h.
-          subst (λ zs. AreOnward pieces es vs zs ((levels ++ levels') ++ ls)) (sym (append_assoc order order' os))
-          (subst (AreOnward pieces es vs (order ++ (order' ++ os))) (sym (append_assoc levels levels' ls)) (p.onward (order' ++ os) (levels' ++ ls) (q.onward os ls h)));
+          subst (λ zs. AreOnward es vs zs ((levels ++ levels') ++ ls)) (sym (append_assoc order order' os))
+          (subst (AreOnward es vs (order ++ (order' ++ os))) (sym (append_assoc levels levels' ls)) (p.onward (order' ++ os) (levels' ++ ls) (q.onward os ls h)));
       all = λ n ls h.
           subst (λ m. TakeAll (length es) (length vs) m ((levels ++ levels') ++ ls)) (further (length order) (length order') (length (order ++ order')) n (length-append order order'))
           (subst (TakeAll (length es) (length vs) (length order + (length order' + n))) (sym (append_assoc levels levels' ls)) (p.all (length order' + n) (levels' ++ ls) (q.all n ls h)));
@@ -112,13 +111,13 @@ cut-behind pieces column es es' es'' cs cs' cs'' vs vs' vs'' order order' levels
     further a b c n e = omega arith
 
 -- the first edges, where they stand alone
-cut-alone : (pieces : List Piece) (column : Option Fraction) (n : ℕ) (es : List Active) (cs : List Contact) (vs : List Vertex) →
-    n ≤ alone_count column es cs vs → CutOff pieces column es (drop n es) cs (drop n cs) vs vs (take n es) (alone_levels n [])
-cut-alone pieces column n es cs vs h =
+cut-alone : (column : Option Fraction) (n : ℕ) (es : List Active) (cs : List Contact) (vs : List Vertex) →
+    n ≤ alone_count column es cs vs → CutOff column es (drop n es) cs (drop n cs) vs vs (take n es) (alone_levels n [])
+cut-alone column n es cs vs h =
     let few : n ≤ length es = omega (arith, alone_count-le column es cs vs) in
     record {
       tops = λ ls k. subst (AreTops column es cs vs) (sym (alone_levels-append n [] ls)) (alone-tops column n es cs vs ls h k);
-      onward = λ os ls k. subst (AreOnward pieces es vs (take n es ++ os)) (sym (alone_levels-append n [] ls)) (alone-onward pieces n es vs os ls few k);
+      onward = λ os ls k. subst (AreOnward es vs (take n es ++ os)) (sym (alone_levels-append n [] ls)) (alone-onward n es vs os ls few k);
       all = λ m ls k.
           subst (TakeAll (length es) (length vs) (length (take n es) + m)) (sym (alone_levels-append n [] ls))
           (subst (λ i. TakeAll (length es) (length vs) (i + m) (alone_levels n ls)) (sym (length-take-le n es few))
@@ -126,17 +125,17 @@ cut-alone pieces column n es cs vs h =
     }
 
 -- the highest level
-cut-level : (pieces : List Piece) (column : Option Fraction) (es : List Active) (cs : List Contact) (vs : List Vertex) (segment : List Active) (l : Level) →
-    IsTop column es cs vs l → l.edges ≤ length es → l.vertices ≤ length vs → l.onward ≡ length segment → IsOnward pieces (take l.edges es) (take l.vertices vs) segment →
-    CutOff pieces column es (drop l.edges es) cs (drop l.edges cs) vs (drop l.vertices vs) segment (l ∷ [])
-cut-level pieces column es cs vs segment l top i j e goes =
+cut-level : (column : Option Fraction) (es : List Active) (cs : List Contact) (vs : List Vertex) (segment : List Active) (l : Level) →
+    IsTop column es cs vs l → l.edges ≤ length es → l.vertices ≤ length vs → l.onward ≡ length segment → IsOnward (take l.edges es) (take l.vertices vs) segment →
+    CutOff column es (drop l.edges es) cs (drop l.edges cs) vs (drop l.vertices vs) segment (l ∷ [])
+cut-level column es cs vs segment l top i j e goes =
     record {
       tops = λ ls h. (top, h);
       onward = λ os ls h. (
-        subst (λ n. IsOnward pieces (take l.edges es) (take l.vertices vs) (take n (segment ++ os))) (sym e)
-            (subst (λ bs. IsOnward pieces (take l.edges es) (take l.vertices vs) bs) (sym (take-append_seam segment os)) goes),
-        subst (λ n. AreOnward pieces (drop l.edges es) (drop l.vertices vs) (drop n (segment ++ os)) ls) (sym e)
-            (subst (λ bs. AreOnward pieces (drop l.edges es) (drop l.vertices vs) bs ls) (sym (drop-append_seam segment os)) h),
+        subst (λ n. IsOnward (take l.edges es) (take l.vertices vs) (take n (segment ++ os))) (sym e)
+            (subst (λ bs. IsOnward (take l.edges es) (take l.vertices vs) bs) (sym (take-append_seam segment os)) goes),
+        subst (λ n. AreOnward (drop l.edges es) (drop l.vertices vs) (drop n (segment ++ os)) ls) (sym e)
+            (subst (λ bs. AreOnward (drop l.edges es) (drop l.vertices vs) bs ls) (sym (drop-append_seam segment os)) h),
       );
       all = λ n ls h. (
         i,
@@ -157,31 +156,31 @@ cut-level pieces column es cs vs segment l top i j e goes =
 
 -- ---- a turn of the loop
 -- parts behind others, with the levels that they stand for
-parts_behind : (pieces : List Piece) (column : Option Fraction) (all es es' : List Active) (all_cs cs cs' : List Contact) (all_vs vs vs' : List Vertex)
-    (order order' segment : List Active) (parts parts' : List Part) (part : Part) → CutOff pieces column all es all_cs cs all_vs vs order (levels_of parts) →
-    CutOff pieces column es es' cs cs' vs vs' segment (levels_of (part ∷ [])) → order' ≡ order ++ segment → parts' ≡ parts ++ part ∷ [] →
-    CutOff pieces column all es' all_cs cs' all_vs vs' order' (levels_of parts')
-parts_behind pieces column all es es' all_cs cs cs' all_vs vs vs' order order' segment parts parts' part p q e f =
-    subst (λ zs. CutOff pieces column all es' all_cs cs' all_vs vs' zs (levels_of parts')) (sym e)
-    (subst (λ zs. CutOff pieces column all es' all_cs cs' all_vs vs' (order ++ segment) zs) (sym (ap levels_of f ∙ levels_of-append parts (part ∷ [])))
-    (cut-behind pieces column all es es' all_cs cs cs' all_vs vs vs' order segment (levels_of parts) (levels_of (part ∷ [])) p q))
+parts_behind : (column : Option Fraction) (all es es' : List Active) (all_cs cs cs' : List Contact) (all_vs vs vs' : List Vertex)
+    (order order' segment : List Active) (parts parts' : List Part) (part : Part) → CutOff column all es all_cs cs all_vs vs order (levels_of parts) →
+    CutOff column es es' cs cs' vs vs' segment (levels_of (part ∷ [])) → order' ≡ order ++ segment → parts' ≡ parts ++ part ∷ [] →
+    CutOff column all es' all_cs cs' all_vs vs' order' (levels_of parts')
+parts_behind column all es es' all_cs cs cs' all_vs vs vs' order order' segment parts parts' part p q e f =
+    subst (λ zs. CutOff column all es' all_cs cs' all_vs vs' zs (levels_of parts')) (sym e)
+    (subst (λ zs. CutOff column all es' all_cs cs' all_vs vs' (order ++ segment) zs) (sym (ap levels_of f ∙ levels_of-append parts (part ∷ [])))
+    (cut-behind column all es es' all_cs cs cs' all_vs vs vs' order segment (levels_of parts) (levels_of (part ∷ [])) p q))
 
 -- a turn that takes the edges that stand alone
-pub turn-alone : (pieces : List Piece) (column : Option Fraction) (n : ℕ) (all es es' run : List Active) (all_cs cs cs' : List Contact) (all_vs vs : List Vertex)
+pub turn-alone : (column : Option Fraction) (n : ℕ) (all es es' run : List Active) (all_cs cs cs' : List Contact) (all_vs vs : List Vertex)
     (order order' : List Active) (parts parts' : List Part) → n ≡ alone_count column es cs vs → run ≡ take n es → length run ≡ n → es' ≡ drop n es → cs' ≡ drop n cs →
     order' ≡ order ++ run → parts' ≡ parts ++ Alone (length run) ∷ [] →
-    CutOff pieces column all es all_cs cs all_vs vs order (levels_of parts) → CutOff pieces column all es' all_cs cs' all_vs vs order' (levels_of parts')
-turn-alone pieces column n all es es' run all_cs cs cs' all_vs vs order order' parts parts' count run_is run_len edges contacts order_is parts_is h =
-    parts_behind pieces column all es es' all_cs cs cs' all_vs vs vs order order' run parts parts' (Alone (length run)) h
-    (subst (λ m. CutOff pieces column es es' cs cs' vs vs run (alone_levels m [])) (sym run_len)
-    (subst (λ zs. CutOff pieces column es es' cs cs' vs vs zs (alone_levels n [])) (sym run_is)
-    (subst (λ zs. CutOff pieces column es zs cs cs' vs vs (take n es) (alone_levels n [])) (sym edges)
-    (subst (λ zs. CutOff pieces column es (drop n es) cs zs vs vs (take n es) (alone_levels n [])) (sym contacts)
-    (cut-alone pieces column n es cs vs (omega arith))))))
+    CutOff column all es all_cs cs all_vs vs order (levels_of parts) → CutOff column all es' all_cs cs' all_vs vs order' (levels_of parts')
+turn-alone column n all es es' run all_cs cs cs' all_vs vs order order' parts parts' count run_is run_len edges contacts order_is parts_is h =
+    parts_behind column all es es' all_cs cs cs' all_vs vs vs order order' run parts parts' (Alone (length run)) h
+    (subst (λ m. CutOff column es es' cs cs' vs vs run (alone_levels m [])) (sym run_len)
+    (subst (λ zs. CutOff column es es' cs cs' vs vs zs (alone_levels n [])) (sym run_is)
+    (subst (λ zs. CutOff column es zs cs cs' vs vs (take n es) (alone_levels n [])) (sym edges)
+    (subst (λ zs. CutOff column es (drop n es) cs zs vs vs (take n es) (alone_levels n [])) (sym contacts)
+    (cut-alone column n es cs vs (omega arith))))))
     order_is parts_is
 
 -- a turn that takes the highest level
-pub record Turn (pieces : List Piece) (column : Option Fraction) (es es' : List Active) (cs cs' : List Contact) (vs vs' : List Vertex)
+pub record Turn (column : Option Fraction) (es es' : List Active) (cs cs' : List Contact) (vs vs' : List Vertex)
     (order order' : List Active) (parts parts' : List Part) (top : Level) (run : List Active) (group : List Vertex) : Type 0 where
   pub top_is : top ≡ top_level column es cs vs
   pub some : 0 < length es + length vs
@@ -193,54 +192,54 @@ pub record Turn (pieces : List Piece) (column : Option Fraction) (es es' : List 
   pub group_is : group ≡ take top.vertices vs
   pub group_len : length group ≡ top.vertices
   pub vertices : vs' ≡ drop top.vertices vs
-  pub pushed : HasLevel pieces run group parts parts' order order'
+  pub pushed : HasLevel run group parts parts' order order'
 
 -- a level by its three numbers
 abbrev pushed_level : ℕ → ℕ → ℕ → Level
 pushed_level e v o = record { edges = e; vertices = v; onward = o }
 
 -- such a turn cuts off one level more
-pub turn-level : (pieces : List Piece) (column : Option Fraction) (all es es' : List Active) (all_cs cs cs' : List Contact) (all_vs vs vs' : List Vertex)
+pub turn-level : (column : Option Fraction) (all es es' : List Active) (all_cs cs cs' : List Contact) (all_vs vs vs' : List Vertex)
     (order order' : List Active) (parts parts' : List Part) (top : Level) (run : List Active) (group : List Vertex) →
-    Turn pieces column es es' cs cs' vs vs' order order' parts parts' top run group →
-    CutOff pieces column all es all_cs cs all_vs vs order (levels_of parts) → CutOff pieces column all es' all_cs cs' all_vs vs' order' (levels_of parts')
-turn-level pieces column all es es' all_cs cs cs' all_vs vs vs' order order' parts parts' top run group t h =
+    Turn column es es' cs cs' vs vs' order order' parts parts' top run group →
+    CutOff column all es all_cs cs all_vs vs order (levels_of parts) → CutOff column all es' all_cs cs' all_vs vs' order' (levels_of parts')
+turn-level column all es es' all_cs cs cs' all_vs vs vs' order order' parts parts' top run group t h =
     let segment = t.pushed.segment in
     let fits = top-within column es cs vs top t.few t.top_is in
     let l = pushed_level top.edges top.vertices (length segment) in
-    parts_behind pieces column all es es' all_cs cs cs' all_vs vs vs' order order' segment parts parts' (Together l) h
-    (subst (λ zs. CutOff pieces column es zs cs cs' vs vs' segment (l ∷ [])) (sym t.edges)
-    (subst (λ zs. CutOff pieces column es (drop top.edges es) cs zs vs vs' segment (l ∷ [])) (sym t.contacts)
-    (subst (λ zs. CutOff pieces column es (drop top.edges es) cs (drop top.edges cs) vs zs segment (l ∷ [])) (sym t.vertices)
-    (cut-level pieces column es cs vs segment l
+    parts_behind column all es es' all_cs cs cs' all_vs vs vs' order order' segment parts parts' (Together l) h
+    (subst (λ zs. CutOff column es zs cs cs' vs vs' segment (l ∷ [])) (sym t.edges)
+    (subst (λ zs. CutOff column es (drop top.edges es) cs zs vs vs' segment (l ∷ [])) (sym t.contacts)
+    (subst (λ zs. CutOff column es (drop top.edges es) cs (drop top.edges cs) vs zs segment (l ∷ [])) (sym t.vertices)
+    (cut-level column es cs vs segment l
     (record {
       some = subst (λ m. 0 < m.edges + m.vertices) (sym t.top_is) (top-some column es cs vs t.some);
       edges = ap (λ m. m.edges) t.top_is;
       vertices = ap (λ m. m.vertices) t.top_is;
     })
     fits.edges fits.vertices refl
-    (subst (λ zs. IsOnward pieces zs (take top.vertices vs) segment) t.run_is
-    (subst (λ zs. IsOnward pieces run zs segment) t.group_is t.pushed.onward))))))
+    (subst (λ zs. IsOnward zs (take top.vertices vs) segment) t.run_is
+    (subst (λ zs. IsOnward run zs segment) t.group_is t.pushed.onward))))))
     t.pushed.order_behind
     (t.pushed.behind
     ∙ ap (λ n. parts ++ Together (pushed_level n (length group) (length segment)) ∷ []) t.run_len
     ∙ ap (λ n. parts ++ Together (pushed_level top.edges n (length segment)) ∷ []) t.group_len)
 
 -- where nothing is left, the levels that were cut off are all
-pub record IsWhole (pieces : List Piece) (column : Option Fraction) (es : List Active) (cs : List Contact) (vs : List Vertex) (order : List Active) (levels : List Level) : Type 0 where
+pub record IsWhole (column : Option Fraction) (es : List Active) (cs : List Contact) (vs : List Vertex) (order : List Active) (levels : List Level) : Type 0 where
   pub tops : AreTops column es cs vs levels
-  pub onward : AreOnward pieces es vs order levels
+  pub onward : AreOnward es vs order levels
   pub all : TakeAll (length es) (length vs) (length order) levels
 
 -- the levels that were cut off are the levels of the column
-pub cut-whole : (pieces : List Piece) (column : Option Fraction) (es es' : List Active) (cs cs' : List Contact) (vs vs' : List Vertex) (order : List Active) (levels : List Level) →
-    es' ≡ [] → vs' ≡ [] → CutOff pieces column es es' cs cs' vs vs' order levels → IsWhole pieces column es cs vs order levels
-cut-whole pieces column es es' cs cs' vs vs' order levels e f h =
+pub cut-whole : (column : Option Fraction) (es es' : List Active) (cs cs' : List Contact) (vs vs' : List Vertex) (order : List Active) (levels : List Level) →
+    es' ≡ [] → vs' ≡ [] → CutOff column es es' cs cs' vs vs' order levels → IsWhole column es cs vs order levels
+cut-whole column es es' cs cs' vs vs' order levels e f h =
     record {
       tops = subst (AreTops column es cs vs) (append-nil levels) (h.tops [] (e, f));
       onward =
-          subst (λ zs. AreOnward pieces es vs zs levels) (append-nil order)
-          (subst (AreOnward pieces es vs (order ++ [])) (append-nil levels) (h.onward [] [] refl));
+          subst (λ zs. AreOnward es vs zs levels) (append-nil order)
+          (subst (AreOnward es vs (order ++ [])) (append-nil levels) (h.onward [] [] refl));
       all =
           subst (λ n. TakeAll (length es) (length vs) n levels) (nothing_more (length order))
           (subst (TakeAll (length es) (length vs) (length order + 0)) (append-nil levels) (h.all 0 [] (ap length e, (ap length f, refl))));
@@ -325,12 +324,6 @@ lined-whole es es' cs cs' levels e h =
     }
 
 -- ---- what is left behind a level
--- what holds of each holds of each that is left
-pub each-drop : {A : Type 0} (P : A → Type 0) (n : ℕ) (xs : List A) → AllByRecursion P xs → AllByRecursion P (drop n xs)
-each-drop P zero xs h = h
-each-drop P (suc n) [] h = h
-each-drop P (suc n) (x ∷ xs) h = each-drop P n xs h.1
-
 -- where some edges are taken off with their contacts, there are no more contacts than neighbours
 pub few-drop : (n : ℕ) (cs cs' : List Contact) (es es' : List Active) → cs' ≡ drop n cs → es' ≡ drop n es → length cs ≤ length es - 1 → length cs' ≤ length es' - 1
 few-drop n cs cs' es es' e f h =

@@ -1,5 +1,5 @@
 -- The edges that go on from a level, sorted by slope.
-use Rattle.std.proofs.Common.{◌≡◌, ◌≢◌, subst, ℕ, suc, ◌+◌, ◌<◌, ℤ, pos, ◌-ℤ◌, ◌*ℤ◌, ◌≤ℤ◌, ◌<ℤ◌, Bool, true, false, arith, List, [], ◌∷◌, slice_index_or, unsigned_abs}
+use Rattle.std.proofs.Common.{◌≡◌, ◌≢◌, subst, ℕ, suc, ◌+◌, ◌<◌, ℤ, pos, ◌-ℤ◌, ◌*ℤ◌, ◌≤ℤ◌, ◌<ℤ◌, Bool, true, false, arith, List, [], ◌∷◌, slice_index_or, unsigned_abs, ap, ◌∙◌, zero, cond, length, take, drop}
 use Rattle.std.specs.Prelude.{int_lt}
 use Rattle.std.specs.Cmp.{IsStrictWeakOrder}
 use Rattle.std.specs.List.Sorted.{IsSortedBy}
@@ -10,7 +10,9 @@ use Rattle.sf_grid.specs.Fraction.{Fraction, IsFraction}
 use Rattle.sf_grid.proofs.FractionLaws.{le, le-trans}
 use Rattle.sf_columns.specs.declared.active.Active.{Active}
 use Rattle.sf_columns.specs.Levels.{SlopesFall, SlopesFallFrom}
+use Rattle.sf_columns.specs.declared.vertex.Vertex.{Vertex}
 use Rattle.sf_columns.specs.Slanted.{slope_order}
+use Rattle.sf_columns.specs.Vertices.{begins, pieces_with}
 
 -- a is steeper than b
 abbrev pub steeper : Active → Active → Bool
@@ -99,3 +101,23 @@ fall_from a (b ∷ bs) h = (not_greater a b (sorted-first steeper a b bs h), fal
 pub slopes_fall : (os : List Active) → IsSortedBy steeper os → SlopesFall os
 slopes_fall [] h = tt
 slopes_fall (a ∷ bs) h = fall_from a bs h
+
+-- ---- how many edges begin
+-- of a part of the vertices, and of those left
+pub begun-split : (n : ℕ) (vs group later : List Vertex) → group ≡ take n vs → later ≡ drop n vs →
+    length (pieces_with begins later) + length (pieces_with begins group) ≡ length (pieces_with begins vs)
+begun-split n vs group later e f =
+    ap (λ us. length (pieces_with begins later) + length (pieces_with begins us)) e
+    ∙ ap (λ us. length (pieces_with begins us) + length (pieces_with begins (take n vs))) f
+    ∙ parted n vs
+  where
+    by_test : (b : Bool) (p : ℕ) (first rest all : List ℕ) → length rest + length first ≡ length all →
+        length rest + length (cond b (p ∷ first) first) ≡ length (cond b (p ∷ all) all)
+    by_test true p first rest all h = omega arith
+    by_test false p first rest all h = h
+
+    parted : (n : ℕ) (vs : List Vertex) → length (pieces_with begins (drop n vs)) + length (pieces_with begins (take n vs)) ≡ length (pieces_with begins vs)
+    parted zero vs = omega arith
+    parted (suc n) [] = omega arith
+    parted (suc n) (v ∷ vs) =
+        by_test (begins v.role) v.piece (pieces_with begins (take n vs)) (pieces_with begins (drop n vs)) (pieces_with begins vs) (parted n vs)

@@ -1,5 +1,5 @@
 -- The side of a point against an edge that runs to the right, and the one point that two edges share.
-use Rattle.std.proofs.Common.{◌≡◌, ◌≢◌, refl, ap, sym, ◌∙◌, ℕ, ℤ, pos, ◌*ℤ◌, ◌<ℤ◌, ◌<◌, ◌*◌, arith, [], ◌∷◌}
+use Rattle.std.proofs.Common.{◌≡◌, ◌≢◌, refl, ap, sym, ◌∙◌, ℕ, ℤ, pos, ◌-ℤ◌, ◌*ℤ◌, ◌<ℤ◌, ◌<◌, ◌*◌, arith, [], ◌∷◌}
 use Rattle.std.specs.Ordering.{int_cmp}
 use Rattle.std.specs.declared.cmp.Ordering.TheVariants.{Equal, Greater, Less}
 use Rattle.std.proofs.lemmas.Bool.{and_parts}
@@ -8,7 +8,7 @@ use Rattle.sf_grid.specs.declared.meet.Meet.TheVariants.{At}
 use Rattle.sf_grid.specs.declared.turn.Turn.TheVariants.{Left, Right, Straight}
 use Rattle.sf_grid.specs.Fraction.{Fraction, fraction_cmp}
 use Rattle.sf_grid.specs.Plane.{Coordinates, IsPoint, IsSamePoint, Point, point_at, x_of, y_of}
-use Rattle.sf_grid.specs.Edge.{Edge, cross}
+use Rattle.sf_grid.specs.Edge.{Edge, cross, height_rightward}
 use Rattle.sf_grid.specs.Sharing.{IsSharing, turn_by}
 use Rattle.sf_grid.proofs.HeightLaws.{cmp-scaled}
 use Rattle.sf_grid.proofs.NumberTests.{eq_from_test, lt_from_test}
@@ -16,8 +16,16 @@ use Rattle.sf_grid.proofs.OrderLaws.{is_less, product_pos}
 use Rattle.sf_grid.proofs.PointLaws.{cross-same}
 use Rattle.sf_grid.proofs.Products.{lt_from_mul, mul_lt}
 use Rattle.sf_grid.proofs.Ring.{ring, var, mul}
-use Rattle.sf_columns.specs.Slanted.{ShareNoneAfter, side_of}
+use Rattle.sf_columns.specs.Slanted.{RightwardEdge, ShareNoneAfter, side_of}
 use Rattle.sf_columns.proofs.SideLaws.{cmp-side}
+
+-- how much steeper the line from u to v rises than that from s to t, times both runs
+abbrev pub slope_gap : Coordinates → Coordinates → Coordinates → Coordinates → ℤ
+slope_gap u v s t = (v.y -ℤ u.y) *ℤ (t.x -ℤ s.x) -ℤ (t.y -ℤ s.y) *ℤ (v.x -ℤ u.x)
+
+-- the height at the place x of an edge of the order
+abbrev pub height_in : Fraction → RightwardEdge → Fraction
+height_in x e = height_rightward e.left e.right x
 
 -- ---- the side of a point is the sign of its cross product
 pub side_of-cross : (u v : Coordinates) (p : Point) → IsPoint p → u.x <ℤ v.x → side_of u v p ≡ int_cmp (cross u v p) (pos 0)

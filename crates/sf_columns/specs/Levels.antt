@@ -1,5 +1,5 @@
 -- The levels of a column, from the top: the edges of the order and the vertices that are at one height.
-use Rattle.std.specs.Prelude.{◌≡◌, ◌≢◌, ℕ, ◌+◌, ◌-◌, ◌≤◌, ◌<◌, Bool, true, false, int_lt, List, [], ◌∷◌, ◌++◌, take, drop, Option, if◌then◌else◌}
+use Rattle.std.specs.Prelude.{◌≡◌, ◌≢◌, ℕ, ◌+◌, ◌-◌, ◌≤◌, ◌<◌, Bool, true, false, int_lt, List, [], ◌∷◌, ◌++◌, take, drop, length, Option, if◌then◌else◌}
 use Rattle.std.specs.List.{prefix_len}
 use Rattle.std.specs.List.Sorted.{IsPermutation}
 use Rattle.std.specs.Ordering.{int_eq}
@@ -7,14 +7,14 @@ use Rattle.std.specs.declared.cmp.Ordering.{Ordering}
 use Rattle.std.specs.declared.cmp.Ordering.TheVariants.{Equal, Greater, Less}
 use Rattle.sf_grid.specs.Fraction.{Fraction}
 use Rattle.sf_grid.specs.Plane.{grid_point}
-use Rattle.sf_columns.specs.declared.piece.Piece.{Piece}
 use Rattle.sf_columns.specs.declared.active.Active.{Active}
 use Rattle.sf_columns.specs.declared.contact.Contact.{Contact}
 use Rattle.sf_columns.specs.declared.level.Level.{Level}
+use Rattle.sf_columns.specs.declared.vertex.Role.TheVariants.{Begin}
 use Rattle.sf_columns.specs.declared.vertex.Vertex.{Vertex}
-use Rattle.sf_columns.specs.Fronts.{IsEntry, touches}
+use Rattle.sf_columns.specs.Fronts.{touches}
 use Rattle.sf_columns.specs.Slanted.{side_of, slope_order}
-use Rattle.sf_columns.specs.Vertices.{begins}
+use Rattle.sf_columns.specs.Vertices.{begins, pieces_with}
 
 -- how many edges from the first one on are level with it
 abbrev pub run_length : Option Fraction → List Active → List Contact → ℕ
@@ -52,26 +52,29 @@ abbrev pub going_past : List Vertex → List Active → List Active
 going_past vs [] = []
 going_past vs (a ∷ rest) = if goes_past vs a then a ∷ going_past vs rest else going_past vs rest
 
--- the first edge has the number, and the rest has the property
-abbrev pub StartsWith : List Piece → ℕ → (List Active → Type 0) → List Active → Type 0
-StartsWith pieces i Rest [] = ⊥
-StartsWith pieces i Rest (a ∷ rest) = (a.piece ≡ i) × (IsEntry pieces a × Rest rest)
+-- the first edge is the one that begins at the vertex, and the rest has the property
+abbrev pub StartsWith : Vertex → (List Active → Type 0) → List Active → Type 0
+StartsWith v Rest [] = ⊥
+StartsWith v Rest (a ∷ rest) = (a.piece ≡ v.piece) × ((v.role ≡ Begin a.edge) × Rest rest)
 
 abbrev pub if_begins : Bool → (List Active → Type 0) → (List Active → Type 0) → List Active → Type 0
 if_begins true Then Else rest = Then rest
 if_begins false Then Else rest = Else rest
 
 -- the edges that begin at vertices, one for each
-abbrev pub AreStarts : List Piece → List Vertex → List Active → Type 0
-AreStarts pieces [] rest = rest ≡ []
-AreStarts pieces (v ∷ vs) rest =
-    if_begins (begins v.role) (StartsWith pieces v.piece (AreStarts pieces vs)) (AreStarts pieces vs) rest
+abbrev pub AreStarts : List Vertex → List Active → Type 0
+AreStarts [] rest = rest ≡ []
+AreStarts (v ∷ vs) rest = if_begins (begins v.role) (StartsWith v (AreStarts vs)) (AreStarts vs) rest
 
 -- a list with the edges that begin at vertices put behind it
-pub record HasStarts (pieces : List Piece) (vertices : List Vertex) (old new : List Active) : Type 0 where
+pub record HasStarts (vertices : List Vertex) (old new : List Active) : Type 0 where
   pub starts : List Active
-  pub are : AreStarts pieces vertices starts
+  pub are : AreStarts vertices starts
   pub behind : new ≡ old ++ starts
+
+-- how many edges go on at most: those that come, and those that begin at vertices
+abbrev pub most_onward : List Active → List Vertex → ℕ
+most_onward es vs = length es + length (pieces_with begins vs)
 
 -- slopes fall
 abbrev pub SlopesFallFrom : Active → List Active → Type 0
@@ -83,9 +86,9 @@ SlopesFall [] = Unit {0}
 SlopesFall (a ∷ rest) = SlopesFallFrom a rest
 
 -- what goes on from a level: its edges that go on, and those that begin there, by falling slope
-pub record IsOnward (pieces : List Piece) (edges : List Active) (vertices : List Vertex) (onward : List Active) : Type 0 where
+pub record IsOnward (edges : List Active) (vertices : List Vertex) (onward : List Active) : Type 0 where
   pub starts : List Active
-  pub are_starts : AreStarts pieces vertices starts
+  pub are_starts : AreStarts vertices starts
   pub same : IsPermutation (going_past vertices edges ++ starts) onward
   pub fall : SlopesFall onward
 
@@ -109,8 +112,8 @@ TakeAll e v o (l ∷ ls) =
     × TakeAll (e - l.edges) (v - l.vertices) (o - l.onward) ls))
 
 -- the levels take up all edges to the right, each those that go on from it
-abbrev pub AreOnward : List Piece → List Active → List Vertex → List Active → List Level → Type 0
-AreOnward pieces es vs os [] = os ≡ []
-AreOnward pieces es vs os (l ∷ ls) =
-    IsOnward pieces (take l.edges es) (take l.vertices vs) (take l.onward os)
-    × AreOnward pieces (drop l.edges es) (drop l.vertices vs) (drop l.onward os) ls
+abbrev pub AreOnward : List Active → List Vertex → List Active → List Level → Type 0
+AreOnward es vs os [] = os ≡ []
+AreOnward es vs os (l ∷ ls) =
+    IsOnward (take l.edges es) (take l.vertices vs) (take l.onward os)
+    × AreOnward (drop l.edges es) (drop l.vertices vs) (drop l.onward os) ls

@@ -1,7 +1,9 @@
+pub mod Pieces
 pub mod Slanted
-pub mod Order
 pub mod Vertices
 pub mod Fronts
+pub mod Strips
 pub mod Levels
 pub mod Parts
+pub mod Rooms
 pub mod Next

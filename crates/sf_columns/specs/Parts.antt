@@ -6,7 +6,6 @@ use Rattle.sf_grid.specs.Plane.{grid_point}
 use Rattle.sf_columns.specs.declared.active.Active.{Active}
 use Rattle.sf_columns.specs.declared.contact.Contact.{Contact}
 use Rattle.sf_columns.specs.declared.level.Level.{Level}
-use Rattle.sf_columns.specs.declared.piece.Piece.{Piece}
 use Rattle.sf_columns.specs.declared.part.Part.{Part}
 use Rattle.sf_columns.specs.declared.part.Part.TheVariants.{Alone, Together}
 use Rattle.sf_columns.specs.declared.vertex.Vertex.{Vertex}
@@ -50,8 +49,8 @@ alone_count column (a ∷ es) cs vs =
     if stands_alone column a cs vs then 1 + alone_count column es (drop 1 cs) vs else 0
 
 -- a level is put behind the parts, and what goes on from it behind the order
-pub record HasLevel (pieces : List Piece) (run : List Active) (group : List Vertex) (parts parts' : List Part) (order order' : List Active) : Type 0 where
+pub record HasLevel (run : List Active) (group : List Vertex) (parts parts' : List Part) (order order' : List Active) : Type 0 where
   pub segment : List Active
-  pub onward : IsOnward pieces run group segment
+  pub onward : IsOnward run group segment
   pub behind : parts' ≡ parts ++ Together (record { edges = length run; vertices = length group; onward = length segment }) ∷ []
   pub order_behind : order' ≡ order ++ segment

@@ -1,5 +1,5 @@
 -- Edges that run from left to right: on which side of them points lie, how steep they are, and where they meet.
-use Rattle.std.specs.Prelude.{Bool, ◌&&◌, IsTrue, ℤ, pos, ◌-ℤ◌, ◌*ℤ◌, int_le, int_lt}
+use Rattle.std.specs.Prelude.{◌≡◌, Bool, true, false, ◌&&◌, IsTrue, pos, ◌-ℤ◌, ◌*ℤ◌, int_le, int_lt, refl}
 use Rattle.std.specs.Ordering.{int_cmp}
 use Rattle.std.specs.declared.cmp.Ordering.{Ordering}
 use Rattle.sf_grid.specs.declared.meet.Meet.TheVariants.{Along, At}
@@ -12,13 +12,24 @@ use Rattle.sf_grid.specs.Sharing.{IsOnBoth, IsSharing}
 abbrev pub IsRightward : Coordinates → Coordinates → Type 0
 IsRightward u v = IsTrue (int_lt u.x v.x)
 
+-- an edge that isn't vertical, from its left end to its right end
+pub record RightwardEdge : Type 0 where
+  pub left : Coordinates
+  pub right : Coordinates
+  pub rightward : IsRightward left right
+
+-- the edge from u to v where u is left of v; else one that nothing asks for
+abbrev pub rightward_by : (u v : Coordinates) (b : Bool) → int_lt u.x v.x ≡ b → RightwardEdge
+rightward_by u v true h = record { left = u; right = v; rightward = h }
+rightward_by u v false h = record { left = record { x = pos 0; y = pos 0 }; right = record { x = pos 1; y = pos 0 }; rightward = refl }
+
+-- an edge that isn't vertical, from its left end to its right end
+abbrev pub rightward_edge : Edge → RightwardEdge
+rightward_edge e = rightward_by (left_end e) (right_end e) (int_lt (left_end e).x (right_end e).x) refl
+
 -- the order of p's y and the height, in p's column, of the line from u to v
 abbrev pub side_of : Coordinates → Coordinates → Point → Ordering
 side_of u v p = fraction_cmp (y_of p) (height_rightward u v (x_of p))
-
--- how much steeper the line from u to v rises than that from s to t, times both runs
-abbrev pub slope_gap : Coordinates → Coordinates → Coordinates → Coordinates → ℤ
-slope_gap u v s t = (v.y -ℤ u.y) *ℤ (t.x -ℤ s.x) -ℤ (t.y -ℤ s.y) *ℤ (v.x -ℤ u.x)
 
 -- the order of the slopes of two lines that run to the right
 abbrev pub slope_order : Coordinates → Coordinates → Coordinates → Coordinates → Ordering

@@ -8,8 +8,9 @@ use Rattle.sf_grid.specs.Edge.{Edge as Line, edge_between, is_vertical, left_end
 use Rattle.sf_columns.specs.declared.piece.Piece.{Piece}
 use Rattle.sf_columns.specs.declared.piece.Piece.TheVariants.{Dot, Edge}
 use Rattle.sf_columns.specs.declared.vertex.Role.{Role}
-use Rattle.sf_columns.specs.declared.vertex.Role.TheVariants.{Alone, Begin, Bottom, End, Top}
+use Rattle.sf_columns.specs.declared.vertex.Role.TheVariants.{Begin, Bottom, Dot as AtDot, End, Top}
 use Rattle.sf_columns.specs.declared.vertex.Vertex.{Vertex}
+use Rattle.sf_columns.specs.Slanted.{rightward_edge}
 
 -- the ends of a vertical edge
 abbrev pub upper_end : Line → Coordinates
@@ -27,8 +28,8 @@ vertices_of i (Edge a b) =
     let e = edge_between a b in
     if is_vertical e
     then vertex (upper_end e) Top i ∷ vertex (lower_end e) Bottom i ∷ []
-    else vertex (left_end e) Begin i ∷ vertex (right_end e) End i ∷ []
-vertices_of i (Dot a) = vertex a Alone i ∷ []
+    else vertex (left_end e) (Begin (rightward_edge e)) i ∷ vertex (right_end e) End i ∷ []
+vertices_of i (Dot a) = vertex a AtDot i ∷ []
 
 -- the vertices of pieces whose numbers begin with k
 abbrev pub all_vertices : ℕ → List Piece → List Vertex
@@ -59,27 +60,27 @@ IsVertexOf pieces v = IsVertexIn (piece_at pieces v.piece) v
 
 -- what is on a level from here on: it wasn't on the gap above
 abbrev pub enters : Role → Bool
-enters Begin = true
+enters (Begin e) = true
 enters End = false
 enters Top = true
 enters Bottom = false
-enters Alone = true
+enters AtDot = true
 
 -- what is on a level and not on the gap below
 abbrev pub leaves : Role → Bool
-leaves Begin = true
+leaves (Begin e) = true
 leaves End = false
 leaves Top = false
 leaves Bottom = true
-leaves Alone = true
+leaves AtDot = true
 
 -- an edge that isn't vertical begins there
 abbrev pub begins : Role → Bool
-begins Begin = true
+begins (Begin e) = true
 begins End = false
 begins Top = false
 begins Bottom = false
-begins Alone = false
+begins AtDot = false
 
 -- the pieces of the vertices whose roles pass a test
 abbrev pub pieces_with : (Role → Bool) → List Vertex → List ℕ

@@ -16,7 +16,7 @@ pub struct Active {
 impl Active {
     /// Whether the edge goes on past the column of the vertices of a level. Where there is no
     /// vertex, no edge ends.
-    pub fn goes_past(&self, vertices: &[Vertex]) -> bool
+    pub(crate) fn goes_past(&self, vertices: &[Vertex]) -> bool
         ensures { result ≡ goes_past_of vertices.now self.now }
     {
         match vertices.first() {
@@ -26,7 +26,7 @@ impl Active {
     }
 
     /// Whether the edge is above the first of the vertices of a column, where there is one.
-    pub fn is_over(&self, vertices: &[Vertex]) -> bool
+    pub(crate) fn is_over(&self, vertices: &[Vertex]) -> bool
         ensures { result ≡ is_over_of vertices.now self.now }
     {
         match vertices.first() {

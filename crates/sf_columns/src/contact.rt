@@ -3,8 +3,10 @@
 ghost use Rattle.std.specs.Prelude.{◌≡◌, Some};
 ghost use Rattle.sf_grid.specs.Edge.{edge_between};
 ghost use Rattle.sf_columns.specs.Fronts.{IsContact, touches as touches_of};
+ghost use Rattle.sf_columns.specs.Strips.{column_of};
 
 use crate::slanted::Slanted;
+use crate::strip::Strip;
 use sf_grid::edges::meet;
 use sf_grid::{Frac, FracPoint, Meet};
 use std::cmp::Ordering;
@@ -22,7 +24,7 @@ pub enum Contact {
 
 impl Contact {
     /// What two edges do with one another right of the column `x`.
-    pub fn between(e: &Slanted, f: &Slanted, x: &Frac) -> Contact
+    pub(crate) fn between(e: &Slanted, f: &Slanted, x: &Frac) -> Contact
         ensures { IsContact
             (edge_between e.now.left e.now.right)
             (edge_between f.now.left f.now.right) x.now result }
@@ -38,12 +40,12 @@ impl Contact {
     }
 
     /// Whether the two edges are level: everywhere, or in the given column.
-    pub fn touches(&self, column: &Option<Frac>) -> bool
-        ensures { result ≡ touches_of column.now self.now }
+    pub(crate) fn touches(&self, strip: &Strip) -> bool
+        ensures { result ≡ touches_of (column_of strip.now) self.now }
     {
-        match (self, column) {
+        match (self, strip) {
             (Contact::Throughout, _) => true,
-            (_, Some(x)) => self.is_level_in(x),
+            (_, Strip::Column(x)) => self.is_level_in(x),
             _ => false,
         }
     }

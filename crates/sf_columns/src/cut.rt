@@ -3,17 +3,18 @@
 ghost use Rattle.std.specs.Prelude.{◌≡◌, ◌+◌, ◌-◌, ◌≤◌, ◌<◌, [], ◌∷◌, ◌++◌, None, Some, drop, length, vec_capacity, vec_len};
 ghost use Rattle.std.specs.List.{AllByRecursion};
 ghost use Rattle.sf_columns.specs.Fronts.{AreApart, AreContacts};
-ghost use Rattle.sf_columns.specs.Levels.{AreOnward, AreTops, TakeAll};
+ghost use Rattle.sf_columns.specs.Levels.{AreOnward, AreTops, TakeAll, most_onward};
 ghost use Rattle.sf_columns.specs.declared.part.Part.TheVariants.{Alone};
 ghost use Rattle.sf_columns.specs.Parts.{HasLevel, alone_count, levels_of, stands_alone as stands_alone_in, touches_first};
-ghost use Rattle.sf_columns.specs.Vertices.{IsVertexOf};
+ghost use Rattle.sf_columns.specs.Rooms.{HasRoom, HasRoomFor, KeepsRoom};
+ghost use Rattle.sf_columns.specs.Strips.{column_of};
 
 use crate::active::Active;
 use crate::contact::Contact;
 use crate::level::{Level, run_len};
 use crate::onward::onward;
 use crate::part::Part;
-use crate::piece::Piece;
+use crate::strip::Strip;
 use crate::vertex::Vertex;
 use sf_grid::Frac;
 
@@ -31,51 +32,37 @@ impl Cut {
     /// Cuts the column `x`: by the edges that come to it, from the top, what each does with the next
     /// one, and the vertices in it, from the top. Between edges that stand alone the contacts are
     /// kept; only beside the other levels they are computed anew.
-    pub fn column(
-        &mut self,
-        pieces: &[Piece],
-        x: &Frac,
-        edges: &[Active],
-        contacts: &[Contact],
-        vertices: &[Vertex],
-    )
-        requires vertices { AllByRecursion (IsVertexOf pieces.now) vertices.now }
+    pub fn column(&mut self, x: &Frac, edges: &[Active], contacts: &[Contact], vertices: &[Vertex])
         requires apart { AreApart x.now edges.now contacts.now }
-        requires room { length edges.now + length vertices.now ≤ vec_capacity self.old.parts }
-        requires order_room { length edges.now + length vertices.now ≤ vec_capacity self.old.order }
-        requires contacts_room { length edges.now + length vertices.now ≤ vec_capacity self.old.contacts }
-        requires segment_room { length edges.now + length vertices.now ≤ vec_capacity self.old.segment }
+        requires room { HasRoom (length edges.now + length vertices.now) (most_onward edges.now vertices.now) self.old }
         ensures tops { AreTops (Some x.now) edges.now contacts.now vertices.now
             (levels_of self.new.parts.items) }
-        ensures onward { AreOnward pieces.now edges.now vertices.now
+        ensures onward { AreOnward edges.now vertices.now
             self.new.order.items (levels_of self.new.parts.items) }
         ensures all { TakeAll (length edges.now) (length vertices.now)
             (length self.new.order.items) (levels_of self.new.parts.items) }
         ensures contacts { AreContacts x.now self.new.order.items self.new.contacts.items }
-        ensures room { vec_capacity self.old.parts ≤ vec_capacity self.new.parts }
-        ensures order_room { vec_capacity self.old.order ≤ vec_capacity self.new.order }
-        ensures contacts_room { vec_capacity self.old.contacts ≤ vec_capacity self.new.contacts }
-        ensures segment_room { vec_capacity self.old.segment ≤ vec_capacity self.new.segment }
+        ensures room { KeepsRoom self.old self.new }
     {
         self.parts.clear();
         self.order.clear();
         self.contacts.clear();
-        let column = Some(*x);
+        let strip = Strip::Column(*x);
         let mut edges = edges;
         let mut contacts = contacts;
         let mut vertices = vertices;
         while !edges.is_empty() || !vertices.is_empty() {
-            let alone = alone_len(&column, edges, contacts, vertices);
+            let alone = alone_len(&strip, edges, contacts, vertices);
             if alone > 0 {
                 let (run, lower) = edges.split_at(alone);
                 self.push_alone(x, run, contacts.split_at(alone - 1).0);
                 edges = lower;
                 contacts = skip(contacts, alone);
             } else {
-                let top = Level::top(&column, edges, contacts, vertices);
+                let top = Level::top(&strip, edges, contacts, vertices);
                 let (run, lower) = edges.split_at(top.edges);
                 let (group, later) = vertices.split_at(top.vertices);
-                self.push_level(pieces, x, run, group);
+                self.push_level(x, run, group);
                 edges = lower;
                 contacts = skip(contacts, top.edges);
                 vertices = later;
@@ -100,12 +87,12 @@ impl Cut {
         let mut edges = edges;
         let mut contacts = contacts;
         while !edges.is_empty() {
-            let alone = alone_len(&None, edges, contacts, &[]);
+            let alone = alone_len(&Strip::Slab, edges, contacts, &[]);
             let count = if alone > 0 {
                 self.parts.push_reserved(Part::Alone(alone));
                 alone
             } else {
-                let bundle = run_len(&None, edges, contacts);
+                let bundle = run_len(&Strip::Slab, edges, contacts);
                 self.parts.push_reserved(Part::Together(Level {
                     edges: bundle,
                     vertices: 0,
@@ -122,18 +109,13 @@ impl Cut {
     fn push_alone(&mut self, x: &Frac, run: &[Active], kept: &[Contact])
         requires kept { AreContacts x.now run.now kept.now }
         requires contacts { AreContacts x.now self.old.order.items self.old.contacts.items }
-        requires room { vec_len self.old.parts < vec_capacity self.old.parts }
-        requires order_room { vec_len self.old.order + length run.now ≤ vec_capacity self.old.order }
-        requires contacts_room { vec_len self.old.order + length run.now ≤ vec_capacity self.old.contacts }
+        requires room { HasRoomFor (length run.now) self.old }
         ensures parts { self.new.parts.items ≡ self.old.parts.items ++ Alone (length run.now) ∷ [] }
         ensures order { self.new.order.items ≡ self.old.order.items ++ run.now }
         ensures contacts { AreContacts x.now self.new.order.items self.new.contacts.items }
         ensures len { vec_len self.new.parts ≡ vec_len self.old.parts + 1 }
         ensures order_len { vec_len self.new.order ≡ vec_len self.old.order + length run.now }
-        ensures room { vec_capacity self.old.parts ≤ vec_capacity self.new.parts }
-        ensures order_room { vec_capacity self.old.order ≤ vec_capacity self.new.order }
-        ensures contacts_room { vec_capacity self.old.contacts ≤ vec_capacity self.new.contacts }
-        ensures segment_room { vec_capacity self.old.segment ≤ vec_capacity self.new.segment }
+        ensures room { KeepsRoom self.old self.new }
     {
         if let Some((first, others)) = run.split_first() {
             push_edge(x, first, &mut self.order, &mut self.contacts);
@@ -144,27 +126,18 @@ impl Cut {
     }
 
     /// Pushes a level, and the edges that go on from it.
-    fn push_level(&mut self, pieces: &[Piece], x: &Frac, run: &[Active], group: &[Vertex])
-        requires vertices { AllByRecursion (IsVertexOf pieces.now) group.now }
+    fn push_level(&mut self, x: &Frac, run: &[Active], group: &[Vertex])
         requires contacts { AreContacts x.now self.old.order.items self.old.contacts.items }
-        requires room { vec_len self.old.parts < vec_capacity self.old.parts }
-        requires order_room { vec_len self.old.order + (length run.now + length group.now)
-            ≤ vec_capacity self.old.order }
-        requires contacts_room { vec_len self.old.order + (length run.now + length group.now)
-            ≤ vec_capacity self.old.contacts }
-        requires segment_room { length run.now + length group.now ≤ vec_capacity self.old.segment }
-        ensures pushed { HasLevel pieces.now run.now group.now
+        requires room { HasRoomFor (most_onward run.now group.now) self.old }
+        ensures pushed { HasLevel run.now group.now
             self.old.parts.items self.new.parts.items self.old.order.items self.new.order.items }
         ensures contacts { AreContacts x.now self.new.order.items self.new.contacts.items }
         ensures len { vec_len self.new.parts ≡ vec_len self.old.parts + 1 }
         ensures order_len { vec_len self.new.order
-            ≤ vec_len self.old.order + (length run.now + length group.now) }
-        ensures room { vec_capacity self.old.parts ≤ vec_capacity self.new.parts }
-        ensures order_room { vec_capacity self.old.order ≤ vec_capacity self.new.order }
-        ensures contacts_room { vec_capacity self.old.contacts ≤ vec_capacity self.new.contacts }
-        ensures segment_room { vec_capacity self.old.segment ≤ vec_capacity self.new.segment }
+            ≤ vec_len self.old.order + most_onward run.now group.now }
+        ensures room { KeepsRoom self.old self.new }
     {
-        onward(pieces, run, group, &mut self.segment);
+        onward(run, group, &mut self.segment);
         self.parts.push_reserved(Part::Together(Level {
             edges: run.len(),
             vertices: group.len(),
@@ -221,16 +194,11 @@ fn extend<T: Copy>(found: &mut Vec<T>, others: &[T])
 
 /// How many edges from the first one on stand alone: none is level with the next one or with the
 /// first vertex, and all are above that.
-fn alone_len(
-    column: &Option<Frac>,
-    edges: &[Active],
-    contacts: &[Contact],
-    vertices: &[Vertex],
-) -> usize
-    ensures { result ≡ alone_count column.now edges.now contacts.now vertices.now }
+fn alone_len(strip: &Strip, edges: &[Active], contacts: &[Contact], vertices: &[Vertex]) -> usize
+    ensures { result ≡ alone_count (column_of strip.now) edges.now contacts.now vertices.now }
 {
     for (place, edge) in edges.iter().enumerate() {
-        if !stands_alone(column, edge, contacts, place, vertices) {
+        if !stands_alone(strip, edge, contacts, place, vertices) {
             return place;
         }
     }
@@ -239,23 +207,23 @@ fn alone_len(
 
 /// Whether the edge at a place, with only what is below it left, is the only thing at its height.
 fn stands_alone(
-    column: &Option<Frac>,
+    strip: &Strip,
     edge: &Active,
     contacts: &[Contact],
     place: usize,
     vertices: &[Vertex],
 ) -> bool
-    ensures { result ≡ stands_alone_in column.now edge.now (drop place contacts.now) vertices.now }
+    ensures { result ≡ stands_alone_in (column_of strip.now) edge.now (drop place contacts.now) vertices.now }
 {
-    !touches_next(column, contacts, place) && edge.is_over(vertices)
+    !touches_next(strip, contacts, place) && edge.is_over(vertices)
 }
 
 /// Whether the edge at a place is level with the next one.
-fn touches_next(column: &Option<Frac>, contacts: &[Contact], place: usize) -> bool
-    ensures { result ≡ touches_first column.now (drop place contacts.now) }
+fn touches_next(strip: &Strip, contacts: &[Contact], place: usize) -> bool
+    ensures { result ≡ touches_first (column_of strip.now) (drop place contacts.now) }
 {
     match contacts.get(place) {
-        Some(contact) => contact.touches(column),
+        Some(contact) => contact.touches(strip),
         None => false,
     }
 }

@@ -5,11 +5,13 @@ ghost use Rattle.std.specs.List.{prefix_len};
 ghost use Rattle.std.specs.Ordering.{int_eq};
 ghost use Rattle.sf_columns.specs.Fronts.{touches};
 ghost use Rattle.sf_columns.specs.Levels.{group_length, run_length, top_level};
+ghost use Rattle.sf_columns.specs.Strips.{column_of};
 
 use crate::active::Active;
 use crate::contact::Contact;
+use crate::strip::Strip;
 use crate::vertex::Vertex;
-use sf_grid::{Frac, GridPoint};
+use sf_grid::GridPoint;
 use std::cmp::Ordering;
 
 /// How many edges, vertices and edges to the right belong to one height of a column.
@@ -22,21 +24,21 @@ pub struct Level {
 
 impl Level {
     /// The highest level of what is left of a column, without its edges to the right.
-    pub fn top(
-        column: &Option<Frac>,
+    pub(crate) fn top(
+        strip: &Strip,
         edges: &[Active],
         contacts: &[Contact],
         vertices: &[Vertex],
     ) -> Level
         requires few { length contacts.now ≤ length edges.now }
-        ensures { result ≡ top_level column.now edges.now contacts.now vertices.now }
+        ensures { result ≡ top_level (column_of strip.now) edges.now contacts.now vertices.now }
     {
         let (edges, vertices) = match (edges.first(), vertices.first()) {
             (None, _) => (0, group_len(vertices)),
-            (Some(_), None) => (run_len(column, edges, contacts), 0),
+            (Some(_), None) => (run_len(strip, edges, contacts), 0),
             (Some(first), Some(vertex)) => match first.edge.side(vertex.at) {
-                Ordering::Less => (run_len(column, edges, contacts), 0),
-                Ordering::Equal => (run_len(column, edges, contacts), group_len(vertices)),
+                Ordering::Less => (run_len(strip, edges, contacts), 0),
+                Ordering::Equal => (run_len(strip, edges, contacts), group_len(vertices)),
                 Ordering::Greater => (0, group_len(vertices)),
             },
         };
@@ -49,23 +51,23 @@ impl Level {
 }
 
 /// How many edges from the first one on are level with it.
-pub fn run_len(column: &Option<Frac>, edges: &[Active], contacts: &[Contact]) -> usize
+pub(crate) fn run_len(strip: &Strip, edges: &[Active], contacts: &[Contact]) -> usize
     requires few { length contacts.now ≤ length edges.now }
-    ensures { result ≡ run_length column.now edges.now contacts.now }
+    ensures { result ≡ run_length (column_of strip.now) edges.now contacts.now }
 {
     if edges.is_empty() {
         0
     } else {
-        1 + touching(column, contacts)
+        1 + touching(strip, contacts)
     }
 }
 
 /// How many contacts from the first one on touch.
-fn touching(column: &Option<Frac>, contacts: &[Contact]) -> usize
-    ensures value { result ≡ prefix_len (touches column.now) contacts.now }
+fn touching(strip: &Strip, contacts: &[Contact]) -> usize
+    ensures value { result ≡ prefix_len (touches (column_of strip.now)) contacts.now }
     ensures bound { result ≤ length contacts.now }
 {
-    contacts.iter().take_while(|c| c.touches(column)).count()
+    contacts.iter().take_while(|c| c.touches(strip)).count()
 }
 
 /// How many vertices from the first one on are at its height.

@@ -11,6 +11,7 @@ mod onward;
 mod part;
 mod piece;
 mod slanted;
+mod strip;
 mod vertex;
 
 pub use active::Active;
@@ -21,4 +22,5 @@ pub use next::next_column;
 pub use part::Part;
 pub use piece::Piece;
 pub use slanted::Slanted;
+pub use strip::Strip;
 pub use vertex::{Role, Vertex, vertices};

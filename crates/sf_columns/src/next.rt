@@ -7,13 +7,13 @@ use crate::contact::Contact;
 use sf_grid::{Frac, FracPoint, GridPoint};
 use std::cmp::Ordering;
 
-/// The leftmost of the columns of the next grid point and of the points ahead that neighbours share,
+/// The leftmost of the columns of the next vertex and of the points ahead that neighbours share,
 /// or None where there is none of either.
-pub fn next_column(grid: Option<GridPoint>, contacts: &[Contact]) -> Option<Frac>
-    ensures some { IfSome result (λ y. IsLeastOf (candidates grid contacts.now) y) }
-    ensures none { OnNone result (candidates grid contacts.now ≡ []) }
+pub fn next_column(vertex: Option<GridPoint>, contacts: &[Contact]) -> Option<Frac>
+    ensures some { IfSome result (λ y. IsLeastOf (candidates vertex contacts.now) y) }
+    ensures none { OnNone result (candidates vertex contacts.now ≡ []) }
 {
-    let mut nearest = match grid {
+    let mut nearest = match vertex {
         Some(p) => Some(FracPoint::of(p).x()),
         None => None,
     };

@@ -9,6 +9,7 @@ ghost use Rattle.sf_columns.specs.Slanted.{IsRightward, side_of, slope_order as 
 use sf_grid::edges::orientation;
 use sf_grid::{GridPoint, Turn};
 use std::cmp::Ordering;
+use std::marker::Model;
 
 /// An edge that isn't vertical, from its left end to its right end.
 #[derive(Clone, Copy)]
@@ -16,6 +17,16 @@ pub struct Slanted {
     left: GridPoint,
     right: GridPoint,
     ghost rightward: { IsRightward left right },
+}
+
+impl Model for Slanted {
+    ghost use Rattle.sf_columns.specs.Slanted.{RightwardEdge};
+
+    ghost Value = { RightwardEdge };
+
+    ghost view = { λ e. record { left = e.left; right = e.right; rightward = e.rightward } };
+
+    ghost inverse = { λ e. record { left = e.left; right = e.right; rightward = e.rightward } };
 }
 
 impl Slanted {
@@ -49,7 +60,7 @@ impl Slanted {
     }
 
     /// Where `p` lies in its column: below the line of this edge, on it, or above it.
-    pub fn side(&self, p: GridPoint) -> Ordering
+    pub(crate) fn side(&self, p: GridPoint) -> Ordering
         ensures { result ≡ side_of self.now.left self.now.right (grid_point p) }
     {
         match orientation(self.left, self.right, p) {
@@ -60,7 +71,7 @@ impl Slanted {
     }
 
     /// Which of two edges rises less.
-    pub fn slope_order(&self, other: &Slanted) -> Ordering
+    pub(crate) fn slope_order(&self, other: &Slanted) -> Ordering
         ensures { result ≡ slope_order_of
             self.now.left self.now.right other.now.left other.now.right }
     {

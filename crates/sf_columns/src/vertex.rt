@@ -7,15 +7,16 @@ ghost use Rattle.sf_columns.specs.declared.piece.Piece.TheVariants.{Edge};
 ghost use Rattle.sf_columns.specs.Vertices.{all_vertices, enters as enters_of, in_column, leaves as leaves_of, vertex_before, vertices_of};
 
 use crate::Piece;
+use crate::slanted::Slanted;
 use sf_grid::{Frac, FracPoint, GridPoint};
 use std::alloc::{AllocError, Global};
 use std::cmp::Ordering;
 
 /// What is at a vertex.
-#[derive(Clone, Copy, PartialEq, Eq, Debug)]
+#[derive(Clone, Copy)]
 pub enum Role {
-    /// The left end of an edge that isn't vertical.
-    Begin,
+    /// The left end of this edge.
+    Begin(Slanted),
     /// The right end of an edge that isn't vertical.
     End,
     /// The upper end of a vertical edge.
@@ -23,11 +24,11 @@ pub enum Role {
     /// The lower end of a vertical edge.
     Bottom,
     /// A dot.
-    Alone,
+    Dot,
 }
 
 /// An end of an edge, or a dot.
-#[derive(Clone, Copy, Debug)]
+#[derive(Clone, Copy)]
 pub struct Vertex {
     pub at: GridPoint,
     pub role: Role,
@@ -39,14 +40,14 @@ impl Role {
     pub fn enters(&self) -> bool
         ensures { result ≡ enters_of self.now }
     {
-        matches!(self, Role::Begin | Role::Top | Role::Alone)
+        matches!(self, Role::Begin(_) | Role::Top | Role::Dot)
     }
 
     /// Whether the piece is on a level and not on the gap below.
     pub fn leaves(&self) -> bool
         ensures { result ≡ leaves_of self.now }
     {
-        matches!(self, Role::Begin | Role::Bottom | Role::Alone)
+        matches!(self, Role::Begin(_) | Role::Bottom | Role::Dot)
     }
 }
 
@@ -109,7 +110,7 @@ fn push_ends(found: &mut Vec<Vertex>, number: u32, piece: &Piece)
         }
         Piece::Dot(at) => found.push_reserved(Vertex {
             at,
-            role: Role::Alone,
+            role: Role::Dot,
             piece: number,
         }),
     }
@@ -120,10 +121,12 @@ fn ends(piece: u32, a: GridPoint, b: GridPoint) -> (Vertex, Vertex)
     ensures { result.0 ∷ result.1 ∷ [] ≡ vertices_of piece (Edge a b) }
 {
     let vertex = |at, role| Vertex { at, role, piece };
-    match a.x().cmp(&b.x()) {
-        Ordering::Less => (vertex(a, Role::Begin), vertex(b, Role::End)),
-        Ordering::Greater => (vertex(b, Role::Begin), vertex(a, Role::End)),
-        Ordering::Equal if a.y() < b.y() => (vertex(b, Role::Top), vertex(a, Role::Bottom)),
-        Ordering::Equal => (vertex(a, Role::Top), vertex(b, Role::Bottom)),
+    match Slanted::between(a, b) {
+        Some(edge) => (
+            vertex(edge.left(), Role::Begin(edge)),
+            vertex(edge.right(), Role::End),
+        ),
+        None if a.y() < b.y() => (vertex(b, Role::Top), vertex(a, Role::Bottom)),
+        None => (vertex(a, Role::Top), vertex(b, Role::Bottom)),
     }
 }

@@ -79,7 +79,7 @@ at_not_below : (q h : Fraction) → Same h q → fraction_lt h q ≡ false
 at_not_below q h e = elim (cases_Bool (fraction_lt h q)) [ inl t ↦ absurd (rising_order.apart h q e t) | inr f ↦ f ]
 
 -- and one below it is not at it
-below_not_at : (q h : Fraction) → fraction_lt h q ≡ true → fraction_eq h q ≡ false
+pub below_not_at : (q h : Fraction) → fraction_lt h q ≡ true → fraction_eq h q ≡ false
 below_not_at q h l = elim (cases_Bool (fraction_eq h q)) [ inl t ↦ absurd (rising_order.apart h q (eq_from_test _ _ t) l) | inr f ↦ f ]
 
 -- tests of vertices that agree
@@ -178,12 +178,12 @@ going_past-chosen vs [] = refl
 going_past-chosen vs (a ∷ es) = ap (λ fs. if goes_past vs a then a ∷ fs else fs) (going_past-chosen vs es)
 
 -- the edges that begin are those of the vertices where one begins
-pub starts-pieces : (pieces : List Piece) (vs : List Vertex) (starts : List Active) → AreStarts pieces vs starts → pieces_of starts ≡ pieces_with begins vs
-starts-pieces pieces [] starts h = ap pieces_of h
-starts-pieces pieces (v ∷ vs) starts h = by_test (begins v.role) starts h (starts-pieces pieces vs)
+pub starts-pieces : (vs : List Vertex) (starts : List Active) → AreStarts vs starts → pieces_of starts ≡ pieces_with begins vs
+starts-pieces [] starts h = ap pieces_of h
+starts-pieces (v ∷ vs) starts h = by_test (begins v.role) starts h (starts-pieces vs)
   where
-    by_test : (b : Bool) (fs : List Active) → if_begins b (StartsWith pieces v.piece (AreStarts pieces vs)) (AreStarts pieces vs) fs →
-        ((gs : List Active) → AreStarts pieces vs gs → pieces_of gs ≡ pieces_with begins vs) → pieces_of fs ≡ (if b then v.piece ∷ pieces_with begins vs else pieces_with begins vs)
+    by_test : (b : Bool) (fs : List Active) → if_begins b (StartsWith v (AreStarts vs)) (AreStarts vs) fs →
+        ((gs : List Active) → AreStarts vs gs → pieces_of gs ≡ pieces_with begins vs) → pieces_of fs ≡ (if b then v.piece ∷ pieces_with begins vs else pieces_with begins vs)
     by_test true [] k rest = absurd k
     by_test true (a ∷ fs) k rest = ap (λ i. i ∷ pieces_of fs) k.0 ∙ ap (λ ns. v.piece ∷ ns) (rest fs k.1.1)
     by_test false fs k rest = rest fs k
@@ -255,7 +255,7 @@ pieces_of-permuted es fs h = λ w. sum-pieces_of w fs ∙ sum_by-IsPermutation (
 -- the edges that go on from a level are just those of the pieces that go on from its height
 pub onward_level : (pieces : List Piece) (z q : Fraction) (edges : List Active) (vertices : List Vertex) (onward : List Active) → IsFraction z →
     AllByRecursion (IsEntry pieces) edges → SameNumbers (pieces_of edges) (numbers_from 0 (comes_at z q) pieces) → AreVertices pieces (at_level z q) vertices →
-    IsOnward pieces edges vertices onward → SameNumbers (pieces_of onward) (numbers_from 0 (goes_on_from z q) pieces)
+    IsOnward edges vertices onward → SameNumbers (pieces_of onward) (numbers_from 0 (goes_on_from z q) pieces)
 onward_level pieces z q edges vertices onward i e h k o =
     let going = going_past vertices edges in
     SameNumbers-trans (pieces_of onward) (pieces_of going ++ pieces_of o.starts) (numbers_from 0 (goes_on_from z q) pieces)
@@ -263,7 +263,7 @@ onward_level pieces z q edges vertices onward i e h k o =
     (SameNumbers-either (pieces_of going) (pieces_of o.starts) (goes_on_from z q) (λ p. comes_at z q p && goes_past_at z p) (begins_at z q) pieces
     (subst (λ fs. SameNumbers (pieces_of fs) (numbers_from 0 (λ p. comes_at z q p && goes_past_at z p) pieces)) (sym (going_past-chosen vertices edges))
     (SameNumbers-chosen pieces (comes_at z q) (goes_past_at z) (goes_past vertices) edges h (past_level pieces z q edges vertices i e h k)))
-    (subst (λ ns. SameNumbers ns (numbers_from 0 (begins_at z q) pieces)) (sym (starts-pieces pieces vertices o.starts o.are_starts))
+    (subst (λ ns. SameNumbers ns (numbers_from 0 (begins_at z q) pieces)) (sym (starts-pieces vertices o.starts o.are_starts))
     (SameNumbers-vertices pieces (at_level z q) begins (begins_at z q) vertices k (one_begins z q)))
     (every_piece _ pieces (λ p. onward_from z q p i)))
 
@@ -380,7 +380,7 @@ none_below pieces z q i j k = (
 
 -- ---- the stops of a column fit its levels
 fits_from : (pieces : List Piece) (z q : Fraction) (qs : List Fraction) (es : List Active) (vs : List Vertex) (os : List Active) (ls : List Level) (gap above : Piece → Bool) (below : Fraction → Bool) →
-    IsFraction z → IsFraction q → Numbers qs → FollowFrom (λ a b. fraction_lt b a) q qs → IsRest pieces z below es vs → Covers below q → Leveled z es vs ls (q ∷ qs) → AreOnward pieces es vs os ls →
+    IsFraction z → IsFraction q → Numbers qs → FollowFrom (λ a b. fraction_lt b a) q qs → IsRest pieces z below es vs → Covers below q → Leveled z es vs ls (q ∷ qs) → AreOnward es vs os ls →
     AllByRecursion (λ p. gap p ≡ over z q p) pieces → IsHigher z q above → AllByRecursion (Known z q qs) pieces → Fits pieces gap above (stops es vs os ls) (levels_from z q qs)
 fits_from pieces z q qs es vs os [] gap above below i j n f r c h o g a k = absurd h
 fits_from pieces z q [] es vs os (l ∷ []) gap above below i j n f r c h o g a k =
@@ -479,7 +479,7 @@ first_rest pieces z es vs e h k =
 -- the items of such a column
 -- the stops of a column with heights fit its levels
 pub column_fits : (pieces : List Piece) (z q : Fraction) (qs : List Fraction) (es : List Active) (vs : List Vertex) (os : List Active) (ls : List Level) → IsFraction z →
-    IsHeights pieces z (q ∷ qs) → IsRest pieces z (λ _. true) es vs → Leveled z es vs ls (q ∷ qs) → AreOnward pieces es vs os ls →
+    IsHeights pieces z (q ∷ qs) → IsRest pieces z (λ _. true) es vs → Leveled z es vs ls (q ∷ qs) → AreOnward es vs os ls →
     Fits pieces (is_on (point_at z (one_more q))) (λ _. false) (stops es vs os ls) (levels_from z q qs)
 column_fits pieces z q qs es vs os ls i l r h o =
     fits_from pieces z q qs es vs os ls (is_on (point_at z (one_more q))) (λ _. false) (λ _. true) i l.numbers.0 l.numbers.1 l.in_order r (λ b w e. refl) h o
@@ -493,7 +493,7 @@ column_fits pieces z q qs es vs os ls i l r h o =
     known = all_listed z (q ∷ qs) pieces i l.has_all
 
 column_from : (pieces : List Piece) (z q : Fraction) (qs : List Fraction) (es : List Active) (vs : List Vertex) (os : List Active) (ls : List Level) → IsFraction z →
-    IsHeights pieces z (q ∷ qs) → IsRest pieces z (λ _. true) es vs → Leveled z es vs ls (q ∷ qs) → AreOnward pieces es vs os ls → IsColumn pieces z es vs os ls
+    IsHeights pieces z (q ∷ qs) → IsRest pieces z (λ _. true) es vs → Leveled z es vs ls (q ∷ qs) → AreOnward es vs os ls → IsColumn pieces z es vs os ls
 column_from pieces z q qs es vs os ls i l r h o =
     record {
       heights = q ∷ qs;
@@ -585,13 +585,13 @@ column_bare pieces z es vs os [] i l h =
 -- ---- what is handed out for a column are the items of its cells
 -- of any column
 column_by : (pieces : List Piece) (z : Fraction) (qs : List Fraction) (es : List Active) (vs : List Vertex) (os : List Active) (ls : List Level) → IsFraction z →
-    IsHeights pieces z qs → IsRest pieces z (λ _. true) es vs → Leveled z es vs ls qs → AreOnward pieces es vs os ls → IsColumn pieces z es vs os ls
+    IsHeights pieces z qs → IsRest pieces z (λ _. true) es vs → Leveled z es vs ls qs → AreOnward es vs os ls → IsColumn pieces z es vs os ls
 column_by pieces z [] es vs os ls i l r h o = column_bare pieces z es vs os ls i l h
 column_by pieces z (q ∷ qs) es vs os ls i l r h o = column_from pieces z q qs es vs os ls i l r h o
 
 -- the levels that a column is cut into hand out just the items of the cells of that column
 pub column-is : (pieces : List Piece) (z : Fraction) (column : Option Fraction) (es : List Active) (cs : List Contact) (vs : List Vertex) (os : List Active) (ls : List Level) →
-    IsComing pieces z column es cs → IsColumnOf pieces z vs → AreTops column es cs vs ls → AreOnward pieces es vs os ls → IsColumn pieces z es vs os ls
+    IsComing pieces z column es cs → IsColumnOf pieces z vs → AreTops column es cs vs ls → AreOnward es vs os ls → IsColumn pieces z es vs os ls
 column-is pieces z column es cs vs os ls c v t o =
     let l = leveled z column es cs vs ls c.place c.steps v.here v.in_order t in
     column_by pieces z l.0 es vs os ls c.place (leveled_heights pieces z es vs ls l.0 c.place c.entries c.coming v.are l.1) (first_rest pieces z es vs c.entries c.coming v.are) l.1 o

@@ -24,7 +24,8 @@ use Rattle.sf_grid.proofs.Ring.{ring, var, num, sum, dif, mul}
 use Rattle.sf_grid.proofs.SameLaws.{same_point_is_equivalence}
 use Rattle.sf_columns.specs.declared.active.Active.{Active}
 use Rattle.sf_columns.specs.Fronts.{IsRun, line_of}
-use Rattle.sf_columns.specs.Slanted.{IsMeetingAfter, IsOneLine, slope_gap}
+use Rattle.sf_columns.specs.Slanted.{IsMeetingAfter, IsOneLine}
+use Rattle.sf_columns.proofs.SlantedLaws.{slope_gap}
 use Rattle.sf_slabs.proofs.NumberLaws.{Same-trans, rising_order}
 use Rattle.sf_slabs.proofs.OnLaws.{IsPoint-point_at, on_edge-height, x_of-point_at, y_of-point_at}
 use Rattle.sf_slabs.proofs.SampleLaws.{if_cases}

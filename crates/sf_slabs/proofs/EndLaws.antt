@@ -17,6 +17,7 @@ use Rattle.sf_columns.specs.declared.vertex.Role.TheVariants.{Begin, Bottom, End
 use Rattle.sf_cells.specs.Cells.{numbers_from}
 use Rattle.sf_columns.specs.Fronts.{IsEntry, IsEntryIn, IsRun, SameNumbers, pieces_of}
 use Rattle.sf_cells.specs.Pieces.{ends_of}
+use Rattle.sf_columns.specs.Slanted.{rightward_edge}
 use Rattle.sf_columns.specs.Vertices.{all_vertices, lower_end, piece_at, upper_end, vertex, vertices_of}
 use Rattle.sf_slabs.proofs.AboveLaws.{passes}
 use Rattle.sf_slabs.proofs.CellLaws.{AgreeOn, numbers_from-agree}
@@ -70,7 +71,7 @@ vertices_at-ends P i (Edge a b) h = by_test (is_vertical (edge_between a b))
     by_test : (t : Bool) → AllByRecursion (λ v. P (whole v.at.x))
         (if t
         then vertex (upper_end (edge_between a b)) Top i ∷ vertex (lower_end (edge_between a b)) Bottom i ∷ []
-        else vertex (left_end (edge_between a b)) Begin i ∷ vertex (right_end (edge_between a b)) End i ∷ [])
+        else vertex (left_end (edge_between a b)) (Begin (rightward_edge (edge_between a b))) i ∷ vertex (right_end (edge_between a b)) End i ∷ [])
     by_test true = (upper (int_lt a.y b.y), (lower (int_lt a.y b.y), tt))
     by_test false = (Each-left P a b h, (Each-right P a b h, tt))
 
@@ -85,7 +86,7 @@ ends_at-vertices P i (Edge a b) h = by_test (is_vertical (edge_between a b)) h
     by_test : (t : Bool) → AllByRecursion (λ v. P (whole v.at.x))
         (if t
         then vertex (upper_end (edge_between a b)) Top i ∷ vertex (lower_end (edge_between a b)) Bottom i ∷ []
-        else vertex (left_end (edge_between a b)) Begin i ∷ vertex (right_end (edge_between a b)) End i ∷ []) →
+        else vertex (left_end (edge_between a b)) (Begin (rightward_edge (edge_between a b))) i ∷ vertex (right_end (edge_between a b)) End i ∷ []) →
         P (whole a.x) × (P (whole b.x) × Unit {0})
     by_test true k = either (int_lt a.y b.y) k.0 k.1.0
     by_test false k = either (int_lt b.x a.x) k.0 k.1.0

@@ -19,6 +19,7 @@ use Rattle.sf_columns.specs.declared.vertex.Vertex.{Vertex}
 use Rattle.sf_cells.specs.Cells.{numbers_from}
 use Rattle.sf_columns.specs.Fronts.{IsEntry, IsEntryIn, SameNumbers, pieces_of}
 use Rattle.sf_cells.specs.Pieces.{heights_of, if_in_column}
+use Rattle.sf_columns.specs.Slanted.{rightward_edge}
 use Rattle.sf_columns.specs.Vertices.{all_vertices, lower_end, piece_at, upper_end, vertex, vertices_of}
 use Rattle.sf_slabs.proofs.AboveLaws.{height_of}
 use Rattle.sf_slabs.proofs.ColumnLaws.{IsHeights}
@@ -122,13 +123,13 @@ piece_among z hs i (Edge a b) j h k =
     if_cases (AllByRecursion (Among hs)) (is_vertical e) (if_in_column z a (whole a.y ∷ whole b.y ∷ [])) (if reaches e z then height_at e z ∷ [] else [])
     (λ u. if_cases (AllByRecursion (Among hs)) (fraction_eq (whole a.x) z) (whole a.y ∷ whole b.y ∷ []) []
     (λ t.
-    let ends = if_true (AllByRecursion (InColumn z (Among hs))) (is_vertical e) (vertex (upper_end e) Top i ∷ vertex (lower_end e) Bottom i ∷ []) (vertex (left_end e) Begin i ∷ vertex (right_end e) End i ∷ []) u k in
+    let ends = if_true (AllByRecursion (InColumn z (Among hs))) (is_vertical e) (vertex (upper_end e) Top i ∷ vertex (lower_end e) Bottom i ∷ []) (vertex (left_end e) (Begin (rightward_edge e)) i ∷ vertex (right_end e) End i ∷ []) u k in
     let both = both_ends (Among hs) a b (ends.0 (ap (λ x. fraction_eq (whole x) z) (upper_column a b u) ∙ t)) (ends.1.0 (ap (λ x. fraction_eq (whole x) z) (lower_column a b u) ∙ t)) in
     (both.0, (both.1, tt)))
     (λ _. tt))
     (λ s. if_cases (AllByRecursion (Among hs)) (reaches e z) (height_at e z ∷ []) []
     (λ r.
-    let ends = if_false (AllByRecursion (InColumn z (Among hs))) (is_vertical e) (vertex (upper_end e) Top i ∷ vertex (lower_end e) Bottom i ∷ []) (vertex (left_end e) Begin i ∷ vertex (right_end e) End i ∷ []) s k in
+    let ends = if_false (AllByRecursion (InColumn z (Among hs))) (is_vertical e) (vertex (upper_end e) Top i ∷ vertex (lower_end e) Bottom i ∷ []) (vertex (left_end e) (Begin (rightward_edge e)) i ∷ vertex (right_end e) End i ∷ []) s k in
     (slanted_among z hs a b j s r h ends.0, tt))
     (λ _. tt))
 piece_among z hs i (Dot a) j h k = if_cases (AllByRecursion (Among hs)) (fraction_eq (whole a.x) z) (whole a.y ∷ []) [] (λ t. (k.0 t, tt)) (λ _. tt)
@@ -167,7 +168,7 @@ upright_among z a b y u t m =
 pub vertices_among : (z : Fraction) (i : ℕ) (p : Piece) → IsFraction z → AllByRecursion (InColumn z (Among (heights_of z p))) (vertices_of i p)
 vertices_among z i (Edge a b) j =
     let e = edge_between a b in
-    if_cases (AllByRecursion (InColumn z (Among (heights_of z (Edge a b))))) (is_vertical e) (vertex (upper_end e) Top i ∷ vertex (lower_end e) Bottom i ∷ []) (vertex (left_end e) Begin i ∷ vertex (right_end e) End i ∷ [])
+    if_cases (AllByRecursion (InColumn z (Among (heights_of z (Edge a b))))) (is_vertical e) (vertex (upper_end e) Top i ∷ vertex (lower_end e) Bottom i ∷ []) (vertex (left_end e) (Begin (rightward_edge e)) i ∷ vertex (right_end e) End i ∷ [])
     (λ u.
     let either = one_end (Among (whole a.y ∷ whole b.y ∷ [])) a b (inl refl) (inr (inl refl)) in (
       λ t. upright_among z a b (whole (upper_end e).y) u (ap (λ x. fraction_eq (whole x) z) (sym (upper_column a b u)) ∙ t) either.0,

@@ -20,9 +20,10 @@ use Rattle.sf_grid.proofs.Ring.{dif, mul, num, ring, sum, var}
 use Rattle.sf_columns.specs.declared.piece.Piece.{Piece}
 use Rattle.sf_columns.specs.declared.piece.Piece.TheVariants.{Dot, Edge}
 use Rattle.sf_columns.specs.declared.vertex.Role.{Role}
-use Rattle.sf_columns.specs.declared.vertex.Role.TheVariants.{Alone, Begin, Bottom, End, Top}
+use Rattle.sf_columns.specs.declared.vertex.Role.TheVariants.{Begin, Bottom, Dot as AtDot, End, Top}
 use Rattle.sf_columns.specs.declared.vertex.Vertex.{Vertex}
 use Rattle.sf_cells.specs.Pieces.{heights_of, if_in_column, is_on}
+use Rattle.sf_columns.specs.Slanted.{rightward_edge}
 use Rattle.sf_columns.specs.Vertices.{begins, enters, leaves, lower_end, upper_end, vertex}
 use Rattle.sf_slabs.proofs.AboveLaws.{goes_on-vertical, goes_on_from, height_of}
 use Rattle.sf_slabs.proofs.GapLaws.{IsGap, Parted, is_on-gap, one_of, within-whole}
@@ -170,11 +171,11 @@ ends_at z q (Dot a) = false
 
 -- an edge that is not vertical ends there
 abbrev pub ends : Role → Bool
-ends Begin = false
+ends (Begin e) = false
 ends End = true
 ends Top = false
 ends Bottom = false
-ends Alone = false
+ends AtDot = false
 
 -- a vertical edge from above q down to q or further; from q or higher down below q
 abbrev pub over : Fraction → Fraction → Piece → Bool
@@ -193,19 +194,19 @@ goes_past_at z (Edge a b) = fraction_lt z (whole (right_end (edge_between a b)).
 goes_past_at z (Dot a) = false
 
 -- ---- the vertices of a piece by role
-two_vertices : (f : Vertex → ℕ) (u v : Vertex) → sum_by f (u ∷ v ∷ []) ≡ f u + f v
+pub two_vertices : (f : Vertex → ℕ) (u v : Vertex) → sum_by f (u ∷ v ∷ []) ≡ f u + f v
 two_vertices f u v = omega (arith, sum_by-cons f u (v ∷ []), sum_by-cons f v [])
 
 -- the weight of one vertex
-one_vertex : (f : Vertex → ℕ) (u : Vertex) → sum_by f (u ∷ []) ≡ f u
+pub one_vertex : (f : Vertex → ℕ) (u : Vertex) → sum_by f (u ∷ []) ≡ f u
 one_vertex f u = omega (arith, sum_by-cons f u [])
 
-only_zero : (b : Bool) → ◌≡◌ {A = ℕ} (if b then 0 else 0) 0
+pub only_zero : (b : Bool) → ◌≡◌ {A = ℕ} (if b then 0 else 0) 0
 only_zero true = refl
 only_zero false = refl
 
 -- of two vertices, the weight of the one that has the role
-first_of_two : (b c : Bool) (n : ℕ) → (if b then n else 0) + (if c then 0 else 0) ≡ (if b then n else 0)
+pub first_of_two : (b c : Bool) (n : ℕ) → (if b then n else 0) + (if c then 0 else 0) ≡ (if b then n else 0)
 first_of_two b true n = omega arith
 first_of_two b false n = omega arith
 
@@ -213,7 +214,7 @@ second_of_two : (b c : Bool) (n : ℕ) → (if b then 0 else 0) + (if c then n e
 second_of_two true c n = omega arith
 second_of_two false c n = omega arith
 
-none_of_two : (b c : Bool) → (if b then 0 else 0) + (if c then 0 else 0) ≡ 0
+pub none_of_two : (b c : Bool) → (if b then 0 else 0) + (if c then 0 else 0) ≡ 0
 none_of_two true true = refl
 none_of_two true false = refl
 none_of_two false true = refl
@@ -232,15 +233,15 @@ one_enters z q w i (Edge a b) = by_test (is_vertical e)
 
     by_test : (t : Bool) →
         sum_by (weight_at z q enters w)
-        (if t then vertex (upper_end e) Top i ∷ vertex (lower_end e) Bottom i ∷ [] else vertex (left_end e) Begin i ∷ vertex (right_end e) End i ∷ [])
+        (if t then vertex (upper_end e) Top i ∷ vertex (lower_end e) Bottom i ∷ [] else vertex (left_end e) (Begin (rightward_edge e)) i ∷ vertex (right_end e) End i ∷ [])
         ≡ (if lies_at z q (if t then upper_end e else left_end e) then w i else 0)
     by_test true =
         two_vertices (weight_at z q enters w) (vertex (upper_end e) Top i) (vertex (lower_end e) Bottom i)
         ∙ first_of_two (lies_at z q (upper_end e)) (lies_at z q (lower_end e)) (w i)
     by_test false =
-        two_vertices (weight_at z q enters w) (vertex (left_end e) Begin i) (vertex (right_end e) End i)
+        two_vertices (weight_at z q enters w) (vertex (left_end e) (Begin (rightward_edge e)) i) (vertex (right_end e) End i)
         ∙ first_of_two (lies_at z q (left_end e)) (lies_at z q (right_end e)) (w i)
-one_enters z q w i (Dot a) = one_vertex (weight_at z q enters w) (vertex a Alone i)
+one_enters z q w i (Dot a) = one_vertex (weight_at z q enters w) (vertex a AtDot i)
 
 pub one_leaves : (z q : Fraction) → HasOne (at_level z q) leaves (leaves_at z q)
 one_leaves z q w i (Edge a b) = by_test (is_vertical e)
@@ -250,15 +251,15 @@ one_leaves z q w i (Edge a b) = by_test (is_vertical e)
 
     by_test : (t : Bool) →
         sum_by (weight_at z q leaves w)
-        (if t then vertex (upper_end e) Top i ∷ vertex (lower_end e) Bottom i ∷ [] else vertex (left_end e) Begin i ∷ vertex (right_end e) End i ∷ [])
+        (if t then vertex (upper_end e) Top i ∷ vertex (lower_end e) Bottom i ∷ [] else vertex (left_end e) (Begin (rightward_edge e)) i ∷ vertex (right_end e) End i ∷ [])
         ≡ (if lies_at z q (if t then lower_end e else left_end e) then w i else 0)
     by_test true =
         two_vertices (weight_at z q leaves w) (vertex (upper_end e) Top i) (vertex (lower_end e) Bottom i)
         ∙ second_of_two (lies_at z q (upper_end e)) (lies_at z q (lower_end e)) (w i)
     by_test false =
-        two_vertices (weight_at z q leaves w) (vertex (left_end e) Begin i) (vertex (right_end e) End i)
+        two_vertices (weight_at z q leaves w) (vertex (left_end e) (Begin (rightward_edge e)) i) (vertex (right_end e) End i)
         ∙ first_of_two (lies_at z q (left_end e)) (lies_at z q (right_end e)) (w i)
-one_leaves z q w i (Dot a) = one_vertex (weight_at z q leaves w) (vertex a Alone i)
+one_leaves z q w i (Dot a) = one_vertex (weight_at z q leaves w) (vertex a AtDot i)
 
 pub one_begins : (z q : Fraction) → HasOne (at_level z q) begins (begins_at z q)
 one_begins z q w i (Edge a b) = by_test (is_vertical e)
@@ -268,15 +269,15 @@ one_begins z q w i (Edge a b) = by_test (is_vertical e)
 
     by_test : (t : Bool) →
         sum_by (weight_at z q begins w)
-        (if t then vertex (upper_end e) Top i ∷ vertex (lower_end e) Bottom i ∷ [] else vertex (left_end e) Begin i ∷ vertex (right_end e) End i ∷ [])
+        (if t then vertex (upper_end e) Top i ∷ vertex (lower_end e) Bottom i ∷ [] else vertex (left_end e) (Begin (rightward_edge e)) i ∷ vertex (right_end e) End i ∷ [])
         ≡ (if not t && lies_at z q (left_end e) then w i else 0)
     by_test true =
         two_vertices (weight_at z q begins w) (vertex (upper_end e) Top i) (vertex (lower_end e) Bottom i)
         ∙ none_of_two (lies_at z q (upper_end e)) (lies_at z q (lower_end e))
     by_test false =
-        two_vertices (weight_at z q begins w) (vertex (left_end e) Begin i) (vertex (right_end e) End i)
+        two_vertices (weight_at z q begins w) (vertex (left_end e) (Begin (rightward_edge e)) i) (vertex (right_end e) End i)
         ∙ first_of_two (lies_at z q (left_end e)) (lies_at z q (right_end e)) (w i)
-one_begins z q w i (Dot a) = one_vertex (weight_at z q begins w) (vertex a Alone i) ∙ only_zero (lies_at z q a)
+one_begins z q w i (Dot a) = one_vertex (weight_at z q begins w) (vertex a AtDot i) ∙ only_zero (lies_at z q a)
 
 pub one_ends : (z q : Fraction) → HasOne (at_level z q) ends (ends_at z q)
 one_ends z q w i (Edge a b) = by_test (is_vertical e)
@@ -286,15 +287,15 @@ one_ends z q w i (Edge a b) = by_test (is_vertical e)
 
     by_test : (t : Bool) →
         sum_by (weight_at z q ends w)
-        (if t then vertex (upper_end e) Top i ∷ vertex (lower_end e) Bottom i ∷ [] else vertex (left_end e) Begin i ∷ vertex (right_end e) End i ∷ [])
+        (if t then vertex (upper_end e) Top i ∷ vertex (lower_end e) Bottom i ∷ [] else vertex (left_end e) (Begin (rightward_edge e)) i ∷ vertex (right_end e) End i ∷ [])
         ≡ (if not t && lies_at z q (right_end e) then w i else 0)
     by_test true =
         two_vertices (weight_at z q ends w) (vertex (upper_end e) Top i) (vertex (lower_end e) Bottom i)
         ∙ none_of_two (lies_at z q (upper_end e)) (lies_at z q (lower_end e))
     by_test false =
-        two_vertices (weight_at z q ends w) (vertex (left_end e) Begin i) (vertex (right_end e) End i)
+        two_vertices (weight_at z q ends w) (vertex (left_end e) (Begin (rightward_edge e)) i) (vertex (right_end e) End i)
         ∙ second_of_two (lies_at z q (left_end e)) (lies_at z q (right_end e)) (w i)
-one_ends z q w i (Dot a) = one_vertex (weight_at z q ends w) (vertex a Alone i) ∙ only_zero (lies_at z q a)
+one_ends z q w i (Dot a) = one_vertex (weight_at z q ends w) (vertex a AtDot i) ∙ only_zero (lies_at z q a)
 
 -- ---- vertical edges
 lower_is : (a b : Coordinates) → (lower_end (edge_between a b)).y ≡ int_min a.y b.y

@@ -21,7 +21,7 @@ use Rattle.sf_columns.specs.declared.slanted.Slanted.{Slanted}
 use Rattle.sf_columns.specs.declared.vertex.Vertex.{Vertex}
 use Rattle.sf_columns.specs.Fronts.{line_of, touches}
 use Rattle.sf_columns.specs.Levels.{AreTops, IsTop, group_length, level_by, run_length, top_level}
-use Rattle.sf_columns.specs.Order.{height_in}
+use Rattle.sf_columns.proofs.SlantedLaws.{height_in}
 use Rattle.sf_columns.specs.Slanted.{side_of}
 use Rattle.sf_slabs.proofs.FallsLaws.{edge_of, height_in-edge_of}
 use Rattle.sf_slabs.proofs.HeightsLaws.{height_at-same}

@@ -1,3 +1,4 @@
+pub mod Ahead
 pub mod EachLaws
 mod Computed
 pub mod SampleLaws
@@ -32,6 +33,7 @@ pub mod NextFrontLaws
 pub mod CandidateLaws
 pub mod NoCrossingLaws
 pub mod NextEventLaws
+pub mod BegunLaws
 pub mod SweepLaws
 pub mod RemainingLaws
 pub mod SlabCutLaws

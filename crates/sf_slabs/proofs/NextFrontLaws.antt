@@ -24,7 +24,9 @@ use Rattle.sf_columns.specs.Fronts.{AreContacts, Descend, DescendFrom, IsEntry, 
 use Rattle.sf_cells.specs.Hands.{Stop, stops}
 use Rattle.sf_columns.specs.Levels.{AreOnward, AreStarts, AreTops, IsOnward, SlopesFall, SlopesFallFrom, StartsWith, goes_past, going_past, if_begins}
 use Rattle.sf_cells.specs.Pieces.{heights_of, is_on}
+use Rattle.sf_columns.specs.Slanted.{rightward_edge}
 use Rattle.sf_columns.specs.Vertices.{IsVertexIn, IsVertexOf, begins, lower_end, piece_at, upper_end, vertex, vertices_of}
+use Rattle.sf_columns.proofs.VertexLaws.{start-entry}
 use Rattle.sf_slabs.proofs.AboveLaws.{goes_on_from, height_of, passes}
 use Rattle.sf_slabs.proofs.ColumnIsLaws.{IsRest, all_listed, column_fits, every_piece, first_rest}
 use Rattle.sf_slabs.proofs.LeveledLaws.{IsAtLevel, Leveled, active_height, active_height-number, drop-each_active, drop-each_vertex, height_cmp-active, leveled, vertex_height}
@@ -67,7 +69,7 @@ begins_left (Edge s t) v a h c b =
     all_left : (t : Bool) → t ≡ false →
         AllByRecursion Left (cond t
         (vertex (upper_end e) Top v.piece ∷ vertex (lower_end e) Bottom v.piece ∷ [])
-        (vertex (left_end e) Begin v.piece ∷ vertex (right_end e) End v.piece ∷ []))
+        (vertex (left_end e) (Begin (rightward_edge e)) v.piece ∷ vertex (right_end e) End v.piece ∷ []))
     all_left true f = absurd (false≢true (sym f))
     all_left false f = (λ _. h.left, (λ g. absurd (false≢true g), tt))
 
@@ -103,19 +105,19 @@ start_at pieces z q v a h b e k =
           (subst (λ (c : Coordinates). Same (whole c.y) q) (sym left) h.at_height);
     }
 
-starts_at : (pieces : List Piece) (z q : Fraction) (vs : List Vertex) (ss : List Active) → AllByRecursion (LiesAt pieces z q) vs → AreStarts pieces vs ss →
+starts_at : (pieces : List Piece) (z q : Fraction) (vs : List Vertex) (ss : List Active) → AllByRecursion (LiesAt pieces z q) vs → AreStarts vs ss →
     AllByRecursion (StandsAt pieces z q) ss
 starts_at pieces z q [] ss h k = subst (AllByRecursion (StandsAt pieces z q)) (sym k) tt
 starts_at pieces z q (v ∷ vs) ss h k = by_role (begins v.role) refl (λ ss. starts_at pieces z q vs ss h.1) ss k
   where
-    by_role : (b : Bool) → begins v.role ≡ b → ((ss : List Active) → AreStarts pieces vs ss → AllByRecursion (StandsAt pieces z q) ss) → (ss : List Active) →
-        if_begins b (StartsWith pieces v.piece (AreStarts pieces vs)) (AreStarts pieces vs) ss → AllByRecursion (StandsAt pieces z q) ss
+    by_role : (b : Bool) → begins v.role ≡ b → ((ss : List Active) → AreStarts vs ss → AllByRecursion (StandsAt pieces z q) ss) → (ss : List Active) →
+        if_begins b (StartsWith v (AreStarts vs)) (AreStarts vs) ss → AllByRecursion (StandsAt pieces z q) ss
     by_role false e rest ss k = rest ss k
     by_role true e rest [] k = absurd k
-    by_role true e rest (a ∷ ss) k = (start_at pieces z q v a h.0 e k.0 k.1.0, rest ss k.1.1)
+    by_role true e rest (a ∷ ss) k = (start_at pieces z q v a h.0 e k.0 (start-entry pieces v a h.0.of_piece k.0 k.1.0), rest ss k.1.1)
 
 pub onward_at : (pieces : List Piece) (z q : Fraction) (run : List Active) (group : List Vertex) (onward : List Active) → AllByRecursion (StandsAt pieces z q) run →
-    AllByRecursion (LiesAt pieces z q) group → IsOnward pieces run group onward → AllByRecursion (StandsAt pieces z q) onward
+    AllByRecursion (LiesAt pieces z q) group → IsOnward run group onward → AllByRecursion (StandsAt pieces z q) onward
 onward_at pieces z q run group onward h k o =
     each-permuted (StandsAt pieces z q) (going_past group run ++ o.starts) onward o.same
     (each-append (StandsAt pieces z q) (going_past group run) o.starts
@@ -150,7 +152,7 @@ left_after pieces z es vs n m l =
     }
 
 pub level_onward : (pieces : List Piece) (z q : Fraction) (es : List Active) (vs : List Vertex) (n m : ℕ) (onward : List Active) → IsLeft pieces z es vs →
-    IsAtLevel z q es vs n m → IsOnward pieces (take n es) (take m vs) onward → AllByRecursion (StandsAt pieces z q) onward
+    IsAtLevel z q es vs n m → IsOnward (take n es) (take m vs) onward → AllByRecursion (StandsAt pieces z q) onward
 level_onward pieces z q es vs n m onward l h o =
     onward_at pieces z q (take n es) (take m vs) onward
     (paired pieces z q (take n es) (each-take (IsEntry pieces) n es l.entries) h.edges)
@@ -159,7 +161,7 @@ level_onward pieces z q es vs n m onward l h o =
 
 -- every edge that goes on is one of the pieces
 pub onward_entries : (pieces : List Piece) (z : Fraction) (es : List Active) (vs : List Vertex) (os : List Active) (ls : List Level) (qs : List Fraction) →
-    IsLeft pieces z es vs → Leveled z es vs ls qs → AreOnward pieces es vs os ls → AllByRecursion (IsEntry pieces) os
+    IsLeft pieces z es vs → Leveled z es vs ls qs → AreOnward es vs os ls → AllByRecursion (IsEntry pieces) os
 onward_entries pieces z es vs os [] qs l h o = subst (AllByRecursion (IsEntry pieces)) (sym o) tt
 onward_entries pieces z es vs os (k ∷ ls) [] l h o = absurd h
 onward_entries pieces z es vs os (k ∷ ls) (q ∷ qs) l h o =
@@ -199,7 +201,7 @@ descend_join x q (a ∷ segment) rest i j k s l d = descend_from x q a segment r
 
 -- what goes on from heights below q is below q
 onward_below : (pieces : List Piece) (x q : Fraction) (es : List Active) (vs : List Vertex) (os : List Active) (ls : List Level) (qs : List Fraction) → IsFraction q → Numbers qs →
-    FollowFrom (λ a b. fraction_lt b a) q qs → IsLeft pieces x es vs → Leveled x es vs ls qs → AreOnward pieces es vs os ls →
+    FollowFrom (λ a b. fraction_lt b a) q qs → IsLeft pieces x es vs → Leveled x es vs ls qs → AreOnward es vs os ls →
     AllByRecursion (λ b. fraction_lt (active_height x b) q ≡ true) os
 onward_below pieces x q es vs os [] qs j n f l h o = subst (AllByRecursion (λ b. fraction_lt (active_height x b) q ≡ true)) (sym o) tt
 onward_below pieces x q es vs os (k ∷ ls) [] j n f l h o = absurd h
@@ -213,7 +215,7 @@ onward_below pieces x q es vs os (k ∷ ls) (r ∷ rs) j n f l h o =
     (onward_below pieces x r (drop k.edges es) (drop k.vertices vs) (drop k.onward os) ls rs n.0 n.1 f.1 (left_after pieces x es vs k.edges k.vertices l) h.1 o.1))
 
 pub onward_descends : (pieces : List Piece) (x : Fraction) (es : List Active) (vs : List Vertex) (os : List Active) (ls : List Level) (qs : List Fraction) → Numbers qs →
-    Follow (λ a b. fraction_lt b a) qs → IsLeft pieces x es vs → Leveled x es vs ls qs → AreOnward pieces es vs os ls → Descend x os
+    Follow (λ a b. fraction_lt b a) qs → IsLeft pieces x es vs → Leveled x es vs ls qs → AreOnward es vs os ls → Descend x os
 onward_descends pieces x es vs os [] qs n f l h o = subst (Descend x) (sym o) tt
 onward_descends pieces x es vs os (k ∷ ls) [] n f l h o = absurd h
 onward_descends pieces x es vs os (k ∷ ls) (q ∷ qs) n f l h o =
@@ -251,7 +253,7 @@ onward_total pieces gap above (s ∷ ss) (l ∷ ls) f =
     regrouped : (a b c d : ℕ) → a + c ≡ d → (a + b) + c ≡ b + d
     regrouped a b c d e = omega arith
 
-stops_onward : (es : List Active) (vs : List Vertex) (os : List Active) (ls : List Level) (pieces : List Piece) → AreOnward pieces es vs os ls →
+stops_onward : (es : List Active) (vs : List Vertex) (os : List Active) (ls : List Level) (pieces : List Piece) → AreOnward es vs os ls →
     flat_map (λ s. s.onward) (stops es vs os ls) ≡ pieces_of os
 stops_onward es vs os [] pieces o = ap pieces_of (sym o)
 stops_onward es vs os (l ∷ ls) pieces o =
@@ -331,7 +333,7 @@ active_bare pieces z i l = λ w. ap (sum_by w) (sym (numbers_from-none 0 (passes
     )
 
 onward_active : (pieces : List Piece) (z : Fraction) (qs : List Fraction) (es : List Active) (vs : List Vertex) (os : List Active) (ls : List Level) → IsFraction z →
-    IsHeights pieces z qs → IsRest pieces z (λ _. true) es vs → Leveled z es vs ls qs → AreOnward pieces es vs os ls → SameNumbers (pieces_of os) (numbers_from 0 (passes z) pieces)
+    IsHeights pieces z qs → IsRest pieces z (λ _. true) es vs → Leveled z es vs ls qs → AreOnward es vs os ls → SameNumbers (pieces_of os) (numbers_from 0 (passes z) pieces)
 onward_active pieces z [] es vs os [] i l r h o = subst (λ fs. SameNumbers (pieces_of fs) (numbers_from 0 (passes z) pieces)) (sym o) (active_bare pieces z i l)
 onward_active pieces z [] es vs os (k ∷ ls) i l r h o = absurd h
 onward_active pieces z (q ∷ qs) es vs os ls i l r h o =
@@ -341,14 +343,14 @@ onward_active pieces z (q ∷ qs) es vs os ls i l r h o =
 -- ---- the front right of a column
 -- each edge that goes on is one of the pieces
 pub entries-after : (pieces : List Piece) (x : Fraction) (column : Option Fraction) (es : List Active) (cs : List Contact) (vs : List Vertex) (os : List Active) (ls : List Level) →
-    IsComing pieces x column es cs → IsColumnOf pieces x vs → AreTops column es cs vs ls → AreOnward pieces es vs os ls → AllByRecursion (IsEntry pieces) os
+    IsComing pieces x column es cs → IsColumnOf pieces x vs → AreTops column es cs vs ls → AreOnward es vs os ls → AllByRecursion (IsEntry pieces) os
 entries-after pieces x column es cs vs os ls c v t o =
     let l = leveled x column es cs vs ls c.place c.steps v.here v.in_order t in
     onward_entries pieces x es vs os ls l.0 (record { place = c.place; entries = c.entries; each = v.each; here = v.here }) l.1 o
 
 -- those that go on are just the pieces that pass
 pub active-after : (pieces : List Piece) (x : Fraction) (column : Option Fraction) (es : List Active) (cs : List Contact) (vs : List Vertex) (os : List Active) (ls : List Level) →
-    IsComing pieces x column es cs → IsColumnOf pieces x vs → AreTops column es cs vs ls → AreOnward pieces es vs os ls →
+    IsComing pieces x column es cs → IsColumnOf pieces x vs → AreTops column es cs vs ls → AreOnward es vs os ls →
     SameNumbers (pieces_of os) (numbers_from 0 (passes x) pieces)
 active-after pieces x column es cs vs os ls c v t o =
     let l = leveled x column es cs vs ls c.place c.steps v.here v.in_order t in
@@ -356,7 +358,7 @@ active-after pieces x column es cs vs os ls c v t o =
     onward_active pieces x l.0 es vs os ls c.place heights (first_rest pieces x es vs c.entries c.coming v.are) l.1 o
 
 pub front-after : (pieces : List Piece) (x : Fraction) (column : Option Fraction) (es : List Active) (cs cs' : List Contact) (vs : List Vertex) (os : List Active) (ls : List Level) →
-    IsComing pieces x column es cs → IsColumnOf pieces x vs → AreTops column es cs vs ls → AreOnward pieces es vs os ls → AreContacts x os cs' → IsFront pieces x os cs'
+    IsComing pieces x column es cs → IsColumnOf pieces x vs → AreTops column es cs vs ls → AreOnward es vs os ls → AreContacts x os cs' → IsFront pieces x os cs'
 front-after pieces x column es cs cs' vs os ls c v t o k =
     let l = leveled x column es cs vs ls c.place c.steps v.here v.in_order t in
     let heights = leveled_heights pieces x es vs ls l.0 c.place c.entries c.coming v.are l.1 in

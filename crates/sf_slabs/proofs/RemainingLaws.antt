@@ -21,7 +21,9 @@ use Rattle.sf_columns.specs.declared.vertex.Vertex.{Vertex}
 use Rattle.sf_cells.specs.Cells.{cells, numbers_from}
 use Rattle.sf_cells.specs.Pieces.{ends_of}
 use Rattle.sf_cells.specs.Samples.{Mark, crossings_of, events, listed, marks, marks_from, sorted_by, unlisted}
-use Rattle.sf_slabs.specs.Sweeps.{AreVertices, InOrder, InOrderFrom, IsAhead, IsColumnOf, IsComing, IsFront, cells_in, comes_to, passes, right_of}
+use Rattle.sf_slabs.specs.Sweeps.{AreVertices, InOrder, InOrderFrom, IsColumnOf, IsComing, IsFront, cells_in, comes_to, passes}
+use Rattle.sf_slabs.proofs.Ahead.{IsAhead, right_of}
+use Rattle.sf_columns.specs.Slanted.{rightward_edge}
 use Rattle.sf_columns.specs.Vertices.{IsVertexIn, IsVertexOf, all_vertices, in_column, lower_end, piece_at, upper_end, vertex, vertex_before, vertices_of}
 use Rattle.sf_slabs.proofs.CellLaws.{SameMark}
 use Rattle.sf_slabs.proofs.ColumnLaws.{cells-columns, column_cells-heights, event_places, falling_heights, flat_map-Pairs}
@@ -436,7 +438,7 @@ vertices_of-own k (Edge a b) = by_test (is_vertical (edge_between a b))
     by_test : (t : Bool) → AllByRecursion (λ v. v.piece ≡ k)
         (if t
         then vertex (upper_end (edge_between a b)) Top k ∷ vertex (lower_end (edge_between a b)) Bottom k ∷ []
-        else vertex (left_end (edge_between a b)) Begin k ∷ vertex (right_end (edge_between a b)) End k ∷ [])
+        else vertex (left_end (edge_between a b)) (Begin (rightward_edge (edge_between a b))) k ∷ vertex (right_end (edge_between a b)) End k ∷ [])
     by_test true = (refl, (refl, tt))
     by_test false = (refl, (refl, tt))
 

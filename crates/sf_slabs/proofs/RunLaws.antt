@@ -20,7 +20,8 @@ use Rattle.sf_cells.specs.Cells.{cells}
 use Rattle.sf_columns.specs.Fronts.{AreApart, AreApartFrom, AreContacts, AreContactsFrom, IsContact, line_of, touches}
 use Rattle.sf_columns.specs.Next.{IsLeastOf, candidates, first_place}
 use Rattle.sf_cells.specs.Samples.{listed, unlisted}
-use Rattle.sf_slabs.specs.Sweeps.{IsAhead, IsColumnOf, IsComing, IsFront, cells_in}
+use Rattle.sf_slabs.specs.Sweeps.{IsColumnOf, IsComing, IsFront, cells_in}
+use Rattle.sf_slabs.proofs.Ahead.{IsAhead}
 use Rattle.sf_columns.specs.Vertices.{all_vertices, in_column, vertex_before}
 use Rattle.sf_slabs.specs.Walks.{IsReady, IsSlabOf}
 use Rattle.sf_slabs.proofs.ColumnLaws.{event_places}
@@ -34,6 +35,7 @@ use Rattle.sf_slabs.proofs.NextEventLaws.{last-is, next-clear, next-is}
 use Rattle.sf_slabs.proofs.NextLaws.{IsNext}
 use Rattle.sf_slabs.proofs.NumberLaws.{rising_order}
 use Rattle.sf_slabs.proofs.RemainingLaws.{ahead-parted, ahead_of_all, cells-first, cells-none, left, left-next, remaining, remaining-last, remaining-next, start-ahead, start-column, start-coming, start-front}
+use Rattle.sf_slabs.proofs.SweepLaws.{room-fewer}
 use Rattle.sf_slabs.proofs.TopLaws.{one_more-above}
 use Rattle.sf_grid.proofs.NumberTests.{le_from_test}
 
@@ -197,18 +199,12 @@ handed-two f after b c d all first second rest e h k =
 pub ready-fewer : (pieces : List Piece) (groups : List ℕ) (n m : ℕ) (s : Sweep) → m ≤ n → IsReady pieces groups n s → IsReady pieces groups m s
 ready-fewer pieces groups n m s l r =
     record {
-      order_room = less (length pieces) n m _ l r.order_room;
-      contacts_room = less (length pieces) n m _ l r.contacts_room;
-      parts_room = less (length pieces) n m _ l r.parts_room;
-      onward_room = less (length pieces) n m _ l r.onward_room;
-      onward_contacts_room = less (length pieces) n m _ l r.onward_contacts_room;
-      segment_room = less (length pieces) n m _ l r.segment_room;
+      order_room = r.order_room;
+      contacts_room = r.contacts_room;
+      cut_room = room-fewer (length pieces + n) (length pieces + m) (length pieces) (length pieces) s.cut (omega arith) (omega arith) r.cut_room;
       none_on = r.none_on;
       none_above = r.none_above;
     }
-  where
-    less : (p n m c : ℕ) → m ≤ n → p + n ≤ c → p + m ≤ c
-    less p n m c l h = omega arith
 
 -- ---- from the code's answer to the next column
 pub coming-next : (next : Option Fraction) (grid : Option Coordinates) (ds cs : List Contact) (vs : List Vertex) → IfSome next (λ y. IsLeastOf (candidates grid ds) y) →

@@ -9,7 +9,8 @@ use Rattle.sf_cells.specs.Cells.{numbers_from}
 use Rattle.sf_columns.specs.Fronts.{SameNumbers}
 use Rattle.sf_cells.specs.Groups.{counts, item_of}
 use Rattle.sf_cells.specs.Hands.{Balanced, Stop, stop_items, stops}
-pub use Rattle.sf_slabs.specs.Sweeps.{AreVertices, InOrder, InOrderFrom, IsAhead, IsColumnOf, IsComing, IsFront, StepsAt, StepsAtFrom, comes_to, right_of, step_by}
+pub use Rattle.sf_slabs.specs.Sweeps.{AreVertices, InOrder, InOrderFrom, IsColumnOf, IsComing, IsFront, StepsAt, StepsAtFrom, comes_to, step_by}
+pub use Rattle.sf_slabs.proofs.Ahead.{IsAhead, right_of}
 pub use Rattle.sf_columns.specs.Vertices.{in_column}
 use Rattle.sf_slabs.proofs.ColumnLaws.{IsHeights, column_cells}
 use Rattle.sf_slabs.proofs.LevelLaws.{Level as PieceLevel}

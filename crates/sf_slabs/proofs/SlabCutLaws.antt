@@ -69,8 +69,8 @@ all_go : (es : List Active) → going_past [] es ≡ es
 all_go [] = refl
 all_go (a ∷ es) = ap (λ fs. a ∷ fs) (all_go es)
 
-goes_on_whole : (pieces : List Piece) (run : List Active) → SlopesFall run → IsOnward pieces run [] run
-goes_on_whole pieces run s =
+goes_on_whole : (run : List Active) → SlopesFall run → IsOnward run [] run
+goes_on_whole run s =
     record {
       starts = [];
       are_starts = λ i. [];
@@ -116,15 +116,15 @@ top_run [] cs = λ i. 0
 top_run (a ∷ es) cs = λ i. run_length None (a ∷ es) cs
 
 pub slab_onward : (pieces : List Piece) (x : Fraction) (es : List Active) (cs : List Contact) (ls : List Level) → IsFraction x → Descend x es → AreContacts x es cs →
-    AreTops None es cs [] ls → AllByRecursion (λ l. l.onward ≡ l.edges) ls → AreOnward pieces es [] es ls
+    AreTops None es cs [] ls → AllByRecursion (λ l. l.onward ≡ l.edges) ls → AreOnward es [] es ls
 slab_onward pieces x es cs [] i d k t o = t.0
 slab_onward pieces x es cs (l ∷ ls) i d k t o =
     let run : l.edges ≡ run_length None es cs = t.0.edges ∙ top_run es cs in (
-      subst (λ n. IsOnward pieces (take l.edges es) (take l.vertices []) (take n es)) (sym o.0)
-          (subst (λ vs. IsOnward pieces (take l.edges es) vs (take l.edges es)) (sym (take_none l.vertices))
-          (goes_on_whole pieces (take l.edges es) (subst (λ n. SlopesFall (take n es)) (sym run) (run_falls x es cs i d k)))),
-      subst (λ n. AreOnward pieces (drop l.edges es) (drop l.vertices []) (drop n es) ls) (sym o.0)
-          (subst (λ vs. AreOnward pieces (drop l.edges es) vs (drop l.edges es) ls) (sym (drop_none l.vertices))
+      subst (λ n. IsOnward (take l.edges es) (take l.vertices []) (take n es)) (sym o.0)
+          (subst (λ vs. IsOnward (take l.edges es) vs (take l.edges es)) (sym (take_none l.vertices))
+          (goes_on_whole (take l.edges es) (subst (λ n. SlopesFall (take n es)) (sym run) (run_falls x es cs i d k)))),
+      subst (λ n. AreOnward (drop l.edges es) (drop l.vertices []) (drop n es) ls) (sym o.0)
+          (subst (λ vs. AreOnward (drop l.edges es) vs (drop l.edges es) ls) (sym (drop_none l.vertices))
           (slab_onward pieces x (drop l.edges es) (drop l.edges cs) ls i (drop-descend x l.edges es d) (drop-contacts x l.edges es cs k)
           (subst (λ vs. AreTops None (drop l.edges es) (drop l.edges cs) vs ls) (drop_none l.vertices) t.1) o.1)),
     )

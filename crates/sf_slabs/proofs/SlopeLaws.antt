@@ -11,7 +11,8 @@ use Rattle.sf_grid.proofs.HeightLaws.{cmp-scaled, gap, gap-line, height_cmp-gap}
 use Rattle.sf_grid.proofs.OrderLaws.{equal_is}
 use Rattle.sf_grid.proofs.Ring.{ring, var, num, sum, dif, mul}
 use Rattle.sf_grid.proofs.NumberTests.{lt_from_test}
-use Rattle.sf_columns.specs.Slanted.{slope_gap, slope_order}
+use Rattle.sf_columns.specs.Slanted.{slope_order}
+use Rattle.sf_columns.proofs.SlantedLaws.{slope_gap}
 use Rattle.sf_columns.proofs.SideLaws.{cmp-difference}
 use Rattle.sf_slabs.proofs.SlabLaws.{IsSlab, Spans, StaysBelow, StaysLevel}
 

@@ -1,5 +1,5 @@
 -- A column of the sweep: its lists fit the room, and what is handed out for it are its cells.
-use Rattle.std.proofs.Common.{◌≡◌, refl, ap, sym, subst, ◌∙◌, ℕ, zero, suc, ◌+◌, ◌*◌, ◌-◌, ◌≤◌, ◌<◌, ◌^◌, arith, Bool, true, false, cond, List, [], ◌∷◌, length, map, replicate, Option, Some, None}
+use Rattle.std.proofs.Common.{◌≡◌, refl, ap, sym, subst, ◌∙◌, ℕ, suc, ◌+◌, ◌*◌, ◌-◌, ◌≤◌, ◌<◌, ◌^◌, arith, Bool, true, false, cond, List, [], ◌∷◌, length, map, Option, Some, None, vec_capacity, ◌||◌, ◌++◌}
 use Rattle.std.specs.List.{All, AllByRecursion, sum_by}
 use Rattle.std.specs.List.Sorted.{IsPermutation}
 use Rattle.std.proofs.lemmas.List.{length-append}
@@ -9,6 +9,7 @@ use Rattle.std.proofs.lemmas.List.Sums.{sum_by-cons}
 use Rattle.sf_grid.specs.Fraction.{Fraction, IsFraction}
 use Rattle.sf_columns.specs.declared.active.Active.{Active}
 use Rattle.sf_columns.specs.declared.contact.Contact.{Contact}
+use Rattle.sf_columns.specs.declared.cut.Cut.{Cut}
 use Rattle.sf_columns.specs.declared.level.Level.{Level}
 use Rattle.sf_columns.specs.declared.piece.Piece.{Piece}
 use Rattle.sf_grid.specs.Edge.{edge_between, is_vertical, left_end, right_end}
@@ -17,14 +18,17 @@ use Rattle.sf_columns.specs.declared.vertex.Role.TheVariants.{Begin, Bottom, End
 use Rattle.sf_columns.specs.declared.vertex.Vertex.{Vertex}
 use Rattle.sf_cells.specs.Cells.{numbers_from}
 use Rattle.sf_columns.specs.Fronts.{AreContacts, IsEntry, IsEntryIn, SameNumbers, pieces_of}
-use Rattle.sf_cells.specs.Groups.{counts, group_count, item_of, numbers}
+use Rattle.sf_cells.specs.Groups.{counts, item_of}
 use Rattle.sf_cells.specs.Hands.{Balanced, stop_items, stops}
-use Rattle.sf_columns.specs.Levels.{AreOnward, AreTops}
+use Rattle.sf_columns.specs.Levels.{AreOnward, AreTops, most_onward}
+use Rattle.sf_columns.specs.Rooms.{HasRoom}
 use Rattle.sf_slabs.specs.Sweeps.{IsColumnOf, IsComing, IsFront, StepsAt, StepsAtFrom, cells_in, comes_to, passes}
-use Rattle.sf_columns.specs.Vertices.{IsVertexOf, all_vertices, lower_end, piece_at, upper_end, vertex, vertices_of}
+use Rattle.sf_columns.specs.Slanted.{rightward_edge}
+use Rattle.sf_columns.specs.Vertices.{IsVertexOf, all_vertices, lower_end, piece_at, upper_end, vertex, vertices_of, begins, pieces_with}
 use Rattle.sf_slabs.proofs.ColumnIsLaws.{column-is}
 use Rattle.sf_slabs.proofs.ColumnLaws.{column_cells-heights}
 use Rattle.sf_slabs.proofs.NextFrontLaws.{active-after, entries-after, front-after}
+use Rattle.sf_slabs.proofs.BegunLaws.{begins_in, coming_or_begun}
 use Rattle.sf_slabs.proofs.Shapes.{IsColumn}
 use Rattle.sf_columns.proofs.VertexLaws.{piece_at-below, vertex-below}
 
@@ -48,15 +52,27 @@ numbers_from-few k t (p ∷ ps) = by_test (t p) (numbers_from-few (k + 1) t ps)
     by_test true h = omega arith
     by_test false h = omega arith
 
--- no more edges than pieces
-pub edges-few : (t : Piece → Bool) (pieces : List Piece) (es : List Active) → SameNumbers (pieces_of es) (numbers_from 0 t pieces) → length es ≤ length pieces
-edges-few t pieces es h =
-    fewer (length es) (length (numbers_from 0 t pieces)) (length pieces)
-    (sym (pieces_of-length es) ∙ sym (ones (pieces_of es)) ∙ h (λ _. 1) ∙ ones (numbers_from 0 t pieces))
-    (numbers_from-few 0 t pieces)
+-- no more numbers than pieces
+numbers-few : (t : Piece → Bool) (pieces : List Piece) (ns : List ℕ) → SameNumbers ns (numbers_from 0 t pieces) → length ns ≤ length pieces
+numbers-few t pieces ns h =
+    fewer (length ns) (length (numbers_from 0 t pieces)) (length pieces) (sym (ones ns) ∙ h (λ _. 1) ∙ ones (numbers_from 0 t pieces)) (numbers_from-few 0 t pieces)
   where
     fewer : (a b c : ℕ) → a ≡ b → b ≤ c → a ≤ c
     fewer a b c e h = omega arith
+
+-- no more edges than pieces
+pub edges-few : (t : Piece → Bool) (pieces : List Piece) (es : List Active) → SameNumbers (pieces_of es) (numbers_from 0 t pieces) → length es ≤ length pieces
+edges-few t pieces es h = subst (λ n. n ≤ length pieces) (pieces_of-length es) (numbers-few t pieces (pieces_of es) h)
+
+-- also with those that begin in the column to which they come
+pub onward-few : (pieces : List Piece) (z : Fraction) (column : Option Fraction) (es : List Active) (cs : List Contact) (vs : List Vertex) → IsComing pieces z column es cs →
+    IsColumnOf pieces z vs → most_onward es vs ≤ length pieces
+onward-few pieces z column es cs vs c v =
+    fewer _ _ _ _ _ (length-append (pieces_of es) (pieces_with begins vs)) (pieces_of-length es)
+    (numbers-few (λ p. comes_to z p || begins_in z p) pieces (pieces_of es ++ pieces_with begins vs) (coming_or_begun pieces z (pieces_of es) vs c.coming v.are))
+  where
+    fewer : (a b d e n : ℕ) → a ≡ b + d → b ≡ e → a ≤ n → e + d ≤ n
+    fewer a b d e n h k l = omega arith
 
 steps-fewer : (z : Fraction) (column : Option Fraction) (a : Active) (es : List Active) (cs : List Contact) → StepsAtFrom z column a es cs → length cs ≤ length es
 steps-fewer z column a [] cs h = omega (arith, ap length h)
@@ -99,33 +115,33 @@ pub record WasCut (pieces : List Piece) (z : Fraction) (column : Option Fraction
   pub edges_are : es' ≡ es
   pub contacts_are : cs' ≡ cs
   pub tops : AreTops column es' cs' vs ls
-  pub onward : AreOnward pieces es' vs os ls
+  pub onward : AreOnward es' vs os ls
 
 moved_tops : (column : Option Fraction) (es es' : List Active) (cs cs' : List Contact) (vs : List Vertex) (ls : List Level) → es' ≡ es → cs' ≡ cs →
     AreTops column es' cs' vs ls → AreTops column es cs vs ls
 moved_tops column es es' cs cs' vs ls e f h = subst (λ fs. AreTops column fs cs vs ls) e (subst (λ ds. AreTops column es' ds vs ls) f h)
 
-moved_onward : (pieces : List Piece) (es es' : List Active) (vs : List Vertex) (os : List Active) (ls : List Level) → es' ≡ es → AreOnward pieces es' vs os ls → AreOnward pieces es vs os ls
-moved_onward pieces es es' vs os ls e h = subst (λ fs. AreOnward pieces fs vs os ls) e h
+moved_onward : (es es' : List Active) (vs : List Vertex) (os : List Active) (ls : List Level) → es' ≡ es → AreOnward es' vs os ls → AreOnward es vs os ls
+moved_onward es es' vs os ls e h = subst (λ fs. AreOnward fs vs os ls) e h
 
 pub cut-column : (pieces : List Piece) (z : Fraction) (column : Option Fraction) (es es' : List Active) (cs cs' : List Contact) (vs : List Vertex) (os : List Active) (ls : List Level) →
     WasCut pieces z column es es' cs cs' vs os ls → IsColumn pieces z es vs os ls
 cut-column pieces z column es es' cs cs' vs os ls w =
     column-is pieces z column es cs vs os ls w.coming w.vertices (moved_tops column es es' cs cs' vs ls w.edges_are w.contacts_are w.tops)
-    (moved_onward pieces es es' vs os ls w.edges_are w.onward)
+    (moved_onward es es' vs os ls w.edges_are w.onward)
 
 pub cut-front : (pieces : List Piece) (z : Fraction) (column : Option Fraction) (es es' : List Active) (cs cs' ds : List Contact) (vs : List Vertex) (os : List Active) (ls : List Level) →
     WasCut pieces z column es es' cs cs' vs os ls → AreContacts z os ds → IsFront pieces z os ds
 cut-front pieces z column es es' cs cs' ds vs os ls w k =
     front-after pieces z column es cs ds vs os ls w.coming w.vertices (moved_tops column es es' cs cs' vs ls w.edges_are w.contacts_are w.tops)
-    (moved_onward pieces es es' vs os ls w.edges_are w.onward) k
+    (moved_onward es es' vs os ls w.edges_are w.onward) k
 
 -- the edges that go on are those of pieces
 pub cut-entries : (pieces : List Piece) (z : Fraction) (column : Option Fraction) (es es' : List Active) (cs cs' : List Contact) (vs : List Vertex) (os : List Active) (ls : List Level) →
     WasCut pieces z column es es' cs cs' vs os ls → AllByRecursion (IsEntry pieces) os
 cut-entries pieces z column es es' cs cs' vs os ls w =
     entries-after pieces z column es cs vs os ls w.coming w.vertices (moved_tops column es es' cs cs' vs ls w.edges_are w.contacts_are w.tops)
-    (moved_onward pieces es es' vs os ls w.edges_are w.onward)
+    (moved_onward es es' vs os ls w.edges_are w.onward)
 
 -- they are no more than the pieces
 pub cut-few : (pieces : List Piece) (z : Fraction) (column : Option Fraction) (es es' : List Active) (cs cs' : List Contact) (vs : List Vertex) (os : List Active) (ls : List Level) →
@@ -133,14 +149,23 @@ pub cut-few : (pieces : List Piece) (z : Fraction) (column : Option Fraction) (e
 cut-few pieces z column es es' cs cs' vs os ls w =
     edges-few (passes z) pieces os
     (active-after pieces z column es cs vs os ls w.coming w.vertices (moved_tops column es es' cs cs' vs ls w.edges_are w.contacts_are w.tops)
-    (moved_onward pieces es es' vs os ls w.edges_are w.onward))
+    (moved_onward es es' vs os ls w.edges_are w.onward))
 
 pub coming-few : (pieces : List Piece) (z : Fraction) (column : Option Fraction) (es : List Active) (cs : List Contact) → IsComing pieces z column es cs → length es ≤ length pieces
 coming-few pieces z column es cs c = edges-few (comes_to z) pieces es c.coming
 
 -- ---- numbers of edges and of room
-pub room-moved : (a a' b p r : ℕ) → a' ≡ a → a ≤ p → p + b ≤ r → a' + b ≤ r
-room-moved a a' b p r e h k = omega arith
+pub room-fewer : (n m k l : ℕ) (c : Cut) → m ≤ n → l ≤ k → HasRoom n k c → HasRoom m l c
+room-fewer n m k l c h i r =
+    record {
+      parts = less n m (vec_capacity c.parts) h r.parts;
+      order = less k l (vec_capacity c.order) i r.order;
+      contacts = less k l (vec_capacity c.contacts) i r.contacts;
+      segment = less k l (vec_capacity c.segment) i r.segment;
+    }
+  where
+    less : (n m c : ℕ) → m ≤ n → n ≤ c → m ≤ c
+    less n m c h i = omega arith
 
 pub few-moved : (a a' b c c' p : ℕ) → a' ≡ a → c' ≡ c → a ≤ p → c ≤ p → p ≤ 65535 → b ≤ 131070 → a' + b + c' < 2 ^ 32
 few-moved a a' b c c' p e f h k l m = omega arith
@@ -173,14 +198,6 @@ cut-balanced pieces z es es' vs os os' ls ls' c e f h groups =
 pub room-whole : (p r : ℕ) → p + 0 ≤ r → p ≤ r
 room-whole p r h = omega arith
 
--- ---- counts of nothing
-zeros : (k n : ℕ) → map {B = ℕ} (λ _. 0) (numbers k n) ≡ replicate n 0
-zeros k zero = refl
-zeros k (suc n) = ap (λ ns. 0 ∷ ns) (zeros (k + 1) n)
-
-pub counts-none : (groups : List ℕ) → counts groups [] ≡ replicate (group_count groups) 0
-counts-none groups = zeros 0 (group_count groups)
-
 -- ---- two vertices of each piece at most
 few_of_piece : (k : ℕ) (p : Piece) → length (vertices_of k p) ≤ 2
 few_of_piece k (Edge a b) = by_test (is_vertical (edge_between a b))
@@ -188,7 +205,7 @@ few_of_piece k (Edge a b) = by_test (is_vertical (edge_between a b))
     by_test : (t : Bool) →
         length (cond t
         (vertex (upper_end (edge_between a b)) Top k ∷ vertex (lower_end (edge_between a b)) Bottom k ∷ [])
-        (vertex (left_end (edge_between a b)) Begin k ∷ vertex (right_end (edge_between a b)) End k ∷ [])) ≤ 2
+        (vertex (left_end (edge_between a b)) (Begin (rightward_edge (edge_between a b))) k ∷ vertex (right_end (edge_between a b)) End k ∷ [])) ≤ 2
     by_test true = omega arith
     by_test false = omega arith
 few_of_piece k (Dot a) = omega arith

@@ -49,9 +49,6 @@ abbrev pub AreVertices : List Piece → (Vertex → Bool) → List Vertex → Ty
 AreVertices pieces test vs =
     (weight : Vertex → ℕ) → sum_by weight vs ≡ sum_by (λ v. if test v then weight v else 0) (all_vertices 0 pieces)
 
-abbrev pub right_of : Fraction → Vertex → Bool
-right_of x v = fraction_lt x (whole v.at.x)
-
 -- columns from the left, each from the top
 abbrev pub InOrderFrom : Vertex → List Vertex → Type 0
 InOrderFrom u [] = Unit {0}
@@ -66,13 +63,6 @@ pub record IsColumnOf (pieces : List Piece) (z : Fraction) (vs : List Vertex) : 
   pub are : AreVertices pieces (in_column z) vs
   pub each : AllByRecursion (IsVertexOf pieces) vs
   pub here : AllByRecursion (λ v. in_column z v ≡ true) vs
-  pub in_order : InOrder vs
-
--- the vertices right of the column x
-pub record IsAhead (pieces : List Piece) (x : Fraction) (vs : List Vertex) : Type 0 where
-  pub are : AreVertices pieces (right_of x) vs
-  pub each : AllByRecursion (IsVertexOf pieces) vs
-  pub later : AllByRecursion (λ v. right_of x v ≡ true) vs
   pub in_order : InOrder vs
 
 -- the edges that come to the column z from the left, from the top

@@ -4,18 +4,16 @@ use Rattle.sf_grid.specs.Fraction.{Fraction}
 use Rattle.sf_columns.specs.declared.active.Active.{Active}
 use Rattle.sf_columns.specs.declared.contact.Contact.{Contact}
 use Rattle.sf_columns.specs.declared.piece.Piece.{Piece}
+use Rattle.sf_columns.specs.Rooms.{HasRoom}
 use Rattle.sf_slabs.specs.declared.sweep.Sweep.{Sweep}
 use Rattle.sf_cells.specs.Groups.{counts}
 use Rattle.sf_slabs.specs.Sweeps.{IsColumnOf, IsComing, IsFront}
 
--- there is room for all pieces and n vertices more, and no count is left from a column before
+-- there is room for all pieces, and for the levels that they and n vertices can have, and no count is left from a column before
 pub record IsReady (pieces : List Piece) (groups : List ℕ) (n : ℕ) (s : Sweep) : Type 0 where
-  pub order_room : length pieces + n ≤ vec_capacity s.order
-  pub contacts_room : length pieces + n ≤ vec_capacity s.contacts
-  pub parts_room : length pieces + n ≤ vec_capacity s.cut.parts
-  pub onward_room : length pieces + n ≤ vec_capacity s.cut.order
-  pub onward_contacts_room : length pieces + n ≤ vec_capacity s.cut.contacts
-  pub segment_room : length pieces + n ≤ vec_capacity s.cut.segment
+  pub order_room : length pieces ≤ vec_capacity s.order
+  pub contacts_room : length pieces ≤ vec_capacity s.contacts
+  pub cut_room : HasRoom (length pieces + n) (length pieces) s.cut
   pub none_on : s.tallies.on.items ≡ counts groups []
   pub none_above : s.tallies.above.items ≡ counts groups []
 

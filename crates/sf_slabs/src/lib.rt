@@ -1,11 +1,13 @@
 //! The cells into which edges and dots cut the plane, by a sweep over its columns.
 #![tactic(auto)]
 
+mod conditions;
 mod decomposition;
 mod sweep;
 #[cfg(test)]
 mod tests;
 
+pub use conditions::{are_in_range, have_length};
 pub use decomposition::decompose;
 pub use sf_cells::{Cell, CellSink, Numbers};
 pub use sf_columns::Piece;

@@ -16,7 +16,7 @@ ghost use Rattle.sf_columns.specs.Vertices.{all_vertices, in_column, vertex_befo
 ghost use Rattle.sf_slabs.specs.Walks.{IsReady, IsSlabOf};
 
 use sf_cells::{CellSink, Column, Tallies, hand_out};
-use sf_columns::{Active, Contact, Cut, Piece, Vertex, next_column, vertices};
+use sf_columns::{Active, Contact, Cut, Piece, Strip, Vertex, next_column, vertices};
 use sf_grid::{Frac, GridPoint};
 use std::alloc::{AllocError, Global};
 use std::mem::swap;
@@ -24,7 +24,7 @@ use std::mem::swap;
 /// The edges right of the last column, from the top, what each does with the next one, and the room
 /// that the sweep works in.
 #[derive(Drop)]
-pub struct Sweep {
+pub(crate) struct Sweep {
     pub order: Vec<Active>,
     pub contacts: Vec<Contact>,
     pub cut: Cut,
@@ -55,20 +55,14 @@ impl Sweep {
         ensures handed { S.content sink.new ≡ fold S.after (S.content sink.old)
             (map (item_of groups.now) (cells_in pieces.now (listed x.now))) }
     {
-        self.cut.column(
-            pieces,
-            x,
-            self.order.as_slice(),
-            self.contacts.as_slice(),
-            vertices,
-        );
+        self.cut.column(x, self.order.as_slice(), self.contacts.as_slice(), vertices);
         let column = Column {
             edges: self.order.as_slice(),
             vertices,
             onward: self.cut.order.as_slice(),
             parts: self.cut.parts.as_slice(),
         };
-        hand_out(sink, true, groups, &mut self.tallies, &column);
+        hand_out(sink, &Strip::Column(*x), groups, &mut self.tallies, &column);
         swap(&mut self.order, &mut self.cut.order);
         swap(&mut self.contacts, &mut self.cut.contacts);
     }
@@ -96,7 +90,7 @@ impl Sweep {
             onward: self.order.as_slice(),
             parts: self.cut.parts.as_slice(),
         };
-        hand_out(sink, false, groups, &mut self.tallies, &slab);
+        hand_out(sink, &Strip::Slab, groups, &mut self.tallies, &slab);
     }
 
     /// Room for a sweep over so many pieces, with so many vertices and groups.
@@ -113,15 +107,14 @@ impl Sweep {
         ensures order { IfOk result (λ s. s.order.items ≡ []) }
         ensures contacts { IfOk result (λ s. s.contacts.items ≡ []) }
     {
-        let room = pieces + vertices;
         Ok(Sweep {
-            order: Vec::with_capacity(alloc, room)?,
-            contacts: Vec::with_capacity(alloc, room)?,
+            order: Vec::with_capacity(alloc, pieces)?,
+            contacts: Vec::with_capacity(alloc, pieces)?,
             cut: Cut {
-                parts: Vec::with_capacity(alloc, room)?,
-                order: Vec::with_capacity(alloc, room)?,
-                contacts: Vec::with_capacity(alloc, room)?,
-                segment: Vec::with_capacity(alloc, room)?,
+                parts: Vec::with_capacity(alloc, pieces + vertices)?,
+                order: Vec::with_capacity(alloc, pieces)?,
+                contacts: Vec::with_capacity(alloc, pieces)?,
+                segment: Vec::with_capacity(alloc, pieces)?,
             },
             tallies: Tallies {
                 on: Vec::from_elem(alloc, 0, groups)?,

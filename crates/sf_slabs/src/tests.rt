@@ -1,10 +1,6 @@
 //! Cells of small sets of pieces, worked out by hand and with exact fractions from the definition.
 
-ghost use Rattle.std.specs.Prelude.{◌<◌, IsTrue};
-ghost use Rattle.std.specs.List.{All};
-ghost use Rattle.sf_cells.specs.Pieces.{HasLength};
-
-use crate::{Cell, CellSink, Piece, decompose, walk};
+use crate::{Cell, CellSink, Piece, are_in_range, decompose, have_length, walk};
 use sf_grid::GridPoint;
 use std::alloc::Global;
 use std::test::Fail;
@@ -190,18 +186,18 @@ const CASES: &[Case] = &[
     },
 ];
 
-/// What a `Recorder` has room for.
+/// What a `Transcript` has room for.
 const ROOM: usize = 1024;
 
 /// The cells that it took, as the table writes them, each with a blank behind it, and with the
 /// numbers of groups, each as often as the group has pieces there.
 #[derive(Drop)]
-struct Recorder {
+struct Transcript {
     text: [u8; ROOM],
     len: usize,
 }
 
-impl Recorder {
+impl Transcript {
     fn byte(&mut self, byte: u8) {
         if self.len < ROOM {
             self.text[self.len] = byte;
@@ -261,7 +257,7 @@ impl Recorder {
     }
 }
 
-impl CellSink for Recorder {
+impl CellSink for Transcript {
     ghost Content = { Unit {0} };
 
     ghost content = { λ r. record {} };
@@ -287,56 +283,35 @@ fn piece(ends: [i32; 4]) -> Result<Piece, Fail> {
     }
 }
 
-fn has_length(piece: &Piece) -> bool
-    ensures { IsTrue result → HasLength piece.now }
-{
-    match piece {
-        Piece::Edge(a, b) => *a != *b,
-        Piece::Dot(_) => true,
-    }
-}
-
-fn have_length(pieces: &[Piece]) -> bool
-    ensures { IsTrue result → All HasLength pieces.now }
-{
-    pieces.iter().all(|p| has_length(p))
-}
-
-fn are_below(groups: &[u32], count: usize) -> bool
-    ensures { IsTrue result → All (λ g. g < count) groups.now }
-{
-    groups.iter().all(|g| (*g as usize) < count)
-}
-
 /// The cells of a walk.
-fn walked(alloc: Global, pieces: &[Piece], groups: &[u32]) -> Result<Recorder, Fail> {
+fn walked(alloc: Global, pieces: &[Piece], groups: &[u32]) -> Result<Transcript, Fail> {
     if pieces.len() > 65535 || groups.len() != pieces.len() {
         return Err(Fail::new("too many pieces, or not one group for each"));
     }
-    if !have_length(pieces) || !are_below(groups, pieces.len()) {
+    if !have_length(pieces) || !are_in_range(groups, pieces.len()) {
         return Err(Fail::new("an edge of no length, or a group out of range"));
     }
-    let mut recorder = Recorder {
+    let mut transcript = Transcript {
         text: [0; ROOM],
         len: 0,
     };
-    walk(alloc, pieces, groups, &mut recorder)?;
-    Ok(recorder)
+    walk(alloc, pieces, groups, &mut transcript)?;
+    Ok(transcript)
 }
 
 /// The cells as they are listed.
-fn decomposed(alloc: Global, pieces: &[Piece]) -> Result<Recorder, Fail> {
+fn decomposed(alloc: Global, pieces: &[Piece]) -> Result<Transcript, Fail> {
     if pieces.len() > 65535 || !have_length(pieces) {
         return Err(Fail::new("too many pieces, or an edge of no length"));
     }
-    let mut recorder = Recorder {
+    let mut transcript = Transcript {
         text: [0; ROOM],
         len: 0,
     };
     for cell in decompose(alloc, pieces)?.as_slice() {
-        recorder.listed(cell);
+        transcript.listed(cell);
     }
-    Ok(recorder)
+    Ok(transcript)
 }
 
 #[test]

@@ -1,11 +1,14 @@
-use Rattle.std.proofs.Common.{ap, sym, ◌∙◌, subst, arith, ◌^◌, ◌≡◌, length, take, List, ℕ, ◌∷◌, [], ◌++◌}
+use Rattle.std.proofs.Common.{ap, sym, ◌∙◌, subst, arith, ◌^◌, ◌≡◌, ◌<◌, ◌+◌, slice_index, length, take, List, ℕ, ◌∷◌, [], ◌++◌}
 use Rattle.std.proofs.lemmas.List.{length-append, with_items_is}
+use Rattle.std.proofs.lemmas.List.Elements.{All-get_or}
 use Rattle.std.specs.Vec.{with_items}
 use Rattle.std.proofs.lemmas.Slice.Zip.{zip_end, zip_turn}
+use Rattle.sf_columns.specs.declared.active.Active.{Active}
 use Rattle.sf_columns.specs.Fronts.{pieces_of}
 use Rattle.sf_cells.specs.Groups.{counts, group_count}
-use Rattle.sf_cells.specs.Hands.{AtMost, minus, plus}
-use Rattle.sf_cells.proofs.TallyLaws.{HasRoom, added_there, length-added, room_fewer}
+use Rattle.sf_cells.specs.Hands.{minus, plus}
+use Rattle.sf_columns.specs.Strips.{is_column}
+use Rattle.sf_cells.proofs.TallyLaws.{HasRoom, length-added, one_more, room_fewer}
 use Rattle.sf_cells.proofs.TallySteps.{length-pieces_of, next_has_room}
 use Rattle.sf_cells.proofs.AloneSteps.{AreNext, WasAlone, same_item, Alone-start, Alone-step, alone-above, alone-handed}
 use Rattle.sf_cells.proofs.column.hand_alone.Given.{Over}
@@ -25,9 +28,9 @@ entered : (g : Over) (c : After-deref_mut-in-loop-edge g) →
 entered g c = c.add_piece.ensures ∙ ap (λ t. plus t (counts c.args.groups.now (c.in-Some.edge.now.piece ∷ []))) c.deref_mut.ensures.value
 
 -- the tally is put back
-put_back : (g : Over) (c : After-deref_mut-in-loop-edge g) →
+stored : (g : Over) (c : After-deref_mut-in-loop-edge g) →
     (with_items c.loop-edge.tallies.on c.add_piece.new.tally).items ≡ c.add_piece.new.tally
-put_back g c = with_items_is c.loop-edge.tallies.on c.add_piece.new.tally (c.add_piece.auto.tally ∙ c.deref_mut.ensures.len)
+stored g c = with_items_is c.loop-edge.tallies.on c.add_piece.new.tally (c.add_piece.auto.tally ∙ c.deref_mut.ensures.len)
 
 -- there is a count for each group
 counted : (g : Over) (c : After-deref_mut-in-loop-edge g) → length c.loop-edge.tallies.on.items ≡ group_count c.args.groups.now
@@ -35,7 +38,7 @@ counted g c = ap length c.loop-edge.invariant.unchanged ∙ c.requires.counted_o
 
 pub loop-edge-init : goal.loop-edge-init
 loop-edge-init g c =
-    Alone-start g.S.CellSink.after c.args.groups.now c.args.event c.args.edges.now c.args.onward.now (g.S.CellSink.content c.args.sink.now)
+    Alone-start g.S.CellSink.after c.args.groups.now (is_column c.args.strip.now) c.args.edges.now c.args.onward.now (g.S.CellSink.content c.args.sink.now)
     c.args.tallies.now.on.items c.args.tallies.now.above.items
 
 pub add_piece-requires-clause-counted : goal.add_piece-requires-clause-counted
@@ -49,17 +52,27 @@ add_piece-requires-clause-room g c =
     subst P (sym (c.deref_mut.ensures.value ∙ c.loop-edge.invariant.unchanged))
     (room_fewer (2 ^ 32) (length c.args.edges.now) 1 c.args.tallies.now.on.items (omega (arith, next.below)) c.requires.room_on)
 
-pub take_piece-requires-clause-counted : goal.take_piece-requires-clause-counted
-take_piece-requires-clause-counted g c =
-    ap length (c.deref_mut-in-loop-edge.ensures.value ∙ put_back g c ∙ entered g c)
+pub put_back-requires-clause-counted : goal.put_back-requires-clause-counted
+put_back-requires-clause-counted g c =
+    ap length (c.deref_mut-in-loop-edge.ensures.value ∙ stored g c ∙ entered g c)
     ∙ length-added c.args.groups.now c.loop-edge.tallies.on.items (c.in-Some.edge.now.piece ∷ []) (counted g c)
 
-pub take_piece-requires-clause-there : goal.take_piece-requires-clause-there
-take_piece-requires-clause-there g c =
+pub count_of-count-requires-clause-counted : goal.count_of-count-requires-clause-counted
+count_of-count-requires-clause-counted g c =
+    ap length (c.deref-in-loop-edge-2.ensures.value ∙ c.loop-edge.invariant.unchanged) ∙ c.requires.counted_on
+
+pub put_back-requires-clause-left : goal.put_back-requires-clause-left
+put_back-requires-clause-left g c =
     let groups = c.args.groups.now in
-    let ps : List ℕ = c.in-Some.edge.now.piece ∷ [] in
-    let P : List ℕ → Type 0 = AtMost (counts groups ps) in
-    subst P (sym (c.deref_mut-in-loop-edge.ensures.value ∙ put_back g c ∙ entered g c)) (added_there groups c.loop-edge.tallies.on.items ps (counted g c))
+    let piece = c.in-Some.edge.now.piece in
+    let group = slice_index groups piece in
+    let next = next_pair g (goal.at.put_back-requires-clause-left g c).In-Some in
+    let Below : Active → Type 0 = λ e. e.piece < length groups in
+    let below : piece < length groups =
+    subst Below (sym next.edge) (All-get_or Below c.args.edges.now (length c.loop-edge.yielded) c.in-Some.edge.now next.below c.requires.edges) in
+    ap (λ t. slice_index t group) (c.deref_mut-in-loop-edge.ensures.value ∙ stored g c ∙ entered g c)
+    ∙ one_more groups c.loop-edge.tallies.on.items piece (counted g c) below
+    ∙ ap (λ n. n + 1) (sym (c.count_of-count.ensures ∙ ap (λ t. slice_index t group) c.deref-in-loop-edge-2.ensures.value))
 
 pub add_piece-requires-in-loop-edge-clause-counted :
     goal.add_piece-requires-in-loop-edge-clause-counted
@@ -84,8 +97,8 @@ loop-edge-preserved g c =
     let i = length c.loop-edge.yielded in
     let on = c.loop-edge.tallies.on.items in
     let above = c.loop-edge.tallies.above.items in
-    let was : WasAlone after groups c.args.event c.in-Some.edge.now c.in-Some.next.now (content c.loop-edge.sink) on above
-    (content c.cell-in-loop-edge.new.self) (with_items (with_items c.loop-edge.tallies.on c.add_piece.new.tally) c.take_piece.new.tally).items
+    let was : WasAlone after groups (is_column c.args.strip.now) c.in-Some.edge.now c.in-Some.next.now (content c.loop-edge.sink) on above
+    (content c.cell-in-loop-edge.new.self) (with_items (with_items c.loop-edge.tallies.on c.add_piece.new.tally) c.put_back.new.tally).items
     (with_items c.loop-edge.tallies.above c.add_piece-in-loop-edge.new.tally).items =
     record {
       between = content c.cell.new.self;
@@ -94,9 +107,9 @@ loop-edge-preserved g c =
           (same_item _ _ _ _ _ _ c.gap_dimension-gap.ensures c.deref.ensures.value c.deref-in-loop-edge.ensures.value);
       enters = entered g here;
       level = c.cell-in-loop-edge.ensures ∙ ap (after (content c.cell.new.self))
-          (same_item _ _ _ _ _ _ c.level_dimension-level.ensures (c.deref-in-loop-edge-2.ensures.value ∙ put_back g here) c.deref-in-loop-edge-3.ensures.value);
-      leaves = with_items_is (with_items c.loop-edge.tallies.on c.add_piece.new.tally) c.take_piece.new.tally (c.take_piece.auto.tally ∙ c.deref_mut-in-loop-edge.ensures.len)
-          ∙ c.take_piece.ensures ∙ ap (λ t. minus t (counts groups (c.in-Some.edge.now.piece ∷ []))) (c.deref_mut-in-loop-edge.ensures.value ∙ put_back g here);
+          (same_item _ _ _ _ _ _ c.level_dimension-level.ensures (c.deref-in-loop-edge-3.ensures.value ∙ stored g here) c.deref-in-loop-edge-4.ensures.value);
+      leaves = with_items_is (with_items c.loop-edge.tallies.on c.add_piece.new.tally) c.put_back.new.tally (c.put_back.auto.tally ∙ c.deref_mut-in-loop-edge.ensures.len)
+          ∙ c.put_back.ensures ∙ ap (λ t. minus t (counts groups (c.in-Some.edge.now.piece ∷ []))) (c.deref_mut-in-loop-edge.ensures.value ∙ stored g here);
       goes_on = with_items_is c.loop-edge.tallies.above c.add_piece-in-loop-edge.new.tally (c.add_piece-in-loop-edge.auto.tally ∙ c.deref_mut-in-loop-edge-2.ensures.len)
           ∙ c.add_piece-in-loop-edge.ensures ∙ ap (λ t. plus t (counts groups (c.in-Some.next.now.piece ∷ []))) c.deref_mut-in-loop-edge-2.ensures.value;
     } in

@@ -1,11 +1,7 @@
-use Rattle.std.proofs.Common.{ap, sym, ◌∙◌, subst, ℕ, List}
-use Rattle.std.proofs.lemmas.List.{with_items_is}
+use Rattle.std.proofs.Common.{ap, ◌∙◌}
 use Rattle.sf_columns.specs.declared.part.Part.TheVariants.{Alone, Together}
-use Rattle.sf_columns.specs.Fronts.{pieces_of}
 use Rattle.sf_columns.specs.Parts.{levels_of}
-use Rattle.sf_cells.specs.Groups.{counts}
-use Rattle.sf_cells.specs.Hands.{AtMost, minus}
-use Rattle.sf_cells.proofs.TallyLaws.{all_taken, all_there}
+use Rattle.sf_columns.specs.Strips.{is_column}
 use Rattle.sf_cells.proofs.HandSteps.{Handing-level, Handing-of, Handing-same, IsCut, Left-above, Left-of, Left-start, gathered, gathered-start, none-next, part-next}
 use Rattle.sf_cells.proofs.AloneSteps.{Handing-alone, Left-alone}
 use Rattle.sf_cells.proofs.column.hand_out.Goals as goal
@@ -17,7 +13,7 @@ loop-part-init g c =
     record {
       left = Left-start c.args.groups.now c.args.tallies.now.on.items c.args.tallies.now.above.items column.edges.now column.vertices.now column.onward.now (levels_of column.parts.now)
           c.requires.edges c.requires.vertices c.requires.onward c.requires.few c.requires.levels c.requires.balanced c.requires.none_on c.requires.none_above;
-      handed = gathered-start g.S.CellSink.after (g.S.CellSink.content c.args.sink.now) c.args.groups.now c.args.event column.edges.now column.vertices.now column.onward.now (levels_of column.parts.now)
+      handed = gathered-start g.S.CellSink.after (g.S.CellSink.content c.args.sink.now) c.args.groups.now (is_column c.args.strip.now) column.edges.now column.vertices.now column.onward.now (levels_of column.parts.now)
           c.args.tallies.now.on.items c.args.tallies.now.above.items c.requires.none_on c.requires.none_above;
     }
 
@@ -56,12 +52,9 @@ loop-part-preserved g c =
           (Handing-of (part-next c.args.column.now.parts.now c.loop-part.part-index (Alone 0) (Together w.in-Together.level) c.loop-part-test.true w.in-Together.is) c.loop-part.invariant))
     ]
 
-pub take_edges-requires-clause-there : goal.take_edges-requires-clause-there
-take_edges-requires-clause-there g c =
-    let left = Left-of (none-next c.args.column.now.parts.now c.loop-part.part-index c.loop-part-test.false) c.loop-part.invariant.left in
-    let onward = pieces_of c.args.column.now.onward.now in
-    let P : List ℕ → Type 0 = AtMost (counts c.args.groups.now onward) in
-    subst P (sym (c.deref_mut.ensures.value ∙ Left-above left)) (all_there c.args.groups.now onward)
+pub clear_edges-requires-clause-counted : goal.clear_edges-requires-clause-counted
+clear_edges-requires-clause-counted g c =
+    Left-above (Left-of (none-next c.args.column.now.parts.now c.loop-part.part-index c.loop-part-test.false) c.loop-part.invariant.left)
 
 pub returns-clause-handed : goal.returns-clause-handed
 unfolding gathered
@@ -75,10 +68,4 @@ returns-clause-none_on g c =
     left.balanced
 
 pub returns-clause-none_above : goal.returns-clause-none_above
-returns-clause-none_above g c =
-    let left = Left-of (none-next c.args.column.now.parts.now c.loop-part.part-index c.loop-part-test.false) c.loop-part.invariant.left in
-    let onward = pieces_of c.args.column.now.onward.now in
-    with_items_is c.loop-part.tallies.above c.take_edges.new.tally (c.take_edges.auto.tally ∙ c.deref_mut.ensures.len)
-    ∙ c.take_edges.ensures
-    ∙ ap (λ t. minus t (counts c.args.groups.now onward)) (c.deref_mut.ensures.value ∙ Left-above left)
-    ∙ all_taken c.args.groups.now onward
+returns-clause-none_above g c = c.clear_edges.ensures

@@ -2,6 +2,7 @@ use Rattle.std.proofs.Common.{drop}
 use Rattle.sf_columns.specs.Fronts.{pieces_of}
 use Rattle.sf_columns.specs.Parts.{levels_of}
 use Rattle.sf_cells.specs.Groups.{counts}
+use Rattle.sf_columns.specs.Strips.{is_column}
 use Rattle.sf_cells.proofs.HandSteps.{Handing, gathered}
 use Rattle.sf_cells.proofs.column.hand_out.Given as goal
 
@@ -9,6 +10,6 @@ use Rattle.sf_cells.proofs.column.hand_out.Given as goal
 abbrev pub invariant-loop-part : goal.invariant-loop-part
 invariant-loop-part g l =
     let column = l.fn.column in
-    Handing g.S.CellSink.after l.groups (counts l.groups (pieces_of column.onward.now)) l.event
-    (gathered g.S.CellSink.after (g.S.CellSink.content l.fn.sink) l.groups l.event column.edges.now column.vertices.now column.onward.now (levels_of column.parts.now))
+    Handing g.S.CellSink.after l.groups (counts l.groups (pieces_of column.onward.now)) (is_column l.strip)
+    (gathered g.S.CellSink.after (g.S.CellSink.content l.fn.sink) l.groups (is_column l.strip) column.edges.now column.vertices.now column.onward.now (levels_of column.parts.now))
     (g.S.CellSink.content l.sink) l.tallies.on.items l.tallies.above.items l.edges l.vertices l.onward (levels_of (drop l.part-index l.part-items))

@@ -6,7 +6,7 @@ use Rattle.sf_columns.proofs.onward.push_starts.Goals as goal
 pub returns-clause-starts : goal.returns-clause-starts
 returns-clause-starts c =
     let done = c.loop-vertex in
-    subst (λ found. HasStarts c.args.pieces.now c.args.vertices.now c.args.found.now.items found)
+    subst (λ found. HasStarts c.args.vertices.now c.args.found.now.items found)
     (append-nil done.found.items)
     (done.invariant.starts []
-    (subst (λ vs. AreStarts c.args.pieces.now vs []) (sym (drop_all done.vertex-index c.args.vertices.now c.loop-vertex-test.false)) (λ i. [])))
+    (subst (λ vs. AreStarts vs []) (sym (drop_all done.vertex-index c.args.vertices.now c.loop-vertex-test.false)) (λ i. [])))

@@ -1,13 +1,14 @@
-use Rattle.std.proofs.Common.{◌≡◌, ◌+◌, ◌≤◌, ◌++◌, drop, List}
+use Rattle.std.proofs.Common.{◌≡◌, ◌+◌, ◌≤◌, ◌++◌, drop, length, List}
 use Rattle.sf_columns.specs.declared.active.Active.{Active}
 use Rattle.sf_columns.specs.Levels.{AreStarts, HasStarts}
+use Rattle.sf_columns.specs.Vertices.{begins, pieces_with}
 use Rattle.sf_columns.proofs.onward.push_starts.Given as goal
 
 -- the edges that begin at the vertices so far, whatever begins at those that are left
 abbrev pub invariant-loop-vertex : goal.invariant-loop-vertex
 invariant-loop-vertex l =
     record {
-      starts : (later : List Active) → AreStarts l.pieces (drop l.vertex-index l.vertices) later → HasStarts l.pieces l.vertices l.fn.found.items (l.found.items ++ later);
-      len : l.found.len ≤ l.fn.found.len + l.vertex-index;
+      starts : (later : List Active) → AreStarts (drop l.vertex-index l.vertices) later → HasStarts l.vertices l.fn.found.items (l.found.items ++ later);
+      len : l.found.len + length (pieces_with begins (drop l.vertex-index l.vertices)) ≤ l.fn.found.len + length (pieces_with begins l.vertices);
       capacity : l.found.cap ≡ l.fn.found.cap;
     }

@@ -1,19 +1,18 @@
 use Rattle.std.proofs.Common.{refl, ◌+◌, ◌<◌, ◌≤◌, ap, sym, subst, arith, Some, length, rules}
-use Rattle.std.specs.List.{AllByRecursion}
 use Rattle.sf_columns.specs.Parts.{levels_of}
-use Rattle.sf_columns.specs.Vertices.{IsVertexOf}
 use Rattle.sf_columns.proofs.AloneLaws.{alone_count-le, contacts-kept}
 use Rattle.sf_columns.proofs.ContactLaws.{apart-at_most, apart-drop, apart-few}
-use Rattle.sf_columns.proofs.CutLaws.{IsWhole, Turn, cut-nothing, cut-whole, each-drop, empty, no_more, one_more, room-left, top-some, top-within, turn-alone, turn-level}
+use Rattle.sf_columns.proofs.CutLaws.{IsWhole, Turn, cut-nothing, cut-whole, empty, no_more, one_more, room-left, top-some, top-within, turn-alone, turn-level}
+use Rattle.sf_columns.specs.Vertices.{begins, pieces_with}
+use Rattle.sf_columns.proofs.OnwardLaws.{begun-split}
 use Rattle.sf_columns.proofs.cut.Cut.column.Goals as goal
 use Rattle.sf_columns.proofs.cut.Cut.column.Goals.{else-not-is_empty+then-not-is_empty-2, then-not-is_empty}
 
 pub loop-edges-init : goal.loop-edges-init
 loop-edges-init c =
     record {
-      cut = cut-nothing _ _ _ _ _ _ _ c.clear-2.ensures.items (ap levels_of c.clear.ensures.items);
+      cut = cut-nothing _ _ _ _ _ _ c.clear-2.ensures.items (ap levels_of c.clear.ensures.items);
       contacts = search rules;
-      each = search rules;
       apart = search rules;
       room = search rules;
       order_room = search rules;
@@ -42,11 +41,10 @@ pub loop-edges-preserved-then-alone-gt0 : goal.loop-edges-preserved-then-alone-g
 loop-edges-preserved-then-alone-gt0 c =
     record {
       cut =
-          turn-alone c.args.pieces.now (Some c.args.x.now) c.alone_len-alone.result _ _ _ _ _ _ _ _ _ _ _ _ _
+          turn-alone (Some c.args.x.now) c.alone_len-alone.result _ _ _ _ _ _ _ _ _ _ _ _ _
           c.alone_len-alone.ensures c.split_at.ensures.front c.split_at.ensures.front_len c.split_at.ensures.back c.skip-contacts.ensures
           c.push_alone.ensures.order c.push_alone.ensures.parts c.loop-edges.invariant.cut;
       contacts = c.push_alone.ensures.contacts;
-      each = c.loop-edges.invariant.each;
       apart = apart-drop _ c.alone_len-alone.result _ _ _ _ c.loop-edges.invariant.apart c.split_at.ensures.back c.skip-contacts.ensures;
       room = omega (arith, c.push_alone.ensures.len, c.split_at.ensures.back_len, c.if-alone-gt0.true, c.loop-edges.invariant.room);
       order_room = omega (arith, c.push_alone.ensures.order_len, c.split_at.ensures.back_len, c.split_at.ensures.front_len, c.loop-edges.invariant.order_room);
@@ -78,7 +76,7 @@ some_left c =
     ]
 
 turn : (c : goal.After-skip-contacts-else-alone-gt0) →
-    Turn c.args.pieces.now (Some c.args.x.now) c.loop-edges.edges.now c.split_at-else-alone-gt0.result.1.now
+    Turn (Some c.args.x.now) c.loop-edges.edges.now c.split_at-else-alone-gt0.result.1.now
     c.loop-edges.contacts.now c.skip-contacts-else-alone-gt0.result.now c.loop-edges.vertices.now c.split_at-else-alone-gt0-2.result.1.now
     c.loop-edges.self.order.items c.push_level.new.self.order.items c.loop-edges.self.parts.items c.push_level.new.self.parts.items
     c.top-top.result c.split_at-else-alone-gt0.result.0.now c.split_at-else-alone-gt0-2.result.0.now
@@ -97,6 +95,23 @@ turn c =
       pushed = c.push_level.ensures.pushed;
     }
 
+pub push_level-requires-clause-room : goal.push_level-requires-clause-room
+push_level-requires-clause-room c =
+    let i = c.loop-edges.invariant in
+    let run = c.split_at-else-alone-gt0.ensures in
+    let begun = begun-split c.top-top.result.vertices _ _ _ c.split_at-else-alone-gt0-2.ensures.front c.split_at-else-alone-gt0-2.ensures.back in
+    let left : 0 < length c.loop-edges.edges.now + length c.loop-edges.vertices.now =
+    elim c.if-not-is_empty.branch [
+      | then-not-is_empty w ↦ search rules
+      | else-not-is_empty+then-not-is_empty-2 w ↦ search rules
+    ] in
+    record {
+      parts = omega (arith, left, i.room, i.capacity, c.requires.room.parts);
+      order = omega (arith, begun, run.front_len, run.back_len, i.order_room, i.order_capacity, c.requires.room.order);
+      contacts = omega (arith, begun, run.front_len, run.back_len, i.order_room, i.contacts_capacity, c.requires.room.contacts);
+      segment = omega (arith, begun, run.front_len, run.back_len, i.order_room, i.segment_capacity, c.requires.room.segment);
+    }
+
 some_taken : (c : goal.After-skip-contacts-else-alone-gt0) → 0 < c.top-top.result.edges + c.top-top.result.vertices
 some_taken c =
     subst (λ l. 0 < l.edges + l.vertices) (sym c.top-top.ensures)
@@ -105,20 +120,18 @@ some_taken c =
 pub loop-edges-preserved : goal.loop-edges-preserved
 loop-edges-preserved c =
     record {
-      cut = turn-level _ _ _ _ _ _ _ _ _ _ _ _ _ _ _ _ _ _ (turn c) c.loop-edges.invariant.cut;
+      cut = turn-level _ _ _ _ _ _ _ _ _ _ _ _ _ _ _ _ _ (turn c) c.loop-edges.invariant.cut;
       contacts = c.push_level.ensures.contacts;
-      each =
-          subst (AllByRecursion (IsVertexOf c.args.pieces.now)) (sym c.split_at-else-alone-gt0-2.ensures.back)
-          (each-drop (IsVertexOf c.args.pieces.now) c.top-top.result.vertices c.loop-edges.vertices.now c.loop-edges.invariant.each);
       apart = apart-drop _ c.top-top.result.edges _ _ _ _ c.loop-edges.invariant.apart c.split_at-else-alone-gt0.ensures.back c.skip-contacts-else-alone-gt0.ensures;
       room =
           room-left _ _ _ _ _ _ c.top-top.result.edges c.top-top.result.vertices _
           (one_more _ _ c.top-top.result.edges c.top-top.result.vertices c.push_level.ensures.len (some_taken c))
           c.split_at-else-alone-gt0.ensures.back_len c.split_at-else-alone-gt0-2.ensures.back_len c.loop-edges.invariant.room;
       order_room =
-          room-left _ _ _ _ _ _ c.top-top.result.edges c.top-top.result.vertices _
-          (no_more _ _ c.top-top.result.edges c.top-top.result.vertices _ _ c.push_level.ensures.order_len c.split_at-else-alone-gt0.ensures.front_len c.split_at-else-alone-gt0-2.ensures.front_len)
-          c.split_at-else-alone-gt0.ensures.back_len c.split_at-else-alone-gt0-2.ensures.back_len c.loop-edges.invariant.order_room;
+          room-left _ _ _ _ _ _ c.top-top.result.edges (length (pieces_with begins c.split_at-else-alone-gt0-2.result.0.now)) _
+          (no_more _ _ c.top-top.result.edges _ _ _ c.push_level.ensures.order_len c.split_at-else-alone-gt0.ensures.front_len refl)
+          c.split_at-else-alone-gt0.ensures.back_len
+          (begun-split c.top-top.result.vertices _ _ _ c.split_at-else-alone-gt0-2.ensures.front c.split_at-else-alone-gt0-2.ensures.back) c.loop-edges.invariant.order_room;
       capacity = search rules;
       order_capacity = search rules;
       contacts_capacity = search rules;
@@ -127,8 +140,8 @@ loop-edges-preserved c =
 
 -- ---- nothing is left
 whole : (c : goal.Else-not-is_empty-2) →
-    IsWhole c.args.pieces.now (Some c.args.x.now) c.args.edges.now c.args.contacts.now c.args.vertices.now c.loop-edges.self.order.items (levels_of c.loop-edges.self.parts.items)
-whole c = cut-whole _ _ _ _ _ _ _ _ _ _ (empty c.loop-edges.edges.now (search rules)) (empty c.loop-edges.vertices.now (search rules)) c.loop-edges.invariant.cut
+    IsWhole (Some c.args.x.now) c.args.edges.now c.args.contacts.now c.args.vertices.now c.loop-edges.self.order.items (levels_of c.loop-edges.self.parts.items)
+whole c = cut-whole _ _ _ _ _ _ _ _ _ (empty c.loop-edges.edges.now (search rules)) (empty c.loop-edges.vertices.now (search rules)) c.loop-edges.invariant.cut
 
 pub returns-clause-tops : goal.returns-clause-tops
 returns-clause-tops c = (whole c).tops

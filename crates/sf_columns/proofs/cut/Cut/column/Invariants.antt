@@ -1,8 +1,7 @@
 use Rattle.std.proofs.Common.{◌+◌, ◌≤◌, Some, length}
-use Rattle.std.specs.List.{AllByRecursion}
 use Rattle.sf_columns.specs.Fronts.{AreApart, AreContacts}
+use Rattle.sf_columns.specs.Levels.{most_onward}
 use Rattle.sf_columns.specs.Parts.{levels_of}
-use Rattle.sf_columns.specs.Vertices.{IsVertexOf}
 use Rattle.sf_columns.proofs.CutLaws.{CutOff}
 use Rattle.sf_columns.proofs.cut.Cut.column.Given as goal
 
@@ -10,12 +9,11 @@ use Rattle.sf_columns.proofs.cut.Cut.column.Given as goal
 abbrev pub invariant-loop-edges : goal.invariant-loop-edges
 invariant-loop-edges l =
     record {
-      cut : CutOff l.pieces (Some l.x) l.fn.edges l.edges l.fn.contacts l.contacts l.fn.vertices l.vertices l.self.order.items (levels_of l.self.parts.items);
+      cut : CutOff (Some l.x) l.fn.edges l.edges l.fn.contacts l.contacts l.fn.vertices l.vertices l.self.order.items (levels_of l.self.parts.items);
       contacts : AreContacts l.x l.self.order.items l.self.contacts.items;
-      each : AllByRecursion (IsVertexOf l.pieces) l.vertices;
       apart : AreApart l.x l.edges l.contacts;
       room : l.self.parts.len + (length l.edges + length l.vertices) ≤ length l.fn.edges + length l.fn.vertices;
-      order_room : l.self.order.len + (length l.edges + length l.vertices) ≤ length l.fn.edges + length l.fn.vertices;
+      order_room : l.self.order.len + most_onward l.edges l.vertices ≤ most_onward l.fn.edges l.fn.vertices;
       capacity : l.fn.self.parts.cap ≤ l.self.parts.cap;
       order_capacity : l.fn.self.order.cap ≤ l.self.order.cap;
       contacts_capacity : l.fn.self.contacts.cap ≤ l.self.contacts.cap;

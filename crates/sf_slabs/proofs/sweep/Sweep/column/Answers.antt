@@ -1,8 +1,8 @@
-use Rattle.std.proofs.Common.{ap, sym, subst, ◌∙◌, Some, length, true}
+use Rattle.std.proofs.Common.{ap, sym, subst, ◌∙◌, arith, Some, length, true}
 use Rattle.std.specs.List.{fold}
 use Rattle.sf_columns.specs.Parts.{levels_of}
 use Rattle.sf_slabs.specs.Sweeps.{IsFront}
-use Rattle.sf_slabs.proofs.SweepLaws.{WasCut, coming-few, cut-balanced, cut-column, cut-entries, cut-few, cut-front, cut-items, edges-below, few-moved, room-moved, vertices-below}
+use Rattle.sf_slabs.proofs.SweepLaws.{WasCut, coming-few, cut-balanced, cut-column, cut-entries, cut-few, cut-front, cut-items, edges-below, few-moved, onward-few, room-fewer, vertices-below}
 use Rattle.sf_slabs.proofs.sweep.Sweep.column.Goals as goal
 
 -- the cut is one of the column, where it is handed out
@@ -21,23 +21,10 @@ was_cut g c =
 
 pub column-requires-clause-room : goal.column-requires-clause-room
 column-requires-clause-room g c =
-    room-moved _ _ _ (length c.args.pieces.now) _ (ap length c.as_slice.ensures.value)
-    (coming-few c.args.pieces.now c.args.x.now (Some c.args.x.now) c.args.self.now.order.items c.args.self.now.contacts.items c.requires.coming) c.requires.ready.parts_room
-
-pub column-requires-clause-order_room : goal.column-requires-clause-order_room
-column-requires-clause-order_room g c =
-    room-moved _ _ _ (length c.args.pieces.now) _ (ap length c.as_slice.ensures.value)
-    (coming-few c.args.pieces.now c.args.x.now (Some c.args.x.now) c.args.self.now.order.items c.args.self.now.contacts.items c.requires.coming) c.requires.ready.onward_room
-
-pub column-requires-clause-contacts_room : goal.column-requires-clause-contacts_room
-column-requires-clause-contacts_room g c =
-    room-moved _ _ _ (length c.args.pieces.now) _ (ap length c.as_slice.ensures.value)
-    (coming-few c.args.pieces.now c.args.x.now (Some c.args.x.now) c.args.self.now.order.items c.args.self.now.contacts.items c.requires.coming) c.requires.ready.onward_contacts_room
-
-pub column-requires-clause-segment_room : goal.column-requires-clause-segment_room
-column-requires-clause-segment_room g c =
-    room-moved _ _ _ (length c.args.pieces.now) _ (ap length c.as_slice.ensures.value)
-    (coming-few c.args.pieces.now c.args.x.now (Some c.args.x.now) c.args.self.now.order.items c.args.self.now.contacts.items c.requires.coming) c.requires.ready.segment_room
+    let coming = c.requires.coming in
+    let few = coming-few c.args.pieces.now c.args.x.now (Some c.args.x.now) c.args.self.now.order.items c.args.self.now.contacts.items coming in
+    let onward = onward-few c.args.pieces.now c.args.x.now (Some c.args.x.now) c.args.self.now.order.items c.args.self.now.contacts.items c.args.vertices.now coming c.requires.vertices in
+    room-fewer _ _ _ _ _ (omega (arith, few, ap length c.as_slice.ensures.value)) (omega (arith, onward, ap length c.as_slice.ensures.value)) c.requires.ready.cut_room
 
 pub hand_out-requires-clause-edges : goal.hand_out-requires-clause-edges
 hand_out-requires-clause-edges g c =

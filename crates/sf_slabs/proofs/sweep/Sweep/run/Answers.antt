@@ -3,7 +3,8 @@ use Rattle.std.specs.List.{fold}
 use Rattle.sf_cells.specs.Cells.{cells}
 use Rattle.sf_cells.specs.Groups.{item_of}
 use Rattle.sf_cells.specs.Samples.{listed, unlisted}
-use Rattle.sf_slabs.specs.Sweeps.{IsAhead, cells_in}
+use Rattle.sf_slabs.specs.Sweeps.{cells_in}
+use Rattle.sf_slabs.proofs.Ahead.{IsAhead}
 use Rattle.sf_slabs.proofs.RemainingLaws.{ahead_of_all, left, remaining, start-ahead, start-column}
 use Rattle.sf_slabs.proofs.RunLaws.{IsComingNext, Stands, StandsBefore, column-ahead, column-apart, column-cells, column-coming, column-vertices, coming-next, fewer-left, first-cells, first-coming, first-slab, first-stands, handed-one, handed-two, no_more_ahead, ready-fewer, slab-column, slab-coming, slab-of, slab_place, stands}
 use Rattle.sf_slabs.proofs.sweep.Sweep.run.Goals as goal

@@ -14,7 +14,7 @@ pub slab-requires-clause-room : goal.slab-requires-clause-room
 slab-requires-clause-room g c =
     at_most-moved _ _ (length c.args.pieces.now) _ (ap length c.as_slice.ensures.value)
     (coming-few c.args.pieces.now c.requires.slab.place None c.args.self.now.order.items c.args.self.now.contacts.items c.requires.slab.coming)
-    (room-whole (length c.args.pieces.now) _ c.requires.ready.parts_room)
+    (room-whole (length c.args.pieces.now) _ c.requires.ready.cut_room.parts)
 
 pub hand_out-requires-clause-edges : goal.hand_out-requires-clause-edges
 hand_out-requires-clause-edges g c =

@@ -1,0 +1,37 @@
+//! Times of the calls of `sf_grid`, and of walks over the cells of large rings and combs. The first
+//! argument chooses: `grid` or `cells`. The second one is the number of rounds.
+#![tactic(auto)]
+
+mod cells;
+mod grid;
+mod shape;
+mod sinks;
+
+use std::{env, io};
+
+/// What is timed.
+#[derive(Clone, Copy)]
+enum Choice {
+    Grid,
+    Cells,
+}
+
+fn main(rt: HostRuntime) -> io::Result<()> {
+    let mut choice = Choice::Cells;
+    let mut rounds = 1u32;
+    for word in env::args(&rt)? {
+        match word.as_str() {
+            "grid" => choice = Choice::Grid,
+            "cells" => choice = Choice::Cells,
+            word => {
+                if let Ok(n) = word.parse::<u32>() {
+                    rounds = n;
+                }
+            }
+        }
+    }
+    match choice {
+        Choice::Grid => grid::run(&rt, rounds),
+        Choice::Cells => cells::run(&rt, rounds),
+    }
+}

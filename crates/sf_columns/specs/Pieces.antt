@@ -1,0 +1,9 @@
+-- Edges and dots.
+use Rattle.std.specs.Prelude.{◌≢◌}
+use Rattle.sf_columns.specs.declared.piece.Piece.{Piece}
+use Rattle.sf_columns.specs.declared.piece.Piece.TheVariants.{Edge, Dot}
+
+-- the ends of an edge differ
+abbrev pub HasLength : Piece → Type 0
+HasLength (Edge a b) = a ≢ b
+HasLength (Dot a) = Unit {0}
