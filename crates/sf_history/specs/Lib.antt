@@ -1,0 +1,3 @@
+pub mod EditRefusals
+pub mod History
+pub mod Laws
