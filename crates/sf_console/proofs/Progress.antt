@@ -1,5 +1,5 @@
 -- How serving goes on from line to line and from chunk to chunk.
-use Rattle.std.proofs.Common.{◌≡◌, ◌≢◌, true, false, ℕ, ◌+◌, inl, inr, Result, Ok, Err, OnOk, OnErr, List, [], ◌∷◌, ◌++◌, Option, take, drop, refl, sym, ap, ◌∙◌, subst, append_assoc, append-nil}
+use Rattle.std.proofs.Common.{◌≡◌, ◌≢◌, true, false, ℕ, ◌+◌, inl, inr, Result, Ok, Err, OnOk, OnErr, List, [], ◌∷◌, ◌++◌, length, Option, take, drop, refl, sym, ap, ◌∙◌, subst, append_assoc, append-nil, arith}
 use Rattle.std.proofs.KnownBytes.{Consumes-nil, Consumes-trans, Consumes-kept, Appends-nil, Appends-trans}
 use Rattle.std.specs.Io.KnownBytes.{Consumes, Appends, Keeps, IsAtEnd}
 use Rattle.sf_lines.specs.Lines.{IsWhole, HasNoFeed}
@@ -287,3 +287,8 @@ OnOk-from (Err e) p = tt
 pub OnErr-at : {T E P : Type 0} (r : Result T E) (e : E) → r ≡ Err e → OnErr r P → P
 OnErr-at (Ok x) e is p = absurd (cc)
 OnErr-at (Err d) e is p = p
+
+-- a text of no length is none
+pub no_bytes : (bytes : List ℕ) → length bytes ≡ 0 → bytes ≡ []
+no_bytes [] h = refl
+no_bytes (b ∷ bytes) h = absurd (omega arith)

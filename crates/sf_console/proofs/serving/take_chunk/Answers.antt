@@ -1,4 +1,4 @@
-use Rattle.std.proofs.Common.{◌++◌, ◌∙◌, ◌+◌, true, [], MatchOption, take, drop, ap, sym, subst}
+use Rattle.std.proofs.Common.{◌++◌, ◌∙◌, ◌+◌, [], MatchOption, take, drop, ap, sym, subst}
 use Rattle.sf_lines.specs.Lines.{HasNoFeed}
 use Rattle.sf_lines.specs.Buffers.{IsBufferOf, buffered_with, nothing_buffered}
 use Rattle.sf_lines.proofs.FeedLemmas.{IsFirstFeed, position-feed}
