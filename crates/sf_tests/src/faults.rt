@@ -89,8 +89,26 @@ impl Write for Gauge {
 /// done then, how many tries there were, and which bytes of the output were written and how many flushed.
 const WRITERS: [(usize, usize, bool, bool, usize, usize, &str, usize); 5] = [
     // It takes all.
-    (100, 100, true, true, 2, 3, "ok\nok 1\nrows 1\n1 POINT (1 1)\n", 29),
-    (3, 100, true, true, 2, 10, "ok\nok 1\nrows 1\n1 POINT (1 1)\n", 29),
+    (
+        100,
+        100,
+        true,
+        true,
+        2,
+        3,
+        "ok\nok 1\nrows 1\n1 POINT (1 1)\n",
+        29,
+    ),
+    (
+        3,
+        100,
+        true,
+        true,
+        2,
+        10,
+        "ok\nok 1\nrows 1\n1 POINT (1 1)\n",
+        29,
+    ),
     // It has too little room.
     (3, 5, true, false, 2, 3, "ok\nok", 3),
     (100, 0, true, false, 1, 1, "", 0),

@@ -26,11 +26,19 @@ fn lines_of_letters(rt: HostRuntime) -> Result<(), Fail> {
         let mut input = "a".repeat(rt.alloc(), letters)?;
         input.push_str(ending)?;
         let mut whole = input.as_bytes();
-        assert_eq!(rt; answers(rt.alloc(), &mut whole)?.as_str(), output, "of {letters}");
+        assert_eq!(rt;
+            answers(rt.alloc(), &mut whole)?.as_str(),
+            output,
+            "of {letters}"
+        );
         let mut bytes = ByteByByte {
             bytes: input.as_bytes(),
         };
-        assert_eq!(rt; answers(rt.alloc(), &mut bytes)?.as_str(), output, "of {letters}");
+        assert_eq!(rt;
+            answers(rt.alloc(), &mut bytes)?.as_str(),
+            output,
+            "of {letters}"
+        );
     }
     Ok(())
 }

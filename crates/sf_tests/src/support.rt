@@ -1,4 +1,6 @@
 //! What the tests share: the answers of a new editor, and a reader that gives its bytes one at a time.
+ghost use Rattle.std.specs.Prelude.{◌≤◌, length};
+
 use sf_console::{Editor, serve};
 use std::alloc::Global;
 use std::io;
@@ -14,7 +16,10 @@ pub fn answers<R: Read>(alloc: Global, reader: &mut R) -> Result<String, Fail> {
 }
 
 /// Puts as many bytes into a buffer as it takes, and gives their number.
-pub fn put(buf: &mut [u8], bytes: &[u8]) -> usize {
+pub fn put(buf: &mut [u8], bytes: &[u8]) -> usize
+    ensures in_buf { result ≤ length buf.old }
+    ensures in_bytes { result ≤ length bytes.now }
+{
     let count = bytes.len().min(buf.len());
     buf[..count].copy_from_slice(&bytes[..count]);
     count
