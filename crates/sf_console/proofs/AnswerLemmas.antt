@@ -1,9 +1,9 @@
--- How long the answers without rows are, and how rows follow one another.
+-- How long the answers of one line are.
 use Rattle.std.proofs.Common.{◌≡◌, ℕ, ◌+◌, ◌/◌, ◌%◌, ◌^◌, ◌<◌, ◌≤◌, [], ◌∷◌, ◌++◌, length, decimal, lit≤, lit<, ap, ◌∙◌, arith, length-append}
 use Rattle.std.proofs.lemmas.Fmt.{decimal_step, length-decimal-le}
-use Rattle.sf_console.specs.declared.refusal.Refusal.{Refusal}
-use Rattle.sf_console.specs.declared.refusal.Refusal.TheVariants.{Memory, Syntax, OffGrid, OutOfRange, Empty, UnsupportedType, NoLayer, LayerExists, BadName, WrongKind, IdsExhausted, NothingToUndo, BadCommand, LineTooLong}
-use Rattle.sf_console.specs.Refusals.{name_of}
+use Rattle.sf_refusals.specs.declared.refusal.Refusal.{Refusal}
+use Rattle.sf_refusals.specs.declared.refusal.Refusal.TheVariants.{Memory}
+use Rattle.sf_refusals.specs.Refusals.{name_of}
 
 -- the digits of a number of several digits
 pub decimal-more : (n : ℕ) → 10 ≤ n → n < 2 ^ 32 → decimal n ≡ decimal (n / 10) ++ (48 + n % 10) ∷ []
@@ -21,18 +21,6 @@ pub length-decimal-byte : (n : ℕ) → n < 2 ^ 8 → length (decimal n) ≤ 3
 length-decimal-byte n small = length-decimal-le 3 n (lit< tt) (omega arith) (omega arith)
 
 -- the name of a refusal is short
-pub length-name_of : (refusal : Refusal) → length (name_of refusal) ≤ 40
+pub length-name_of : (refusal : Refusal) → length (name_of refusal) ≤ 16
 length-name_of Memory = lit≤ tt
-length-name_of Syntax = lit≤ tt
-length-name_of OffGrid = lit≤ tt
-length-name_of OutOfRange = lit≤ tt
-length-name_of Empty = lit≤ tt
-length-name_of UnsupportedType = lit≤ tt
-length-name_of NoLayer = lit≤ tt
-length-name_of LayerExists = lit≤ tt
-length-name_of BadName = lit≤ tt
-length-name_of WrongKind = lit≤ tt
-length-name_of IdsExhausted = lit≤ tt
-length-name_of NothingToUndo = lit≤ tt
-length-name_of BadCommand = lit≤ tt
-length-name_of LineTooLong = lit≤ tt
+length-name_of refusal = lit≤ tt

@@ -1,15 +1,31 @@
--- How serving goes on from line to line and from piece to piece.
-use Rattle.std.proofs.Common.{◌≡◌, ◌≢◌, true, false, ℕ, ◌+◌, inl, inr, Result, Ok, Err, OnOk, OnErr, List, [], ◌∷◌, ◌++◌, Option, map, take, drop, refl, sym, ap, ◌∙◌, subst, append_assoc, append-nil}
+-- How serving goes on from line to line and from chunk to chunk.
+use Rattle.std.proofs.Common.{◌≡◌, ◌≢◌, true, false, ℕ, ◌+◌, inl, inr, Result, Ok, Err, OnOk, OnErr, List, [], ◌∷◌, ◌++◌, length, Option, take, drop, refl, sym, ap, ◌∙◌, subst, append_assoc, append-nil, arith}
 use Rattle.std.proofs.KnownBytes.{Consumes-nil, Consumes-trans, Consumes-kept, Appends-nil, Appends-trans}
 use Rattle.std.specs.Io.KnownBytes.{Consumes, Appends, Keeps, IsAtEnd}
-use Rattle.sf_console.specs.History.{Machine}
-use Rattle.sf_console.specs.Lines.{Reading, reading, readings_of, whole_readings_of}
-use Rattle.sf_console.specs.Session.{Gives, Run}
-use Rattle.sf_console.specs.Unfinished.{Kept, nothing_kept, kept_with, IsKeptOf, HasNoFeed, IsFirstFeed, GivesLast, Sends, Takes, Breaks, EndsInput, BreaksAtEnd, Progress}
+use Rattle.sf_lines.specs.Lines.{IsWhole, HasNoFeed}
+use Rattle.sf_lines.specs.Buffers.{Buffered, nothing_buffered, buffered_with, IsBufferOf}
+use Rattle.sf_lines.proofs.LineLemmas.{IsWhole-append, IsWhole-fed, HasNoFeed-append}
+use Rattle.sf_lines.proofs.FeedLemmas.{IsFirstFeed}
+use Rattle.sf_lines.proofs.BufferLemmas.{IsBufferOf-extend, IsBufferOf-nothing}
+use Rattle.sf_history.specs.History.{Machine}
+use Rattle.sf_console.specs.Readings.{Reading, reading, readings_of, whole_readings_of}
+use Rattle.sf_console.specs.Session.{IsAnswered, IsLastAnswered, Run}
+use Rattle.sf_console.specs.Chunks.{Sends, Takes, Breaks, EndsInput, BreaksAtEnd}
 use Rattle.sf_console.specs.Serving.{ServesAll, ServesWholeLines, BreaksOff}
-use Rattle.sf_console.proofs.Pieces.{Run-append}
-use Rattle.sf_console.proofs.Whole.{readings_of-whole, whole_readings_of-whole, whole_readings_of-append, readings_of-fed, lines_of-unfed, IsWhole-append, IsWhole-fed, HasNoFeed-append}
-use Rattle.sf_console.proofs.ReadingLemmas.{IsKeptOf-extend, IsKeptOf-nothing}
+use Rattle.sf_console.proofs.Runs.{Run-append}
+use Rattle.sf_console.proofs.ReadingLemmas.{readings_of-whole, whole_readings_of-whole, whole_readings_of-append, readings_of-fed, readings_of-unfed}
+
+-- so much was read and answered so far
+pub record Progress (unread left : Option (List ℕ)) (buffered : Buffered) (written_before written : Option (List ℕ)) (old new : Machine) : Type 0 where
+  pub finished : List ℕ
+  pub after : List ℕ
+  pub output : List ℕ
+  pub consumed : Consumes unread left (finished ++ after)
+  pub whole : IsWhole finished
+  pub unfed : HasNoFeed after
+  pub is_buffer : IsBufferOf after buffered
+  pub appended : Appends written_before written output
+  pub ran : Run old (readings_of finished) output new
 
 pub OnOk-map : {T E P Q : Type 0} (r : Result T E) → (P → Q) → OnOk r P → OnOk r Q
 OnOk-map (Ok x) f p = f p
@@ -20,44 +36,40 @@ OnErr-map (Ok x) f p = p
 OnErr-map (Err e) f p = f p
 
 -- the run of one line
-pub Run-one : (old new : Machine) (line : Reading) (text : List ℕ) → Gives old line text new → Run old (line ∷ []) text new
-Run-one old new line text gives = (new, text, [], gives, (refl, refl), sym (append-nil text))
-
--- bytes with no line feed are one line
-readings_of-unfed : (b : ℕ) (bytes : List ℕ) → HasNoFeed (b ∷ bytes) → readings_of (b ∷ bytes) ≡ reading (record { bytes = b ∷ bytes; ended = false }) ∷ []
-readings_of-unfed b bytes unfed = ap (map reading) (lines_of-unfed b bytes unfed)
+pub Run-one : (old new : Machine) (line : Reading) (text : List ℕ) → IsAnswered old line text new → Run old (line ∷ []) text new
+Run-one old new line text answered = (new, text, [], answered, (refl, refl), sym (append-nil text))
 
 -- the last line, as a run
-pub EndsInput-given : (before text : List ℕ) (written_before written : Option (List ℕ)) (old new : Machine)
-    → HasNoFeed before → GivesLast old before text new → Appends written_before written text → EndsInput before written_before written old new
-EndsInput-given [] text written_before written old new unfed gives appended =
-    record { output = text; appended = appended; ran = gives }
-EndsInput-given (b ∷ bytes) text written_before written old new unfed gives appended =
+pub EndsInput-answered : (before text : List ℕ) (written_before written : Option (List ℕ)) (old new : Machine)
+    → HasNoFeed before → IsLastAnswered old before text new → Appends written_before written text → EndsInput before written_before written old new
+EndsInput-answered [] text written_before written old new unfed answered appended =
+    record { output = text; appended = appended; ran = answered }
+EndsInput-answered (b ∷ bytes) text written_before written old new unfed answered appended =
     record {
       output = text;
       appended = appended;
-      ran = subst (λ lines. Run old lines text new) (sym (readings_of-unfed b bytes unfed)) (Run-one old new (reading (record { bytes = b ∷ bytes; ended = false })) text gives);
+      ran = subst (λ lines. Run old lines text new) (sym (readings_of-unfed b bytes unfed)) (Run-one old new (reading (record { bytes = b ∷ bytes; ended = false })) text answered);
     }
 
 -- the last line, whose answer was begun
-pub BreaksAtEnd-given : (before text : List ℕ) (written_before written : Option (List ℕ)) (old new : Machine)
-    → HasNoFeed before → GivesLast old before text new → Sends written_before written text → BreaksAtEnd before written_before written old new
-BreaksAtEnd-given [] text written_before written old new unfed gives sends = absurd (sends.something gives.0)
-BreaksAtEnd-given (b ∷ bytes) text written_before written old new unfed gives sends =
+pub BreaksAtEnd-answered : (before text : List ℕ) (written_before written : Option (List ℕ)) (old new : Machine)
+    → HasNoFeed before → IsLastAnswered old before text new → Sends written_before written text → BreaksAtEnd before written_before written old new
+BreaksAtEnd-answered [] text written_before written old new unfed answered sends = absurd (sends.something answered.0)
+BreaksAtEnd-answered (b ∷ bytes) text written_before written old new unfed answered sends =
     record {
       sent = sends.sent;
       unsent = sends.unsent;
       last = reading (record { bytes = b ∷ bytes; ended = false });
       is_last = readings_of-unfed b bytes unfed;
-      answered = subst (λ t. Gives old (reading (record { bytes = b ∷ bytes; ended = false })) t new) sends.parts gives;
+      answered = subst (λ t. IsAnswered old (reading (record { bytes = b ∷ bytes; ended = false })) t new) sends.parts answered;
       something = subst (λ t. t ≢ []) sends.parts sends.something;
       appended = sends.appended;
     }
 
--- before a piece nothing of it was taken
-pub Takes-start : (before piece : List ℕ) (kept : Kept) (written : Option (List ℕ)) (machine : Machine)
-    → IsKeptOf before kept → HasNoFeed before → Takes before piece piece kept written written machine machine
-Takes-start before piece kept written machine is_kept unfed =
+-- before a chunk nothing of it was taken
+pub Takes-start : (before chunk : List ℕ) (buffered : Buffered) (written : Option (List ℕ)) (machine : Machine)
+    → IsBufferOf before buffered → HasNoFeed before → Takes before chunk chunk buffered written written machine machine
+Takes-start before chunk buffered written machine is_buffer unfed =
     record {
       finished = [];
       after = before;
@@ -65,7 +77,7 @@ Takes-start before piece kept written machine is_kept unfed =
       parts = refl;
       whole = inl refl;
       unfed = unfed;
-      is_kept = is_kept;
+      is_buffer = is_buffer;
       appended = Appends-nil written;
       ran = (refl, refl);
     }
@@ -75,12 +87,12 @@ line_parts : (finished after front rest : List ℕ)
     → (finished ++ after) ++ ((front ++ 10 ∷ []) ++ rest) ≡ finished ++ (((after ++ front) ++ 10 ∷ []) ++ rest)
 line_parts finished after front rest = simp append_assoc
 
--- one more line of the piece was answered
-pub Takes-line : (before piece rest : List ℕ) (at : ℕ) (kept : Kept) (text : List ℕ) (written_before written written' : Option (List ℕ)) (old mid new : Machine)
-    → (t : Takes before piece rest kept written_before written old mid) → IsFirstFeed rest at
-    → Gives mid (reading (record { bytes = t.after ++ take at rest; ended = true })) text new → Appends written written' text
-    → Takes before piece (drop (at + 1) rest) nothing_kept written_before written' old new
-Takes-line before piece rest at kept text written_before written written' old mid new t feed gives appended =
+-- one more line of the chunk was answered
+pub Takes-line : (before chunk rest : List ℕ) (at : ℕ) (buffered : Buffered) (text : List ℕ) (written_before written written' : Option (List ℕ)) (old mid new : Machine)
+    → (t : Takes before chunk rest buffered written_before written old mid) → IsFirstFeed rest at
+    → IsAnswered mid (reading (record { bytes = t.after ++ take at rest; ended = true })) text new → Appends written written' text
+    → Takes before chunk (drop (at + 1) rest) nothing_buffered written_before written' old new
+Takes-line before chunk rest at buffered text written_before written written' old mid new t feed answered appended =
     let line = t.after ++ take at rest in
     let unfed : HasNoFeed line = HasNoFeed-append t.after (take at rest) t.unfed feed.unfed in
     record {
@@ -93,19 +105,19 @@ Takes-line before piece rest at kept text written_before written written' old mi
           ∙ ap (λ l. l ++ drop (at + 1) rest) (sym (append-nil (t.finished ++ (line ++ 10 ∷ []))));
       whole = IsWhole-append t.finished (line ++ 10 ∷ []) t.whole (IsWhole-fed line);
       unfed = refl;
-      is_kept = IsKeptOf-nothing;
+      is_buffer = IsBufferOf-nothing;
       appended = Appends-trans written_before written written' t.output text t.appended appended;
       ran = subst (λ lines. Run old lines (t.output ++ text) new)
           (sym (readings_of-whole t.finished (line ++ 10 ∷ []) t.whole ∙ ap (λ l. readings_of t.finished ++ l) (readings_of-fed line unfed)))
-          (Run-append old mid new (readings_of t.finished) (reading (record { bytes = line; ended = true }) ∷ []) t.output text t.ran (Run-one mid new (reading (record { bytes = line; ended = true })) text gives));
+          (Run-append old mid new (readings_of t.finished) (reading (record { bytes = line; ended = true }) ∷ []) t.output text t.ran (Run-one mid new (reading (record { bytes = line; ended = true })) text answered));
     }
 
--- the answer to a line of the piece was begun
-pub Takes-break : (before piece rest : List ℕ) (at : ℕ) (kept : Kept) (text : List ℕ) (written_before written written' : Option (List ℕ)) (old mid new : Machine)
-    → (t : Takes before piece rest kept written_before written old mid) → IsFirstFeed rest at
-    → Gives mid (reading (record { bytes = t.after ++ take at rest; ended = true })) text new → Sends written written' text
-    → Breaks before piece written_before written' old new
-Takes-break before piece rest at kept text written_before written written' old mid new t feed gives sends =
+-- the answer to a line of the chunk was begun
+pub Takes-break : (before chunk rest : List ℕ) (at : ℕ) (buffered : Buffered) (text : List ℕ) (written_before written written' : Option (List ℕ)) (old mid new : Machine)
+    → (t : Takes before chunk rest buffered written_before written old mid) → IsFirstFeed rest at
+    → IsAnswered mid (reading (record { bytes = t.after ++ take at rest; ended = true })) text new → Sends written written' text
+    → Breaks before chunk written_before written' old new
+Takes-break before chunk rest at buffered text written_before written written' old mid new t feed answered sends =
     let line = t.after ++ take at rest in
     record {
       finished = t.finished;
@@ -119,16 +131,16 @@ Takes-break before piece rest at kept text written_before written written' old m
       unsent = sends.unsent;
       mid = mid;
       ran = t.ran;
-      answered = subst (λ text. Gives mid (reading (record { bytes = line; ended = true })) text new) sends.parts gives;
+      answered = subst (λ text. IsAnswered mid (reading (record { bytes = line; ended = true })) text new) sends.parts answered;
       something = subst (λ text. text ≢ []) sends.parts sends.something;
       appended = Appends-trans written_before written written' t.output sends.sent t.appended sends.appended;
     }
 
--- the rest of the piece has no line feed, and is kept
-pub Takes-rest : (before piece rest : List ℕ) (kept : Kept) (written_before written : Option (List ℕ)) (old new : Machine)
-    → Takes before piece rest kept written_before written old new → HasNoFeed rest
-    → Takes before piece [] (kept_with kept rest) written_before written old new
-Takes-rest before piece rest kept written_before written old new t unfed =
+-- the rest of the chunk has no line feed, and is buffered
+pub Takes-rest : (before chunk rest : List ℕ) (buffered : Buffered) (written_before written : Option (List ℕ)) (old new : Machine)
+    → Takes before chunk rest buffered written_before written old new → HasNoFeed rest
+    → Takes before chunk [] (buffered_with buffered rest) written_before written old new
+Takes-rest before chunk rest buffered written_before written old new t unfed =
     record {
       finished = t.finished;
       after = t.after ++ rest;
@@ -136,12 +148,12 @@ Takes-rest before piece rest kept written_before written old new t unfed =
       parts = t.parts ∙ append_assoc t.finished t.after rest ∙ sym (append-nil (t.finished ++ (t.after ++ rest)));
       whole = t.whole;
       unfed = HasNoFeed-append t.after rest t.unfed unfed;
-      is_kept = IsKeptOf-extend t.after rest kept t.is_kept;
+      is_buffer = IsBufferOf-extend t.after rest buffered t.is_buffer;
       appended = t.appended;
       ran = t.ran;
     }
 
-pub Progress-start : (unread written : Option (List ℕ)) (machine : Machine) → Progress unread unread nothing_kept written written machine machine
+pub Progress-start : (unread written : Option (List ℕ)) (machine : Machine) → Progress unread unread nothing_buffered written written machine machine
 Progress-start unread written machine =
     record {
       finished = [];
@@ -150,35 +162,35 @@ Progress-start unread written machine =
       consumed = Consumes-nil unread;
       whole = inl refl;
       unfed = refl;
-      is_kept = IsKeptOf-nothing;
+      is_buffer = IsBufferOf-nothing;
       appended = Appends-nil written;
       ran = (refl, refl);
     }
 
--- one more piece was read and taken
-pub Progress-step : (unread left left' : Option (List ℕ)) (piece : List ℕ) (kept kept' : Kept) (written_before written written' : Option (List ℕ)) (old mid new : Machine)
-    → (p : Progress unread left kept written_before written old mid) → Consumes left left' piece → Takes p.after piece [] kept' written written' mid new
-    → Progress unread left' kept' written_before written' old new
-Progress-step unread left left' piece kept kept' written_before written written' old mid new p consumes t =
+-- one more chunk was read and taken
+pub Progress-step : (unread left left' : Option (List ℕ)) (chunk : List ℕ) (buffered buffered' : Buffered) (written_before written written' : Option (List ℕ)) (old mid new : Machine)
+    → (p : Progress unread left buffered written_before written old mid) → Consumes left left' chunk → Takes p.after chunk [] buffered' written written' mid new
+    → Progress unread left' buffered' written_before written' old new
+Progress-step unread left left' chunk buffered buffered' written_before written written' old mid new p consumes t =
     record {
       finished = p.finished ++ t.finished;
       after = t.after;
       output = p.output ++ t.output;
       consumed = subst (Consumes unread left')
-          (append_assoc p.finished p.after piece ∙ ap (λ l. p.finished ++ l) (t.parts ∙ append-nil (t.finished ++ t.after)) ∙ sym (append_assoc p.finished t.finished t.after))
-          (Consumes-trans unread left left' (p.finished ++ p.after) piece p.consumed consumes);
+          (append_assoc p.finished p.after chunk ∙ ap (λ l. p.finished ++ l) (t.parts ∙ append-nil (t.finished ++ t.after)) ∙ sym (append_assoc p.finished t.finished t.after))
+          (Consumes-trans unread left left' (p.finished ++ p.after) chunk p.consumed consumes);
       whole = IsWhole-append p.finished t.finished p.whole t.whole;
       unfed = t.unfed;
-      is_kept = t.is_kept;
+      is_buffer = t.is_buffer;
       appended = Appends-trans written_before written written' p.output t.output p.appended t.appended;
       ran = subst (λ lines. Run old lines (p.output ++ t.output) new) (sym (readings_of-whole p.finished t.finished p.whole))
           (Run-append old mid new (readings_of p.finished) (readings_of t.finished) p.output t.output p.ran t.ran);
     }
 
 -- the reader failed
-pub Progress-fault : (unread left left' : Option (List ℕ)) (kept : Kept) (written_before written : Option (List ℕ)) (old new : Machine)
-    → Progress unread left kept written_before written old new → Keeps left left' → ServesWholeLines unread left' written_before written old new
-Progress-fault unread left left' kept written_before written old new p keeps =
+pub Progress-fault : (unread left left' : Option (List ℕ)) (buffered : Buffered) (written_before written : Option (List ℕ)) (old new : Machine)
+    → Progress unread left buffered written_before written old new → Keeps left left' → ServesWholeLines unread left' written_before written old new
+Progress-fault unread left left' buffered written_before written old new p keeps =
     record {
       taken = p.finished ++ p.after;
       output = p.output;
@@ -188,10 +200,10 @@ Progress-fault unread left left' kept written_before written old new p keeps =
     }
 
 -- the input ended
-pub Progress-end : (unread left left' : Option (List ℕ)) (kept : Kept) (written_before written written' : Option (List ℕ)) (old mid new : Machine)
-    → (p : Progress unread left kept written_before written old mid) → Consumes left left' [] → IsAtEnd left' → EndsInput p.after written written' mid new
+pub Progress-end : (unread left left' : Option (List ℕ)) (buffered : Buffered) (written_before written written' : Option (List ℕ)) (old mid new : Machine)
+    → (p : Progress unread left buffered written_before written old mid) → Consumes left left' [] → IsAtEnd left' → EndsInput p.after written written' mid new
     → ServesAll unread left' written_before written' old new
-Progress-end unread left left' kept written_before written written' old mid new p consumes at_end f =
+Progress-end unread left left' buffered written_before written written' old mid new p consumes at_end f =
     record {
       taken = p.finished ++ p.after;
       output = p.output ++ f.output;
@@ -202,21 +214,21 @@ Progress-end unread left left' kept written_before written written' old mid new 
           (Run-append old mid new (readings_of p.finished) (readings_of p.after) p.output f.output p.ran f.ran);
     }
 
--- the writer broke off within a piece
-pub Progress-break : (unread left left' : Option (List ℕ)) (piece : List ℕ) (kept : Kept) (written_before written written' : Option (List ℕ)) (old mid new : Machine)
-    → (p : Progress unread left kept written_before written old mid) → Consumes left left' piece → Breaks p.after piece written written' mid new
+-- the writer broke off within a chunk
+pub Progress-break : (unread left left' : Option (List ℕ)) (chunk : List ℕ) (buffered : Buffered) (written_before written written' : Option (List ℕ)) (old mid new : Machine)
+    → (p : Progress unread left buffered written_before written old mid) → Consumes left left' chunk → Breaks p.after chunk written written' mid new
     → BreaksOff unread left' written_before written' old new
-Progress-break unread left left' piece kept written_before written written' old mid new p consumes b =
+Progress-break unread left left' chunk buffered written_before written written' old mid new p consumes b =
     let line = reading (record { bytes = b.line; ended = true }) in
     let earlier = readings_of p.finished ++ readings_of b.finished in
     record {
-      taken = (p.finished ++ p.after) ++ piece;
-      consumed = Consumes-trans unread left left' (p.finished ++ p.after) piece p.consumed consumes;
+      taken = (p.finished ++ p.after) ++ chunk;
+      consumed = Consumes-trans unread left left' (p.finished ++ p.after) chunk p.consumed consumes;
       earlier = earlier;
       last = line;
       first_lines = inl (
         whole_readings_of b.rest,
-        ap whole_readings_of (append_assoc p.finished p.after piece ∙ ap (λ l. p.finished ++ l) b.parts)
+        ap whole_readings_of (append_assoc p.finished p.after chunk ∙ ap (λ l. p.finished ++ l) b.parts)
             ∙ whole_readings_of-append p.finished (b.finished ++ ((b.line ++ 10 ∷ []) ++ b.rest)) p.whole
             ∙ ap (λ l. readings_of p.finished ++ l)
             (whole_readings_of-append b.finished ((b.line ++ 10 ∷ []) ++ b.rest) b.whole
@@ -239,10 +251,10 @@ Progress-break unread left left' piece kept written_before written written' old 
     regroup xs ys line zs = simp append_assoc
 
 -- the writer broke off within the answer to the last line
-pub Progress-break_at_end : (unread left left' : Option (List ℕ)) (kept : Kept) (written_before written written' : Option (List ℕ)) (old mid new : Machine)
-    → (p : Progress unread left kept written_before written old mid) → Consumes left left' [] → IsAtEnd left' → BreaksAtEnd p.after written written' mid new
+pub Progress-break_at_end : (unread left left' : Option (List ℕ)) (buffered : Buffered) (written_before written written' : Option (List ℕ)) (old mid new : Machine)
+    → (p : Progress unread left buffered written_before written old mid) → Consumes left left' [] → IsAtEnd left' → BreaksAtEnd p.after written written' mid new
     → BreaksOff unread left' written_before written' old new
-Progress-break_at_end unread left left' kept written_before written written' old mid new p consumes at_end b =
+Progress-break_at_end unread left left' buffered written_before written written' old mid new p consumes at_end b =
     record {
       taken = p.finished ++ p.after;
       consumed = subst (Consumes unread left') (append-nil (p.finished ++ p.after)) (Consumes-trans unread left left' (p.finished ++ p.after) [] p.consumed consumes);
@@ -275,3 +287,8 @@ OnOk-from (Err e) p = tt
 pub OnErr-at : {T E P : Type 0} (r : Result T E) (e : E) → r ≡ Err e → OnErr r P → P
 OnErr-at (Ok x) e is p = absurd (cc)
 OnErr-at (Err d) e is p = p
+
+-- a text of no length is none
+pub no_bytes : (bytes : List ℕ) → length bytes ≡ 0 → bytes ≡ []
+no_bytes [] h = refl
+no_bytes (b ∷ bytes) h = absurd (omega arith)

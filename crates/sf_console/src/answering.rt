@@ -1,119 +1,89 @@
-//! A line, and its answer.
-ghost use Rattle.std.specs.Prelude.{◌≡◌, ◌≢◌, ℕ, List, [], ◌++◌, true, false};
-ghost use Rattle.sf_console.specs.Lines.{Asked, reading, text_reading, without_return as without_return_of};
-ghost use Rattle.sf_console.specs.Session.{Gives};
-ghost use Rattle.sf_console.specs.Unfinished.{IsKeptOf, nothing_kept, GivesLast};
+//! A line, and its reply.
+ghost use Rattle.std.specs.Prelude.{◌≡◌, ◌⊎◌, ℕ, List, Ok, true};
+ghost use Rattle.sf_layers.specs.Content.{layer_of};
+ghost use Rattle.sf_lines.specs.Buffers.{IsBufferOf};
+ghost use Rattle.sf_console.specs.Answers.{reply_text, refusal_line, shown};
+ghost use Rattle.sf_console.specs.Readings.{Asked, reading, text_reading};
+ghost use Rattle.sf_console.specs.Session.{IsAnswered, IsLastAnswered};
 
-use super::answer_text::AnswerText;
-use super::command::{Command, LINE_MAX, parse};
-use super::editor::Editor;
-use super::refusal::Refusal;
-use super::unfinished::Unfinished;
-use super::words::are_blanks;
+use super::reply::{Reply, feature_rows};
+use sf_commands::{Command, is_blank_text, parse};
+use sf_edits::Answer;
+use sf_history::Editor;
+use sf_layers::{Store, Text};
+use sf_lines::{LineBuffer, without_return};
+use sf_refusals::Refusal;
 use std::alloc::Global;
 use std::str::from_utf8;
 
-/// Carries a command out, or refuses it, and puts the answer in the place of the text.
-fn carry_out(
-    alloc: Global,
-    editor: &mut Editor,
-    command: Result<Command, Refusal>,
-    text: &mut AnswerText,
-)
-    ensures { Gives editor.old (Asked command) text.new editor.new }
-{
-    match command {
-        Err(refusal) => text.set_refusal(refusal),
-        Ok(Command::Edit(edit)) => match editor.edit(alloc, edit) {
-            Ok(answer) => text.set_answer(answer),
-            Err((_, refusal)) => text.set_refusal(refusal),
-        },
-        Ok(Command::Undo) => match editor.undo(alloc) {
-            Ok(()) => text.set_done(),
-            Err(refusal) => text.set_refusal(refusal),
-        },
-        Ok(Command::Show(name)) => match editor.store().layer(name.as_str()) {
-            Some(layer) => text.set_features(alloc, layer),
-            None => text.set_refusal(Refusal::NoLayer),
-        },
-    }
-}
-
-/// Answers the text of a line that is not too long.
-fn answer_text(alloc: Global, editor: &mut Editor, line: &[u8], text: &mut AnswerText)
-    ensures { Gives editor.old (text_reading line.now) text.new editor.new }
-{
-    match from_utf8(line) {
-        Err(_) => text.set_refusal(Refusal::BadCommand),
-        Ok(line) => {
-            if are_blanks(line) {
-                text.clear();
-            } else {
-                carry_out(alloc, editor, parse(alloc, line), text);
-            }
-        }
-    }
-}
-
-fn without_return(bytes: &[u8]) -> &[u8]
-    ensures { result.now ≡ without_return_of bytes.now }
-{
-    match bytes.split_last() {
-        Some((last, front)) if *last == b'\r' => front,
-        _ => bytes,
-    }
-}
-
 /// Answers a line that had its line feed.
-fn answer_line(alloc: Global, editor: &mut Editor, bytes: &[u8], text: &mut AnswerText)
-    ensures { Gives editor.old (reading (record { bytes = bytes.now; ended = true })) text.new editor.new }
-{
-    if bytes.len() > LINE_MAX {
-        text.set_refusal(Refusal::LineTooLong);
-    } else {
-        answer_text(alloc, editor, without_return(bytes), text);
-    }
-}
-
-/// Answers the line that ends with these bytes, just before a line feed, and begins a new one.
-pub(crate) fn end_line(
+pub(crate) fn answer_line(
     alloc: Global,
     editor: &mut Editor,
-    unfinished: &mut Unfinished,
-    front: &[u8],
-    text: &mut AnswerText,
-)
-    ensures answered { (before : List ℕ) → IsKeptOf before unfinished.old →
-        Gives editor.old (reading (record { bytes = before ++ front.now; ended = true })) text.new editor.new }
-    ensures begun { unfinished.new ≡ nothing_kept }
+    buffer: &LineBuffer,
+) -> Result<Reply, Refusal>
+    ensures { (bytes : List ℕ) → IsBufferOf bytes buffer.now →
+        IsAnswered editor.old (reading (record { bytes = bytes; ended = true })) (reply_text result) editor.new }
 {
-    if unfinished.is_empty() {
-        answer_line(alloc, editor, front, text);
-        return;
-    }
-    unfinished.extend(front);
-    match unfinished.line() {
-        Some(bytes) => answer_line(alloc, editor, bytes, text),
-        None => text.set_refusal(Refusal::LineTooLong),
-    }
-    unfinished.clear();
+    let Some(bytes) = buffer.line() else {
+        return Err(Refusal::LineTooLong);
+    };
+    answer_text(alloc, editor, without_return(bytes))
 }
 
 /// Answers the last line, which had no line feed, if there is one.
-pub(crate) fn end_input(
+pub(crate) fn answer_last_line(
     alloc: Global,
     editor: &mut Editor,
-    unfinished: &Unfinished,
-    text: &mut AnswerText,
-)
-    ensures { (before : List ℕ) → IsKeptOf before unfinished.now → GivesLast editor.old before text.new editor.new }
+    buffer: &LineBuffer,
+) -> Result<Reply, Refusal>
+    ensures { (bytes : List ℕ) → IsBufferOf bytes buffer.now →
+        IsLastAnswered editor.old bytes (reply_text result) editor.new }
 {
-    if unfinished.is_empty() {
-        text.clear();
-        return;
+    if buffer.is_empty() {
+        return Ok(Reply::Nothing);
     }
-    match unfinished.line() {
-        Some(bytes) => answer_text(alloc, editor, bytes, text),
-        None => text.set_refusal(Refusal::LineTooLong),
+    let Some(bytes) = buffer.line() else {
+        return Err(Refusal::LineTooLong);
+    };
+    answer_text(alloc, editor, bytes)
+}
+
+/// Answers the text of a line that is not too long.
+fn answer_text(alloc: Global, editor: &mut Editor, bytes: &[u8]) -> Result<Reply, Refusal>
+    ensures { IsAnswered editor.old (text_reading bytes.now) (reply_text result) editor.new }
+{
+    let Ok(text) = from_utf8(bytes) else {
+        return Err(Refusal::BadCommand);
+    };
+    if is_blank_text(text) {
+        return Ok(Reply::Nothing);
     }
+    let command = parse(alloc, text)?;
+    execute(alloc, editor, command)
+}
+
+/// Carries a command out.
+fn execute(alloc: Global, editor: &mut Editor, command: Command) -> Result<Reply, Refusal>
+    ensures { IsAnswered editor.old (Asked (Ok command)) (reply_text result) editor.new }
+{
+    match command {
+        Command::Edit(edit) => match editor.edit(alloc, edit) {
+            Ok(answer) => Ok(Reply::Accepted(answer)),
+            Err((_, refusal)) => Err(refusal),
+        },
+        Command::Undo => {
+            editor.undo(alloc)?;
+            Ok(Reply::Accepted(Answer::Done))
+        }
+        Command::Show(name) => show(alloc, editor.store(), &name),
+    }
+}
+
+/// The features of the layer of that name.
+fn show(alloc: Global, store: &Store, name: &Text) -> Result<Reply, Refusal>
+    ensures { (reply_text result ≡ shown (layer_of store.now name.now)) ⊎ (reply_text result ≡ refusal_line Refusal.Memory) }
+{
+    let layer = store.layer(name.as_str()).ok_or(Refusal::NoLayer)?;
+    Ok(Reply::Rows(feature_rows(alloc, layer)?))
 }

@@ -1,17 +1,28 @@
-//! What the tests share: the output of a session in memory, and readers that give it in pieces.
+//! What the tests share: the answers of a new editor, and a reader that gives its bytes one at a time.
+ghost use Rattle.std.specs.Prelude.{◌≤◌, length};
+
 use sf_console::{Editor, serve};
 use std::alloc::Global;
 use std::io;
 use std::io::Read;
 use std::test::Fail;
 
-/// What a new editor answers to bytes that come in one piece.
-pub fn output_of(alloc: Global, input: &[u8]) -> Result<String, Fail> {
+/// What a new editor answers to the bytes of a reader.
+pub fn answers<R: Read>(alloc: Global, reader: &mut R) -> Result<String, Fail> {
     let mut editor = Editor::new(alloc);
-    let mut reader = input;
     let mut written: Vec<u8> = Vec::new(alloc);
-    serve(alloc, &mut editor, &mut reader, &mut written)?;
+    serve(alloc, &mut editor, reader, &mut written)?;
     Ok(String::from_utf8(written)?)
+}
+
+/// Puts as many bytes into a buffer as it takes, and gives their number.
+pub fn put(buf: &mut [u8], bytes: &[u8]) -> usize
+    ensures in_buf { result ≤ length buf.old }
+    ensures in_bytes { result ≤ length bytes.now }
+{
+    let count = bytes.len().min(buf.len());
+    buf[..count].copy_from_slice(&bytes[..count]);
+    count
 }
 
 /// A reader that gives one byte at a time.
@@ -31,13 +42,4 @@ impl Read for ByteByByte<'_> {
             _ => Ok(0),
         }
     }
-}
-
-/// What a new editor answers to bytes that come one at a time.
-pub fn output_byte_by_byte(alloc: Global, input: &[u8]) -> Result<String, Fail> {
-    let mut editor = Editor::new(alloc);
-    let mut reader = ByteByByte { bytes: input };
-    let mut written: Vec<u8> = Vec::new(alloc);
-    serve(alloc, &mut editor, &mut reader, &mut written)?;
-    Ok(String::from_utf8(written)?)
 }

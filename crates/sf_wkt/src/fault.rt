@@ -1,5 +1,7 @@
 ghost use Rattle.std.specs.Prelude.{◌≡◌};
-ghost use Rattle.sf_wkt.specs.Faults.{number_of, name_of};
+ghost use Rattle.sf_wkt.specs.Faults.{refusal_of};
+
+use sf_refusals::Refusal;
 
 /// Why a text has no geometry.
 #[derive(Clone, Copy, Debug, PartialEq, Eq)]
@@ -19,32 +21,17 @@ pub enum WktFault {
     UnsupportedType,
 }
 
-impl WktFault {
-    /// The number of the fault among the refusals of the store.
-    pub fn number(self) -> u8
-        ensures { result ≡ number_of self }
-    {
-        match self {
-            WktFault::Memory => 1,
-            WktFault::Syntax(_) => 2,
-            WktFault::OffGrid => 3,
-            WktFault::OutOfRange => 4,
-            WktFault::Empty => 5,
-            WktFault::UnsupportedType => 6,
-        }
-    }
+impl From<WktFault> for Refusal {
+    ghost from_gives = { λ fault refusal. refusal ≡ refusal_of fault };
 
-    /// The name of the fault among the refusals of the store.
-    pub fn name(self) -> &'static str
-        ensures { result.now ≡ name_of self }
-    {
-        match self {
-            WktFault::Memory => "Memory",
-            WktFault::Syntax(_) => "Syntax",
-            WktFault::OffGrid => "OffGrid",
-            WktFault::OutOfRange => "OutOfRange",
-            WktFault::Empty => "Empty",
-            WktFault::UnsupportedType => "UnsupportedType",
+    fn from(fault: WktFault) -> Refusal {
+        match fault {
+            WktFault::Memory => Refusal::Memory,
+            WktFault::Syntax(_) => Refusal::Syntax,
+            WktFault::OffGrid => Refusal::OffGrid,
+            WktFault::OutOfRange => Refusal::OutOfRange,
+            WktFault::Empty => Refusal::Empty,
+            WktFault::UnsupportedType => Refusal::UnsupportedType,
         }
     }
 }

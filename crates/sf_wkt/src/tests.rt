@@ -69,9 +69,3 @@ fn points_are_written(rt: HostRuntime) -> Result<(), Fail> {
     assert_eq!(rt; text.as_str(), "POINT (-524288 524287)POINT (3 0)");
     Ok(())
 }
-
-#[test]
-fn faults_have_numbers_and_names(rt: HostRuntime) {
-    assert_eq!(rt; WktFault::Syntax(10).number(), 2);
-    assert_eq!(rt; WktFault::Syntax(10).name(), "Syntax");
-}

@@ -1,6 +1,0 @@
-use Rattle.sf_console.specs.Unfinished.{Progress}
-use Rattle.sf_console.proofs.serving.serve_pieces.Given as goal
-
--- so much was read and answered so far
-abbrev pub invariant-loop : goal.invariant-loop
-invariant-loop g l = Progress (g.R.Read.remaining l.fn.reader) (g.R.Read.remaining l.reader) l.unfinished (g.W.Write.contents l.fn.writer) (g.W.Write.contents l.writer) l.fn.editor l.editor

@@ -1,0 +1,102 @@
+ghost use Rattle.std.specs.Prelude.{◌≡◌, ◌≤◌, ◌+◌, ◌<◌, ◌++◌, [], ◌∷◌, codes, decimal, length};
+ghost use Rattle.sf_console.specs.Answers.{accepted_line, refusal_line};
+
+use sf_edits::Answer;
+use sf_refusals::Refusal;
+use std::fmt::{InlineText, Write};
+use std::marker::Model;
+
+/// Room for each answer of one line, in bytes.
+const ROOM: usize = 32;
+
+/// An answer of one line, with its line feed. It stands on the stack, so it takes no memory.
+#[derive(Drop)]
+pub(crate) struct AnswerLine {
+    text: InlineText<ROOM>,
+}
+
+impl Model for AnswerLine {
+    ghost use Rattle.std.specs.Prelude.{ℕ, List};
+    ghost use Rattle.std.specs.Fmt.InlineText.{inline_text, IsIntact, IsOpen};
+
+    ghost Value = { List ℕ };
+
+    ghost view = { λ a. inline_text a.text };
+
+    ghost invariant = { λ a. IsIntact a.text × IsOpen a.text };
+}
+
+impl AnswerLine {
+    /// The answer of an accepted edit or undo.
+    pub(crate) fn accepted(answer: Answer) -> AnswerLine
+        ensures { result ≡ accepted_line answer }
+    {
+        let mut line = AnswerLine::empty();
+        match answer {
+            Answer::Done => line.push("ok\n"),
+            Answer::Id(id) => {
+                line.push("ok ");
+                line.push_decimal(id);
+                line.push("\n");
+            }
+        }
+        line
+    }
+
+    /// The answer of a refusal: its number and its name.
+    pub(crate) fn refused(refusal: Refusal) -> AnswerLine
+        ensures { result ≡ refusal_line refusal }
+    {
+        let mut line = AnswerLine::empty();
+        line.push("refused ");
+        line.push_decimal(u32::from(refusal.number()));
+        line.push(" ");
+        line.push(refusal.name());
+        line.push("\n");
+        line
+    }
+
+    /// The bytes of the answer.
+    pub(crate) fn as_bytes(&self) -> &[u8]
+        ensures { result.now ≡ self.now }
+    {
+        self.text.as_str().as_bytes()
+    }
+
+    fn empty() -> AnswerLine
+        ensures { result ≡ [] }
+    {
+        AnswerLine {
+            text: InlineText::new(),
+        }
+    }
+
+    fn push(&mut self, piece: &str)
+        requires { length self.old + length piece.now ≤ ROOM }
+        ensures { self.new ≡ self.old ++ piece.now }
+    {
+        self.text.write_str(piece).unwrap();
+    }
+
+    // `write!` does not promise to succeed where there is room.
+    fn push_decimal(&mut self, number: u32)
+        requires { length self.old + length (decimal number) ≤ ROOM }
+        ensures { self.new ≡ self.old ++ decimal number }
+    {
+        if number < 10 {
+            self.push_digit(number as u8);
+        } else {
+            self.push_decimal(number / 10);
+            self.push_digit((number % 10) as u8);
+        }
+    }
+
+    fn push_digit(&mut self, digit: u8)
+        requires room { length self.old < ROOM }
+        requires decimal { digit < 10 }
+        ensures { self.new ≡ self.old ++ (48 + digit) ∷ [] }
+    {
+        let mut bytes = [0; 4];
+        self.push(((b'0' + digit) as char).encode_utf8(&mut bytes));
+    }
+}

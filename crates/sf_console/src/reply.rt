@@ -1,0 +1,31 @@
+ghost use Rattle.std.specs.Prelude.{◌≡◌, string_bytes, map, IfOk};
+ghost use Rattle.sf_console.specs.Answers.{rows, feature_row};
+
+use sf_edits::Answer;
+use sf_layers::Layer;
+use std::alloc::{AllocError, Global};
+
+/// What a line that is not refused is answered with.
+#[derive(Drop)]
+pub(crate) enum Reply {
+    /// Nothing, since the line has no word.
+    Nothing,
+    /// The answer of an edit or an undo.
+    Accepted(Answer),
+    /// The number of some rows, and the rows, each with its line feed.
+    Rows(String),
+}
+
+/// The number of a layer's features, and a row for each, in rising order of the identifiers.
+pub(crate) fn feature_rows(alloc: Global, layer: &Layer) -> Result<String, AllocError>
+    ensures { IfOk result (λ text. string_bytes text ≡ rows (map feature_row layer.now.features)) }
+{
+    let mut text = String::new(alloc);
+    writeln!(text, "rows {}", layer.feature_count())?;
+    for (id, feature) in layer.features() {
+        write!(text, "{id} ")?;
+        sf_wkt::append(&mut text, feature.geometry())?;
+        text.push('\n')?;
+    }
+    Ok(text)
+}

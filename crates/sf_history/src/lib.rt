@@ -1,0 +1,8 @@
+//! A store with the history of its edits: what was done can be undone.
+#![tactic(auto)]
+
+mod editor;
+pub mod laws;
+
+pub use editor::Editor;
+pub use sf_refusals::Refusal;

@@ -1,0 +1,3 @@
+pub mod FeedLemmas
+pub mod LineLemmas
+pub mod BufferLemmas

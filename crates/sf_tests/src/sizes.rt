@@ -1,0 +1,94 @@
+//! Long lines, long sessions and long answers.
+use super::support::{ByteByByte, answers};
+use std::alloc::{AllocError, Global};
+use std::test::Fail;
+
+/// How many features the long session adds: its input has more than a million bytes, and so has the answer
+/// to its `show`.
+const FEATURES: u32 = 40_000;
+
+/// How many letters a line has, what stands behind them, and the answers.
+const LETTERS: [(usize, &str, &str); 5] = [
+    (131_072, "", "refused 31 BadCommand\n"),
+    (131_072, "\n", "refused 31 BadCommand\n"),
+    (131_072, "\r\n", "refused 33 LineTooLong\n"),
+    (131_073, "", "refused 33 LineTooLong\n"),
+    (
+        300_000,
+        "\nundo\n",
+        "refused 33 LineTooLong\nrefused 29 NothingToUndo\n",
+    ),
+];
+
+#[test]
+fn lines_of_letters(rt: HostRuntime) -> Result<(), Fail> {
+    for (letters, ending, output) in LETTERS {
+        let mut input = "a".repeat(rt.alloc(), letters)?;
+        input.push_str(ending)?;
+        let mut whole = input.as_bytes();
+        assert_eq!(rt;
+            answers(rt.alloc(), &mut whole)?.as_str(),
+            output,
+            "of {letters}"
+        );
+        let mut bytes = ByteByByte {
+            bytes: input.as_bytes(),
+        };
+        assert_eq!(rt;
+            answers(rt.alloc(), &mut bytes)?.as_str(),
+            output,
+            "of {letters}"
+        );
+    }
+    Ok(())
+}
+
+// The line has 131,072 bytes.
+#[test]
+fn longest_addition(rt: HostRuntime) -> Result<(), Fail> {
+    let mut input = String::from_str(rt.alloc(), "layer add w any\nadd w POINT (1 ")?;
+    input.push_str("0".repeat(rt.alloc(), 131_055)?.as_str())?;
+    input.push_str("2)\nshow w\n")?;
+    let mut whole = input.as_bytes();
+    assert_eq!(rt;
+        answers(rt.alloc(), &mut whole)?.as_str(),
+        "ok\nok 1\nrows 1\n1 POINT (1 2)\n"
+    );
+    Ok(())
+}
+
+/// The lines that add the features at one place and show them.
+fn long_input(alloc: Global) -> Result<String, AllocError> {
+    let mut input = String::from_str(alloc, "layer add w point\n")?;
+    for _ in 0..FEATURES {
+        input.push_str("add w POINT (-524288 -524288)\n")?;
+    }
+    input.push_str("show w\n")?;
+    Ok(input)
+}
+
+/// The answers to them.
+fn long_output(alloc: Global) -> Result<String, AllocError> {
+    let mut output = String::from_str(alloc, "ok\n")?;
+    for id in 1..=FEATURES {
+        writeln!(output, "ok {id}")?;
+    }
+    writeln!(output, "rows {FEATURES}")?;
+    for id in 1..=FEATURES {
+        writeln!(output, "{id} POINT (-524288 -524288)")?;
+    }
+    Ok(output)
+}
+
+// It takes more than a million reads.
+#[test]
+fn long_session(rt: HostRuntime) -> Result<(), Fail> {
+    let input = long_input(rt.alloc())?;
+    let output = long_output(rt.alloc())?;
+    let mut bytes = ByteByByte {
+        bytes: input.as_bytes(),
+    };
+    let written = answers(rt.alloc(), &mut bytes)?;
+    assert!(rt; written == output);
+    Ok(())
+}
