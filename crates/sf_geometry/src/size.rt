@@ -66,12 +66,10 @@ impl Geometry {
             Geometry::Polygon(rings) => count_in(rings.as_slice()),
             Geometry::MultiPoint(points) => points.as_slice().len(),
             Geometry::MultiLineString(lines) => count_in(lines.as_slice()),
-            Geometry::MultiPolygon(polygons) => polygons
-                .as_slice()
-                .iter()
-                .fold(0usize, |count, rings| {
-                    count.saturating_add(count_in(rings.as_slice()))
-                }),
+            Geometry::MultiPolygon(polygons) => polygons.as_slice().iter().fold(
+                0usize,
+                |count, rings| { count.saturating_add(count_in(rings.as_slice())) },
+            ),
         }
     }
 }

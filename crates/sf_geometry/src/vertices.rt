@@ -4,8 +4,8 @@
 //! polygon, 0 the shell, else 0. A ring's closing point has no index and is kept equal to the
 //! point at index 0.
 
-ghost use Rattle.std.specs.Prelude.{◌≡◌, option_copied};
-ghost use Rattle.sf_geometry.specs.Vertices.{only_at, ring_vertices as ring_vertices_of, vertex_of, vertices_of};
+ghost use Rattle.std.specs.Prelude.{◌≡◌, length, option_and_then, option_map, slice_get};
+ghost use Rattle.sf_geometry.specs.Vertices.{only_at as only_at_place, ring_vertices as ring_vertices_of, vertex_of};
 
 use super::geometry::Geometry;
 use super::sequence::Sequence;
@@ -16,29 +16,64 @@ impl Geometry {
     pub fn vertex(&self, part: u32, ring: u32, index: u32) -> Option<GridPoint>
         ensures { result ≡ vertex_of self.now part ring index }
     {
-        self.vertices(part, ring)?.get(index as usize).copied()
-    }
-
-    /// The vertices of a part and ring, or None where there is no such part or ring.
-    fn vertices(&self, part: u32, ring: u32) -> Option<&[GridPoint]>
-        ensures { option_copied result ≡ vertices_of self.now part ring }
-    {
         match self {
-            Geometry::Point(point) if part == 0 && ring == 0 => Some(slice::from_ref(point)),
-            Geometry::LineString(points) | Geometry::MultiPoint(points)
-                if part == 0 && ring == 0 =>
-            {
-                Some(points.as_slice())
+            Geometry::Point(point) => only_at(part, only_at(ring, only_at(index, Some(*point)))),
+            Geometry::LineString(points) | Geometry::MultiPoint(points) => {
+                only_at(part, only_at(ring, point_at(points.as_slice(), index)))
             }
-            Geometry::Polygon(rings) if part == 0 => ring_at(rings.as_slice(), ring),
-            Geometry::MultiLineString(lines) if ring == 0 => {
-                list_at(lines.as_slice(), part)
+            Geometry::Polygon(rings) => only_at(part, ring_point(rings.as_slice(), ring, index)),
+            Geometry::MultiLineString(lines) => {
+                only_at(ring, line_point(lines.as_slice(), part, index))
             }
-            Geometry::MultiPolygon(polygons) => {
-                let rings = polygons.as_slice().get(part as usize)?;
-                ring_at(rings.as_slice(), ring)
-            }
-            _ => None,
+            Geometry::MultiPolygon(polygons) => match polygons.as_slice().get(part as usize) {
+                Some(rings) => ring_point(rings.as_slice(), ring, index),
+                None => None,
+            },
         }
+    }
+}
+
+/// What was found, where the number is 0.
+fn only_at(number: u32, found: Option<GridPoint>) -> Option<GridPoint>
+    ensures { result ≡ only_at_place number found }
+{
+    if number == 0 { found } else { None }
+}
+
+/// The point at an index of a list.
+fn point_at(points: &[GridPoint], index: u32) -> Option<GridPoint>
+    ensures { result ≡ slice_get points.now index }
+{
+    points.get(index as usize).copied()
+}
+
+/// The point at an index of a line.
+fn line_point(lines: &[Sequence<GridPoint>], part: u32, index: u32) -> Option<GridPoint>
+    ensures { result ≡ option_and_then (λ ps. slice_get ps index) (slice_get lines.now part) }
+{
+    match lines.get(part as usize) {
+        Some(points) => point_at(points.as_slice(), index),
+        None => None,
+    }
+}
+
+/// The vertex at an index of a ring.
+fn ring_point(rings: &[Sequence<GridPoint>], ring: u32, index: u32) -> Option<GridPoint>
+    ensures { result ≡ option_and_then (λ ps. slice_get ps index)
+        (option_map ring_vertices_of (slice_get rings.now ring)) }
+{
+    match rings.get(ring as usize) {
+        Some(points) => point_at(ring_vertices(points.as_slice()), index),
+        None => None,
+    }
+}
+
+/// The points of a ring but the closing one.
+fn ring_vertices(ring: &[GridPoint]) -> &[GridPoint]
+    ensures { result.now ≡ ring_vertices_of ring.now }
+{
+    match ring.split_last() {
+        Some((_, vertices)) => vertices,
+        None => ring,
     }
 }

@@ -1,22 +1,15 @@
--- Numbers and names of the faults of a well-known text.
-use Rattle.std.specs.Prelude.{ℕ, List, codes}
+-- Faults of a well-known text among the refusals of the store.
+use Rattle.sf_refusals.specs.declared.refusal.Refusal.{Refusal}
+use Rattle.sf_refusals.specs.declared.refusal.Refusal.TheVariants as refusals
 use Rattle.sf_wkt.specs.declared.fault.WktFault.{WktFault}
-use Rattle.sf_wkt.specs.declared.fault.WktFault.TheVariants.{Memory, Syntax, OffGrid, OutOfRange, Empty, UnsupportedType}
+use Rattle.sf_wkt.specs.declared.fault.WktFault.TheVariants.{Memory, Syntax, OffGrid, OutOfRange, Empty, UnsupportedType, TooManyVertices}
 
--- the number of a fault among the refusals
-abbrev pub number_of : WktFault → ℕ
-number_of Memory = 1
-number_of (Syntax place) = 2
-number_of OffGrid = 3
-number_of OutOfRange = 4
-number_of Empty = 5
-number_of UnsupportedType = 6
-
--- the name of a fault
-abbrev pub name_of : WktFault → List ℕ
-name_of Memory = codes "Memory"
-name_of (Syntax place) = codes "Syntax"
-name_of OffGrid = codes "OffGrid"
-name_of OutOfRange = codes "OutOfRange"
-name_of Empty = codes "Empty"
-name_of UnsupportedType = codes "UnsupportedType"
+-- the refusal of a fault
+abbrev pub refusal_of : WktFault → Refusal
+refusal_of Memory = refusals.Memory
+refusal_of (Syntax place) = refusals.Syntax
+refusal_of OffGrid = refusals.OffGrid
+refusal_of OutOfRange = refusals.OutOfRange
+refusal_of Empty = refusals.Empty
+refusal_of UnsupportedType = refusals.UnsupportedType
+refusal_of TooManyVertices = refusals.TooManyVertices
