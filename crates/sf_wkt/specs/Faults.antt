@@ -2,7 +2,7 @@
 use Rattle.sf_refusals.specs.declared.refusal.Refusal.{Refusal}
 use Rattle.sf_refusals.specs.declared.refusal.Refusal.TheVariants as refusals
 use Rattle.sf_wkt.specs.declared.fault.WktFault.{WktFault}
-use Rattle.sf_wkt.specs.declared.fault.WktFault.TheVariants.{Memory, Syntax, OffGrid, OutOfRange, Empty, UnsupportedType}
+use Rattle.sf_wkt.specs.declared.fault.WktFault.TheVariants.{Memory, Syntax, OffGrid, OutOfRange, Empty, UnsupportedType, TooManyVertices}
 
 -- the refusal of a fault
 abbrev pub refusal_of : WktFault → Refusal
@@ -12,3 +12,4 @@ refusal_of OffGrid = refusals.OffGrid
 refusal_of OutOfRange = refusals.OutOfRange
 refusal_of Empty = refusals.Empty
 refusal_of UnsupportedType = refusals.UnsupportedType
+refusal_of TooManyVertices = refusals.TooManyVertices

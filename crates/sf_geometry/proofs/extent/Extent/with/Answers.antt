@@ -1,0 +1,12 @@
+use Rattle.std.proofs.Common.{◌≡◌, ap, ◌∙◌, ℤ, rules, to_z, of_z, w32, SFits}
+use Rattle.std.specs.Int.{int_max, int_min}
+use Rattle.std.proofs.lemmas.Int.{to_z-of_z}
+use Rattle.sf_geometry.proofs.extent.Extent.with.Goals as goal
+
+pub returns : goal.returns
+returns c =
+    let low_x : to_z w32 (of_z w32 c.lesser.result) ≡ int_min c.args.self.min_x c.args.point.x = search rules in
+    let low_y : to_z w32 (of_z w32 c.lesser-2.result) ≡ int_min c.args.self.min_y c.args.point.y = search rules in
+    let high_x : to_z w32 (of_z w32 c.greater.result) ≡ int_max c.args.self.max_x c.args.point.x = search rules in
+    let high_y : to_z w32 (of_z w32 c.greater-2.result) ≡ int_max c.args.self.max_y c.args.point.y = search rules in
+    λ i. record { min_x = low_x i; min_y = low_y i; max_x = high_x i; max_y = high_y i }
