@@ -23,7 +23,9 @@ fn layer_and_feature_are_put(rt: HostRuntime) -> Result<(), Fail> {
     let (name, layer) = store.layer_at(0).ok_or("no layer")?;
     assert_eq!(rt; name, "wells");
     assert_eq!(rt; layer.next_id(), 2);
-    let Geometry::Point(found) = layer.feature(1).ok_or("no feature")?.geometry();
+    let Geometry::Point(found) = layer.feature(1).ok_or("no feature")?.geometry() else {
+        return Err(Fail::from("another kind"));
+    };
     assert_eq!(rt; (found.x(), found.y()), (3, 4));
     Ok(())
 }
