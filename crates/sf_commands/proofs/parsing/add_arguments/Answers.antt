@@ -1,4 +1,4 @@
-use Rattle.std.proofs.Common.{◌≡◌, ◌∙◌, Ok, ap, sym}
+use Rattle.std.proofs.Common.{◌∙◌, Ok, ap, sym}
 use Rattle.sf_commands.specs.Commands.{add_command}
 use Rattle.sf_commands.proofs.AddLemmas.{add_arguments-text, OrMemory-refused}
 use Rattle.sf_commands.proofs.parsing.add_arguments.Goals as goal
