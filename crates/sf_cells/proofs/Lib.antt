@@ -1,3 +1,4 @@
+pub mod CallerLemmas
 pub mod CountLaws
 pub mod TallyLaws
 pub mod TallySteps

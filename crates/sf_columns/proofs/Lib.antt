@@ -1,3 +1,4 @@
+pub mod CallerLemmas
 pub mod SideLaws
 pub mod SlantedLaws
 pub mod NearestLaws

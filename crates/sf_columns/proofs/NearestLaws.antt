@@ -6,8 +6,7 @@ use Rattle.std.proofs.lemmas.List.{take_more}
 use Rattle.std.proofs.lemmas.List.Elements.{All-nil, All-push, All-same, All-weaker, Contains-append_left, Contains-push}
 use Rattle.sf_grid.specs.Fraction.{Fraction, IsFraction, fraction_le, fraction_lt, whole}
 use Rattle.sf_grid.specs.Plane.{Coordinates, Point, x_of}
-use Rattle.sf_grid.proofs.FractionLaws.{le-trans}
-use Rattle.sf_grid.proofs.NumberTests.{ge_from_test, le_from_test, lt_from_test, test_from_le}
+use Rattle.sf_grid.proofs.CallerLemmas.{ge_from_test, le-trans, le_from_test, lt_from_test, test_from_le}
 use Rattle.sf_columns.specs.declared.contact.Contact.{Contact}
 use Rattle.sf_columns.specs.declared.contact.Contact.TheVariants.{Ahead, Never, Throughout}
 use Rattle.sf_columns.specs.Next.{IsLeastOf, candidates, lesser, places_of}

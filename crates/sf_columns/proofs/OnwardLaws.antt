@@ -7,7 +7,7 @@ use Rattle.std.specs.Ordering.{int_cmp, is_lt}
 use Rattle.std.specs.declared.cmp.Ordering.TheVariants.{Greater}
 use Rattle.std.proofs.lemmas.Int.{ints}
 use Rattle.sf_grid.specs.Fraction.{Fraction, IsFraction}
-use Rattle.sf_grid.proofs.FractionLaws.{le, le-trans}
+use Rattle.sf_grid.proofs.CallerLemmas.{le, le-trans}
 use Rattle.sf_columns.specs.declared.active.Active.{Active}
 use Rattle.sf_columns.specs.Levels.{SlopesFall, SlopesFallFrom}
 use Rattle.sf_columns.specs.declared.vertex.Vertex.{Vertex}

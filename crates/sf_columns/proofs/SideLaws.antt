@@ -6,12 +6,7 @@ use Rattle.std.proofs.lemmas.Int.{ints}
 use Rattle.sf_grid.specs.Fraction.{Fraction, IsFraction, fraction_cmp, fraction_eq, fraction_lt}
 use Rattle.sf_grid.specs.Plane.{Coordinates, Point, point_at}
 use Rattle.sf_grid.specs.Edge.{Edge, below_rightward, cross, edge_above, height_at, height_rightward, is_vertical}
-use Rattle.sf_grid.proofs.FractionLaws.{cross-point_at}
-use Rattle.sf_grid.proofs.HeightLaws.{abs_of_run, runs_right}
-use Rattle.sf_grid.proofs.PointLaws.{int_le-scaled}
-use Rattle.sf_grid.proofs.Products.{mul_le}
-use Rattle.sf_grid.proofs.Ring.{ring, var, mul}
-use Rattle.sf_grid.proofs.NumberTests.{eq_from_test}
+use Rattle.sf_grid.proofs.CallerLemmas.{abs_of_run, cross-point_at, eq_from_test, int_le-scaled, mul, mul_le, ring, runs_right, var}
 pub use Rattle.sf_columns.specs.Slanted.{goes_on}
 
 -- ---- tests of a difference

@@ -10,12 +10,7 @@ use Rattle.sf_grid.specs.Fraction.{Fraction, fraction_cmp}
 use Rattle.sf_grid.specs.Plane.{Coordinates, IsPoint, IsSamePoint, Point, point_at, x_of, y_of}
 use Rattle.sf_grid.specs.Edge.{Edge, cross, height_rightward}
 use Rattle.sf_grid.specs.Sharing.{IsSharing, turn_by}
-use Rattle.sf_grid.proofs.HeightLaws.{cmp-scaled}
-use Rattle.sf_grid.proofs.NumberTests.{eq_from_test, lt_from_test}
-use Rattle.sf_grid.proofs.OrderLaws.{is_less, product_pos}
-use Rattle.sf_grid.proofs.PointLaws.{cross-same}
-use Rattle.sf_grid.proofs.Products.{lt_from_mul, mul_lt}
-use Rattle.sf_grid.proofs.Ring.{ring, var, mul}
+use Rattle.sf_grid.proofs.CallerLemmas.{cmp-scaled, cross-same, eq_from_test, is_less, lt_from_mul, lt_from_test, mul, mul_lt, product_pos, ring, var}
 use Rattle.sf_columns.specs.Slanted.{RightwardEdge, ShareNoneAfter, side_of}
 use Rattle.sf_columns.proofs.SideLaws.{cmp-side}
 

@@ -11,8 +11,7 @@ use Rattle.std.proofs.lemmas.Int.{ints}
 use Rattle.std.proofs.lemmas.Bool.{and_parts, false≢true}
 use Rattle.sf_grid.specs.Plane.{Coordinates}
 use Rattle.sf_grid.specs.Edge.{Edge, edge_between}
-use Rattle.sf_grid.proofs.MeanLaws.{same_coordinates}
-use Rattle.sf_grid.proofs.NumberTests.{eq_from_test}
+use Rattle.sf_grid.proofs.CallerLemmas.{eq_from_test, same_coordinates}
 use Rattle.sf_geometry.specs.declared.extent.Extent.{Extent}
 use Rattle.sf_geometry.specs.Envelope.{extent_at, extent_of, extent_with, grown}
 use Rattle.sf_geometry.specs.Lists.{before_tight, edges_between, edges_from, edges_of, ends_of, is_closed, is_same, last_from, tight}

@@ -1,3 +1,4 @@
+pub mod CallerLemmas
 mod Computed
 pub mod Products
 pub mod NumberTests

@@ -9,10 +9,7 @@ use Rattle.std.proofs.lemmas.List.Elements.{recursion_from_All}
 use Rattle.std.proofs.lemmas.List.Sums.{sum_by-cons}
 use Rattle.sf_grid.specs.Plane.{Coordinates, IsPoint, Point, grid_point, x_of, y_of}
 use Rattle.sf_grid.specs.Edge.{Edge as Line, below_rightward, cross, edge_above, within}
-use Rattle.sf_grid.proofs.MeanLaws.{lies}
-use Rattle.sf_grid.proofs.NumberTests.{le_from_test, lt_from_test, test_from_le, test_from_lt}
-use Rattle.sf_grid.proofs.Products.{le_from_mul, mul_le, mul_nonneg-nonneg, mul_pos, mul_pos-pos}
-use Rattle.sf_grid.proofs.Ring.{ring, var, num, sum, dif, mul}
+use Rattle.sf_grid.proofs.CallerLemmas.{dif, le_from_mul, le_from_test, lies, lt_from_test, mul, mul_le, mul_nonneg-nonneg, mul_pos, mul_pos-pos, num, ring, sum, test_from_le, test_from_lt, var}
 use Rattle.sf_plane.specs.Boxes.{Box, CommonPointMeets, EdgeIsInBox, HasEnds, IsChain, IsClosedChain, RingIsInBox, in_box}
 use Rattle.sf_grid.specs.EvenOdd.{edges_above, is_odd}
 

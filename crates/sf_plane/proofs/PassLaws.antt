@@ -9,8 +9,7 @@ use Rattle.sf_cells.specs.declared.cell.Cell.{Cell}
 use Rattle.sf_cells.specs.Cells.{cell_of, numbers_from}
 use Rattle.sf_cells.specs.Pieces.{is_above, is_on}
 use Rattle.sf_cells.specs.Samples.{Sample, samples}
-use Rattle.sf_slabs.proofs.EachLaws.{each-map}
-use Rattle.sf_slabs.proofs.EventLaws.{Some_in}
+use Rattle.sf_slabs.proofs.CallerLemmas.{Some_in, each-map}
 use Rattle.sf_plane.proofs.CoverLaws.{every_point}
 use Rattle.sf_plane.proofs.SampleCellLaws.{each_sample}
 use Rattle.sf_plane.proofs.UnionLaws.{any_some, samples_tell, some_any}

@@ -10,23 +10,11 @@ use Rattle.sf_grid.specs.Plane.{Coordinates, IsPoint, Point, x_of}
 use Rattle.sf_grid.specs.Edge.{Edge as Line, cross_of_directions, crossing, edge_between, height_at, height_cmp, is_vertical, meeting_of_lines, reaches}
 use Rattle.sf_grid.specs.Laws.{HaveHeights}
 use Rattle.sf_grid.specs.Sharing.{IsOnBoth}
-use Rattle.sf_grid.proofs.BetweenLaws.{other_order_meets}
-use Rattle.sf_grid.proofs.CrossingLaws.{shared_once}
-use Rattle.sf_grid.proofs.NumberTests.{eq_from_test, test_from_eq}
-use Rattle.sf_grid.proofs.OrderLaws.{height-IsFraction}
-use Rattle.sf_grid.proofs.PointLaws.{Same}
+use Rattle.sf_grid.proofs.CallerLemmas.{Same, eq_from_test, height-IsFraction, other_order_meets, shared_once, test_from_eq}
 use Rattle.sf_columns.specs.declared.piece.Piece.{Piece}
 use Rattle.sf_columns.specs.declared.piece.Piece.TheVariants.{Edge}
 use Rattle.sf_cells.specs.Samples.{crossing_place, crossings_of}
-use Rattle.sf_slabs.proofs.ColumnLaws.{event_places}
-use Rattle.sf_slabs.proofs.CrossLaws.{crossing-is, is-crossing, level_at-point, place-IsFraction}
-use Rattle.sf_slabs.proofs.EachLaws.{each-both}
-use Rattle.sf_slabs.proofs.EventLaws.{Some_in, Some_in-map, event_places-numbers, is-event}
-use Rattle.sf_slabs.proofs.HeightsLaws.{height_at-same}
-use Rattle.sf_slabs.proofs.FollowLaws.{le_of_lt, not_le-lt}
-use Rattle.sf_slabs.proofs.NumberLaws.{Among, Same-trans, rising_order}
-use Rattle.sf_slabs.proofs.SampleLaws.{same_number}
-use Rattle.sf_slabs.proofs.CrossLaws.{level-parallel}
+use Rattle.sf_slabs.proofs.CallerLemmas.{Among, Same-trans, Some_in, Some_in-map, crossing-is, each-both, event_places, event_places-numbers, height_at-same, is-crossing, is-event, le_of_lt, level-parallel, level_at-point, not_le-lt, place-IsFraction, rising_order, same_number}
 use Rattle.sf_plane.proofs.CompareLaws.{cmp_same}
 use Rattle.sf_plane.proofs.PlaceLaws.{IsIn}
 

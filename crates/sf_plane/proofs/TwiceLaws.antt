@@ -8,14 +8,7 @@ use Rattle.sf_grid.specs.Plane.{Coordinates, IsPoint, IsSamePoint, Point, grid_p
 use Rattle.sf_grid.specs.Edge.{Edge as Line, cross_of_directions}
 use Rattle.sf_grid.specs.Sharing.{IsOnBoth, IsSharing, comes_before, earlier_of, later_of}
 use Rattle.sf_grid.specs.declared.meet.Meet.TheVariants.{Along}
-use Rattle.sf_grid.proofs.CrossingLaws.{end_side, on_edge-same_point, shared_once, sides_differ, start_side}
-use Rattle.sf_grid.proofs.LineLaws.{differs_from_before, on_edge-swap}
-use Rattle.sf_grid.proofs.MeanLaws.{cross-mean, lies, mean-on_edge, same_coordinates, weight_a, weight_b}
-use Rattle.sf_grid.proofs.NumberTests.{eq_from_test, test_from_eq}
-use Rattle.sf_grid.proofs.PieceLaws.{Collinear, along-collinear, apart-collinear, at-collinear, earlier_is, later_is}
-use Rattle.sf_grid.proofs.Products.{zero_from_mul}
-use Rattle.sf_grid.proofs.Ring.{ring, var, sum, mul}
-use Rattle.sf_grid.proofs.SameLaws.{same_point_is_equivalence}
+use Rattle.sf_grid.proofs.CallerLemmas.{Collinear, along-collinear, apart-collinear, at-collinear, cross-mean, differs_from_before, earlier_is, end_side, eq_from_test, later_is, lies, mean-on_edge, mul, on_edge-same_point, on_edge-swap, ring, same_coordinates, same_point_is_equivalence, shared_once, sides_differ, start_side, sum, test_from_eq, var, weight_a, weight_b, zero_from_mul}
 use Rattle.sf_columns.specs.declared.piece.Piece.{Piece}
 use Rattle.sf_columns.specs.declared.piece.Piece.TheVariants.{Edge}
 use Rattle.sf_cells.specs.Samples.{samples}

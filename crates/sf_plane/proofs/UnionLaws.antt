@@ -8,20 +8,12 @@ use Rattle.std.proofs.lemmas.List.Elements.{All-contains, All-from_recursion}
 use Rattle.sf_grid.specs.Fraction.{Fraction, fraction_eq, fraction_lt, whole}
 use Rattle.sf_grid.specs.Plane.{Coordinates, IsPoint, IsSamePoint, Point, same_point, x_of, y_of}
 use Rattle.sf_grid.specs.Edge.{edge_between, height_at, is_vertical, reaches}
-use Rattle.sf_grid.proofs.NumberTests.{eq_from_test, test_from_eq}
-use Rattle.sf_grid.proofs.PointLaws.{Same}
-use Rattle.sf_grid.proofs.Ring.{ring, var, num, sum, dif, mul}
-use Rattle.sf_grid.proofs.SameLaws.{same_point_is_equivalence}
+use Rattle.sf_grid.proofs.CallerLemmas.{Same, dif, eq_from_test, mul, num, ring, same_point_is_equivalence, sum, test_from_eq, var}
 use Rattle.sf_columns.specs.declared.piece.Piece.{Piece}
 use Rattle.sf_columns.specs.declared.piece.Piece.TheVariants.{Dot, Edge}
 use Rattle.sf_cells.specs.Pieces.{ends_of, heights_of, if_in_column}
 use Rattle.sf_cells.specs.Samples.{Sample, dimension, events, samples}
-use Rattle.sf_slabs.proofs.ColumnLaws.{event_places}
-use Rattle.sf_slabs.proofs.EachLaws.{each-map}
-use Rattle.sf_slabs.proofs.EventLaws.{Some_in, Some_in-map, event_places-numbers, is-event}
-use Rattle.sf_slabs.proofs.HeightsLaws.{heights_in}
-use Rattle.sf_slabs.proofs.NumberLaws.{Among, rising_order}
-use Rattle.sf_slabs.proofs.SampleLaws.{if_cases}
+use Rattle.sf_slabs.proofs.CallerLemmas.{Among, Some_in, Some_in-map, each-map, event_places, event_places-numbers, heights_in, if_cases, is-event, rising_order}
 use Rattle.sf_plane.proofs.CompareLaws.{same_self}
 use Rattle.sf_plane.proofs.CoverLaws.{each_flat_in, every_point, test_among, among_test}
 use Rattle.sf_plane.proofs.FormLaws.{Form, mean-point, mean_of_three-point, value, zero-same}

@@ -9,7 +9,7 @@ use Rattle.sf_grid.specs.Fraction.{Fraction, IsFraction, fraction_le, fraction_l
 use Rattle.sf_grid.specs.Plane.{Coordinates, Point, x_of}
 use Rattle.sf_grid.specs.Edge.{crossing, edge_between, left_end, meeting_of_lines, right_end}
 use Rattle.sf_grid.specs.Laws.{HasHeight}
-use Rattle.sf_grid.proofs.NumberTests.{eq_from_test, ge_from_test, le_from_test, lt_from_test, test_from_le}
+use Rattle.sf_grid.proofs.CallerLemmas.{eq_from_test, ge_from_test, le_from_test, lt_from_test, test_from_le}
 use Rattle.sf_columns.specs.declared.piece.Piece.{Piece}
 use Rattle.sf_columns.specs.declared.piece.Piece.TheVariants.{Dot, Edge}
 use Rattle.sf_columns.specs.declared.active.Active.{Active}

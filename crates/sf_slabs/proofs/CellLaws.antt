@@ -4,10 +4,7 @@ use Rattle.std.specs.Prelude.{if◌then◌else◌}
 use Rattle.sf_grid.specs.Fraction.{Fraction, IsFraction}
 use Rattle.sf_grid.specs.Plane.{IsPoint, IsSamePoint, Point, grid_point, point_at, same_point}
 use Rattle.sf_grid.specs.Edge.{edge_between}
-use Rattle.sf_grid.proofs.PointLaws.{Same}
-use Rattle.sf_grid.proofs.Ring.{ring, var, mul}
-use Rattle.sf_grid.proofs.SameLaws.{same_point_is_equivalence, same_points_are_alike}
-use Rattle.sf_grid.proofs.NumberTests.{same_tests, test_from_eq}
+use Rattle.sf_grid.proofs.CallerLemmas.{Same, mul, ring, same_point_is_equivalence, same_points_are_alike, same_tests, test_from_eq, var}
 use Rattle.std.proofs.lemmas.Bool.{and_from}
 use Rattle.sf_columns.specs.declared.piece.Piece.{Piece}
 use Rattle.sf_columns.specs.declared.piece.Piece.TheVariants.{Dot, Edge}

@@ -9,8 +9,7 @@ use Rattle.std.proofs.lemmas.List.Sorted.{sum_by-IsPermutation}
 use Rattle.std.proofs.lemmas.List.Sums.{sum_by-cons}
 use Rattle.sf_grid.specs.Fraction.{Fraction, IsFraction, fraction_eq, fraction_le, fraction_lt, middle, one_less, one_more, whole}
 use Rattle.sf_grid.specs.Plane.{point_at}
-use Rattle.sf_grid.proofs.NumberTests.{eq_from_test, test_from_eq, test_from_le}
-use Rattle.sf_grid.proofs.PointLaws.{Same}
+use Rattle.sf_grid.proofs.CallerLemmas.{Same, eq_from_test, test_from_eq, test_from_le}
 use Rattle.sf_columns.specs.declared.piece.Piece.{Piece}
 use Rattle.sf_columns.specs.declared.piece.Piece.TheVariants.{Dot, Edge}
 use Rattle.sf_columns.specs.declared.active.Active.{Active}
@@ -38,7 +37,7 @@ use Rattle.sf_slabs.proofs.MarkLaws.{middle-number}
 use Rattle.sf_slabs.proofs.NumberLaws.{Among, Numbers, rising_order}
 use Rattle.sf_slabs.proofs.SampleLaws.{FollowFrom}
 use Rattle.sf_slabs.proofs.Shapes.{AreVertices, Fits, IsColumn, IsColumnOf, IsComing, comes_to, in_column}
-use Rattle.sf_columns.proofs.SideLaws.{lt-scaled}
+use Rattle.sf_columns.proofs.CallerLemmas.{lt-scaled}
 use Rattle.sf_slabs.proofs.TopLaws.{column-levels, one_more-above, passes-listed, passes-number}
 use Rattle.sf_slabs.proofs.WeightLaws.{AreVertices-chosen, IsEither, SameNumbers-agree, SameNumbers-chosen, SameNumbers-chosen_none, SameNumbers-either, SameNumbers-none, SameNumbers-refl, SameNumbers-trans, SameNumbers-vertices, chosen, chosen-drop, chosen-drop_vertices, chosen-take, chosen-take_vertices, numbers_from-none, passes_at, pieces_of-append, sum_by-agree}
 use Rattle.sf_slabs.proofs.EachLaws.{each-both, each-map, each-parts}

@@ -10,22 +10,11 @@ use Rattle.sf_grid.specs.Plane.{Coordinates, IsPoint, IsSamePoint, Point, grid_p
 use Rattle.sf_grid.specs.Edge.{Edge as Line, IsOnEdge, cross, cross_of_directions, crossing, edge_between, height_at, height_cmp, is_vertical, left_end, meeting_of_lines, on_edge, reaches, right_end, signed_as}
 use Rattle.sf_grid.specs.Laws.{HasHeight}
 use Rattle.sf_grid.specs.Sharing.{IsOnBoth}
-use Rattle.sf_grid.proofs.BetweenLaws.{edge_gap, gap-between}
-use Rattle.sf_grid.proofs.CrossingLaws.{on_edge-same_point}
-use Rattle.sf_grid.proofs.HeightLaws.{height_cmp-gap}
-use Rattle.sf_grid.proofs.LineLaws.{on_edge-swap, order_from_before}
-use Rattle.sf_grid.proofs.MeanLaws.{lies, on_edge-mean}
-use Rattle.sf_grid.proofs.MeetLaws.{meeting-x, meeting-y, way}
-use Rattle.sf_grid.proofs.NumberTests.{eq_from_test, lt_from_test, test_from_eq, test_from_lt}
-use Rattle.sf_grid.proofs.OrderLaws.{equal_is, height-IsFraction, is_equal}
-use Rattle.sf_grid.proofs.PointLaws.{Same, eq_from_mul, on_edge-same}
-use Rattle.sf_grid.proofs.Products.{zero_from_mul, zero_mul}
-use Rattle.sf_grid.proofs.Ring.{ring, var, num, sum, dif, mul}
-use Rattle.sf_grid.proofs.SameLaws.{same_point_is_equivalence}
+use Rattle.sf_grid.proofs.CallerLemmas.{Same, dif, edge_gap, eq_from_mul, eq_from_test, equal_is, gap-between, height-IsFraction, height_cmp-gap, is_equal, lies, lt_from_test, meeting-x, meeting-y, mul, num, on_edge-mean, on_edge-same, on_edge-same_point, on_edge-swap, order_from_before, ring, same_point_is_equivalence, sum, test_from_eq, test_from_lt, var, way, zero_from_mul, zero_mul}
 use Rattle.sf_columns.specs.declared.active.Active.{Active}
 use Rattle.sf_columns.specs.Fronts.{IsRun, line_of}
 use Rattle.sf_columns.specs.Slanted.{IsMeetingAfter, IsOneLine}
-use Rattle.sf_columns.proofs.SlantedLaws.{slope_gap}
+use Rattle.sf_columns.proofs.CallerLemmas.{slope_gap}
 use Rattle.sf_slabs.proofs.NumberLaws.{Same-trans, rising_order}
 use Rattle.sf_slabs.proofs.OnLaws.{IsPoint-point_at, on_edge-height, x_of-point_at, y_of-point_at}
 use Rattle.sf_slabs.proofs.SampleLaws.{if_cases}

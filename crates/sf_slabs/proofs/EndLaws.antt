@@ -8,7 +8,7 @@ use Rattle.std.proofs.lemmas.List.Sums.{sum_by-cons}
 use Rattle.sf_grid.specs.Fraction.{Fraction, IsFraction, fraction_eq, fraction_le, fraction_lt, whole}
 use Rattle.sf_grid.specs.Plane.{Coordinates}
 use Rattle.sf_grid.specs.Edge.{edge_between, is_vertical, left_end, right_end}
-use Rattle.sf_grid.proofs.NumberTests.{eq_from_test, ge_from_test, same_tests, test_from_le}
+use Rattle.sf_grid.proofs.CallerLemmas.{eq_from_test, ge_from_test, same_tests, test_from_le}
 use Rattle.sf_columns.specs.declared.piece.Piece.{Piece}
 use Rattle.sf_columns.specs.declared.piece.Piece.TheVariants.{Dot, Edge}
 use Rattle.sf_columns.specs.declared.active.Active.{Active}

@@ -11,9 +11,7 @@ use Rattle.sf_grid.specs.Fraction.{Fraction, IsFraction, fraction_eq, fraction_l
 use Rattle.sf_grid.specs.Plane.{Coordinates, IsSamePoint, Point, point_at, x_of}
 use Rattle.sf_grid.specs.Edge.{Edge as Line, height_at, height_cmp, is_vertical, left_end, reaches, right_end}
 use Rattle.sf_grid.specs.Laws.{HasHeight, ShareNoneInside}
-use Rattle.sf_grid.proofs.FractionLaws.{le-trans}
-use Rattle.sf_grid.proofs.NumberTests.{eq_from_test, le_from_test, lt_from_test, test_from_eq, test_from_le, test_from_lt}
-use Rattle.sf_grid.proofs.OrderLaws.{height-IsFraction, heights_are_ordered, is_equal, le_lt, lt_le}
+use Rattle.sf_grid.proofs.CallerLemmas.{eq_from_test, height-IsFraction, heights_are_ordered, is_equal, le-trans, le_from_test, le_lt, lt_from_test, lt_le, test_from_eq, test_from_le, test_from_lt}
 use Rattle.sf_columns.specs.declared.active.Active.{Active}
 use Rattle.sf_columns.specs.declared.contact.Contact.{Contact}
 use Rattle.sf_columns.specs.declared.contact.Contact.TheVariants.{Ahead, Never, Throughout}

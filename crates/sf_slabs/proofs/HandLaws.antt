@@ -8,7 +8,7 @@ use Rattle.sf_cells.specs.Hands.{AtMost, Balanced, Stop, item, minus, on_gap, on
 use Rattle.sf_cells.specs.Samples.{dimension}
 use Rattle.sf_slabs.proofs.LevelLaws.{Level as PieceLevel, cell_by, level_cells}
 use Rattle.sf_slabs.proofs.Shapes.{Fits}
-use Rattle.sf_cells.proofs.TallyLaws.{counts-grown, counts-left, counts-part}
+use Rattle.sf_cells.proofs.CallerLemmas.{counts-grown, counts-left, counts-part}
 
 -- ---- the counts on a level and on the gap below it, from the pieces that are there
 -- on a level are the pieces on the gap above it and those that enter

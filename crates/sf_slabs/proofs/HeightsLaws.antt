@@ -6,10 +6,7 @@ use Rattle.std.specs.Int.{int_max, int_min}
 use Rattle.sf_grid.specs.Fraction.{Fraction, IsFraction, fraction_eq, whole}
 use Rattle.sf_grid.specs.Plane.{Coordinates}
 use Rattle.sf_grid.specs.Edge.{Edge as Line, edge_between, height_at, is_vertical, left_end, reaches, right_end}
-use Rattle.sf_grid.proofs.OrderLaws.{height-IsFraction}
-use Rattle.sf_grid.proofs.PointLaws.{Same, within-same}
-use Rattle.sf_grid.proofs.Ring.{ring, var, sum, dif, mul}
-use Rattle.sf_grid.proofs.NumberTests.{eq_from_test, same_tests, test_from_eq}
+use Rattle.sf_grid.proofs.CallerLemmas.{Same, dif, eq_from_test, height-IsFraction, mul, ring, same_tests, sum, test_from_eq, var, within-same}
 use Rattle.sf_columns.specs.declared.piece.Piece.{Piece}
 use Rattle.sf_columns.specs.declared.piece.Piece.TheVariants.{Dot, Edge}
 use Rattle.sf_cells.specs.Pieces.{heights_of, if_in_column}

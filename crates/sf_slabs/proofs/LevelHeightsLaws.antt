@@ -7,9 +7,7 @@ use Rattle.std.proofs.lemmas.List.Sums.{sum_by-cons}
 use Rattle.sf_grid.specs.Fraction.{Fraction, IsFraction, fraction_eq, fraction_le, fraction_lt, whole}
 use Rattle.sf_grid.specs.Plane.{Coordinates}
 use Rattle.sf_grid.specs.Edge.{edge_between, height_at, height_rightward, is_vertical, left_end, reaches, right_end}
-use Rattle.sf_grid.proofs.HeightLaws.{runs_right}
-use Rattle.sf_grid.proofs.NumberTests.{eq_from_test, test_from_eq}
-use Rattle.sf_grid.proofs.PointLaws.{Same}
+use Rattle.sf_grid.proofs.CallerLemmas.{Same, eq_from_test, runs_right, test_from_eq}
 use Rattle.sf_columns.specs.declared.piece.Piece.{Piece}
 use Rattle.sf_columns.specs.declared.piece.Piece.TheVariants.{Dot, Edge}
 use Rattle.sf_columns.specs.declared.active.Active.{Active}

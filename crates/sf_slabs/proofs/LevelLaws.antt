@@ -5,10 +5,7 @@ use Rattle.std.proofs.lemmas.Bool.{both_ways, cases_Bool}
 use Rattle.std.proofs.lemmas.Int.{ints}
 use Rattle.sf_grid.specs.Fraction.{Fraction, IsFraction, fraction_lt, middle, one_less}
 use Rattle.sf_grid.specs.Plane.{point_at}
-use Rattle.sf_grid.proofs.PointLaws.{Same}
-use Rattle.sf_grid.proofs.Products.{mul_lt}
-use Rattle.sf_grid.proofs.Ring.{ring, var, num, sum, mul}
-use Rattle.sf_grid.proofs.NumberTests.{lt_from_test, test_from_lt}
+use Rattle.sf_grid.proofs.CallerLemmas.{Same, lt_from_test, mul, mul_lt, num, ring, sum, test_from_lt, var}
 use Rattle.sf_columns.specs.declared.piece.Piece.{Piece}
 use Rattle.sf_cells.specs.declared.cell.Cell.{Cell}
 use Rattle.sf_cells.specs.Pieces.{is_above, is_on}

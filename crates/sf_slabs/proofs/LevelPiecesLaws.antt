@@ -10,13 +10,7 @@ use Rattle.std.proofs.lemmas.List.Sums.{sum_by-cons}
 use Rattle.sf_grid.specs.Fraction.{Fraction, IsFraction, fraction_eq, fraction_le, fraction_lt, whole}
 use Rattle.sf_grid.specs.Plane.{Coordinates, point_at}
 use Rattle.sf_grid.specs.Edge.{Edge as Line, edge_between, height_at, height_rightward, is_vertical, left_end, reaches, right_end}
-use Rattle.sf_grid.proofs.BetweenLaws.{reach}
-use Rattle.sf_grid.proofs.HeightLaws.{abs_of_run, runs_right}
-use Rattle.sf_grid.proofs.NumberTests.{eq_from_test, ge_from_test, le_from_test, lt_from_test, same_tests, test_from_eq, test_from_le, test_from_lt}
-use Rattle.sf_grid.proofs.OrderLaws.{le_lt, lt_le, product_pos, run_pos}
-use Rattle.sf_grid.proofs.PointLaws.{Same}
-use Rattle.sf_grid.proofs.Products.{mul_le, mul_lt}
-use Rattle.sf_grid.proofs.Ring.{dif, mul, num, ring, sum, var}
+use Rattle.sf_grid.proofs.CallerLemmas.{Same, abs_of_run, dif, eq_from_test, ge_from_test, le_from_test, le_lt, lt_from_test, lt_le, mul, mul_le, mul_lt, num, product_pos, reach, ring, run_pos, runs_right, same_tests, sum, test_from_eq, test_from_le, test_from_lt, var}
 use Rattle.sf_columns.specs.declared.piece.Piece.{Piece}
 use Rattle.sf_columns.specs.declared.piece.Piece.TheVariants.{Dot, Edge}
 use Rattle.sf_columns.specs.declared.vertex.Role.{Role}
@@ -31,7 +25,7 @@ use Rattle.sf_slabs.proofs.LeveledLaws.{vertex_height}
 use Rattle.sf_slabs.proofs.NumberLaws.{Same-trans}
 use Rattle.sf_slabs.proofs.OnLaws.{on_edge-height, on_edge-vertical, same_point-at}
 use Rattle.sf_slabs.proofs.Shapes.{comes_to, in_column}
-use Rattle.sf_columns.proofs.SideLaws.{goes_on}
+use Rattle.sf_columns.proofs.CallerLemmas.{goes_on}
 use Rattle.sf_slabs.proofs.SlabLaws.{reached_from}
 use Rattle.sf_slabs.proofs.TopLaws.{if_true}
 use Rattle.sf_slabs.proofs.WeightLaws.{HasOne, IsEither}

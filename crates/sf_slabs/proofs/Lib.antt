@@ -1,3 +1,4 @@
+pub mod CallerLemmas
 pub mod Ahead
 pub mod EachLaws
 mod Computed

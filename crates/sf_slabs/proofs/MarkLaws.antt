@@ -1,9 +1,7 @@
 -- The places that are marked in a column or along the axis, from lists of the same numbers.
 use Rattle.std.proofs.Common.{refl, ap, ◌∙◌, pos, ◌+ℤ◌, ◌*ℤ◌, ◌-ℤ◌, lit<, arith, List, [], ◌∷◌}
 use Rattle.sf_grid.specs.Fraction.{Fraction, IsFraction, middle, one_less, one_more}
-use Rattle.sf_grid.proofs.OrderLaws.{product_pos}
-use Rattle.sf_grid.proofs.PointLaws.{Same}
-use Rattle.sf_grid.proofs.Ring.{ring, var, num, sum, dif, mul}
+use Rattle.sf_grid.proofs.CallerLemmas.{Same, dif, mul, num, product_pos, ring, sum, var}
 use Rattle.sf_cells.specs.Samples.{marks, marks_from}
 use Rattle.sf_slabs.proofs.CellLaws.{SameMark}
 use Rattle.sf_slabs.proofs.NumberLaws.{Numbers, Pairs}

@@ -7,9 +7,7 @@ use Rattle.std.proofs.lemmas.List.Elements.{All-contains}
 use Rattle.sf_grid.specs.Fraction.{Fraction, IsFraction, fraction_le, fraction_lt, whole}
 use Rattle.sf_grid.specs.Plane.{Point, x_of}
 use Rattle.sf_grid.specs.Edge.{Edge as Line, crossing, edge_between, left_end, right_end}
-use Rattle.sf_grid.proofs.BetweenLaws.{reach}
-use Rattle.sf_grid.proofs.MeanLaws.{lies}
-use Rattle.sf_grid.proofs.NumberTests.{test_from_le}
+use Rattle.sf_grid.proofs.CallerLemmas.{lies, reach, test_from_le}
 use Rattle.sf_columns.specs.declared.piece.Piece.{Piece}
 use Rattle.sf_columns.specs.declared.piece.Piece.TheVariants.{Dot, Edge}
 use Rattle.sf_columns.specs.declared.active.Active.{Active}

@@ -9,12 +9,7 @@ use Rattle.sf_grid.specs.Plane.{Coordinates, Point, point_at, x_of}
 use Rattle.sf_grid.specs.Edge.{Edge as Line, cross_of_directions, crossing, edge_between, height_at, height_cmp, left_end, reaches, right_end}
 use Rattle.sf_grid.specs.Laws.{HasHeight}
 use Rattle.sf_grid.specs.Sharing.{IsOnBoth}
-use Rattle.sf_grid.proofs.BetweenLaws.{reach}
-use Rattle.sf_grid.proofs.CrossingLaws.{shared_once}
-use Rattle.sf_grid.proofs.MeanLaws.{lies}
-use Rattle.sf_grid.proofs.NumberTests.{eq_from_test, test_from_le}
-use Rattle.sf_grid.proofs.OrderLaws.{height-IsFraction}
-use Rattle.sf_grid.proofs.Ring.{ring, var, num, dif, mul}
+use Rattle.sf_grid.proofs.CallerLemmas.{dif, eq_from_test, height-IsFraction, lies, mul, num, reach, ring, shared_once, test_from_le, var}
 use Rattle.sf_columns.specs.declared.piece.Piece.{Piece}
 use Rattle.sf_columns.specs.declared.piece.Piece.TheVariants.{Dot, Edge}
 use Rattle.sf_columns.specs.declared.active.Active.{Active}

@@ -3,11 +3,7 @@ use Rattle.std.proofs.Common.{◌≡◌, refl, ap, sym, ◌∙◌, ℤ, pos, ◌
 use Rattle.std.specs.List.{AllByRecursion}
 use Rattle.std.proofs.lemmas.Int.{ints}
 use Rattle.sf_grid.specs.Fraction.{Fraction, IsFraction, fraction_lt}
-use Rattle.sf_grid.proofs.FractionLaws.{le}
-use Rattle.sf_grid.proofs.OrderLaws.{le_lt, lt_le}
-use Rattle.sf_grid.proofs.PointLaws.{Same, eq_from_mul}
-use Rattle.sf_grid.proofs.Ring.{ring, var, mul}
-use Rattle.sf_grid.proofs.NumberTests.{lt_from_test, test_from_lt}
+use Rattle.sf_grid.proofs.CallerLemmas.{Same, eq_from_mul, le, le_lt, lt_from_test, lt_le, mul, ring, test_from_lt, var}
 use Rattle.sf_cells.specs.Samples.{sorted_by}
 use Rattle.sf_slabs.proofs.SampleLaws.{Each-sorted_by, Follow, Follow-sorted_by, FollowFrom, Level, Some_of, Some_of-sorted_by, same_number}
 use Rattle.sf_slabs.proofs.EachLaws.{each-map}

@@ -8,15 +8,8 @@ use Rattle.std.proofs.lemmas.Int.{clamps, ints}
 use Rattle.sf_grid.specs.Fraction.{Fraction, IsFraction, fraction_eq, whole}
 use Rattle.sf_grid.specs.Plane.{Coordinates, IsPoint, Point, grid_point, point_at, same_point, x_of, y_of}
 use Rattle.sf_grid.specs.Edge.{Edge, cross, height_at, is_vertical, left_end, on_edge, reaches, right_end, within}
-use Rattle.sf_grid.proofs.BetweenLaws.{on_edge_at, reach}
-use Rattle.sf_grid.proofs.HeightLaws.{runs_right}
-use Rattle.sf_grid.proofs.LineLaws.{cross-swap}
-use Rattle.sf_grid.proofs.MeanLaws.{lies}
-use Rattle.sf_grid.proofs.OrderLaws.{product_pos}
-use Rattle.sf_grid.proofs.PointLaws.{Same, eq_from_mul, within-same}
-use Rattle.sf_grid.proofs.Ring.{ring, var, num, dif, mul}
-use Rattle.sf_grid.proofs.NumberTests.{eq_from_test, same_tests, test_from_eq}
-use Rattle.sf_columns.proofs.SideLaws.{on-side}
+use Rattle.sf_grid.proofs.CallerLemmas.{Same, cross-swap, dif, eq_from_mul, eq_from_test, lies, mul, num, on_edge_at, product_pos, reach, ring, runs_right, same_tests, test_from_eq, var, within-same}
+use Rattle.sf_columns.proofs.CallerLemmas.{on-side}
 
 -- ---- the coordinates of a point of a column
 pub x_of-point_at : (x y : Fraction) → Same (x_of (point_at x y)) x

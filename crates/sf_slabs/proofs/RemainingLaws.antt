@@ -11,8 +11,7 @@ use Rattle.std.proofs.lemmas.List.Sorted.{All-permutation, sum_by-IsPermutation}
 use Rattle.std.proofs.lemmas.List.Sums.{sum_by-cons}
 use Rattle.sf_grid.specs.Fraction.{Fraction, IsFraction, fraction_eq, fraction_le, fraction_lt, middle, one_less, one_more, whole}
 use Rattle.sf_grid.specs.Edge.{edge_between, is_vertical, left_end, right_end}
-use Rattle.sf_grid.proofs.NumberTests.{eq_from_test, test_from_le}
-use Rattle.sf_grid.proofs.PointLaws.{Same}
+use Rattle.sf_grid.proofs.CallerLemmas.{Same, eq_from_test, test_from_le}
 use Rattle.sf_columns.specs.declared.piece.Piece.{Piece}
 use Rattle.sf_columns.specs.declared.piece.Piece.TheVariants.{Dot, Edge}
 use Rattle.sf_cells.specs.declared.cell.Cell.{Cell}
@@ -37,7 +36,7 @@ use Rattle.sf_slabs.proofs.LeveledLaws.{InOrder-rest, drop-each_vertex, drop-in_
 use Rattle.sf_slabs.proofs.MarkLaws.{marks-same, middle-number, middle-same, one_less-step, one_more-step}
 use Rattle.sf_slabs.proofs.NextLaws.{IsLast, IsNext}
 use Rattle.sf_slabs.proofs.NumberLaws.{Among, Among-sorted_by, Each-before, Follow-rest, IsListing, IsOrder, Numbers, Pairs, before_among, falling_order, rising_order}
-use Rattle.sf_columns.proofs.OnwardLaws.{sorted-first, sorted-rest}
+use Rattle.sf_columns.proofs.CallerLemmas.{sorted-first, sorted-rest}
 use Rattle.sf_slabs.proofs.SampleLaws.{Each-sorted_by, Follow, Follow-sorted_by, FollowFrom}
 use Rattle.sf_slabs.proofs.WeightLaws.{AreVertices-chosen, chosen-drop_vertices, chosen-take_vertices, sum_by-agree}
 use Rattle.sf_slabs.proofs.EachLaws.{each-append, each-both, each-map, each-parts}

@@ -25,7 +25,7 @@ use Rattle.sf_slabs.proofs.Ahead.{IsAhead}
 use Rattle.sf_columns.specs.Vertices.{all_vertices, in_column, vertex_before}
 use Rattle.sf_slabs.specs.Walks.{IsReady, IsSlabOf}
 use Rattle.sf_slabs.proofs.ColumnLaws.{event_places}
-use Rattle.sf_cells.proofs.CountLaws.{fold-append}
+use Rattle.sf_cells.proofs.CallerLemmas.{fold-append}
 use Rattle.sf_slabs.proofs.CrossLaws.{place-IsFraction}
 use Rattle.sf_slabs.proofs.FollowLaws.{Waits}
 use Rattle.sf_slabs.proofs.FrontLaws.{IsClear, column_inside, column_none, coming_inside, coming_next, coming_none}
@@ -37,7 +37,7 @@ use Rattle.sf_slabs.proofs.NumberLaws.{rising_order}
 use Rattle.sf_slabs.proofs.RemainingLaws.{ahead-parted, ahead_of_all, cells-first, cells-none, left, left-next, remaining, remaining-last, remaining-next, start-ahead, start-column, start-coming, start-front}
 use Rattle.sf_slabs.proofs.SweepLaws.{room-fewer}
 use Rattle.sf_slabs.proofs.TopLaws.{one_more-above}
-use Rattle.sf_grid.proofs.NumberTests.{le_from_test}
+use Rattle.sf_grid.proofs.CallerLemmas.{le_from_test}
 
 -- ---- the column that comes next
 -- it is the least of the candidates, or there is none

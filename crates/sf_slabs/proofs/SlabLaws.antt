@@ -5,8 +5,7 @@ use Rattle.std.proofs.lemmas.Int.{ints}
 use Rattle.sf_grid.specs.Fraction.{Fraction, IsFraction, fraction_le, fraction_lt}
 use Rattle.sf_grid.specs.Edge.{Edge, height_cmp, is_vertical, left_end, reaches, right_end, within}
 use Rattle.sf_grid.specs.Laws.{HasHeight, HaveHeights, ShareNoneInside}
-use Rattle.sf_grid.proofs.BetweenLaws.{Reach, opposite_order_meets, order_is_kept, reach, reach_between, within_from}
-use Rattle.sf_grid.proofs.NumberTests.{lt_from_test, test_from_le}
+use Rattle.sf_grid.proofs.CallerLemmas.{Reach, lt_from_test, opposite_order_meets, order_is_kept, reach, reach_between, test_from_le, within_from}
 use Rattle.std.specs.Prelude.{int_lt}
 use Rattle.std.proofs.lemmas.Bool.{and_from}
 

@@ -7,13 +7,9 @@ use Rattle.std.proofs.lemmas.Int.{ints}
 use Rattle.sf_grid.specs.Fraction.{Fraction, IsFraction, fraction_lt}
 use Rattle.sf_grid.specs.Plane.{Coordinates}
 use Rattle.sf_grid.specs.Edge.{Edge, height_cmp, is_vertical, left_end, right_end}
-use Rattle.sf_grid.proofs.HeightLaws.{cmp-scaled, gap, gap-line, height_cmp-gap}
-use Rattle.sf_grid.proofs.OrderLaws.{equal_is}
-use Rattle.sf_grid.proofs.Ring.{ring, var, num, sum, dif, mul}
-use Rattle.sf_grid.proofs.NumberTests.{lt_from_test}
+use Rattle.sf_grid.proofs.CallerLemmas.{cmp-scaled, dif, equal_is, gap, gap-line, height_cmp-gap, lt_from_test, mul, num, ring, sum, var}
 use Rattle.sf_columns.specs.Slanted.{slope_order}
-use Rattle.sf_columns.proofs.SlantedLaws.{slope_gap}
-use Rattle.sf_columns.proofs.SideLaws.{cmp-difference}
+use Rattle.sf_columns.proofs.CallerLemmas.{cmp-difference, slope_gap}
 use Rattle.sf_slabs.proofs.SlabLaws.{IsSlab, Spans, StaysBelow, StaysLevel}
 
 -- the order of two edges' slopes, from their left ends to their right ends

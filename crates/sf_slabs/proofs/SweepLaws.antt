@@ -30,7 +30,7 @@ use Rattle.sf_slabs.proofs.ColumnLaws.{column_cells-heights}
 use Rattle.sf_slabs.proofs.NextFrontLaws.{active-after, entries-after, front-after}
 use Rattle.sf_slabs.proofs.BegunLaws.{begins_in, coming_or_begun}
 use Rattle.sf_slabs.proofs.Shapes.{IsColumn}
-use Rattle.sf_columns.proofs.VertexLaws.{piece_at-below, vertex-below}
+use Rattle.sf_columns.proofs.CallerLemmas.{piece_at-below, vertex-below}
 
 -- ---- how many there are
 ones : (ns : List ℕ) → sum_by (λ _. 1) ns ≡ length ns

@@ -1,5 +1,5 @@
 use Rattle.sf_grid.specs.Edge.{edge_between}
-use Rattle.sf_grid.proofs.SameLaws.{reached_at}
+use Rattle.sf_grid.proofs.CallerLemmas.{reached_at}
 use Rattle.sf_bench.proofs.grid.is_lower_at_meeting.Goals as goal
 
 pub height_order-requires-clause-first_reaches : goal.height_order-requires-clause-first_reaches

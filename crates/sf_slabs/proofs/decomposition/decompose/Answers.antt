@@ -2,7 +2,7 @@ use Rattle.std.proofs.Common.{◌≡◌, ◌∙◌, length}
 use Rattle.std.proofs.lemmas.Result.{IfOk-weaker}
 use Rattle.sf_cells.specs.Cells.{cells}
 use Rattle.sf_cells.specs.Listing.{listing_of, measured_by, recorded_cells}
-use Rattle.sf_cells.proofs.ListingLaws.{HasMeasuredRoom, IsRecorded, IsRecorded-walk, own-below, own-length}
+use Rattle.sf_cells.proofs.CallerLemmas.{HasMeasuredRoom, IsRecorded, IsRecorded-walk, own-below, own-length}
 use Rattle.sf_slabs.proofs.decomposition.decompose.Goals as goal
 use Rattle.sf_slabs.proofs.decomposition.decompose.Goals.{After-as_slice-4}
 

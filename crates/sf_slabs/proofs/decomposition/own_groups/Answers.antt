@@ -1,5 +1,5 @@
 use Rattle.std.proofs.Common.{arith, ap, sym, ◌∙◌, ◌++◌, [], ◌∷◌}
-use Rattle.sf_cells.proofs.ListingLaws.{numbers-more}
+use Rattle.sf_cells.proofs.CallerLemmas.{numbers-more}
 use Rattle.sf_slabs.proofs.decomposition.own_groups.Goals as goal
 
 pub loop-group-preserved : goal.loop-group-preserved

@@ -2,7 +2,7 @@ use Rattle.std.proofs.Common.{◌≡◌, sym, subst, ◌∙◌, lit<}
 use Rattle.std.specs.declared.cmp.Ordering.TheVariants.{Equal, Greater, Less}
 use Rattle.sf_grid.specs.Edge.{cross}
 use Rattle.sf_grid.specs.Plane.{grid_point}
-use Rattle.sf_grid.proofs.NumberTests.{lt_from_test}
+use Rattle.sf_grid.proofs.CallerLemmas.{lt_from_test}
 use Rattle.sf_columns.specs.Slanted.{RightwardEdge, side_of}
 use Rattle.sf_columns.proofs.SlantedLaws.{left_is_above, right_is_below, side_of-cross, straight_is_on}
 use Rattle.sf_columns.proofs.slanted.Slanted.side.Goals as goal

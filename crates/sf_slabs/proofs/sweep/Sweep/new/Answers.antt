@@ -1,5 +1,5 @@
 use Rattle.std.proofs.Common.{◌≡◌, ap, sym, ◌∙◌, ℕ, ◌+◌, ◌≤◌, length, replicate, rules, arith}
-use Rattle.sf_cells.proofs.TallyLaws.{counts_none}
+use Rattle.sf_cells.proofs.CallerLemmas.{counts_none}
 use Rattle.sf_slabs.proofs.sweep.Sweep.new.Goals as goal
 
 exactly : (a n m : ℕ) → a ≡ n → m ≡ n → m ≤ a
