@@ -55,7 +55,10 @@ fn line_enters_triangle(rt: HostRuntime) -> Result<(), Fail> {
     let mut line = edges(alloc, &[(2, -5), (2, 5)])?;
     pieces.append(&mut line)?;
     let groups = [0, 0, 0, 1];
-    if pieces.len() != groups.len() || !have_length(pieces.as_slice()) || !are_in_range(&groups, 4) {
+    if pieces.len() != groups.len()
+        || !have_length(pieces.as_slice())
+        || !are_in_range(&groups, 4)
+    {
         return Err(Fail::from("other pieces"));
     }
     let mut seen = Seen::default();
