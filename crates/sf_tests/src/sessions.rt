@@ -63,6 +63,11 @@ const SESSIONS: [(&[u8], &str); 30] = [
         b"layer add w point\nadd w POINT Z (1 2 3)\nadd w LINESTRING (1 2, 3 4)\nadd w CIRCLE (1 2)\nadd w POINT (1 2\nadd w\n",
         "ok\nrefused 6 UnsupportedType\nrefused 6 UnsupportedType\nrefused 6 UnsupportedType\nrefused 2 Syntax\nrefused 31 BadCommand\n",
     ),
+    // Geometries of other kinds are read, and not kept.
+    (
+        b"layer add w any\nadd w LINESTRING (1.5 2, 3 4)\nadd w MULTIPOINT (1 2, EMPTY)\nadd w POLYGON ((0 0, 1 0, 1 1, 0 0)\nadd w MultiPoint (1 2, (3 4))\nshow w\n",
+        "ok\nrefused 3 OffGrid\nrefused 5 Empty\nrefused 2 Syntax\nrefused 6 UnsupportedType\nrows 0\n",
+    ),
     // Kinds of layers.
     (
         b"layer add p polygon\nadd p POINT (1 1)\nadd q POINT (1 1)\nshow q\nlayer add a any\nadd a POINT (1 1)\n",
