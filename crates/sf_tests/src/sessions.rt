@@ -2,7 +2,7 @@
 use super::support::{ByteByByte, answers};
 use std::test::Fail;
 
-const SESSIONS: [(&[u8], &str); 30] = [
+const SESSIONS: [(&[u8], &str); 31] = [
     // A first session. It also refuses a program that always answers for want of memory, and a `serve`
     // that reports a read fault at once.
     (
