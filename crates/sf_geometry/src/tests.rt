@@ -21,7 +21,11 @@ fn is_at(point: GridPoint, place: (i32, i32)) -> bool {
 
 /// Whether the points are at these places, in order.
 fn are_at(points: &[GridPoint], places: &[(i32, i32)]) -> bool {
-    points.len() == places.len() && points.iter().zip(places).all(|(p, place)| is_at(*p, *place))
+    points.len() == places.len()
+        && points
+            .iter()
+            .zip(places)
+            .all(|(p, place)| is_at(*p, *place))
 }
 
 /// Whether the vertex is at this place, or there is none where none is wanted.

@@ -4,10 +4,15 @@
 //! polygon, 0 the shell, else 0. A ring's closing point has no index and is kept equal to the
 //! point at index 0.
 
-ghost use Rattle.std.specs.Prelude.{◌≡◌, length, option_and_then, option_map, slice_get};
-ghost use Rattle.sf_geometry.specs.Vertices.{only_at as only_at_place, ring_vertices as ring_vertices_of, vertex_of};
+ghost use Rattle.std.specs.Prelude.{◌≡◌, Err, IfErr, IfOk, IsFalse, Ok, OnErr, OnOk, Some, length, option_and_then, option_map, slice_get};
+ghost use Rattle.sf_geometry.specs.Changes.{Refuses, change_of, filled_or_refused};
+ghost use Rattle.sf_geometry.specs.Parts.{HasClosedRings};
+ghost use Rattle.sf_geometry.specs.Size.{IsSized, has_empty_list};
+ghost use Rattle.sf_geometry.specs.Vertices.{changed, move_vertex, only_at as only_at_place, remove_vertex, ring_vertices as ring_vertices_of, vertex_of};
 
+use super::change::{Change, change_point};
 use super::geometry::Geometry;
+use super::refusal::Refusal;
 use super::sequence::Sequence;
 use sf_grid::GridPoint;
 
@@ -29,6 +34,86 @@ impl Geometry {
                 Some(rings) => ring_point(rings.as_slice(), ring, index),
                 None => None,
             },
+        }
+    }
+
+    /// Moves the vertex at an index, and gives the point where it was.
+    ///
+    /// # Errors
+    ///
+    /// `NoVertex` where there is none. The geometry is then as it was.
+    pub fn move_vertex(
+        &mut self,
+        part: u32,
+        ring: u32,
+        index: u32,
+        point: GridPoint,
+    ) -> Result<GridPoint, Refusal>
+        requires sized { IsSized self.old }
+        requires closed { HasClosedRings self.old }
+        ensures moved { OnOk result (move_vertex self.old part ring index point ≡ Ok self.new) }
+        ensures given { IfOk result (λ old. vertex_of self.old part ring index ≡ Some old) }
+        ensures refused { IfErr result (λ refusal.
+            move_vertex self.old part ring index point ≡ Err refusal) }
+        ensures unchanged { OnErr result (self.new ≡ self.old) }
+    {
+        let Some(old) = self.vertex(part, ring, index) else {
+            return Err(Refusal::NoVertex);
+        };
+        self.change(part, ring, index, &Change::Move(point))?;
+        Ok(old)
+    }
+
+    /// Takes the vertex at an index out, and gives its point.
+    ///
+    /// # Errors
+    ///
+    /// `NoVertex` where there is none, `Empty` where it is the only one of its list. The geometry
+    /// is then as it was.
+    pub fn remove_vertex(&mut self, part: u32, ring: u32, index: u32) -> Result<GridPoint, Refusal>
+        requires sized { IsSized self.old }
+        requires closed { HasClosedRings self.old }
+        ensures removed { OnOk result (remove_vertex self.old part ring index ≡ Ok self.new) }
+        ensures given { IfOk result (λ old. vertex_of self.old part ring index ≡ Some old) }
+        ensures refused { IfErr result (λ refusal.
+            remove_vertex self.old part ring index ≡ Err refusal) }
+        ensures unchanged { OnErr result (self.new ≡ self.old) }
+    {
+        let Some(old) = self.vertex(part, ring, index) else {
+            return Err(Refusal::NoVertex);
+        };
+        self.change(part, ring, index, &Change::Remove)?;
+        Ok(old)
+    }
+
+    /// Makes a change in the list of a part and ring.
+    fn change(&mut self, part: u32, ring: u32, index: u32, change: &Change) -> Result<(), Refusal>
+        requires filled { IsFalse (has_empty_list self.old) }
+        ensures changed { OnOk result (filled_or_refused has_empty_list
+            (changed (change_of change.now index) part ring self.old) ≡ Ok self.new) }
+        ensures refused { IfErr result (Refuses change.now (filled_or_refused has_empty_list
+            (changed (change_of change.now index) part ring self.old))) }
+        ensures unchanged { OnErr result (self.new ≡ self.old) }
+    {
+        let index = index as usize;
+        match self {
+            Geometry::Point(point) if part == 0 && ring == 0 => change_point(point, index, change),
+            Geometry::LineString(points) if part == 0 && ring == 0 => {
+                points.change_line(index, change)
+            }
+            Geometry::MultiPoint(points) if part == 0 && ring == 0 => {
+                points.change_line(index, change)
+            }
+            Geometry::Polygon(rings) if part == 0 => {
+                rings.change_ring_at(ring as usize, index, change)
+            }
+            Geometry::MultiLineString(lines) if ring == 0 => {
+                lines.change_line_at(part as usize, index, change)
+            }
+            Geometry::MultiPolygon(polygons) => {
+                polygons.change_polygon_at(part as usize, ring as usize, index, change)
+            }
+            _ => Err(Refusal::NoVertex),
         }
     }
 }
