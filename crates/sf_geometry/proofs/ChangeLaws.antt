@@ -111,13 +111,13 @@ changed-at {X} empty change xs n x h e =
     by None = refl
     by (Some y) = ap (λ t. if t then Err Empty else Ok (slice_set xs n y)) (lacks-set empty xs n x y h e) ∙ by_test y (empty y)
 
-pub refuses-put : {X Y : Type 0} (f : X → Y) (made : Made) (outcome : Result X Refusal) (refusal : Refusal) → Refuses made outcome refusal → Refuses made (put f outcome) refusal
-refuses-put {X} {Y} f made outcome refusal (inl e) = inl (ap (put f) e)
-refuses-put {X} {Y} f made outcome refusal (inr want) = inr (want.0, want.1, still outcome want.2)
-  where
-    still : (outcome : Result X Refusal) → IsOk outcome → IsOk (put f outcome)
-    still (Ok x) h = h
-    still (Err refusal) h = h
+pub put-ok : {X Y : Type 0} (f : X → Y) (outcome : Result X Refusal) → IsOk outcome → IsOk (put f outcome)
+put-ok f (Ok x) h = h
+put-ok f (Err refusal) h = h
+
+refuses-put : {X Y : Type 0} (f : X → Y) (made : Made) (outcome : Result X Refusal) (refusal : Refusal) → Refuses made outcome refusal → Refuses made (put f outcome) refusal
+refuses-put f made outcome refusal (inl e) = inl (ap (put f) e)
+refuses-put f made outcome refusal (inr want) = inr (want.0, want.1, put-ok f outcome want.2)
 
 pub member-changed : {X : Type 0} (empty : X → Bool) (change : X → Option X) (xs old : List X) (n : ℕ) (x y : X) (result : Result (Unit {0}) Refusal) →
     IsFalse (list_any empty old) → old ≡ xs → slice_get xs n ≡ Some x →
@@ -163,7 +163,7 @@ made-vertices Remove i ps h some = by_test (nat_lt i (length ps - 1)) refl h
         let count : suc (length (remove ps i) - 1) ≡ length ps - 1 = omega arith in
         ap (λ n. remove (take n ps) i) (sym count) ∙ sym (take-remove i (length (remove ps i) - 1) ps (omega arith))
 
-placed : (change : Made) (i : ℕ) (ps : List Coordinates) → place_fault change i (length ps) ≡ None → filled_or_refused is_empty (change_of change i ps) ≡ Ok (made change i ps)
+pub placed : (change : Made) (i : ℕ) (ps : List Coordinates) → place_fault change i (length ps) ≡ None → filled_or_refused is_empty (change_of change i ps) ≡ Ok (made change i ps)
 placed (Insert p) i ps h = grind (arith, common_steps, length-insert ps i p)
 placed (Move p) i ps h = grind (arith, common_steps, length-set ps i p)
 placed Remove i ps h = grind (arith, common_steps, length-removed i ps)

@@ -1,19 +1,21 @@
 -- What comes of a change of a geometry: how many points it has then, and when there is nothing to change.
-use Rattle.std.proofs.Common.{◌≡◌, ℕ, zero, suc, ◌+◌, ◌-◌, ◌<◌, ◌≤◌, Bool, true, false, ◌||◌, List, [], ◌∷◌, ◌++◌, length, slice_set, refl, sym, ap, ◌∙◌, subst, arith}
-use Rattle.std.specs.Prelude.{Option, None, Some, Result, Ok, Err, remove, nat_le, nat_lt, option_and_then, option_map, slice_get, if◌then◌else◌}
+use Rattle.std.proofs.Common.{◌≡◌, ℕ, zero, suc, ◌+◌, ◌-◌, ◌<◌, ◌≤◌, Bool, true, false, ◌||◌, List, [], ◌∷◌, ◌++◌, length, slice_set, refl, sym, ap, ◌∙◌, subst, arith, inl, inr}
+use Rattle.std.specs.Prelude.{◌⊎◌, Option, None, Some, Result, Ok, Err, IfErr, IsOk, OnOk, insert, remove, nat_le, nat_lt, option_and_then, option_map, slice_get, if◌then◌else◌}
 use Rattle.std.specs.List.{list_any}
 use borrow.Author.Tests.{leb-true, ltb-true}
 use Rattle.std.proofs.lemmas.List.{append-nil, length-append, length-set, length-take-le}
+use Rattle.std.proofs.lemmas.List.Edits.{length-insert}
 use Rattle.sf_grid.specs.Plane.{Coordinates}
+use Rattle.sf_geometry.specs.declared.change.Change.TheVariants.{Insert}
 use Rattle.sf_geometry.specs.declared.geometry.Geometry.{Geometry}
 use Rattle.sf_geometry.specs.declared.geometry.Geometry.TheVariants.{Point, LineString, Polygon, MultiPoint, MultiLineString, MultiPolygon}
 use Rattle.sf_geometry.specs.declared.refusal.Refusal.{Refusal}
-use Rattle.sf_geometry.specs.declared.refusal.Refusal.TheVariants.{Empty, NoVertex, TooManyVertices}
-use Rattle.sf_geometry.specs.Changes.{filled_or_refused, lacks}
+use Rattle.sf_geometry.specs.declared.refusal.Refusal.TheVariants.{Empty, Memory, NoVertex, TooManyVertices}
+use Rattle.sf_geometry.specs.Changes.{Refuses, filled_or_refused, lacks, place_fault}
 use Rattle.sf_geometry.specs.Parts.{joined}
 use Rattle.sf_geometry.specs.Size.{IsSized, has_empty, has_empty_list, is_empty, point_count, points_max}
-use Rattle.sf_geometry.specs.Vertices.{Change, change_at, change_ring, changed, exchange, move_vertex, one_point, outcome, removal, remove_vertex, ring_of, ring_vertices, vertex_of}
-use Rattle.sf_geometry.proofs.ChangeLaws.{any-set, member-filled}
+use Rattle.sf_geometry.specs.Vertices.{Change, change_at, change_ring, changed, exchange, insert_vertex, insertion, move_vertex, one_point, outcome, removal, remove_vertex, ring_of, ring_vertices, vertex_of, vertices_of}
+use Rattle.sf_geometry.proofs.ChangeLaws.{any-set, changed-at, member-filled, placed, put, put-ok, ring-filled}
 use Rattle.sf_geometry.proofs.Filled.{one, or_false, total, total_line, total_lines, total_polygons}
 
 -- ---- the size of what comes of it
@@ -157,43 +159,44 @@ changed-count change part ring (MultiPolygon polygons) h some e left =
     (counts-at is_empty (total one) change (change_ring change) ring (counts-ring change)))
     polygons h some e left
 
--- ---- where there is no vertex
-ring-none : (change : Change) (index : ℕ) → ((ps : List Coordinates) → slice_get ps index ≡ None → change ps ≡ None) →
-    (rings : List (List Coordinates)) (ring : ℕ) → option_and_then (λ ps. slice_get ps index) (option_map ring_vertices (slice_get rings ring)) ≡ None →
+-- ---- where there is nothing to change
+ring-none : (change : Change) (rings : List (List Coordinates)) (ring : ℕ) → option_and_then change (option_map ring_vertices (slice_get rings ring)) ≡ None →
     change_at ring (change_ring change) rings ≡ None
-ring-none change index none rings ring h = by (slice_get rings ring) h
+ring-none change rings ring h = by (slice_get rings ring) h
   where
-    by : (found : Option (List Coordinates)) → option_and_then (λ ps. slice_get ps index) (option_map ring_vertices found) ≡ None →
-        option_map (slice_set rings ring) (option_and_then (change_ring change) found) ≡ None
+    by : (found : Option (List Coordinates)) → option_and_then change (option_map ring_vertices found) ≡ None → option_map (slice_set rings ring) (option_and_then (change_ring change) found) ≡ None
     by None h = refl
-    by (Some x) h = ap (λ found. option_map (slice_set rings ring) (option_map ring_of found)) (none (ring_vertices x) h)
+    by (Some x) h = ap (λ found. option_map (slice_set rings ring) (option_map ring_of found)) h
 
-pub changed-none : (change : Change) (index : ℕ) → ((ps : List Coordinates) → slice_get ps index ≡ None → change ps ≡ None) →
-    (g : Geometry) (part ring : ℕ) → vertex_of g part ring index ≡ None → changed change part ring g ≡ None
-changed-none change index none (Point p) zero zero h = ap (option_and_then one_point) (none (p ∷ []) h)
-changed-none change index none (Point p) zero (suc ring) h = refl
-changed-none change index none (Point p) (suc part) ring h = refl
-changed-none change index none (LineString ps) zero zero h = ap (option_map LineString) (none ps h)
-changed-none change index none (LineString ps) zero (suc ring) h = refl
-changed-none change index none (LineString ps) (suc part) ring h = refl
-changed-none change index none (Polygon rings) zero ring h = ap (option_map Polygon) (ring-none change index none rings ring h)
-changed-none change index none (Polygon rings) (suc part) ring h = refl
-changed-none change index none (MultiPoint ps) zero zero h = ap (option_map MultiPoint) (none ps h)
-changed-none change index none (MultiPoint ps) zero (suc ring) h = refl
-changed-none change index none (MultiPoint ps) (suc part) ring h = refl
-changed-none change index none (MultiLineString lines) part zero h = by (slice_get lines part) h
+pub changed-none : (change : Change) (g : Geometry) (part ring : ℕ) → option_and_then change (vertices_of g part ring) ≡ None → changed change part ring g ≡ None
+changed-none change (Point p) zero zero h = ap (option_and_then one_point) h
+changed-none change (Point p) zero (suc ring) h = refl
+changed-none change (Point p) (suc part) ring h = refl
+changed-none change (LineString ps) zero zero h = ap (option_map LineString) h
+changed-none change (LineString ps) zero (suc ring) h = refl
+changed-none change (LineString ps) (suc part) ring h = refl
+changed-none change (Polygon rings) zero ring h = ap (option_map Polygon) (ring-none change rings ring h)
+changed-none change (Polygon rings) (suc part) ring h = refl
+changed-none change (MultiPoint ps) zero zero h = ap (option_map MultiPoint) h
+changed-none change (MultiPoint ps) zero (suc ring) h = refl
+changed-none change (MultiPoint ps) (suc part) ring h = refl
+changed-none change (MultiLineString lines) part zero h = ap (λ found. option_map MultiLineString (option_map (slice_set lines part) found)) h
+changed-none change (MultiLineString lines) part (suc ring) h = refl
+changed-none change (MultiPolygon polygons) part ring h = by (slice_get polygons part) h
   where
-    by : (found : Option (List Coordinates)) → option_and_then (λ ps. slice_get ps index) found ≡ None →
-        option_map MultiLineString (option_map (slice_set lines part) (option_and_then change found)) ≡ None
-    by None h = refl
-    by (Some x) h = ap (λ found. option_map MultiLineString (option_map (slice_set lines part) found)) (none x h)
-changed-none change index none (MultiLineString lines) part (suc ring) h = refl
-changed-none change index none (MultiPolygon polygons) part ring h = by (slice_get polygons part) h
-  where
-    by : (found : Option (List (List Coordinates))) → option_and_then (λ ps. slice_get ps index) (option_and_then (λ rings. option_map ring_vertices (slice_get rings ring)) found) ≡ None →
+    by : (found : Option (List (List Coordinates))) → option_and_then change (option_and_then (λ rings. option_map ring_vertices (slice_get rings ring)) found) ≡ None →
         option_map MultiPolygon (option_map (slice_set polygons part) (option_and_then (change_at ring (change_ring change)) found)) ≡ None
     by None h = refl
-    by (Some rings) h = ap (λ found. option_map MultiPolygon (option_map (slice_set polygons part) found)) (ring-none change index none rings ring h)
+    by (Some rings) h = ap (λ found. option_map MultiPolygon (option_map (slice_set polygons part) found)) (ring-none change rings ring h)
+
+-- a change that needs a vertex at the index
+vertex-none : (change : Change) (index : ℕ) → ((ps : List Coordinates) → slice_get ps index ≡ None → change ps ≡ None) →
+    (g : Geometry) (part ring : ℕ) → vertex_of g part ring index ≡ None → changed change part ring g ≡ None
+vertex-none change index none g part ring h = changed-none change g part ring (by (vertices_of g part ring) h)
+  where
+    by : (found : Option (List Coordinates)) → option_and_then (λ ps. slice_get ps index) found ≡ None → option_and_then change found ≡ None
+    by None h = refl
+    by (Some ps) h = none ps h
 
 -- ---- a vertex moved, or taken out
 past : (index : ℕ) (ps : List Coordinates) → slice_get ps index ≡ None → length ps ≤ index
@@ -215,10 +218,10 @@ removal-none : (index : ℕ) (ps : List Coordinates) → slice_get ps index ≡ 
 removal-none index ps h = nowhere index ps (remove ps index) h
 
 pub move-none : (g : Geometry) (part ring index : ℕ) (p : Coordinates) → vertex_of g part ring index ≡ None → move_vertex g part ring index p ≡ Err NoVertex
-move-none g part ring index p h = ap outcome (changed-none (exchange index p) index (exchange-none index p) g part ring h)
+move-none g part ring index p h = ap outcome (vertex-none (exchange index p) index (exchange-none index p) g part ring h)
 
 pub remove-none : (g : Geometry) (part ring index : ℕ) → vertex_of g part ring index ≡ None → remove_vertex g part ring index ≡ Err NoVertex
-remove-none g part ring index h = ap outcome (changed-none (removal index) index (removal-none index) g part ring h)
+remove-none g part ring index h = ap outcome (vertex-none (removal index) index (removal-none index) g part ring h)
 
 -- what came of a change that leaves every list filled, as a change
 filled-is : (found : Option Geometry) (g : Geometry) → filled_or_refused has_empty_list found ≡ Ok g → (found ≡ Some g) × (has_empty_list g ≡ false)
@@ -266,3 +269,144 @@ move-ok g h part ring index p sized e = no-longer (exchange index p) part ring g
 
 pub remove-ok : (g h : Geometry) (part ring index : ℕ) → IsSized g → filled_or_refused has_empty_list (changed (removal index) part ring g) ≡ Ok h → remove_vertex g part ring index ≡ Ok h
 remove-ok g h part ring index sized e = no-longer (removal index) part ring g h sized (removal-length index) e
+
+-- ---- a vertex put in
+-- what can be made of the list of a part and ring can be made of the geometry
+abbrev emptied : {X : Type 0} → Bool → X → Result X Refusal
+emptied t x = if t then Err Empty else Ok x
+
+either-ok : {X Y : Type 0} (t : Bool) (x : X) (y : Y) → IsOk (emptied t x) → IsOk (emptied t y)
+either-ok true x y h = h
+either-ok false x y h = h
+
+kind-ok : {X : Type 0} (kind : X → Geometry) (empty : X → Bool) → ((x : X) → has_empty_list (kind x) ≡ empty x) → (found : Option X) →
+    IsOk (filled_or_refused empty found) → IsOk (filled_or_refused has_empty_list (option_map kind found))
+kind-ok kind empty empties None h = h
+kind-ok kind empty empties (Some x) h =
+    subst (λ (t : Bool). IsOk (emptied t (kind x))) (sym (empties x)) (either-ok (empty x) x (kind x) h)
+
+at-ok : {X : Type 0} (empty : X → Bool) (change : X → Option X) (xs : List X) (n : ℕ) (x : X) → lacks empty xs ≡ false → slice_get xs n ≡ Some x →
+    IsOk (filled_or_refused empty (change x)) → IsOk (filled_or_refused (lacks empty) (change_at n change xs))
+at-ok {X} empty change xs n x some at h =
+    let none_empty = or_false (is_empty xs) (list_any empty xs) some in
+    subst (λ (o : Result (List X) Refusal). IsOk o) (sym (changed-at empty change xs n x none_empty.1 at)) (put-ok (slice_set xs n) (filled_or_refused empty (change x)) h)
+
+ring-ok : (change : Change) (ps : List Coordinates) → IsOk (filled_or_refused is_empty (change (ring_vertices ps))) → IsOk (filled_or_refused is_empty (change_ring change ps))
+ring-ok change ps h =
+    subst (λ (o : Result (List Coordinates) Refusal). IsOk o) (sym (ring-filled (change (ring_vertices ps)))) (put-ok ring_of (filled_or_refused is_empty (change (ring_vertices ps))) h)
+
+list-ok : (change : Change) (ps vs : List Coordinates) → Some ps ≡ Some vs → IsOk (filled_or_refused is_empty (change vs)) → IsOk (filled_or_refused is_empty (change ps))
+list-ok change ps vs e h = subst (λ (us : List Coordinates). IsOk (filled_or_refused is_empty (change us))) (sym (some_same e)) h
+
+line-at-ok : (change : Change) (lines : List (List Coordinates)) (n : ℕ) (vs : List Coordinates) → has_empty lines ≡ false → slice_get lines n ≡ Some vs →
+    IsOk (filled_or_refused is_empty (change vs)) → IsOk (filled_or_refused has_empty (change_at n change lines))
+line-at-ok change lines n vs some at h = at-ok is_empty change lines n vs some at h
+
+ring-at-ok : (change : Change) (rings : List (List Coordinates)) (n : ℕ) (vs : List Coordinates) → has_empty rings ≡ false → option_map ring_vertices (slice_get rings n) ≡ Some vs →
+    IsOk (filled_or_refused is_empty (change vs)) → IsOk (filled_or_refused has_empty (change_at n (change_ring change) rings))
+ring-at-ok change rings n vs some at h = by (slice_get rings n) refl at
+  where
+    by : (found : Option (List Coordinates)) → slice_get rings n ≡ found → option_map ring_vertices found ≡ Some vs → IsOk (filled_or_refused has_empty (change_at n (change_ring change) rings))
+    by None there e = absurd cc
+    by (Some x) there e = at-ok is_empty (change_ring change) rings n x some there (ring-ok change x (list-ok change (ring_vertices x) vs e h))
+
+changed-ok : (change : Change) (g : Geometry) (part ring : ℕ) (vs : List Coordinates) → has_empty_list g ≡ false → 1 < point_count g → vertices_of g part ring ≡ Some vs →
+    IsOk (filled_or_refused is_empty (change vs)) → IsOk (filled_or_refused has_empty_list (changed change part ring g))
+changed-ok change (Point p) part ring vs some many at h = absurd (omega arith)
+changed-ok change (LineString ps) zero zero vs some many at h = kind-ok LineString is_empty (λ x. refl) (change ps) (list-ok change ps vs at h)
+changed-ok change (LineString ps) zero (suc ring) vs some many at h = absurd cc
+changed-ok change (LineString ps) (suc part) ring vs some many at h = absurd cc
+changed-ok change (Polygon rings) zero ring vs some many at h =
+    kind-ok Polygon has_empty (λ x. refl) (change_at ring (change_ring change) rings) (ring-at-ok change rings ring vs some at h)
+changed-ok change (Polygon rings) (suc part) ring vs some many at h = absurd cc
+changed-ok change (MultiPoint ps) zero zero vs some many at h = kind-ok MultiPoint is_empty (λ x. refl) (change ps) (list-ok change ps vs at h)
+changed-ok change (MultiPoint ps) zero (suc ring) vs some many at h = absurd cc
+changed-ok change (MultiPoint ps) (suc part) ring vs some many at h = absurd cc
+changed-ok change (MultiLineString lines) part zero vs some many at h =
+    kind-ok MultiLineString has_empty (λ x. refl) (change_at part change lines) (line-at-ok change lines part vs some at h)
+changed-ok change (MultiLineString lines) part (suc ring) vs some many at h = absurd cc
+changed-ok change (MultiPolygon polygons) part ring vs some many at h = by (slice_get polygons part) refl at
+  where
+    by : (found : Option (List (List Coordinates))) → slice_get polygons part ≡ found → option_and_then (λ rings. option_map ring_vertices (slice_get rings ring)) found ≡ Some vs →
+        IsOk (filled_or_refused has_empty_list (changed change part ring (MultiPolygon polygons)))
+    by None there e = absurd cc
+    by (Some rings) there e =
+        let none_empty = or_false (is_empty polygons) (list_any has_empty polygons) some in
+        kind-ok MultiPolygon (lacks has_empty) (λ x. refl) (change_at part (change_at ring (change_ring change)) polygons)
+        (at-ok has_empty (change_at ring (change_ring change)) polygons part rings some there
+        (ring-at-ok change rings ring vs (member-filled has_empty polygons part rings none_empty.1 there) e h))
+
+-- a point more
+insertion-length : (index : ℕ) (p : Coordinates) (ps qs : List Coordinates) → insertion index p ps ≡ Some qs → length qs ≡ length ps + 1
+insertion-length index p ps qs e = by (nat_le index (length ps)) refl e
+  where
+    by : (t : Bool) → nat_le index (length ps) ≡ t → (if t then Some (insert ps index p) else None) ≡ Some qs → length qs ≡ length ps + 1
+    by false test e = absurd cc
+    by true test e = ap length (sym (some_same e)) ∙ length-insert ps index p (leb-true index (length ps) test)
+
+inserted-count : (g h : Geometry) (part ring index : ℕ) (p : Coordinates) → IsSized g → filled_or_refused has_empty_list (changed (insertion index p) part ring g) ≡ Ok h → point_count h ≡ point_count g + 1
+inserted-count g h part ring index p sized e =
+    let is = filled-is (changed (insertion index p) part ring g) h e in
+    let counted = changed-count (insertion index p) part ring g h sized.filled is.0 is.1 in
+    let more = insertion-length index p counted.before counted.after counted.did in
+    omega (arith, counted.count, more)
+
+pub insert-ok : (g h : Geometry) (part ring index : ℕ) (p : Coordinates) → IsSized g → point_count g < points_max →
+    filled_or_refused has_empty_list (changed (insertion index p) part ring g) ≡ Ok h → insert_vertex g part ring index p ≡ Ok h
+insert-ok g h part ring index p sized few e =
+    let more = inserted-count g h part ring index p sized e in
+    outcome-ok (changed (insertion index p) part ring g) h e (omega (arith, more, few))
+
+pub insert-refused : (g : Geometry) (part ring index : ℕ) (p : Coordinates) (refusal : Refusal) → IsSized g → point_count g < points_max →
+    Refuses (Insert p) (filled_or_refused has_empty_list (changed (insertion index p) part ring g)) refusal →
+    (insert_vertex g part ring index p ≡ Err refusal) ⊎ ((refusal ≡ Memory) × IsOk (insert_vertex g part ring index p))
+insert-refused g part ring index p refusal sized few (inl e) = inl (outcome-err (changed (insertion index p) part ring g) refusal e)
+insert-refused g part ring index p refusal sized few (inr want) = inr (want.0, by (filled_or_refused has_empty_list (changed (insertion index p) part ring g)) refl want.2)
+  where
+    by : (o : Result Geometry Refusal) → filled_or_refused has_empty_list (changed (insertion index p) part ring g) ≡ o → IsOk o → IsOk (insert_vertex g part ring index p)
+    by (Ok h) e ok = subst (λ (o : Result Geometry Refusal). IsOk o) (sym (insert-ok g h part ring index p sized few e)) ok
+    by (Err why) e ok = absurd cc
+
+outcome-many : (found : Option Geometry) (h : Geometry) → found ≡ Some h → has_empty_list h ≡ false → points_max < point_count h → outcome found ≡ Err TooManyVertices
+outcome-many found h e filled many = ap outcome e ∙ by (nat_le (point_count h) points_max) refl
+  where
+    by : (t : Bool) → nat_le (point_count h) points_max ≡ t → outcome (Some h) ≡ Err TooManyVertices
+    by true test = absurd (omega (arith, leb-true (point_count h) points_max test))
+    by false test = grind (arith, test, filled)
+
+pub insert-full : (g : Geometry) (part ring index : ℕ) (p : Coordinates) (vs : List Coordinates) → IsSized g → points_max ≤ point_count g → vertices_of g part ring ≡ Some vs →
+    index ≤ length vs → insert_vertex g part ring index p ≡ Err TooManyVertices
+insert-full g part ring index p vs sized full at within =
+    by (filled_or_refused has_empty_list (changed (insertion index p) part ring g)) refl
+    (changed-ok (insertion index p) g part ring vs sized.filled (omega arith) at
+    (subst (λ (o : Result (List Coordinates) Refusal). IsOk o) (sym (placed (Insert p) index vs (place within))) refl))
+  where
+    place : index ≤ length vs → place_fault (Insert p) index (length vs) ≡ None
+    place h = grind arith
+
+    by : (o : Result Geometry Refusal) → filled_or_refused has_empty_list (changed (insertion index p) part ring g) ≡ o → IsOk o → insert_vertex g part ring index p ≡ Err TooManyVertices
+    by (Ok h) e ok =
+        let is = filled-is (changed (insertion index p) part ring g) h e in
+        let more = inserted-count g h part ring index p sized e in
+        outcome-many (changed (insertion index p) part ring g) h is.0 is.1 (omega (arith, more, full))
+    by (Err why) e ok = absurd cc
+
+-- by the counts that the code has
+pub full-by_count : (g : Geometry) (part ring index : ℕ) (p : Coordinates) (count : ℕ) → IsSized g → points_max ≤ point_count g → option_map (λ ps. length ps) (vertices_of g part ring) ≡ Some count →
+    index ≤ count → insert_vertex g part ring index p ≡ Err TooManyVertices
+full-by_count g part ring index p count sized full e within = by (vertices_of g part ring) refl e
+  where
+    by : (found : Option (List Coordinates)) → vertices_of g part ring ≡ found → option_map (λ ps. length ps) found ≡ Some count → insert_vertex g part ring index p ≡ Err TooManyVertices
+    by None at e = absurd cc
+    by (Some vs) at e = let long : length vs ≡ count = some_same e in insert-full g part ring index p vs sized full at (omega (arith, long, within))
+
+pub inserted-by : (g h : Geometry) (part ring index : ℕ) (p : Coordinates) (result : Result (Unit {0}) Refusal) → IsSized g → point_count g < points_max →
+    OnOk result (filled_or_refused has_empty_list (changed (insertion index p) part ring g) ≡ Ok h) → OnOk result (insert_vertex g part ring index p ≡ Ok h)
+inserted-by g h part ring index p (Ok u) sized few done = insert-ok g h part ring index p sized few done
+inserted-by g h part ring index p (Err refusal) sized few done = done
+
+pub refused-by : (g : Geometry) (part ring index : ℕ) (p : Coordinates) (result : Result (Unit {0}) Refusal) → IsSized g → point_count g < points_max →
+    IfErr result (Refuses (Insert p) (filled_or_refused has_empty_list (changed (insertion index p) part ring g))) →
+    IfErr result (λ refusal. (insert_vertex g part ring index p ≡ Err refusal) ⊎ ((refusal ≡ Memory) × IsOk (insert_vertex g part ring index p)))
+refused-by g part ring index p (Ok u) sized few why = why
+refused-by g part ring index p (Err refusal) sized few why = insert-refused g part ring index p refusal sized few why
