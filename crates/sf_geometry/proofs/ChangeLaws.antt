@@ -1,5 +1,5 @@
 -- What a change makes of a list, a ring, and of a list of them.
-use Rattle.std.proofs.Common.{◌≡◌, ℕ, zero, suc, ◌+◌, ◌-◌, ◌<◌, ◌≤◌, Bool, true, false, ◌||◌, List, [], ◌∷◌, ◌++◌, length, take, drop, slice_set, slice_index_or, refl, sym, ap, ◌∙◌, subst, arith, inl, inr}
+use Rattle.std.proofs.Common.{◌≡◌, ℕ, zero, suc, ◌+◌, ◌-◌, ◌<◌, ◌≤◌, Bool, true, false, ◌||◌, List, [], ◌∷◌, ◌++◌, length, take, slice_set, slice_index_or, refl, sym, ap, ◌∙◌, subst, arith, inl, inr}
 use Rattle.std.specs.Prelude.{◌==◌, nat_le, nat_lt, Option, None, Some, Result, Ok, Err, IfErr, IsFalse, IsOk, OnOk, option_and_then, option_map, slice_get, insert, remove, if◌then◌else◌}
 use Rattle.std.specs.List.{list_any}
 use borrow.Author.Tests.{leb-true, ltb-true}

@@ -1,5 +1,5 @@
 -- What comes of a change of a geometry: how many points it has then, and when there is nothing to change.
-use Rattle.std.proofs.Common.{◌≡◌, ℕ, zero, suc, ◌+◌, ◌-◌, ◌<◌, ◌≤◌, Bool, true, false, ◌||◌, List, [], ◌∷◌, ◌++◌, length, slice_set, refl, sym, ap, ◌∙◌, subst, arith, inl, inr}
+use Rattle.std.proofs.Common.{◌≡◌, ℕ, zero, suc, ◌+◌, ◌-◌, ◌<◌, ◌≤◌, Bool, true, false, List, [], ◌∷◌, length, slice_set, refl, sym, ap, ◌∙◌, subst, arith, inl, inr}
 use Rattle.std.specs.Prelude.{◌⊎◌, Option, None, Some, Result, Ok, Err, IfErr, IsOk, OnOk, insert, remove, nat_le, nat_lt, option_and_then, option_map, slice_get, if◌then◌else◌}
 use Rattle.std.specs.List.{list_any}
 use borrow.Author.Tests.{leb-true, ltb-true}
@@ -15,7 +15,7 @@ use Rattle.sf_geometry.specs.Changes.{Refuses, filled_or_refused, lacks, place_f
 use Rattle.sf_geometry.specs.Parts.{joined}
 use Rattle.sf_geometry.specs.Size.{IsSized, has_empty, has_empty_list, is_empty, point_count, points_max}
 use Rattle.sf_geometry.specs.Vertices.{Change, change_at, change_ring, changed, exchange, insert_vertex, insertion, move_vertex, one_point, outcome, removal, remove_vertex, ring_of, ring_vertices, vertex_of, vertices_of}
-use Rattle.sf_geometry.proofs.ChangeLaws.{any-set, changed-at, member-filled, placed, put, put-ok, ring-filled}
+use Rattle.sf_geometry.proofs.ChangeLaws.{any-set, changed-at, member-filled, placed, put-ok, ring-filled}
 use Rattle.sf_geometry.proofs.Filled.{one, or_false, total, total_line, total_lines, total_polygons}
 
 -- ---- the size of what comes of it

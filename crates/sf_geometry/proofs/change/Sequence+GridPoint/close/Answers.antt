@@ -1,4 +1,4 @@
-use Rattle.std.proofs.Common.{◌≡◌, ◌<◌, ap, arith, length, rules, sym, ◌∙◌, ◌-◌, slice_set}
+use Rattle.std.proofs.Common.{◌≡◌, ap, arith, length, rules, ◌∙◌, ◌-◌, slice_set}
 use Rattle.sf_geometry.specs.Vertices.{ring_of, ring_vertices}
 use Rattle.sf_geometry.proofs.ChangeLaws.{closed-again}
 use Rattle.sf_geometry.proofs.change.Sequence+GridPoint.close.Goals as goal

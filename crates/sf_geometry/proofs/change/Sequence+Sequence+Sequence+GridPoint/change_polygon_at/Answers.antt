@@ -1,5 +1,4 @@
 use Rattle.std.proofs.Common.{◌≡◌, length, rules}
-use Rattle.std.specs.Prelude.{Some, slice_get}
 use Rattle.std.proofs.lemmas.Option.{slice_get_read}
 use Rattle.sf_geometry.specs.Changes.{change_of}
 use Rattle.sf_geometry.specs.Size.{has_empty}

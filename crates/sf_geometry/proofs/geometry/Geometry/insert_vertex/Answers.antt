@@ -1,4 +1,4 @@
-use Rattle.std.proofs.Common.{◌≡◌, ◌<◌, ◌≤◌, arith, inl, length, rules}
+use Rattle.std.proofs.Common.{◌≡◌, ◌<◌, ◌≤◌, inl, length, rules}
 use Rattle.std.specs.Prelude.{Some, option_map}
 use Rattle.sf_geometry.specs.Size.{point_count, points_max}
 use Rattle.sf_geometry.specs.Vertices.{vertices_of}
