@@ -1,4 +1,6 @@
 pub mod ListLaws
 pub mod SizeLaws
 pub mod Filled
+pub mod ChangeLaws
+pub mod OutcomeLaws
 mod Computed

@@ -1,6 +1,6 @@
 -- Lists of points one after another, tight lists, their edges and ends; counts and boxes of the points of several lists.
-use Rattle.std.proofs.Common.{◌≡◌, refl, ap, sym, ◌∙◌, subst, ℕ, zero, suc, ◌+◌, ◌≤◌, min, arith, Bool, true, false, cond, not, ◌&&◌, List, [], ◌∷◌, ◌++◌, length, map, take, drop, slice_index_or, ◌<◌}
-use Rattle.std.specs.Prelude.{ℤ, Option, None, Some, if◌then◌else◌}
+use Rattle.std.proofs.Common.{◌≡◌, refl, ap, sym, ◌∙◌, subst, ℕ, ◌+◌, ◌≤◌, min, arith, Bool, true, false, cond, not, ◌&&◌, List, [], ◌∷◌, ◌++◌, length, map, take, slice_index_or, ◌<◌}
+use Rattle.std.specs.Prelude.{ℤ, None, Some, if◌then◌else◌}
 use Rattle.std.specs.List.{dedup, dedup_from, flat_map, fold}
 use Rattle.std.specs.Int.{int_max, int_min}
 use Rattle.std.specs.Ordering.{int_eq}
@@ -14,7 +14,7 @@ use Rattle.sf_grid.specs.Edge.{Edge, edge_between}
 use Rattle.sf_grid.proofs.CallerLemmas.{eq_from_test, same_coordinates}
 use Rattle.sf_geometry.specs.declared.extent.Extent.{Extent}
 use Rattle.sf_geometry.specs.Envelope.{extent_at, extent_of, extent_with, grown}
-use Rattle.sf_geometry.specs.Lists.{before_tight, edges_between, edges_from, edges_of, ends_of, is_closed, is_same, last_from, tight}
+use Rattle.sf_geometry.specs.Lists.{before_tight, edges_between, edges_from, edges_of, ends_of, is_same, last_from, tight}
 use Rattle.sf_geometry.specs.Parts.{joined}
 
 -- ---- one point

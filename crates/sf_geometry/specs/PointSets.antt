@@ -1,6 +1,6 @@
 -- The point sets of a geometry: which points of the plane are in its interior, its boundary and its exterior.
 use Rattle.std.specs.Prelude.{Bool, false, ◌&&◌, ◌||◌, not, List, [], ◌∷◌, count_by}
-use Rattle.std.specs.List.{list_all, list_any}
+use Rattle.std.specs.List.{list_any}
 use Rattle.sf_grid.specs.Plane.{Coordinates, Point as PlanePoint, grid_point, same_point}
 use Rattle.sf_grid.specs.Edge.{on_edge}
 use Rattle.sf_grid.specs.EvenOdd.{edges_above, is_odd}

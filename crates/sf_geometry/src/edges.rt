@@ -130,7 +130,7 @@ fn push_ends(found: &mut Vec<GridPoint>, points: &[GridPoint]) -> Result<(), All
 }
 
 /// The last point of a list, from its first point and the others.
-fn last_of(first: GridPoint, others: &[GridPoint]) -> GridPoint
+pub(crate) fn last_of(first: GridPoint, others: &[GridPoint]) -> GridPoint
     ensures { result ≡ last_from first others.now }
 {
     match others.split_last() {

@@ -11,7 +11,7 @@ use super::sequence::Sequence;
 use sf_grid::GridPoint;
 
 /// How many points a geometry has at most.
-const POINTS_MAX: usize = 4096;
+pub(crate) const POINTS_MAX: usize = 4096;
 
 impl Geometry {
     /// Whether no list of the geometry is empty and its points are at most 4,096.

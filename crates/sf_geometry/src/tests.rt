@@ -1,5 +1,10 @@
 //! The readers of geometries at small ones.
 
+ghost use Rattle.std.specs.Prelude.{◌≡◌, IfOk};
+ghost use Rattle.sf_geometry.specs.Lists.{is_closed as is_closed_list};
+ghost use Rattle.sf_geometry.specs.Parts.{HasClosedRings};
+
+use crate::edges::last_of;
 use crate::{Extent, Geometry, Kind, Refusal, Sequence, tight};
 use sf_grid::GridPoint;
 use std::alloc::Global;
@@ -135,5 +140,186 @@ fn vertices_by_part_ring_and_index(rt: HostRuntime) -> Result<(), Fail> {
     let lines = lines(rt.alloc())?;
     assert!(rt; is_vertex_at(lines.vertex(1, 0, 4), Some((0, 0))));
     assert!(rt; is_vertex_at(lines.vertex(0, 1, 0), None));
+    Ok(())
+}
+
+const SQUARE: &[(i32, i32)] = &[(0, 0), (10, 0), (10, 10), (0, 10), (0, 0)];
+
+/// Whether the points end where they begin.
+fn is_closed(points: &[GridPoint]) -> bool
+    ensures { result ≡ is_closed_list points.now }
+{
+    match points.split_first() {
+        Some((first, others)) => *first == last_of(*first, others),
+        None => true,
+    }
+}
+
+/// The polygon of one ring.
+fn square(alloc: Global) -> Result<Geometry, Fail>
+    ensures { IfOk result HasClosedRings }
+{
+    let ring = list(alloc, SQUARE)?;
+    if !is_closed(ring.as_slice()) {
+        return Err("not closed".into());
+    }
+    let mut rings = Vec::new(alloc);
+    rings.push(ring)?;
+    Ok(Geometry::Polygon(Sequence::from_vec(rings)))
+}
+
+/// A point, one point of several, a square, or two lines.
+fn small(alloc: Global, kind: Kind) -> Result<Geometry, Fail>
+    ensures { IfOk result HasClosedRings }
+{
+    match kind {
+        Kind::Point => Ok(Geometry::Point(GridPoint::new(3, 4).ok_or("off the grid")?)),
+        Kind::MultiPoint => Ok(Geometry::MultiPoint(list(alloc, &[(3, 4)])?)),
+        Kind::Polygon => square(alloc),
+        _ => Ok(Geometry::MultiLineString(lists(alloc, &[OPEN, SHELL])?)),
+    }
+}
+
+/// Whether a call gave the point at a place, or refused as is wanted.
+fn is_given(given: Result<GridPoint, Refusal>, wanted: Result<(i32, i32), Refusal>) -> bool {
+    match (given, wanted) {
+        (Ok(point), Ok(place)) => is_at(point, place),
+        (Err(refusal), Err(other)) => refusal == other,
+        _ => false,
+    }
+}
+
+/// Whether the rings are each at these places.
+fn rings_are_at(geometry: &Geometry, places: &[(i32, i32)]) -> bool {
+    match geometry {
+        Geometry::Polygon(rings) => {
+            rings
+                .as_slice()
+                .iter()
+                .all(|ring| are_at(ring.as_slice(), places))
+        }
+        _ => false,
+    }
+}
+
+#[test]
+fn vertices_put_into_a_ring(rt: HostRuntime) -> Result<(), Fail> {
+    let first: &[(i32, i32)] = &[(5, 5), (0, 0), (10, 0), (10, 10), (0, 10), (5, 5)];
+    let last: &[(i32, i32)] = &[(0, 0), (10, 0), (10, 10), (0, 10), (5, 5), (0, 0)];
+    for (index, wanted, places) in [
+        (0, Ok(()), first),
+        (4, Ok(()), last),
+        (5, Err(Refusal::NoVertex), SQUARE),
+    ] {
+        let mut polygon = square(rt.alloc())?;
+        assert!(rt; polygon.check_size().is_ok());
+        let point = GridPoint::new(5, 5).ok_or("off the grid")?;
+        let inserted = polygon.insert_vertex(rt.alloc(), 0, 0, index, point);
+        assert_eq!(rt; inserted, wanted);
+        assert!(rt; rings_are_at(&polygon, places));
+    }
+    Ok(())
+}
+
+#[test]
+fn vertices_of_a_ring_moved(rt: HostRuntime) -> Result<(), Fail> {
+    let first: &[(i32, i32)] = &[(-1, -1), (10, 0), (10, 10), (0, 10), (-1, -1)];
+    let third: &[(i32, i32)] = &[(0, 0), (10, 0), (-1, -1), (0, 10), (0, 0)];
+    for (index, wanted, places) in [
+        (0, Ok((0, 0)), first),
+        (2, Ok((10, 10)), third),
+        (4, Err(Refusal::NoVertex), SQUARE),
+    ] {
+        let mut polygon = square(rt.alloc())?;
+        assert!(rt; polygon.check_size().is_ok());
+        let point = GridPoint::new(-1, -1).ok_or("off the grid")?;
+        assert!(rt; is_given(polygon.move_vertex(0, 0, index, point), wanted));
+        assert!(rt; rings_are_at(&polygon, places));
+    }
+    Ok(())
+}
+
+#[test]
+fn vertices_of_a_ring_taken_out(rt: HostRuntime) -> Result<(), Fail> {
+    let first: &[(i32, i32)] = &[(10, 0), (10, 10), (0, 10), (10, 0)];
+    let last: &[(i32, i32)] = &[(0, 0), (10, 0), (10, 10), (0, 0)];
+    for (index, wanted, places) in [
+        (0, Ok((0, 0)), first),
+        (3, Ok((0, 10)), last),
+        (4, Err(Refusal::NoVertex), SQUARE),
+    ] {
+        let mut polygon = square(rt.alloc())?;
+        assert!(rt; polygon.check_size().is_ok());
+        assert!(rt; is_given(polygon.remove_vertex(0, 0, index), wanted));
+        assert!(rt; rings_are_at(&polygon, places));
+    }
+    Ok(())
+}
+
+#[test]
+fn vertices_put_in_by_kind(rt: HostRuntime) -> Result<(), Fail> {
+    for (kind, [part, ring, index], wanted) in [
+        (Kind::Point, [0, 0, 1], Err(Refusal::NoVertex)),
+        (Kind::MultiPoint, [0, 0, 1], Ok(())),
+        (Kind::MultiPoint, [0, 0, 2], Err(Refusal::NoVertex)),
+        (Kind::Polygon, [0, 1, 0], Err(Refusal::NoVertex)),
+        (Kind::MultiLineString, [1, 0, 5], Ok(())),
+        (Kind::MultiLineString, [1, 1, 0], Err(Refusal::NoVertex)),
+    ] {
+        let mut geometry = small(rt.alloc(), kind)?;
+        assert!(rt; geometry.check_size().is_ok());
+        let point = GridPoint::new(5, 5).ok_or("off the grid")?;
+        let inserted = geometry.insert_vertex(rt.alloc(), part, ring, index, point);
+        assert_eq!(rt; inserted, wanted);
+    }
+    Ok(())
+}
+
+#[test]
+fn vertices_moved_by_kind(rt: HostRuntime) -> Result<(), Fail> {
+    for (kind, [part, ring, index], wanted) in [
+        (Kind::Point, [0, 0, 0], Ok((3, 4))),
+        (Kind::Point, [0, 1, 0], Err(Refusal::NoVertex)),
+        (Kind::MultiPoint, [0, 0, 0], Ok((3, 4))),
+        (Kind::Polygon, [1, 0, 0], Err(Refusal::NoVertex)),
+        (Kind::MultiLineString, [0, 0, 3], Ok((5, -6))),
+        (Kind::MultiLineString, [2, 0, 0], Err(Refusal::NoVertex)),
+    ] {
+        let mut geometry = small(rt.alloc(), kind)?;
+        assert!(rt; geometry.check_size().is_ok());
+        let point = GridPoint::new(5, 5).ok_or("off the grid")?;
+        assert!(rt; is_given(geometry.move_vertex(part, ring, index, point), wanted));
+    }
+    Ok(())
+}
+
+#[test]
+fn vertices_taken_out_by_kind(rt: HostRuntime) -> Result<(), Fail> {
+    for (kind, [part, ring, index], wanted) in [
+        (Kind::Point, [0, 0, 0], Err(Refusal::NoVertex)),
+        (Kind::MultiPoint, [0, 0, 0], Err(Refusal::Empty)),
+        (Kind::MultiPoint, [0, 0, 1], Err(Refusal::NoVertex)),
+        (Kind::MultiLineString, [1, 0, 4], Ok((0, 0))),
+        (Kind::MultiLineString, [0, 1, 0], Err(Refusal::NoVertex)),
+    ] {
+        let mut geometry = small(rt.alloc(), kind)?;
+        assert!(rt; geometry.check_size().is_ok());
+        assert!(rt; is_given(geometry.remove_vertex(part, ring, index), wanted));
+    }
+    Ok(())
+}
+
+#[test]
+fn no_vertex_past_the_limit(rt: HostRuntime) -> Result<(), Fail> {
+    for (part, wanted) in [
+        (0, Err(Refusal::TooManyVertices)),
+        (1, Err(Refusal::NoVertex)),
+    ] {
+        let mut full = Geometry::MultiPoint(list(rt.alloc(), &[(1, 1); 4096])?);
+        assert!(rt; full.check_size().is_ok());
+        let point = GridPoint::new(5, 5).ok_or("off the grid")?;
+        let inserted = full.insert_vertex(rt.alloc(), part, 0, 4096, point);
+        assert_eq!(rt; inserted, wanted);
+    }
     Ok(())
 }

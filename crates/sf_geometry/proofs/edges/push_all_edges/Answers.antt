@@ -1,10 +1,8 @@
-use Rattle.std.proofs.Common.{◌≡◌, refl, ap, sym, ◌∙◌, ◌+◌, ◌++◌, List, [], ◌∷◌, take, map, true, false}
+use Rattle.std.proofs.Common.{ap, sym, ◌∙◌, ◌++◌, map}
 use Rattle.std.specs.List.{flat_map}
 use Rattle.std.proofs.lemmas.List.{append-nil, take_all}
-use Rattle.sf_grid.specs.Plane.{Coordinates}
-use Rattle.sf_grid.specs.Edge.{Edge}
-use Rattle.sf_geometry.specs.Lists.{edges_of as edges_of_list, ends_of as ends_of_line}
-use Rattle.sf_geometry.specs.Parts.{edge_of, joined}
+use Rattle.sf_geometry.specs.Lists.{edges_of as edges_of_list}
+use Rattle.sf_geometry.specs.Parts.{edge_of}
 use Rattle.sf_geometry.proofs.ListLaws.{pushed-more}
 use Rattle.sf_geometry.proofs.edges.push_all_edges.Goals as goal
 

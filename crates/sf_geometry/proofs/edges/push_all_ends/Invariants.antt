@@ -1,7 +1,6 @@
-use Rattle.std.proofs.Common.{◌≡◌, ◌++◌, take, map}
+use Rattle.std.proofs.Common.{◌≡◌, ◌++◌, take}
 use Rattle.std.specs.List.{flat_map}
-use Rattle.sf_geometry.specs.Lists.{edges_of as edges_of_list, ends_of as ends_of_line}
-use Rattle.sf_geometry.specs.Parts.{edge_of, joined}
+use Rattle.sf_geometry.specs.Lists.{ends_of as ends_of_line}
 use Rattle.sf_geometry.proofs.edges.push_all_ends.Given as goal
 
 abbrev pub invariant-loop-points : goal.invariant-loop-points

@@ -1,7 +1,6 @@
-use Rattle.std.proofs.Common.{◌≡◌, refl, ap, sym, ◌∙◌, ◌+◌, ◌++◌, List, [], ◌∷◌, drop, map, true, false}
+use Rattle.std.proofs.Common.{◌≡◌, refl, ap, sym, ◌∙◌, ◌+◌, ◌++◌, List, [], ◌∷◌, drop, map}
 use Rattle.std.proofs.lemmas.List.{append-nil, drop_all, drop_more, map-append}
 use Rattle.sf_grid.specs.Plane.{Coordinates}
-use Rattle.sf_grid.specs.Edge.{Edge}
 use Rattle.sf_geometry.specs.Lists.{edges_of as edges_of_list, is_same}
 use Rattle.sf_geometry.specs.Parts.{edge_of}
 use Rattle.sf_geometry.proofs.ListLaws.{edges-other, edges-same, not-false, not-true}

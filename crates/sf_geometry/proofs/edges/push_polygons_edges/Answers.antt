@@ -1,4 +1,4 @@
-use Rattle.std.proofs.Common.{◌≡◌, ap, sym, ◌∙◌, ◌++◌, List, map}
+use Rattle.std.proofs.Common.{ap, sym, ◌∙◌, ◌++◌, List, map}
 use Rattle.std.specs.List.{flat_map}
 use Rattle.std.proofs.lemmas.List.{append-nil, take_all}
 use Rattle.sf_grid.specs.Plane.{Coordinates}

@@ -1,6 +1,5 @@
-use Rattle.std.proofs.Common.{◌≡◌, ap, ◌∙◌, ℤ, rules, to_z, of_z, w32, SFits}
+use Rattle.std.proofs.Common.{◌≡◌, rules, to_z, of_z, w32}
 use Rattle.std.specs.Int.{int_max, int_min}
-use Rattle.std.proofs.lemmas.Int.{to_z-of_z}
 use Rattle.sf_geometry.proofs.extent.Extent.with.Goals as goal
 
 pub returns : goal.returns

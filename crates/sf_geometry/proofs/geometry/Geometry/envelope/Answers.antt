@@ -1,9 +1,6 @@
-use Rattle.std.proofs.Common.{◌≡◌, refl, ap, sym, ◌∙◌, subst}
-use Rattle.std.specs.Prelude.{IsSome, Option, None, Some}
-use Rattle.std.specs.List.{fold}
+use Rattle.std.proofs.Common.{◌≡◌, refl, sym, ◌∙◌, subst}
+use Rattle.std.specs.Prelude.{IsSome, Option, Some}
 use Rattle.sf_geometry.specs.declared.extent.Extent.{Extent}
-use Rattle.sf_geometry.specs.Envelope.{grown}
-use Rattle.sf_geometry.specs.Parts.{points_of}
 use Rattle.sf_geometry.proofs.SizeLaws.{grown-sized}
 use Rattle.sf_geometry.proofs.geometry.Geometry.envelope.Goals as goal
 
