@@ -3,8 +3,6 @@
 
 mod classes;
 pub mod laws;
-#[cfg(test)]
-mod tests;
 
 pub use classes::walk_classes;
 pub use sf_slabs::{CellSink, Piece};

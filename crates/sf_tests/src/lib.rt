@@ -1,9 +1,11 @@
-//! Tests of the console over the crates below it: worked sessions, long ones, and readers and writers of
-//! every kind.
+//! Tests that cross crates: the console in worked sessions, long ones, and with readers and writers of
+//! every kind; the classes of cells over the plane's crates.
 #![tactic(auto)]
 
 #[cfg(test)]
 mod calls;
+#[cfg(test)]
+mod classes;
 #[cfg(test)]
 mod dialogs;
 #[cfg(test)]

@@ -1,6 +1,6 @@
 //! A triangle and a line that enters it: what is handed out tells what the cells tell.
 
-use crate::{CellSink, Piece, walk_classes};
+use sf_classes::{CellSink, Piece, walk_classes};
 use sf_grid::GridPoint;
 use sf_slabs::{are_in_range, have_length};
 use std::alloc::Global;
