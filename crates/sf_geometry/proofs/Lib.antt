@@ -1,6 +1,7 @@
 pub mod ListLaws
 pub mod SizeLaws
 pub mod Filled
+pub mod BackLaws
 pub mod ChangeLaws
 pub mod OutcomeLaws
 mod Computed

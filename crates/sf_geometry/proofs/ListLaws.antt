@@ -1,5 +1,5 @@
 -- Lists of points one after another, tight lists, their edges and ends; counts and boxes of the points of several lists.
-use Rattle.std.proofs.Common.{◌≡◌, refl, ap, sym, ◌∙◌, subst, ℕ, ◌+◌, ◌≤◌, min, arith, Bool, true, false, cond, not, ◌&&◌, List, [], ◌∷◌, ◌++◌, length, map, take, slice_index_or, ◌<◌}
+use Rattle.std.proofs.Common.{◌≡◌, refl, ap, sym, ◌∙◌, subst, ℕ, suc, ◌+◌, ◌≤◌, min, arith, Bool, true, false, cond, not, ◌&&◌, List, [], ◌∷◌, ◌++◌, length, map, take, slice_index_or, ◌<◌}
 use Rattle.std.specs.Prelude.{ℤ, None, Some, if◌then◌else◌}
 use Rattle.std.specs.List.{dedup, dedup_from, flat_map, fold}
 use Rattle.std.specs.Int.{int_max, int_min}
@@ -45,6 +45,17 @@ tight-step p q qs =
     let t = tight-begins q qs in
     let P : List Coordinates → Type 0 = λ ts. before_tight p ts ≡ (if is_same p q then ts else p ∷ ts) in
     subst P (sym t.is) refl
+
+-- how long a tight list is, as its first point is passed
+pub tight_length-same : (p q : Coordinates) (qs : List Coordinates) → is_same p q ≡ true → length (tight (p ∷ q ∷ qs)) ≡ length (tight (q ∷ qs))
+tight_length-same p q qs h = ap length (tight-step p q qs ∙ ap (λ b. if b then tight (q ∷ qs) else p ∷ tight (q ∷ qs)) h)
+
+pub tight_length-other : (p q : Coordinates) (qs : List Coordinates) → is_same p q ≡ false → length (tight (p ∷ q ∷ qs)) ≡ length (tight (q ∷ qs)) + 1
+tight_length-other p q qs h =
+    ap length (tight-step p q qs ∙ ap (λ b. if b then tight (q ∷ qs) else p ∷ tight (q ∷ qs)) h) ∙ one_more (length (tight (q ∷ qs)))
+  where
+    one_more : (n : ℕ) → suc n ≡ n + 1
+    one_more n = omega arith
 
 -- what `dedup` leaves
 int_eq-flipped : (a b : ℤ) → int_eq a b ≡ int_eq b a

@@ -2,20 +2,22 @@
 use Rattle.std.proofs.Common.{◌≡◌, ℕ, zero, suc, ◌+◌, ◌-◌, ◌<◌, ◌≤◌, Bool, true, false, List, [], ◌∷◌, length, slice_set, refl, sym, ap, ◌∙◌, subst, arith, inl, inr}
 use Rattle.std.specs.Prelude.{◌⊎◌, Option, None, Some, Result, Ok, Err, IfErr, IsOk, OnOk, insert, remove, nat_le, nat_lt, option_and_then, option_map, slice_get, if◌then◌else◌}
 use Rattle.std.specs.List.{list_any}
+use Rattle.std.specs.Option.{option_map_or}
+use Rattle.std.specs.Prelude.{◌≢◌}
 use borrow.Author.Tests.{leb-true, ltb-true}
 use Rattle.std.proofs.lemmas.List.{append-nil, length-append, length-set, length-take-le}
 use Rattle.std.proofs.lemmas.List.Edits.{length-insert}
 use Rattle.sf_grid.specs.Plane.{Coordinates}
-use Rattle.sf_geometry.specs.declared.change.Change.TheVariants.{Insert}
+use Rattle.sf_geometry.specs.declared.change.Change.TheVariants.{Insert, Remove}
 use Rattle.sf_geometry.specs.declared.geometry.Geometry.{Geometry}
 use Rattle.sf_geometry.specs.declared.geometry.Geometry.TheVariants.{Point, LineString, Polygon, MultiPoint, MultiLineString, MultiPolygon}
 use Rattle.sf_geometry.specs.declared.refusal.Refusal.{Refusal}
 use Rattle.sf_geometry.specs.declared.refusal.Refusal.TheVariants.{Empty, Memory, NoVertex, TooManyVertices}
-use Rattle.sf_geometry.specs.Changes.{Refuses, filled_or_refused, lacks, place_fault}
+use Rattle.sf_geometry.specs.Changes.{Refuses, filled_or_refused, lacks, place_fault, removable_count}
 use Rattle.sf_geometry.specs.Parts.{joined}
 use Rattle.sf_geometry.specs.Size.{IsSized, has_empty, has_empty_list, is_empty, point_count, points_max}
 use Rattle.sf_geometry.specs.Vertices.{Change, change_at, change_ring, changed, exchange, insert_vertex, insertion, move_vertex, one_point, outcome, removal, remove_vertex, ring_of, ring_vertices, vertex_of, vertices_of}
-use Rattle.sf_geometry.proofs.ChangeLaws.{any-set, changed-at, member-filled, placed, put-ok, ring-filled}
+use Rattle.sf_geometry.proofs.ChangeLaws.{any-set, changed-at, member-filled, placed, put, ring-filled}
 use Rattle.sf_geometry.proofs.Filled.{one, or_false, total, total_line, total_lines, total_polygons}
 
 -- ---- the size of what comes of it
@@ -271,70 +273,86 @@ pub remove-ok : (g h : Geometry) (part ring index : ℕ) → IsSized g → fille
 remove-ok g h part ring index sized e = no-longer (removal index) part ring g h sized (removal-length index) e
 
 -- ---- a vertex put in
--- what can be made of the list of a part and ring can be made of the geometry
+-- whether a change is refused, and why, is seen in the list of the part and ring
+abbrev pub verdict : {X : Type 0} → Result X Refusal → Option Refusal
+verdict (Ok x) = None
+verdict (Err refusal) = Some refusal
+
 abbrev emptied : {X : Type 0} → Bool → X → Result X Refusal
 emptied t x = if t then Err Empty else Ok x
 
-either-ok : {X Y : Type 0} (t : Bool) (x : X) (y : Y) → IsOk (emptied t x) → IsOk (emptied t y)
-either-ok true x y h = h
-either-ok false x y h = h
+either-verdict : {X Y : Type 0} (t : Bool) (x : X) (y : Y) → verdict (emptied t x) ≡ verdict (emptied t y)
+either-verdict true x y = refl
+either-verdict false x y = refl
 
-kind-ok : {X : Type 0} (kind : X → Geometry) (empty : X → Bool) → ((x : X) → has_empty_list (kind x) ≡ empty x) → (found : Option X) →
-    IsOk (filled_or_refused empty found) → IsOk (filled_or_refused has_empty_list (option_map kind found))
-kind-ok kind empty empties None h = h
-kind-ok kind empty empties (Some x) h =
-    subst (λ (t : Bool). IsOk (emptied t (kind x))) (sym (empties x)) (either-ok (empty x) x (kind x) h)
+put-verdict : {X Y : Type 0} (f : X → Y) (outcome : Result X Refusal) → verdict (put f outcome) ≡ verdict outcome
+put-verdict f (Ok x) = refl
+put-verdict f (Err refusal) = refl
 
-at-ok : {X : Type 0} (empty : X → Bool) (change : X → Option X) (xs : List X) (n : ℕ) (x : X) → lacks empty xs ≡ false → slice_get xs n ≡ Some x →
-    IsOk (filled_or_refused empty (change x)) → IsOk (filled_or_refused (lacks empty) (change_at n change xs))
-at-ok {X} empty change xs n x some at h =
+kind-verdict : {X : Type 0} (kind : X → Geometry) (empty : X → Bool) → ((x : X) → has_empty_list (kind x) ≡ empty x) → (found : Option X) →
+    verdict (filled_or_refused has_empty_list (option_map kind found)) ≡ verdict (filled_or_refused empty found)
+kind-verdict kind empty empties None = refl
+kind-verdict kind empty empties (Some x) = ap (λ t. verdict (emptied t (kind x))) (empties x) ∙ either-verdict (empty x) (kind x) x
+
+at-verdict : {X : Type 0} (empty : X → Bool) (change : X → Option X) (xs : List X) (n : ℕ) (x : X) → lacks empty xs ≡ false → slice_get xs n ≡ Some x →
+    verdict (filled_or_refused (lacks empty) (change_at n change xs)) ≡ verdict (filled_or_refused empty (change x))
+at-verdict {X} empty change xs n x some at =
     let none_empty = or_false (is_empty xs) (list_any empty xs) some in
-    subst (λ (o : Result (List X) Refusal). IsOk o) (sym (changed-at empty change xs n x none_empty.1 at)) (put-ok (slice_set xs n) (filled_or_refused empty (change x)) h)
+    ap verdict (changed-at empty change xs n x none_empty.1 at) ∙ put-verdict (slice_set xs n) (filled_or_refused empty (change x))
 
-ring-ok : (change : Change) (ps : List Coordinates) → IsOk (filled_or_refused is_empty (change (ring_vertices ps))) → IsOk (filled_or_refused is_empty (change_ring change ps))
-ring-ok change ps h =
-    subst (λ (o : Result (List Coordinates) Refusal). IsOk o) (sym (ring-filled (change (ring_vertices ps)))) (put-ok ring_of (filled_or_refused is_empty (change (ring_vertices ps))) h)
+ring-verdict : (change : Change) (ps : List Coordinates) → verdict (filled_or_refused is_empty (change_ring change ps)) ≡ verdict (filled_or_refused is_empty (change (ring_vertices ps)))
+ring-verdict change ps =
+    ap verdict (ring-filled (change (ring_vertices ps))) ∙ put-verdict ring_of (filled_or_refused is_empty (change (ring_vertices ps)))
 
-list-ok : (change : Change) (ps vs : List Coordinates) → Some ps ≡ Some vs → IsOk (filled_or_refused is_empty (change vs)) → IsOk (filled_or_refused is_empty (change ps))
-list-ok change ps vs e h = subst (λ (us : List Coordinates). IsOk (filled_or_refused is_empty (change us))) (sym (some_same e)) h
+list-verdict : (change : Change) (ps vs : List Coordinates) → Some ps ≡ Some vs → verdict (filled_or_refused is_empty (change ps)) ≡ verdict (filled_or_refused is_empty (change vs))
+list-verdict change ps vs e = ap (λ us. verdict (filled_or_refused is_empty (change us))) (some_same e)
 
-line-at-ok : (change : Change) (lines : List (List Coordinates)) (n : ℕ) (vs : List Coordinates) → has_empty lines ≡ false → slice_get lines n ≡ Some vs →
-    IsOk (filled_or_refused is_empty (change vs)) → IsOk (filled_or_refused has_empty (change_at n change lines))
-line-at-ok change lines n vs some at h = at-ok is_empty change lines n vs some at h
-
-ring-at-ok : (change : Change) (rings : List (List Coordinates)) (n : ℕ) (vs : List Coordinates) → has_empty rings ≡ false → option_map ring_vertices (slice_get rings n) ≡ Some vs →
-    IsOk (filled_or_refused is_empty (change vs)) → IsOk (filled_or_refused has_empty (change_at n (change_ring change) rings))
-ring-at-ok change rings n vs some at h = by (slice_get rings n) refl at
+ring_at-verdict : (change : Change) (rings : List (List Coordinates)) (n : ℕ) (vs : List Coordinates) → has_empty rings ≡ false → option_map ring_vertices (slice_get rings n) ≡ Some vs →
+    verdict (filled_or_refused has_empty (change_at n (change_ring change) rings)) ≡ verdict (filled_or_refused is_empty (change vs))
+ring_at-verdict change rings n vs some at = by (slice_get rings n) refl at
   where
-    by : (found : Option (List Coordinates)) → slice_get rings n ≡ found → option_map ring_vertices found ≡ Some vs → IsOk (filled_or_refused has_empty (change_at n (change_ring change) rings))
+    by : (found : Option (List Coordinates)) → slice_get rings n ≡ found → option_map ring_vertices found ≡ Some vs →
+        verdict (filled_or_refused has_empty (change_at n (change_ring change) rings)) ≡ verdict (filled_or_refused is_empty (change vs))
     by None there e = absurd cc
-    by (Some x) there e = at-ok is_empty (change_ring change) rings n x some there (ring-ok change x (list-ok change (ring_vertices x) vs e h))
+    by (Some x) there e = at-verdict is_empty (change_ring change) rings n x some there ∙ ring-verdict change x ∙ list-verdict change (ring_vertices x) vs e
 
-changed-ok : (change : Change) (g : Geometry) (part ring : ℕ) (vs : List Coordinates) → has_empty_list g ≡ false → 1 < point_count g → vertices_of g part ring ≡ Some vs →
-    IsOk (filled_or_refused is_empty (change vs)) → IsOk (filled_or_refused has_empty_list (changed change part ring g))
-changed-ok change (Point p) part ring vs some many at h = absurd (omega arith)
-changed-ok change (LineString ps) zero zero vs some many at h = kind-ok LineString is_empty (λ x. refl) (change ps) (list-ok change ps vs at h)
-changed-ok change (LineString ps) zero (suc ring) vs some many at h = absurd cc
-changed-ok change (LineString ps) (suc part) ring vs some many at h = absurd cc
-changed-ok change (Polygon rings) zero ring vs some many at h =
-    kind-ok Polygon has_empty (λ x. refl) (change_at ring (change_ring change) rings) (ring-at-ok change rings ring vs some at h)
-changed-ok change (Polygon rings) (suc part) ring vs some many at h = absurd cc
-changed-ok change (MultiPoint ps) zero zero vs some many at h = kind-ok MultiPoint is_empty (λ x. refl) (change ps) (list-ok change ps vs at h)
-changed-ok change (MultiPoint ps) zero (suc ring) vs some many at h = absurd cc
-changed-ok change (MultiPoint ps) (suc part) ring vs some many at h = absurd cc
-changed-ok change (MultiLineString lines) part zero vs some many at h =
-    kind-ok MultiLineString has_empty (λ x. refl) (change_at part change lines) (line-at-ok change lines part vs some at h)
-changed-ok change (MultiLineString lines) part (suc ring) vs some many at h = absurd cc
-changed-ok change (MultiPolygon polygons) part ring vs some many at h = by (slice_get polygons part) refl at
+-- it is no Point
+abbrev pub IsNoPoint : Geometry → Type 0
+IsNoPoint g = (p : Coordinates) → g ≡ Point p → ⊥
+
+pub changed-verdict : (change : Change) (g : Geometry) (part ring : ℕ) (vs : List Coordinates) → has_empty_list g ≡ false → IsNoPoint g → vertices_of g part ring ≡ Some vs →
+    verdict (filled_or_refused has_empty_list (changed change part ring g)) ≡ verdict (filled_or_refused is_empty (change vs))
+changed-verdict change (Point p) part ring vs some other at = absurd (other p refl)
+changed-verdict change (LineString ps) zero zero vs some other at = kind-verdict LineString is_empty (λ x. refl) (change ps) ∙ list-verdict change ps vs at
+changed-verdict change (LineString ps) zero (suc ring) vs some other at = absurd cc
+changed-verdict change (LineString ps) (suc part) ring vs some other at = absurd cc
+changed-verdict change (Polygon rings) zero ring vs some other at =
+    kind-verdict Polygon has_empty (λ x. refl) (change_at ring (change_ring change) rings) ∙ ring_at-verdict change rings ring vs some at
+changed-verdict change (Polygon rings) (suc part) ring vs some other at = absurd cc
+changed-verdict change (MultiPoint ps) zero zero vs some other at = kind-verdict MultiPoint is_empty (λ x. refl) (change ps) ∙ list-verdict change ps vs at
+changed-verdict change (MultiPoint ps) zero (suc ring) vs some other at = absurd cc
+changed-verdict change (MultiPoint ps) (suc part) ring vs some other at = absurd cc
+changed-verdict change (MultiLineString lines) part zero vs some other at =
+    kind-verdict MultiLineString has_empty (λ x. refl) (change_at part change lines) ∙ at-verdict is_empty change lines part vs some at
+changed-verdict change (MultiLineString lines) part (suc ring) vs some other at = absurd cc
+changed-verdict change (MultiPolygon polygons) part ring vs some other at = by (slice_get polygons part) refl at
   where
     by : (found : Option (List (List Coordinates))) → slice_get polygons part ≡ found → option_and_then (λ rings. option_map ring_vertices (slice_get rings ring)) found ≡ Some vs →
-        IsOk (filled_or_refused has_empty_list (changed change part ring (MultiPolygon polygons)))
+        verdict (filled_or_refused has_empty_list (changed change part ring (MultiPolygon polygons))) ≡ verdict (filled_or_refused is_empty (change vs))
     by None there e = absurd cc
     by (Some rings) there e =
         let none_empty = or_false (is_empty polygons) (list_any has_empty polygons) some in
-        kind-ok MultiPolygon (lacks has_empty) (λ x. refl) (change_at part (change_at ring (change_ring change)) polygons)
-        (at-ok has_empty (change_at ring (change_ring change)) polygons part rings some there
-        (ring-at-ok change rings ring vs (member-filled has_empty polygons part rings none_empty.1 there) e h))
+        kind-verdict MultiPolygon (lacks has_empty) (λ x. refl) (change_at part (change_at ring (change_ring change)) polygons)
+        ∙ at-verdict has_empty (change_at ring (change_ring change)) polygons part rings some there
+        ∙ ring_at-verdict change rings ring vs (member-filled has_empty polygons part rings none_empty.1 there) e
+
+ok-from : {X : Type 0} (outcome : Result X Refusal) → verdict outcome ≡ None → IsOk outcome
+ok-from (Ok x) e = refl
+ok-from (Err refusal) e = absurd cc
+
+err-from : {X : Type 0} (outcome : Result X Refusal) (refusal : Refusal) → verdict outcome ≡ Some refusal → outcome ≡ Err refusal
+err-from (Ok x) refusal e = absurd cc
+err-from (Err other) refusal e = ap (λ r. Err r) (some_same e)
 
 -- a point more
 insertion-length : (index : ℕ) (p : Coordinates) (ps qs : List Coordinates) → insertion index p ps ≡ Some qs → length qs ≡ length ps + 1
@@ -378,8 +396,9 @@ pub insert-full : (g : Geometry) (part ring index : ℕ) (p : Coordinates) (vs :
     index ≤ length vs → insert_vertex g part ring index p ≡ Err TooManyVertices
 insert-full g part ring index p vs sized full at within =
     by (filled_or_refused has_empty_list (changed (insertion index p) part ring g)) refl
-    (changed-ok (insertion index p) g part ring vs sized.filled (omega arith) at
-    (subst (λ (o : Result (List Coordinates) Refusal). IsOk o) (sym (placed (Insert p) index vs (place within))) refl))
+    (ok-from (filled_or_refused has_empty_list (changed (insertion index p) part ring g))
+    (changed-verdict (insertion index p) g part ring vs sized.filled (λ q e. absurd (omega (arith, full, ap point_count e))) at
+    ∙ ap verdict (placed (Insert p) index vs (place within))))
   where
     place : index ≤ length vs → place_fault (Insert p) index (length vs) ≡ None
     place h = grind arith
@@ -410,3 +429,53 @@ pub refused-by : (g : Geometry) (part ring index : ℕ) (p : Coordinates) (resul
     IfErr result (λ refusal. (insert_vertex g part ring index p ≡ Err refusal) ⊎ ((refusal ≡ Memory) × IsOk (insert_vertex g part ring index p)))
 refused-by g part ring index p (Ok u) sized few why = why
 refused-by g part ring index p (Err refusal) sized few why = insert-refused g part ring index p refusal sized few why
+
+-- ---- a vertex taken out
+-- the only one of a list
+taken-only : (index : ℕ) (vs : List Coordinates) → index < length vs → length vs ≡ 1 → filled_or_refused is_empty (removal index vs) ≡ Err Empty
+taken-only index [] h e = absurd (omega (arith, e))
+taken-only zero (v ∷ []) h e = refl
+taken-only (suc index) (v ∷ []) h e = absurd (omega (arith, h))
+taken-only index (v ∷ w ∷ vs) h e = absurd (omega (arith, e))
+
+among : (found : Option (List Coordinates)) (count : ℕ) → option_map_or (λ ps. length ps) found 0 ≡ suc count → (vs : List Coordinates) × ((found ≡ Some vs) × (length vs ≡ suc count))
+among None count e = absurd (omega (arith, e))
+among (Some vs) count e = (vs, (refl, e))
+
+some-vertices : (g : Geometry) (part ring count : ℕ) → removable_count g part ring ≡ suc count
+    → IsNoPoint g × ((vs : List Coordinates) × ((vertices_of g part ring ≡ Some vs) × (length vs ≡ suc count)))
+some-vertices (Point p) part ring count e = absurd (omega (arith, e))
+some-vertices (LineString ps) part ring count e = ((λ p e. cc), among (vertices_of (LineString ps) part ring) count e)
+some-vertices (Polygon rings) part ring count e = ((λ p e. cc), among (vertices_of (Polygon rings) part ring) count e)
+some-vertices (MultiPoint ps) part ring count e = ((λ p e. cc), among (vertices_of (MultiPoint ps) part ring) count e)
+some-vertices (MultiLineString lines) part ring count e = ((λ p e. cc), among (vertices_of (MultiLineString lines) part ring) count e)
+some-vertices (MultiPolygon polygons) part ring count e = ((λ p e. cc), among (vertices_of (MultiPolygon polygons) part ring) count e)
+
+pub remove-only : (g : Geometry) (part ring index : ℕ) → IsSized g → index < removable_count g part ring → removable_count g part ring ≡ 1 → remove_vertex g part ring index ≡ Err Empty
+remove-only g part ring index sized h e =
+    let there = some-vertices g part ring 0 e in
+    outcome-err (changed (removal index) part ring g) Empty
+    (err-from (filled_or_refused has_empty_list (changed (removal index) part ring g)) Empty
+    (changed-verdict (removal index) g part ring there.1.0 sized.filled there.0 there.1.1.0
+    ∙ ap verdict (taken-only index there.1.0 (omega (arith, h, e, there.1.1.1)) there.1.1.1)))
+
+pub remove-some : (g : Geometry) (part ring index count : ℕ) → IsSized g → removable_count g part ring ≡ suc (suc count) → index < suc (suc count) → IsOk (remove_vertex g part ring index)
+remove-some g part ring index count sized e h =
+    let there = some-vertices g part ring (suc count) e in
+    by (filled_or_refused has_empty_list (changed (removal index) part ring g)) refl
+    (ok-from (filled_or_refused has_empty_list (changed (removal index) part ring g))
+    (changed-verdict (removal index) g part ring there.1.0 sized.filled there.0 there.1.1.0
+    ∙ ap verdict (placed Remove index there.1.0 (place there.1.0 there.1.1.1))))
+  where
+    place : (vs : List Coordinates) → length vs ≡ suc (suc count) → place_fault Remove index (length vs) ≡ None
+    place vs e = grind (arith, e, h)
+
+    by : (o : Result Geometry Refusal) → filled_or_refused has_empty_list (changed (removal index) part ring g) ≡ o → IsOk o → IsOk (remove_vertex g part ring index)
+    by (Ok k) e ok = subst (λ (o : Result Geometry Refusal). IsOk o) (sym (remove-ok g k part ring index sized e)) refl
+    by (Err why) e ok = absurd cc
+
+-- there are several, one of them at the index
+pub remove-several : (g : Geometry) (part ring index count : ℕ) → IsSized g → removable_count g part ring ≡ count → index < count → count ≢ 1 → IsOk (remove_vertex g part ring index)
+remove-several g part ring index zero sized e h many = absurd (omega (arith, h))
+remove-several g part ring index (suc zero) sized e h many = absurd (many refl)
+remove-several g part ring index (suc (suc count)) sized e h many = remove-some g part ring index count sized e h

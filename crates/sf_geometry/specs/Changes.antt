@@ -1,5 +1,5 @@
 -- The changes that the code makes in one list of vertices, and what comes of them by the list alone.
-use Rattle.std.specs.Prelude.{◌≡◌, ◌⊎◌, ℕ, Bool, ◌==◌, ◌||◌, List, Option, Some, None, Result, Ok, Err, IsOk, insert, remove, slice_set, nat_le, nat_lt, if◌then◌else◌}
+use Rattle.std.specs.Prelude.{◌≡◌, ◌⊎◌, ℕ, Bool, ◌==◌, ◌||◌, List, Option, Some, None, Result, Ok, Err, IsOk, length, insert, remove, slice_set, nat_le, nat_lt, if◌then◌else◌}
 use Rattle.std.specs.List.{list_any}
 use Rattle.sf_grid.specs.Plane.{Coordinates}
 use Rattle.sf_geometry.specs.declared.change.Change.{Change as Made}
@@ -7,7 +7,10 @@ use Rattle.sf_geometry.specs.declared.change.Change.TheVariants.{Insert, Move, R
 use Rattle.sf_geometry.specs.declared.refusal.Refusal.{Refusal}
 use Rattle.sf_geometry.specs.declared.refusal.Refusal.TheVariants.{Empty, Memory, NoVertex}
 use Rattle.sf_geometry.specs.Size.{is_empty}
-use Rattle.sf_geometry.specs.Vertices.{Change, exchange, insertion, removal}
+use Rattle.sf_geometry.specs.declared.geometry.Geometry.{Geometry}
+use Rattle.sf_geometry.specs.declared.geometry.Geometry.TheVariants.{Point}
+use Rattle.sf_geometry.specs.Vertices.{Change, exchange, insertion, removal, vertices_of}
+use Rattle.std.specs.Option.{option_map_or}
 
 -- the change of a list at an index
 abbrev pub change_of : Made → ℕ → Change
@@ -44,3 +47,8 @@ lacks empty xs = is_empty xs || list_any empty xs
 -- why a call that makes the change refuses it: by what comes of it, or for want of memory
 abbrev pub Refuses : {X : Type 0} → Made → Result X Refusal → Refusal → Type 0
 Refuses change outcome refusal = (outcome ≡ Err refusal) ⊎ ((refusal ≡ Memory) × IsInsertion change × IsOk outcome)
+
+-- how many vertices of a part and ring could be taken out, were the list to be left empty: none of a Point
+abbrev pub removable_count : Geometry → ℕ → ℕ → ℕ
+removable_count (Point p) part ring = 0
+removable_count geometry part ring = option_map_or (λ ps. length ps) (vertices_of geometry part ring) 0

@@ -1,8 +1,8 @@
 //! The edges and ends of a geometry.
 
-ghost use Rattle.std.specs.Prelude.{◌≡◌, ◌++◌, IfOk, OnOk, map};
+ghost use Rattle.std.specs.Prelude.{◌≡◌, ◌++◌, IfOk, OnOk, length, map};
 ghost use Rattle.std.specs.List.{flat_map};
-ghost use Rattle.sf_geometry.specs.Lists.{edges_of as edges_of_list, ends_of as ends_of_line, last_from, tight as tight_of};
+ghost use Rattle.sf_geometry.specs.Lists.{edges_of as edges_of_list, ends_of as ends_of_line, is_closed as is_closed_list, last_from, tight as tight_of};
 ghost use Rattle.sf_geometry.specs.Parts.{edge_of, edges_of, ends_of, joined};
 
 use super::geometry::Geometry;
@@ -17,6 +17,34 @@ pub fn tight(alloc: Global, points: &[GridPoint]) -> Result<Vec<GridPoint>, Allo
     let mut found = points.to_vec(alloc)?;
     found.dedup();
     Ok(found)
+}
+
+/// How many points of a line or ring are left where consecutive repeats are dropped.
+pub fn tight_length(points: &[GridPoint]) -> usize
+    ensures { result ≡ length (tight_of points.now) }
+{
+    let Some((first, others)) = points.split_first() else {
+        return 0;
+    };
+    let mut length = 1;
+    let mut from = *first;
+    for to in others {
+        if from != *to {
+            length += 1;
+        }
+        from = *to;
+    }
+    length
+}
+
+/// Whether a line or ring is closed: whether its first and its last point are equal.
+pub fn is_closed(points: &[GridPoint]) -> bool
+    ensures { result ≡ is_closed_list points.now }
+{
+    match points.split_first() {
+        Some((first, others)) => *first == last_of(*first, others),
+        None => true,
+    }
 }
 
 impl Geometry {

@@ -36,6 +36,22 @@ impl Geometry {
     }
 }
 
+impl Extent {
+    /// The least box that has these points, or None where there are none.
+    pub fn of_points(points: &[GridPoint]) -> Option<Extent>
+        ensures { result ≡ fold grown_to None points.now }
+    {
+        with_points(None, points)
+    }
+
+    /// The least box that has the points of these lists, or None where there are none.
+    pub fn of_lists(lists: &[Sequence<GridPoint>]) -> Option<Extent>
+        ensures { result ≡ fold grown_to None (joined lists.now) }
+    {
+        with_lists(None, lists)
+    }
+}
+
 /// The least box that has these points beside those of a box.
 fn with_points(extent: Option<Extent>, points: &[GridPoint]) -> Option<Extent>
     ensures { result ≡ fold grown_to extent points.now }

@@ -5,8 +5,7 @@
 //! point at index 0.
 
 ghost use Rattle.std.specs.Prelude.{◌≡◌, ◌⊎◌, Err, IsOk, IfErr, IfOk, IsFalse, Ok, OnErr, OnOk, Some, length, option_and_then, option_map, slice_get};
-ghost use Rattle.sf_geometry.specs.Changes.{Refuses, change_of, filled_or_refused};
-ghost use Rattle.sf_geometry.specs.Parts.{HasClosedRings};
+ghost use Rattle.sf_geometry.specs.Changes.{Refuses, change_of, filled_or_refused, removable_count as removable_count_of};
 ghost use Rattle.sf_geometry.specs.Size.{IsSized, has_empty_list};
 ghost use Rattle.sf_geometry.specs.Vertices.{changed, insert_vertex, move_vertex, only_at as only_at_place, remove_vertex, ring_vertices as ring_vertices_of, vertex_of, vertices_of};
 
@@ -54,7 +53,6 @@ impl Geometry {
         point: GridPoint,
     ) -> Result<(), Refusal>
         requires sized { IsSized self.old }
-        requires closed { HasClosedRings self.old }
         ensures inserted { OnOk result
             (insert_vertex self.old part ring index point ≡ Ok self.new) }
         ensures refused { IfErr result (λ refusal.
@@ -84,7 +82,6 @@ impl Geometry {
         point: GridPoint,
     ) -> Result<GridPoint, Refusal>
         requires sized { IsSized self.old }
-        requires closed { HasClosedRings self.old }
         ensures moved { OnOk result (move_vertex self.old part ring index point ≡ Ok self.new) }
         ensures given { IfOk result (λ old. vertex_of self.old part ring index ≡ Some old) }
         ensures refused { IfErr result (λ refusal.
@@ -106,7 +103,6 @@ impl Geometry {
     /// is then as it was.
     pub fn remove_vertex(&mut self, part: u32, ring: u32, index: u32) -> Result<GridPoint, Refusal>
         requires sized { IsSized self.old }
-        requires closed { HasClosedRings self.old }
         ensures removed { OnOk result (remove_vertex self.old part ring index ≡ Ok self.new) }
         ensures given { IfOk result (λ old. vertex_of self.old part ring index ≡ Some old) }
         ensures refused { IfErr result (λ refusal.
@@ -118,6 +114,51 @@ impl Geometry {
         };
         self.change(part, ring, index, &Change::Remove)?;
         Ok(old)
+    }
+
+    /// A copy of the geometry with the vertex at an index taken out.
+    ///
+    /// # Errors
+    ///
+    /// `NoVertex` where there is none, `Empty` where it is the only one of its list, else `Memory`
+    /// where none is found.
+    pub fn without_vertex(
+        &self,
+        alloc: Global,
+        part: u32,
+        ring: u32,
+        index: u32,
+    ) -> Result<Geometry, Refusal>
+        requires sized { IsSized self.now }
+        ensures removed { IfOk result (λ without.
+            remove_vertex self.now part ring index ≡ Ok without) }
+        ensures refused { IfErr result (λ refusal.
+            (remove_vertex self.now part ring index ≡ Err refusal)
+            ⊎ ((refusal ≡ Refusal.Memory) × IsOk (remove_vertex self.now part ring index))) }
+    {
+        let count = self.removable_count(part, ring);
+        if index as usize >= count {
+            return Err(Refusal::NoVertex);
+        }
+        if count == 1 {
+            return Err(Refusal::Empty);
+        }
+        let Ok(mut without) = self.copy(alloc) else {
+            return Err(Refusal::Memory);
+        };
+        without.remove_vertex(part, ring, index)?;
+        Ok(without)
+    }
+
+    /// How many vertices of a part and ring could be taken out: none of a Point, which stays one
+    /// point.
+    fn removable_count(&self, part: u32, ring: u32) -> usize
+        ensures { result ≡ removable_count_of self.now part ring }
+    {
+        match self {
+            Geometry::Point(_) => 0,
+            _ => self.vertex_count(part, ring).unwrap_or(0),
+        }
     }
 
     /// How many vertices a part and ring has, or None where there is no such ring.

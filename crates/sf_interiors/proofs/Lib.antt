@@ -1,0 +1,12 @@
+pub mod SideLaws
+pub mod ChainLaws
+pub mod StepLaws
+pub mod NudgeLaws
+pub mod InsideLaws
+pub mod AlongLaws
+pub mod BesideLaws
+pub mod CommonLaws
+pub mod ParityLaws
+pub mod RingLaws
+pub mod SharingLaws
+pub mod ApartLaws
