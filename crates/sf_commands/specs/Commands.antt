@@ -2,9 +2,8 @@
 use Rattle.std.specs.Prelude.{◌≡◌, ℕ, List, [], ◌∷◌, length, Option, None, Some, Result, Ok, Err, nat_lt, bytes_eq, codes, if◌then◌else◌}
 use Rattle.std.specs.Map.{lookup}
 use Rattle.sf_refusals.specs.declared.refusal.Refusal.{Refusal}
-use Rattle.sf_refusals.specs.declared.refusal.Refusal.TheVariants.{Memory, BadCommand, LineTooLong, UnsupportedType}
+use Rattle.sf_refusals.specs.declared.refusal.Refusal.TheVariants.{Memory, BadCommand, LineTooLong}
 use Rattle.sf_geometry.specs.declared.geometry.Geometry.{Geometry}
-use Rattle.sf_geometry.specs.declared.geometry.Geometry.TheVariants.{Point}
 use Rattle.sf_geometry.specs.declared.kind.Kind.TheVariants as kinds
 use Rattle.sf_lines.specs.Lines.{line_max}
 use Rattle.sf_wkt.specs.declared.fault.WktFault.{WktFault}
@@ -34,19 +33,9 @@ abbrev pub layer_command : List ℕ → List ℕ → Option LayerKind → Result
 layer_command action name None = Err BadCommand
 layer_command action name (Some kind) = if bytes_eq action (codes "add") then Ok (Edit (edits.AddLayer name kind)) else Err BadCommand
 
--- the geometries that are kept so far: points, which are always valid
-abbrev pub kept : Geometry → Result Geometry Refusal
-kept (Point p) = Ok (Point p)
-kept geometry = Err UnsupportedType
-
--- `add` of a geometry, if it is kept
-abbrev pub add_kept : List ℕ → Result Geometry Refusal → Result Command Refusal
-add_kept layer (Ok geometry) = Ok (Edit (edits.AddFeature layer geometry))
-add_kept layer (Err refusal) = Err refusal
-
 -- `add` of what a text was read as
 abbrev pub add_command : List ℕ → Result Geometry WktFault → Result Command Refusal
-add_command layer (Ok geometry) = add_kept layer (kept geometry)
+add_command layer (Ok geometry) = Ok (Edit (edits.AddFeature layer geometry))
 add_command layer (Err fault) = Err (refusal_of fault)
 
 -- the command of the words after `layer`

@@ -1,5 +1,5 @@
 ghost use Rattle.std.specs.Prelude.{◌≡◌, IfOk};
-ghost use Rattle.sf_commands.specs.Commands.{command_of, by_verb, layer_arguments as layer_command_of, add_arguments as add_command_of, show_arguments as show_command_of, undo_arguments as undo_command_of, kept as kept_so_far, layer_kind_of as layer_kind_named, OrMemory};
+ghost use Rattle.sf_commands.specs.Commands.{command_of, by_verb, layer_arguments as layer_command_of, add_arguments as add_command_of, show_arguments as show_command_of, undo_arguments as undo_command_of, layer_kind_of as layer_kind_named, OrMemory};
 ghost use Rattle.sf_commands.specs.Words.{words as words_of, skip_blanks, skip_word};
 
 use super::command::Command;
@@ -60,20 +60,9 @@ fn add_arguments(alloc: Global, mut words: Words<'_>) -> Result<Command, Refusal
     ensures { OrMemory (add_command_of (words_of words.entry) (skip_blanks (skip_word words.entry))) result }
 {
     let layer = words.next()?;
-    let found = sf_wkt::read(alloc, words.rest()?)?;
-    let geometry = kept(found)?;
+    let geometry = sf_wkt::read(alloc, words.rest()?)?;
     let layer = text_of(alloc, layer)?;
     Ok(Command::Edit(Edit::AddFeature { layer, geometry }))
-}
-
-/// The geometry, if it is of a kind that is kept so far: points, which are always valid.
-fn kept(geometry: Geometry) -> Result<Geometry, Refusal>
-    ensures { result ≡ kept_so_far geometry }
-{
-    match geometry {
-        Geometry::Point(point) => Ok(Geometry::Point(point)),
-        _ => Err(Refusal::UnsupportedType),
-    }
 }
 
 fn show_arguments(alloc: Global, mut words: Words<'_>) -> Result<Command, Refusal>

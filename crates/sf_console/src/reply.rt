@@ -24,7 +24,7 @@ pub(crate) fn feature_rows(alloc: Global, layer: &Layer) -> Result<String, Alloc
     writeln!(text, "rows {}", layer.feature_count())?;
     for (id, feature) in layer.features() {
         write!(text, "{id} ")?;
-        sf_wkt::append(alloc, &mut text, feature.geometry())?;
+        sf_wkt::append(alloc, &mut text, feature.valid().geometry())?;
         text.push('\n')?;
     }
     Ok(text)

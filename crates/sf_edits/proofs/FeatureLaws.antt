@@ -2,6 +2,7 @@
 use Rattle.std.proofs.Common.{◌≡◌, ℕ, true, List, Option, None, Some, is_some, option_map, option_and_then, Ok, IsSome, IsSomeAnd, IfSome, slice_get, refl, ap, sym, subst, ◌∙◌}
 use Rattle.std.specs.Option.{option_map_or}
 use Rattle.sf_geometry.specs.declared.geometry.Geometry.{Geometry}
+use Rattle.sf_geometry.specs.Parts.{LiesOnGrid}
 use Rattle.sf_layers.specs.Content.{Content, LayerContent, FeatureContent, layer_of, place_of, has_layer, feature_of, feature_in, change_at}
 use Rattle.sf_layers.specs.WellFormed.{IsWellFormed}
 use Rattle.sf_layers.proofs.Added.{IsWellFormed-change_layer-at}
@@ -30,11 +31,11 @@ from_place content name P h = subst (λ o. IsSomeAnd o P) (layer_of-place_of con
     by (Some entry) p = p
 
 -- the content with the feature is well formed
-pub IsWellFormed-add_feature : (content : Content) (name : List ℕ) (geometry : Geometry) (layer : LayerContent) → FeaturePasses content name geometry layer → IsWellFormed content
+pub IsWellFormed-add_feature : (content : Content) (name : List ℕ) (geometry : Geometry) (layer : LayerContent) → FeaturePasses content name geometry layer → LiesOnGrid geometry → IsWellFormed content
     → IsWellFormed (change_at (place_of content name) (add_feature geometry) content)
-IsWellFormed-add_feature content name geometry layer passes fine =
+IsWellFormed-add_feature content name geometry layer passes on_grid fine =
     subst IsWellFormed (sym (change_at-place_of content name (add_feature geometry)))
-    (IsWellFormed-change_layer-at content name layer (add_feature geometry) passes.found (IsLayer-add_feature content name geometry layer passes fine) fine)
+    (IsWellFormed-change_layer-at content name layer (add_feature geometry) passes.found (IsLayer-add_feature content name geometry layer passes on_grid fine) fine)
 
 -- the feature that an inverse takes off is there
 pub feature_in-Fits : (content : Content) (name : List ℕ) (id : ℕ) → Fits content (TakeFeature name id) → IsSome (feature_in content name id)

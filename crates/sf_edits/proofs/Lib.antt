@@ -1,4 +1,5 @@
 pub mod Accepted
+pub mod AddingLaws
 pub mod Ends
 pub mod FeatureLaws
 pub mod InverseLaws

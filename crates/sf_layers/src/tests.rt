@@ -1,6 +1,7 @@
 use super::*;
 use sf_geometry::{Geometry, Kind};
 use sf_grid::GridPoint;
+use sf_validity::validate;
 use std::test::Fail;
 
 // Each changer that takes memory, once where memory is found.
@@ -16,14 +17,18 @@ fn layer_and_feature_are_put(rt: HostRuntime) -> Result<(), Fail> {
     let Some(point) = GridPoint::new(3, 4) else {
         return Err(Fail::from("off the grid"));
     };
-    let feature = Feature::new(Geometry::Point(point));
+    let Ok(valid) = validate(rt.alloc(), Geometry::Point(point)) else {
+        return Err(Fail::from("no memory"));
+    };
+    let feature = Feature::new(valid);
     let Ok(()) = store.put_feature(rt.alloc(), 0, 1, feature) else {
         return Err(Fail::from("no memory"));
     };
     let (name, layer) = store.layer_at(0).ok_or("no layer")?;
     assert_eq!(rt; name, "wells");
     assert_eq!(rt; layer.next_id(), 2);
-    let Geometry::Point(found) = layer.feature(1).ok_or("no feature")?.geometry() else {
+    let feature = layer.feature(1).ok_or("no feature")?;
+    let Geometry::Point(found) = feature.valid().geometry() else {
         return Err(Fail::from("another kind"));
     };
     assert_eq!(rt; (found.x(), found.y()), (3, 4));

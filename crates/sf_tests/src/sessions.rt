@@ -2,7 +2,7 @@
 use super::support::{ByteByByte, answers};
 use std::test::Fail;
 
-const SESSIONS: [(&[u8], &str); 31] = [
+const SESSIONS: [(&[u8], &str); 35] = [
     // A first session. It also refuses a program that always answers for want of memory, and a `serve`
     // that reports a read fault at once.
     (
@@ -61,12 +61,30 @@ const SESSIONS: [(&[u8], &str); 31] = [
     ),
     (
         b"layer add w point\nadd w POINT Z (1 2 3)\nadd w LINESTRING (1 2, 3 4)\nadd w CIRCLE (1 2)\nadd w POINT (1 2\nadd w\n",
-        "ok\nrefused 6 UnsupportedType\nrefused 6 UnsupportedType\nrefused 6 UnsupportedType\nrefused 2 Syntax\nrefused 31 BadCommand\n",
+        "ok\nrefused 6 UnsupportedType\nrefused 26 WrongKind\nrefused 6 UnsupportedType\nrefused 2 Syntax\nrefused 31 BadCommand\n",
     ),
-    // Geometries of other kinds are read, and not kept.
+    // Geometries of every kind.
     (
         b"layer add w any\nadd w LINESTRING (1.5 2, 3 4)\nadd w MULTIPOINT (1 2, EMPTY)\nadd w POLYGON ((0 0, 1 0, 1 1, 0 0)\nadd w MultiPoint (1 2, (3 4))\nshow w\n",
-        "ok\nrefused 3 OffGrid\nrefused 5 Empty\nrefused 2 Syntax\nrefused 6 UnsupportedType\nrows 0\n",
+        "ok\nrefused 3 OffGrid\nrefused 5 Empty\nrefused 2 Syntax\nok 1\nrows 1\n1 MULTIPOINT ((1 2), (3 4))\n",
+    ),
+    (
+        b"layer add w any\nadd w LINESTRING (0 0, 3 4)\nadd w POLYGON ((0 0, 9 0, 9 9, 0 0), (3 1, 8 1, 8 6, 3 1))\nadd w MULTILINESTRING ((0 0, 1 1), (2 2, 3 3))\nadd w MULTIPOLYGON (((0 0, 1 0, 0 1, 0 0)), ((5 5, 6 5, 5 6, 5 5)))\nshow w\nundo\n",
+        "ok\nok 1\nok 2\nok 3\nok 4\nrows 4\n1 LINESTRING (0 0, 3 4)\n2 POLYGON ((0 0, 9 0, 9 9, 0 0), (3 1, 8 1, 8 6, 3 1))\n3 MULTILINESTRING ((0 0, 1 1), (2 2, 3 3))\n4 MULTIPOLYGON (((0 0, 1 0, 0 1, 0 0)), ((5 5, 6 5, 5 6, 5 5)))\nok\n",
+    ),
+    // Faults of shape, each the first in the order of the rules; what they refuse takes no identifier.
+    (
+        b"layer add w any\nadd w LINESTRING (7 7, 7 7)\nadd w POLYGON ((0 0, 9 0, 9 9, 0 9))\nadd w POLYGON ((0 0, 9 0, 0 0))\nadd w POLYGON ((0 0, 9 9, 9 0, 0 9, 0 0))\nadd w POLYGON ((0 0, 30 0, 30 30, 0 30, 0 0), (0 10, 10 10, 0 20, 0 10))\n",
+        "ok\nrefused 10 ShortLine\nrefused 11 OpenRing\nrefused 12 ShortRing\nrefused 13 RingNotSimple\nrefused 14 RingsMeet\n",
+    ),
+    (
+        b"layer add w any\nadd w POLYGON ((0 0, 9 0, 9 9, 0 9, 0 0), (20 20, 25 20, 25 25, 20 20))\nadd w POLYGON ((0 0, 30 0, 30 30, 0 30, 0 0), (5 5, 25 5, 25 25, 5 25, 5 5), (10 10, 20 10, 20 20, 10 10))\nadd w MULTIPOLYGON (((0 0, 10 0, 10 10, 0 10, 0 0)), ((2 2, 4 2, 4 4, 2 2)))\nadd w POLYGON ((0 0, 10 0, 10 10, 0 10, 0 0))\n",
+        "ok\nrefused 15 HoleOutside\nrefused 16 HolesNested\nrefused 17 PolygonsOverlap\nok 1\n",
+    ),
+    // Rings may touch at points: hole and shell, two holes, two polygons.
+    (
+        b"layer add w any\nadd w POLYGON ((0 0, 20 0, 20 20, 0 20, 0 0), (0 5, 5 2, 5 8, 0 5))\nadd w POLYGON ((0 0, 20 0, 20 20, 0 20, 0 0), (5 5, 10 5, 10 10, 5 5), (10 10, 15 10, 15 15, 10 10))\nadd w MULTIPOLYGON (((0 0, 5 0, 5 5, 0 0)), ((5 5, 9 5, 9 9, 5 5)))\n",
+        "ok\nok 1\nok 2\nok 3\n",
     ),
     // Kinds of layers.
     (

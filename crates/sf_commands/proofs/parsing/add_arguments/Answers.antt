@@ -2,30 +2,20 @@ use Rattle.std.proofs.Common.{◌≡◌, ◌∙◌, Ok, Result, ap, subst, sym}
 use Rattle.sf_refusals.specs.declared.refusal.Refusal.{Refusal}
 use Rattle.sf_wkt.specs.Grammar.{read}
 use Rattle.sf_commands.specs.declared.command.Command.{Command}
-use Rattle.sf_commands.specs.Commands.{add_command, add_kept, OrMemory}
-use Rattle.sf_commands.proofs.AddLemmas.{add_arguments-text, OrMemory-refused, OrMemory-unread}
+use Rattle.sf_commands.specs.Commands.{add_command, OrMemory}
+use Rattle.sf_commands.proofs.AddLemmas.{add_arguments-text, OrMemory-unread}
 use Rattle.sf_commands.proofs.parsing.add_arguments.Goals as goal
-
-pub returns-in_err-found : goal.returns-in_err-found
-returns-in_err-found c =
-    let layer = c.in_ok-layer.layer.now in
-    let P : Result Command Refusal → Type 0 = λ expected. OrMemory expected c.from_residual-in_err-found.result in
-    subst P (sym (add_arguments-text c.args.words c.next.new.self layer c.in_ok-rest.field-0.now c.in_ok-layer.ensures.0 c.in_ok-layer.ensures.1 c.in_ok-rest.ensures.0 c.in_ok-rest.ensures.1))
-    (OrMemory-unread layer (read c.in_ok-rest.field-0.now) c.from_residual-in_err-found.result _ c.in_err-found.ensures.exact c.from_residual-in_err-found.ensures.1)
 
 pub returns-in_err-geometry : goal.returns-in_err-geometry
 returns-in_err-geometry c =
     let layer = c.in_ok-layer.layer.now in
-    OrMemory-refused _ c.from_residual-in_err-geometry.result _
-    (add_arguments-text c.args.words c.next.new.self layer c.in_ok-rest.field-0.now c.in_ok-layer.ensures.0 c.in_ok-layer.ensures.1 c.in_ok-rest.ensures.0 c.in_ok-rest.ensures.1
-    ∙ ap (add_command layer) (sym c.in_ok-found.ensures.exact)
-    ∙ ap (add_kept layer) (sym c.in_err-geometry.ensures))
-    c.from_residual-in_err-geometry.ensures.1
+    let P : Result Command Refusal → Type 0 = λ expected. OrMemory expected c.from_residual-in_err-geometry.result in
+    subst P (sym (add_arguments-text c.args.words c.next.new.self layer c.in_ok-rest.field-0.now c.in_ok-layer.ensures.0 c.in_ok-layer.ensures.1 c.in_ok-rest.ensures.0 c.in_ok-rest.ensures.1))
+    (OrMemory-unread layer (read c.in_ok-rest.field-0.now) c.from_residual-in_err-geometry.result _ c.in_err-geometry.ensures.exact c.from_residual-in_err-geometry.ensures.1)
 
 pub returns : goal.returns
 returns c =
     let layer = c.in_ok-layer.layer.now in
-    ap (λ l. add_kept l (Ok c.in_ok-geometry.geometry)) c.in_ok-layer-2.ensures
+    ap (λ l. add_command l (Ok c.in_ok-geometry.geometry)) c.in_ok-layer-2.ensures
     ∙ sym (add_arguments-text c.args.words c.next.new.self layer c.in_ok-rest.field-0.now c.in_ok-layer.ensures.0 c.in_ok-layer.ensures.1 c.in_ok-rest.ensures.0 c.in_ok-rest.ensures.1
-    ∙ ap (add_command layer) (sym c.in_ok-found.ensures.exact)
-    ∙ ap (add_kept layer) (sym c.in_ok-geometry.ensures))
+    ∙ ap (add_command layer) (sym c.in_ok-geometry.ensures.exact))

@@ -1,5 +1,5 @@
 use Rattle.std.proofs.Common.{◌≡◌, ◌∙◌, refl, sym, ap, Option, None, Some, is_some, option_map, slice_get}
-use Rattle.sf_edits.proofs.Accepted.{first_refusal-AddFeature}
+use Rattle.sf_edits.proofs.Accepted.{first_refusal-entry}
 use Rattle.sf_edits.proofs.FeatureLaws.{entry-place_of, layer_of-at}
 use Rattle.sf_edits.proofs.feature_edits.place_for_feature.Goals as goal
 
@@ -13,16 +13,16 @@ unwrap-requires c =
     ∙ ap (λ place. is_some (slice_get c.args.store.now place)) c.in-Some.ensures.there
     ∙ entry-place_of c.args.store.now c.args.name.now (sym c.in-Some.ensures.found)
 
-pub returns-in-Some-add_to_layer_fault-clause-refused : goal.returns-in-Some-add_to_layer_fault-clause-refused
-returns-in-Some-add_to_layer_fault-clause-refused c =
-    first_refusal-AddFeature c.args.store.now c.args.name.now c.args.geometry.now c.unwrap.result.1.now
+pub returns-in-Some-entry_fault-clause-refused : goal.returns-in-Some-entry_fault-clause-refused
+returns-in-Some-entry_fault-clause-refused c =
+    first_refusal-entry c.args.store.now c.args.name.now c.args.geometry.now c.unwrap.result.1.now
     (layer_of-at c.args.store.now c.args.name.now c.in-Some.place (c.unwrap.result.0.now, c.unwrap.result.1.now) c.in-Some.ensures.there
     (sym c.layer_at.ensures ∙ ap (option_map (λ entry. (entry.0.now, entry.1.now))) c.unwrap.ensures))
-    ∙ sym c.in-Some-add_to_layer_fault.ensures
+    ∙ sym c.in-Some-entry_fault.ensures
 
 pub returns-in-None-clause-passed : goal.returns-in-None-clause-passed
 returns-in-None-clause-passed c =
-    first_refusal-AddFeature c.args.store.now c.args.name.now c.args.geometry.now c.unwrap.result.1.now
+    first_refusal-entry c.args.store.now c.args.name.now c.args.geometry.now c.unwrap.result.1.now
     (layer_of-at c.args.store.now c.args.name.now c.in-Some.place (c.unwrap.result.0.now, c.unwrap.result.1.now) c.in-Some.ensures.there
     (sym c.layer_at.ensures ∙ ap (option_map (λ entry. (entry.0.now, entry.1.now))) c.unwrap.ensures))
     ∙ sym c.in-None.ensures

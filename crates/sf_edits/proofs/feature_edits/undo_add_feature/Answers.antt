@@ -36,4 +36,4 @@ returns c =
     (from_place content c.args.layer (λ layer. feature_of layer c.args.id ≡ Some c.pop_feature-feature.result)
     (subst (λ n. IsSomeAnd (slice_get content n) (λ entry. feature_of entry.1 c.args.id ≡ Some c.pop_feature-feature.result)) at c.pop_feature-feature.ensures.taken)) in
     Reverts-described content c.pop_feature-feature.new.self (TakeFeature c.args.layer c.args.id) (AddFeature c.args.layer c.into_geometry.result) c.requires new
-    (ap (AddFeature c.args.layer) c.into_geometry.ensures ∙ sym (ap (adding_feature c.args.layer) taken))
+    (ap (AddFeature c.args.layer) (c.into_geometry.ensures.same ∙ c.into_valid.ensures) ∙ sym (ap (adding_feature c.args.layer) taken))

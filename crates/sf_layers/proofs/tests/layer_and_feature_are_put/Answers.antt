@@ -6,6 +6,7 @@ use Rattle.sf_grid.specs.Plane.{Coordinates}
 use Rattle.sf_layers.specs.declared.layer_kind.LayerKind.TheVariants.{Only}
 use Rattle.sf_layers.specs.Content.{Content, FeatureContent, plain_feature, change_at, with_feature, with_next_id}
 use Rattle.sf_layers.specs.WellFormed.{IsWellFormed}
+use Rattle.sf_validity.specs.Held.{IsHeld}
 use Rattle.sf_layers.proofs.tests.layer_and_feature_are_put.Goals as goal
 
 -- a content of one layer of points, named "wells"
@@ -13,9 +14,9 @@ abbrev wells : ℕ → List (ℕ × FeatureContent) → Content
 wells next features = (119 ∷ 101 ∷ 108 ∷ 108 ∷ 115 ∷ [], record { kind = Only Point; next_id = next; next_column = 1; columns = []; features = features }) ∷ []
 
 -- it is well formed with the feature 1, a point
-IsWellFormed-one : (point : Coordinates) → IsWellFormed (wells 2 ((1, plain_feature (geometries.Point point)) ∷ []))
+IsWellFormed-one : (point : Coordinates) → IsHeld (geometries.Point point) → IsWellFormed (wells 2 ((1, plain_feature (geometries.Point point)) ∷ []))
 unfolding IsStrictlySortedBy
-IsWellFormed-one point = record {
+IsWellFormed-one point held = record {
   few = lit≤ tt;
   named = (refl, tt);
   distinct = (refl, tt);
@@ -28,7 +29,7 @@ IsWellFormed-one point = record {
       column_numbers = tt;
       rising = (tt, tt);
       ids = ((lit≤ tt, lit< tt), tt);
-      features = (record { admitted = refl; rising = tt; values = tt }, tt);
+      features = (record { admitted = refl; valid = held.valid; on_grid = held.on_grid; rising = tt; values = tt }, tt);
     },
     tt,
   );
@@ -44,4 +45,4 @@ put_feature-requires-clause-fits g c =
     let raised : c.set_next_id.new.self ≡ wells 2 [] =
     c.set_next_id.ensures ∙ ap (λ content. change_at 0 (with_next_id 2) content) is in
     subst (λ content. IsWellFormed (change_at 0 (with_feature 1 c.new-feature.result) content)) (sym raised)
-    (subst (λ feature. IsWellFormed (wells 2 ((1, feature) ∷ []))) (sym c.new-feature.ensures) (IsWellFormed-one c.in-Some.point))
+    (subst (λ feature. IsWellFormed (wells 2 ((1, feature) ∷ []))) (sym (c.new-feature.ensures ∙ ap plain_feature c.in-Ok-validate.ensures.kept)) (IsWellFormed-one c.in-Some.point c.in-Ok-validate.ensures.valid))

@@ -1,0 +1,13 @@
+pub mod TestLaws
+pub mod ColourLaws
+pub mod GroupLaws
+pub mod PieceLaws
+pub mod NearLaws
+pub mod MeetLaws
+pub mod WalkLaws
+pub mod PushLaws
+pub mod SizeLaws
+pub mod WithinLaws
+pub mod PolygonLaws
+pub mod BetweenLaws
+pub mod FaultLaws

@@ -1,0 +1,4 @@
+pub mod Colours
+pub mod Rings
+pub mod Tests
+pub mod Found

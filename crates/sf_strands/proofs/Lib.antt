@@ -1,0 +1,14 @@
+pub mod TightLaws
+pub mod ChainLaws
+pub mod EndLaws
+pub mod LinkLaws
+pub mod NumberedLaws
+pub mod StrandLaws
+pub mod PassLaws
+pub mod TangleLaws
+pub mod CountedLaws
+pub mod WalkLaws
+pub mod PushLaws
+pub mod MeetingLaws
+pub mod PlaceLaws
+pub mod PairLaws

@@ -1,0 +1,7 @@
+use Rattle.std.proofs.Common.{◌≡◌, ◌++◌, map, take}
+use Rattle.sf_columns.specs.declared.piece.Piece.TheVariants.{Dot}
+use Rattle.sf_pieces.specs.Marked.{marked}
+use Rattle.sf_strands.proofs.strands.push_dots.Given as goal
+
+abbrev pub invariant-loop-point : goal.invariant-loop-point
+invariant-loop-point l = l.strands ≡ l.initial.strands ++ marked l.group (map Dot (take l.point-index l.points))

@@ -1,0 +1,5 @@
+pub mod Tangles
+pub mod Strands
+pub mod Tight
+pub mod Walks
+pub mod Pairs

@@ -1,0 +1,44 @@
+ghost use Rattle.std.specs.Prelude.{◌↔◌, ◌≤◌, IfOk, IsTrue, length};
+ghost use Rattle.sf_geometry.specs.Parts.{joined};
+ghost use Rattle.sf_rules.specs.Conditions.{Applies, Condition};
+ghost use Rattle.sf_rules.specs.Shapes.{meets_itself as meets_itself_at};
+ghost use Rattle.sf_strands.specs.Tangles.{are_tangled as are_tangled_at};
+
+use crate::pairs::some_pair_meets;
+use crate::strands::{push_strands, some_tangle, two_strands_meet};
+use sf_geometry::{Sequence, tight};
+use sf_grid::GridPoint;
+use sf_pieces::GroupedPieces;
+use std::alloc::{AllocError, Global};
+
+/// How many edges are compared in pairs at most: of more edges a walk takes less time than all their
+/// pairs.
+const PAIRS_MAX: usize = 48;
+
+/// Whether a line or ring meets itself: whether two of its edges share a point that isn't their
+/// common vertex as neighbours. It fails only where memory is wanting.
+pub fn meets_itself(alloc: Global, points: &[GridPoint]) -> Result<bool, AllocError>
+    requires few { length points.now ≤ 4096 }
+    ensures { IfOk result (λ found. IsTrue found ↔ Applies (Condition.AtPoint (meets_itself_at points.now))) }
+{
+    let points = tight(alloc, points)?;
+    if points.len() <= PAIRS_MAX + 1 {
+        Ok(some_pair_meets(points.as_slice()))
+    } else {
+        two_strands_meet(alloc, points.as_slice())
+    }
+}
+
+/// Whether one of the lines meets itself, or two of them meet at a point where not both end. It
+/// fails only where memory is wanting.
+pub fn are_tangled(alloc: Global, lines: &[Sequence<GridPoint>]) -> Result<bool, AllocError>
+    requires few { length (joined lines.now) ≤ 4096 }
+    ensures { IfOk result (λ found. IsTrue found ↔ Applies (Condition.AtPoint (are_tangled_at lines.now))) }
+{
+    let mut strands = GroupedPieces::new(alloc);
+    for line in lines {
+        let points = tight(alloc, line.as_slice())?;
+        push_strands(&mut strands, points.as_slice())?;
+    }
+    some_tangle(alloc, &strands)
+}

@@ -1,0 +1,4 @@
+pub mod RuleLaws
+pub mod RepeatLaws
+pub mod SimpleLaws
+pub mod ValidLaws

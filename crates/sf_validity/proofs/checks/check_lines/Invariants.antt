@@ -1,0 +1,9 @@
+use Rattle.std.proofs.Common.{take}
+use Rattle.std.specs.List.{flat_map}
+use Rattle.sf_rules.specs.Rules.{line_rules}
+use Rattle.sf_rules.specs.Validity.{NoneApplies}
+use Rattle.sf_validity.proofs.checks.check_lines.Given as goal
+
+-- no rule of those that were passed applies
+abbrev pub invariant-loop-points : goal.invariant-loop-points
+invariant-loop-points l = NoneApplies (flat_map line_rules (take l.points-index l.lines))

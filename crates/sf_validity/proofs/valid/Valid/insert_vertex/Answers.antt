@@ -1,0 +1,26 @@
+use Rattle.std.proofs.Common.{◌∙◌, sym, subst}
+use Rattle.sf_geometry.specs.Vertices.{remove_vertex}
+use Rattle.sf_validity.specs.Held.{IsHeld}
+use Rattle.sf_validity.proofs.ValidLaws.{back-is, back-ok, insert-back}
+use Rattle.sf_validity.proofs.valid.Valid.insert_vertex.Goals as goal
+
+pub unwrap-requires : goal.unwrap-requires
+unwrap-requires c =
+    back-ok c.remove_vertex.result (remove_vertex c.insert_vertex.new.self c.args.part c.args.ring c.args.index) c.self.inside.geometry
+    (insert-back c.self.inside.geometry c.insert_vertex.new.self c.args.part c.args.ring c.args.index c.args.point c.self.invariant.valid c.in_ok-insert_vertex.ensures.inserted)
+    c.remove_vertex.ensures.refused
+
+pub invariant_of-self-in-Err : goal.invariant_of-self-in-Err
+invariant_of-self-in-Err c =
+    subst IsHeld
+    (sym (back-is c.remove_vertex.result c.unwrap.result (remove_vertex c.insert_vertex.new.self c.args.part c.args.ring c.args.index) c.self.inside.geometry c.remove_vertex.new.self
+    (insert-back c.self.inside.geometry c.insert_vertex.new.self c.args.part c.args.ring c.args.index c.args.point c.self.invariant.valid c.in_ok-insert_vertex.ensures.inserted)
+    c.unwrap.ensures c.remove_vertex.ensures.removed))
+    c.self.invariant
+
+pub returns-in-Err-clause-unchanged : goal.returns-in-Err-clause-unchanged
+returns-in-Err-clause-unchanged c =
+    back-is c.remove_vertex.result c.unwrap.result (remove_vertex c.insert_vertex.new.self c.args.part c.args.ring c.args.index) c.self.inside.geometry c.remove_vertex.new.self
+    (insert-back c.self.inside.geometry c.insert_vertex.new.self c.args.part c.args.ring c.args.index c.args.point c.self.invariant.valid c.in_ok-insert_vertex.ensures.inserted)
+    c.unwrap.ensures c.remove_vertex.ensures.removed
+    ∙ c.self.view_is

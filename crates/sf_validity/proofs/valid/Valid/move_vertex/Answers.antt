@@ -1,0 +1,34 @@
+use Rattle.std.proofs.Common.{◌∙◌, sym, subst}
+use Rattle.sf_geometry.specs.Vertices.{changed, exchange, move_vertex}
+use Rattle.sf_validity.specs.Held.{IsHeld}
+use Rattle.sf_validity.proofs.ValidLaws.{back-is, back-ok, move-back, outcome-sized}
+use Rattle.sf_validity.proofs.valid.Valid.move_vertex.Goals as goal
+
+pub check-requires : goal.check-requires
+check-requires c =
+    outcome-sized (changed (exchange c.args.index c.args.point) c.args.part c.args.ring c.self.inside.geometry) c.move_vertex.new.self c.in_ok-old.ensures.moved
+
+pub move_vertex-requires-in-Err : goal.move_vertex-requires-in-Err
+move_vertex-requires-in-Err c =
+    record { sized = outcome-sized (changed (exchange c.args.index c.args.point) c.args.part c.args.ring c.self.inside.geometry) c.move_vertex.new.self c.in_ok-old.ensures.moved }
+
+pub unwrap-requires : goal.unwrap-requires
+unwrap-requires c =
+    back-ok c.move_vertex-in-Err.result (move_vertex c.move_vertex.new.self c.args.part c.args.ring c.args.index c.in_ok-old.old) c.self.inside.geometry
+    (move-back c.self.inside.geometry c.move_vertex.new.self c.args.part c.args.ring c.args.index c.args.point c.in_ok-old.old c.self.invariant.valid c.in_ok-old.ensures.given c.in_ok-old.ensures.moved)
+    c.move_vertex-in-Err.ensures.refused
+
+pub invariant_of-self-in-Err : goal.invariant_of-self-in-Err
+invariant_of-self-in-Err c =
+    subst IsHeld
+    (sym (back-is c.move_vertex-in-Err.result c.unwrap.result (move_vertex c.move_vertex.new.self c.args.part c.args.ring c.args.index c.in_ok-old.old) c.self.inside.geometry c.move_vertex-in-Err.new.self
+    (move-back c.self.inside.geometry c.move_vertex.new.self c.args.part c.args.ring c.args.index c.args.point c.in_ok-old.old c.self.invariant.valid c.in_ok-old.ensures.given c.in_ok-old.ensures.moved)
+    c.unwrap.ensures c.move_vertex-in-Err.ensures.moved))
+    c.self.invariant
+
+pub returns-in-Err-clause-unchanged : goal.returns-in-Err-clause-unchanged
+returns-in-Err-clause-unchanged c =
+    back-is c.move_vertex-in-Err.result c.unwrap.result (move_vertex c.move_vertex.new.self c.args.part c.args.ring c.args.index c.in_ok-old.old) c.self.inside.geometry c.move_vertex-in-Err.new.self
+    (move-back c.self.inside.geometry c.move_vertex.new.self c.args.part c.args.ring c.args.index c.args.point c.in_ok-old.old c.self.invariant.valid c.in_ok-old.ensures.given c.in_ok-old.ensures.moved)
+    c.unwrap.ensures c.move_vertex-in-Err.ensures.moved
+    ∙ c.self.view_is
