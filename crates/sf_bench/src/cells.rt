@@ -109,7 +109,8 @@ fn walk_once<S: CellSink>(alloc: Global, shape: &Shape, sink: &mut S) -> Result<
     walk(alloc, pieces, groups, sink)
 }
 
-fn walk_often(alloc: Global, shape: &Shape, rounds: u32) -> Result<u64, AllocError> {
+/// The cells of the last of several walks over a shape, folded into one word.
+pub(crate) fn walk_often(alloc: Global, shape: &Shape, rounds: u32) -> Result<u64, AllocError> {
     let mut folded = Folded { word: 0 };
     for _ in 0..rounds {
         folded.word = 0;

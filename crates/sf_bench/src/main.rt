@@ -1,11 +1,16 @@
-//! Times of the calls of `sf_grid`, and of walks over the cells of large rings and combs. The first
-//! argument chooses: `grid` or `cells`. The second one is the number of rounds.
+//! Times of the calls of `sf_grid`, of walks over the cells of large rings and combs, and of the checks
+//! of validity and simplicity. The first argument chooses: `grid`, `cells` or `validity`. The second
+//! one is the number of rounds.
 #![tactic(auto)]
 
 mod cells;
 mod grid;
+mod outlines;
+mod polygons;
 mod shape;
 mod sinks;
+mod timing;
+mod validity;
 
 use std::{env, io};
 
@@ -14,6 +19,7 @@ use std::{env, io};
 enum Choice {
     Grid,
     Cells,
+    Validity,
 }
 
 fn main(rt: HostRuntime) -> io::Result<()> {
@@ -23,6 +29,7 @@ fn main(rt: HostRuntime) -> io::Result<()> {
         match word.as_str() {
             "grid" => choice = Choice::Grid,
             "cells" => choice = Choice::Cells,
+            "validity" => choice = Choice::Validity,
             word => {
                 if let Ok(n) = word.parse::<u32>() {
                     rounds = n;
@@ -33,5 +40,6 @@ fn main(rt: HostRuntime) -> io::Result<()> {
     match choice {
         Choice::Grid => grid::run(&rt, rounds),
         Choice::Cells => cells::run(&rt, rounds),
+        Choice::Validity => validity::run(&rt, rounds),
     }
 }

@@ -1,5 +1,6 @@
 //! Rings and combs, as pieces with a group for each.
 
+use sf_geometry::Geometry;
 use sf_grid::GridPoint;
 use sf_slabs::Piece;
 use std::alloc::{AllocError, Global};
@@ -40,6 +41,16 @@ impl Shape {
             pieces: Vec::new(alloc),
             groups: Vec::new(alloc),
         }
+    }
+
+    /// The edges of a geometry, all in one group.
+    pub(crate) fn of(alloc: Global, geometry: &Geometry) -> Result<Shape, AllocError> {
+        let mut shape = Shape::new(alloc);
+        for (a, b) in geometry.edges(alloc)? {
+            shape.pieces.push(Piece::Edge(a, b))?;
+            shape.groups.push(0)?;
+        }
+        Ok(shape)
     }
 
     /// Adds an edge, unless an end is off the grid or both are one.
@@ -112,13 +123,14 @@ fn piece(a: Place, b: Place) -> Option<Piece> {
     }
 }
 
-fn point(at: Place) -> Option<GridPoint> {
+/// The point of the grid at a place.
+pub(crate) fn point(at: Place) -> Option<GridPoint> {
     GridPoint::new(i32::try_from(at.0).ok()?, i32::try_from(at.1).ok()?)
 }
 
 /// The corner `k` of a ring: in one of four quarters of a circle, of which it has gone the part
 /// `past / size`, as tangents of half the angle measure it.
-fn corner(ring: &Ring, k: u16) -> Place {
+pub(crate) fn corner(ring: &Ring, k: u16) -> Place {
     let size = i64::from(ring.size).max(1);
     let steps = i64::from(k).wrapping_mul(4);
     let past = steps.checked_rem(size).unwrap_or(0);

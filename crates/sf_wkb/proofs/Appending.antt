@@ -32,7 +32,8 @@ some_of : {T : Type 0} (xs : List T) → is_empty xs ≡ false → 1 ≤ length 
 some_of [] filled = absurd cc
 some_of (x ∷ xs) filled = omega arith
 
-no_longer : {T : Type 0} (lists : List (List T)) → list_any is_empty lists ≡ false → length lists ≤ length (joined lists)
+-- where no list is empty, there are no more lists than items
+pub no_longer : {T : Type 0} (lists : List (List T)) → list_any is_empty lists ≡ false → length lists ≤ length (joined lists)
 no_longer [] filled = omega arith
 no_longer (x ∷ xs) filled =
     let both = or_false (is_empty x) (list_any is_empty xs) filled in
@@ -69,7 +70,8 @@ all_few (x ∷ xs) filled few =
     let lengths = ap length split ∙ length-append (joined x) (joined (joined xs)) in
     (few_lists x both.0 (omega (arith, lengths, few)), all_few xs both.1 (omega (arith, lengths, few)))
 
-no_more : (polygons : List (List (List Coordinates))) → list_any has_empty polygons ≡ false → length polygons ≤ length (joined (joined polygons))
+-- and no more polygons than points
+pub no_more : (polygons : List (List (List Coordinates))) → list_any has_empty polygons ≡ false → length polygons ≤ length (joined (joined polygons))
 no_more [] filled = omega arith
 no_more (x ∷ xs) filled =
     let both = or_false (has_empty x) (list_any has_empty xs) filled in

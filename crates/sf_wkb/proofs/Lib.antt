@@ -1,6 +1,7 @@
 pub mod Appending
 pub mod Chains
 pub mod Computed
+pub mod Lengths
 pub mod Loops
 pub mod OtherWords
 pub mod RoundTrip

@@ -13,7 +13,12 @@ use sf_geometry::{Geometry, Kind, Sequence};
 use sf_grid::GridPoint;
 use std::alloc::{AllocError, Global};
 
-/// The canonical bytes of a geometry.
+/// The canonical bytes of a geometry, at most 118,793: the least significant byte first at every level,
+/// and of each coordinate the word that `word_of` gives.
+///
+/// # Errors
+///
+/// Where no memory was found for the bytes.
 pub fn write(alloc: Global, geometry: &Geometry) -> Result<Vec<u8>, AllocError>
     requires { IsSized geometry.now }
     ensures { IfOk result (λ bytes. bytes.items ≡ canonical geometry.now) }
@@ -23,7 +28,11 @@ pub fn write(alloc: Global, geometry: &Geometry) -> Result<Vec<u8>, AllocError>
     Ok(bytes)
 }
 
-/// Puts the canonical bytes of a geometry behind others. An Err leaves the others as they were.
+/// Puts the canonical bytes of a geometry behind others.
+///
+/// # Errors
+///
+/// Where no memory was found for them. The others are then as they were.
 pub fn append(alloc: Global, bytes: &mut Vec<u8>, geometry: &Geometry) -> Result<(), AllocError>
     requires { IsSized geometry.now }
     ensures appended { OnOk result (bytes.new.items ≡ bytes.old.items ++ canonical geometry.now) }

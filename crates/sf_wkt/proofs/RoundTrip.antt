@@ -1,5 +1,5 @@
 -- The canonical text of a sized geometry on the grid reads as that geometry.
-use Rattle.std.proofs.Common.{◌≡◌, ℕ, zero, suc, ◌+◌, ◌-◌, ◌*◌, ◌<◌, ◌≤◌, ◌^◌, ℤ, pos, negsuc, Bool, true, false, ◌&&◌, ◌||◌, ◌==◌, nat_lt, List, [], ◌∷◌, ◌++◌, length, drop, fold, Result, Ok, Err, IsFalse, codes, if◌then◌else◌, refl, sym, ap, ◌∙◌, subst, arith, rules, length-append}
+use Rattle.std.proofs.Common.{◌≡◌, ℕ, zero, suc, ◌+◌, ◌-◌, ◌*◌, ◌<◌, ◌≤◌, ◌^◌, ℤ, pos, negsuc, Bool, true, false, ◌&&◌, ◌==◌, nat_lt, List, [], ◌∷◌, ◌++◌, length, drop, fold, Result, Ok, Err, codes, if◌then◌else◌, refl, sym, ap, ◌∙◌, subst, arith, rules, length-append}
 use Rattle.std.proofs.Math.Seq.{take-append_seam, drop-append_seam}
 use Rattle.std.proofs.lemmas.Bool.Decides.{nat_tests}
 use Rattle.std.proofs.lemmas.Fmt.{digits_decimal, digits_value-decimal, decimal_nonempty}
@@ -8,7 +8,7 @@ use Rattle.std.proofs.lemmas.List.{append-nil}
 use Rattle.std.proofs.lemmas.Str.Parse.{IsNumeralModel, numerals_by_fold}
 use Rattle.std.specs.Char.{is_ascii_alphabetic, is_ascii_digit}
 use Rattle.std.specs.Fmt.{decimal, signed_decimal}
-use Rattle.std.specs.List.{prefix_len, flat_map, join_by, list_any, AllByRecursion}
+use Rattle.std.specs.List.{prefix_len, flat_map, AllByRecursion}
 use Rattle.std.specs.Str.{all_ascii_digits}
 use Rattle.sf_grid.specs.Bounds.{IsCoordinate, is_coordinate}
 use Rattle.sf_grid.specs.Plane.{Coordinates, IsOnGrid}
@@ -16,8 +16,8 @@ use Rattle.sf_geometry.specs.declared.geometry.Geometry.{Geometry}
 use Rattle.sf_geometry.specs.declared.geometry.Geometry.TheVariants.{Point, LineString, Polygon, MultiPoint, MultiLineString, MultiPolygon}
 use Rattle.sf_geometry.specs.declared.kind.Kind.{Kind}
 use Rattle.sf_geometry.specs.declared.kind.Kind.TheVariants as kinds
-use Rattle.sf_geometry.specs.Parts.{joined, points_of}
-use Rattle.sf_geometry.specs.Size.{points_max, is_empty, has_empty, IsSized}
+use Rattle.sf_geometry.specs.Parts.{points_of}
+use Rattle.sf_geometry.specs.Size.{points_max, IsSized}
 use Rattle.sf_wkt.specs.declared.fault.WktFault.{WktFault}
 use Rattle.sf_wkt.specs.declared.fault.WktFault.TheVariants as faults
 use Rattle.sf_wkt.specs.declared.token.PlacedToken.{PlacedToken}

@@ -9,10 +9,16 @@ use sf_grid::GridPoint;
 use std::alloc::{AllocError, Global};
 use std::fmt::{self, InlineText, Write};
 
-/// At least the length of the canonical text of a point.
-const POINT_LEN: usize = 24;
+/// At least the length of the canonical text of a point, whatever its coordinates: 9 bytes beside two
+/// of them, of which each takes 11 at most.
+const POINT_LEN: usize = 32;
 
-/// The canonical text of a geometry.
+/// The canonical text of a geometry: the keyword in capitals, a comma and a space between two items,
+/// each point of a MultiPoint in brackets, and numbers with no sign for plus, leading zero or fraction.
+///
+/// # Errors
+///
+/// Where no memory was found for the text.
 pub fn write(alloc: Global, geometry: &Geometry) -> Result<String, AllocError>
     ensures { IfOk result (λ text. string_bytes text ≡ canonical geometry.now) }
 {
@@ -21,7 +27,11 @@ pub fn write(alloc: Global, geometry: &Geometry) -> Result<String, AllocError>
     Ok(text)
 }
 
-/// Puts the canonical text of a geometry behind a text. An Err leaves the text as it was.
+/// Puts the canonical text of a geometry behind a text.
+///
+/// # Errors
+///
+/// Where no memory was found for it. The text is then as it was.
 pub fn append(alloc: Global, text: &mut String, geometry: &Geometry) -> Result<(), AllocError>
     ensures appended { OnOk result
         (string_bytes text.new ≡ string_bytes text.old ++ canonical geometry.now) }

@@ -1,7 +1,7 @@
 use Rattle.std.proofs.Common.{◌≡◌, ◌++◌, take}
 use Rattle.std.specs.Prelude.{codes, string_bytes}
 use Rattle.std.specs.List.{flat_map}
-use Rattle.sf_wkt.specs.Grammar.{in_brackets, list_text, point_text}
+use Rattle.sf_wkt.specs.Grammar.{list_text, point_text}
 use Rattle.sf_wkt.proofs.writing.push_more_lists.Given as goal
 
 abbrev pub invariant-loop-points : goal.invariant-loop-points

@@ -1,0 +1,178 @@
+//! Calls that are timed, and the least of their times.
+
+use crate::cells::walk_often;
+use crate::shape::Shape;
+use sf_geometry::Geometry;
+use sf_refusals::Refusal;
+use sf_validity::{Valid, check, is_simple, validate};
+use std::alloc::Global;
+use std::fmt::{self, Display, Formatter, Write};
+use std::io;
+use std::time::Instant;
+
+/// What is called again and again.
+#[derive(Drop)]
+pub(crate) enum Work {
+    /// The rules of validity.
+    Check(Geometry),
+    /// Simplicity.
+    IsSimple(Valid),
+    /// A walk with a sink that folds the cells.
+    Walk(Shape),
+    /// Nothing, since the geometry isn't valid.
+    Refused(Refusal),
+}
+
+/// What a call answers.
+#[derive(Clone, Copy)]
+enum Answer {
+    Valid,
+    Simple,
+    NotSimple,
+    Folded(u64),
+    Refused(Refusal),
+}
+
+impl Answer {
+    fn name(&self) -> &'static str {
+        match self {
+            Answer::Valid => "valid",
+            Answer::Simple => "simple",
+            Answer::NotSimple => "not simple",
+            Answer::Folded(_) => "walked",
+            Answer::Refused(refusal) => refusal.name(),
+        }
+    }
+
+    /// A word that tells answers apart.
+    fn word(&self) -> u64 {
+        match self {
+            Answer::Valid => 100,
+            Answer::Simple => 101,
+            Answer::NotSimple => 102,
+            Answer::Folded(word) => *word,
+            Answer::Refused(refusal) => u64::from(refusal.number()),
+        }
+    }
+}
+
+impl Work {
+    /// Whether a geometry is simple, which is asked of a valid one.
+    pub(crate) fn simplicity(alloc: Global, geometry: Geometry) -> Work {
+        if let Err(refusal) = geometry.check_size() {
+            return Work::Refused(refusal.into());
+        }
+        match validate(alloc, geometry) {
+            Ok(valid) => Work::IsSimple(valid),
+            Err(invalid) => Work::Refused(invalid.refusal.into()),
+        }
+    }
+
+    /// One call.
+    fn call(&self, alloc: Global) -> Answer {
+        match self {
+            Work::Check(geometry) => checked(alloc, geometry),
+            Work::IsSimple(valid) => asked(alloc, valid),
+            Work::Walk(shape) => walked(alloc, shape),
+            Work::Refused(refusal) => Answer::Refused(*refusal),
+        }
+    }
+
+    /// The words of the answers of several calls, folded into one.
+    fn call_often(&self, alloc: Global, calls: u32) -> u64 {
+        let mut word = 0u64;
+        for _ in 0..calls {
+            word = word.wrapping_mul(31).wrapping_add(self.call(alloc).word());
+        }
+        word
+    }
+
+    /// Times several calls.
+    fn nanos(&self, rt: &HostRuntime, calls: u32) -> io::Result<Taken> {
+        let start = Instant::now(rt)?;
+        let word = self.call_often(rt.alloc(), calls);
+        let time = start.elapsed(rt)?;
+        Ok(Taken {
+            nanos: time.as_nanos(),
+            word,
+        })
+    }
+
+    /// The least time of a call over several repetitions.
+    pub(crate) fn time(&self, rt: &HostRuntime, repeated: &Repeated) -> io::Result<Figure> {
+        let answer = self.call(rt.alloc());
+        let mut least = self.nanos(rt, repeated.calls)?;
+        for _ in 1..repeated.times {
+            let taken = self.nanos(rt, repeated.calls)?;
+            if taken.nanos < least.nanos {
+                least = taken;
+            }
+        }
+        Ok(Figure {
+            nanos: least.nanos / u128::from(repeated.calls).max(1),
+            answer,
+            word: least.word,
+        })
+    }
+}
+
+/// How often a call is repeated: so many calls, so many times.
+#[derive(Clone, Copy)]
+pub(crate) struct Repeated {
+    pub(crate) calls: u32,
+    pub(crate) times: u32,
+}
+
+/// The time of several calls, and their answers folded into a word.
+#[derive(Clone, Copy)]
+struct Taken {
+    nanos: u128,
+    word: u64,
+}
+
+/// The time of a call and its answer. It is shown in microseconds.
+#[derive(Clone, Copy)]
+pub(crate) struct Figure {
+    nanos: u128,
+    answer: Answer,
+    /// The answers of all calls, so that none can be left out.
+    pub(crate) word: u64,
+}
+
+impl Display for Figure {
+    fn fmt<W: Write>(&self, f: &mut Formatter<W>) -> fmt::Result {
+        let hundredths = self.nanos / 10;
+        let name = self.answer.name();
+        write!(
+            f,
+            "{}.{:02} us ({name})",
+            hundredths / 100,
+            hundredths % 100
+        )
+    }
+}
+
+fn checked(alloc: Global, geometry: &Geometry) -> Answer {
+    if let Err(refusal) = geometry.check_size() {
+        return Answer::Refused(refusal.into());
+    }
+    match check(alloc, geometry) {
+        Ok(()) => Answer::Valid,
+        Err(refusal) => Answer::Refused(refusal.into()),
+    }
+}
+
+fn asked(alloc: Global, valid: &Valid) -> Answer {
+    match is_simple(alloc, valid) {
+        Ok(true) => Answer::Simple,
+        Ok(false) => Answer::NotSimple,
+        Err(_) => Answer::Refused(Refusal::Memory),
+    }
+}
+
+fn walked(alloc: Global, shape: &Shape) -> Answer {
+    match walk_often(alloc, shape, 1) {
+        Ok(word) => Answer::Folded(word),
+        Err(_) => Answer::Refused(Refusal::Memory),
+    }
+}
