@@ -4,6 +4,8 @@
 mod checks;
 mod refusal;
 mod simple;
+#[cfg(test)]
+mod tests;
 mod valid;
 
 pub use checks::check;

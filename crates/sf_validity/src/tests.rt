@@ -1,0 +1,441 @@
+//! Shapes and their first faults, worked out by hand from the rules: each turned and mirrored, as it
+//! is and with so many points on its edges that a walk takes it. Changes of vertices, and simplicity.
+
+use crate::{Fault, Refusal, Valid, check, is_simple, validate};
+use sf_geometry::{Geometry, Sequence};
+use sf_grid::GridPoint;
+use std::alloc::Global;
+use std::test::Fail;
+
+type Places = &'static [(i32, i32)];
+
+/// Into how many pieces even one edge is cut so that a ring has more than are compared in pairs.
+const MANY: i32 = 60;
+
+/// A place turned by right angles and mirrored, in one of eight ways.
+fn turned(place: (i32, i32), way: u32) -> (i32, i32) {
+    let (x, y) = if way & 1 == 0 {
+        place
+    } else {
+        (place.1, place.0)
+    };
+    let x = if way & 2 == 0 { x } else { x.wrapping_neg() };
+    let y = if way & 4 == 0 { y } else { y.wrapping_neg() };
+    (x, y)
+}
+
+/// The end of this step, of so many, from the one place to the other, both so many times as far
+/// from the origin.
+fn between(from: (i32, i32), to: (i32, i32), pieces: i32, step: i32) -> Result<GridPoint, Fail> {
+    let run = to.0.wrapping_sub(from.0);
+    let rise = to.1.wrapping_sub(from.1);
+    let x = from
+        .0
+        .wrapping_mul(pieces)
+        .wrapping_add(run.wrapping_mul(step));
+    let y = from
+        .1
+        .wrapping_mul(pieces)
+        .wrapping_add(rise.wrapping_mul(step));
+    Ok(GridPoint::new(x, y).ok_or("off the grid")?)
+}
+
+/// The list of these places, turned, with points that cut each edge into as many pieces.
+fn list(
+    alloc: Global,
+    places: &[(i32, i32)],
+    way: u32,
+    pieces: i32,
+) -> Result<Sequence<GridPoint>, Fail> {
+    let mut points = Vec::new(alloc);
+    for pair in places.windows(2) {
+        for step in 0..pieces {
+            let (from, to) = (turned(pair[0], way), turned(pair[1], way));
+            points.push(between(from, to, pieces, step)?)?;
+        }
+    }
+    if let Some(last) = places.last() {
+        let last = turned(*last, way);
+        points.push(between(last, last, pieces, 0)?)?;
+    }
+    Ok(Sequence::from_vec(points))
+}
+
+/// Several such lists.
+fn lists(
+    alloc: Global,
+    all: &[Places],
+    way: u32,
+    pieces: i32,
+) -> Result<Sequence<Sequence<GridPoint>>, Fail> {
+    let mut found = Vec::new(alloc);
+    for places in all {
+        found.push(list(alloc, places, way, pieces)?)?;
+    }
+    Ok(Sequence::from_vec(found))
+}
+
+/// Polygons of such lists.
+fn polygons(alloc: Global, all: &[&[Places]], way: u32, pieces: i32) -> Result<Geometry, Fail> {
+    let mut found = Vec::new(alloc);
+    for rings in all {
+        found.push(lists(alloc, rings, way, pieces)?)?;
+    }
+    Ok(Geometry::MultiPolygon(Sequence::from_vec(found)))
+}
+
+/// Why a geometry is refused, or None where it is valid.
+fn refusal(alloc: Global, geometry: &Geometry) -> Result<Option<Refusal>, Fail> {
+    if geometry.check_size().is_err() {
+        return Err("not sized".into());
+    }
+    Ok(check(alloc, geometry).err())
+}
+
+/// Whether polygons have this first fault, or none, whichever way they are turned.
+fn have_fault(
+    alloc: Global,
+    all: &[&[Places]],
+    pieces: i32,
+    fault: Option<Fault>,
+) -> Result<bool, Fail> {
+    for way in 0..8 {
+        let geometry = polygons(alloc, all, way, pieces)?;
+        if refusal(alloc, &geometry)? != fault.map(Refusal::Invalid) {
+            return Ok(false);
+        }
+    }
+    Ok(true)
+}
+
+const SHELL: Places = &[(0, 0), (30, 0), (30, 30), (0, 30), (0, 0)];
+
+const HOLE: Places = &[(10, 10), (20, 10), (20, 20), (10, 20), (10, 10)];
+
+const BOW_TIE: Places = &[(0, 0), (10, 10), (10, 0), (0, 10), (0, 0)];
+
+const OPEN: Places = &[(12, 12), (18, 12), (18, 18), (12, 18)];
+
+/// Polygons, each as its rings, and their first fault.
+struct Case {
+    name: &'static str,
+    polygons: &'static [&'static [Places]],
+    fault: Option<Fault>,
+}
+
+const CASES: &[Case] = &[
+    Case {
+        name: "repeated points",
+        polygons: &[&[&[(0, 0), (0, 0), (4, 0), (4, 0), (0, 4), (0, 0), (0, 0)]]],
+        fault: None,
+    },
+    Case {
+        name: "an open ring",
+        polygons: &[&[OPEN]],
+        fault: Some(Fault::OpenRing),
+    },
+    Case {
+        name: "a bow tie",
+        polygons: &[&[BOW_TIE]],
+        fault: Some(Fault::RingNotSimple),
+    },
+    Case {
+        name: "a ring that touches itself at a vertex",
+        polygons: &[&[&[(0, 0), (4, 0), (2, 2), (4, 4), (0, 4), (2, 2), (0, 0)]]],
+        fault: Some(Fault::RingNotSimple),
+    },
+    Case {
+        name: "a ring that touches itself at an edge",
+        polygons: &[&[&[(0, 0), (6, 0), (6, 6), (3, 0), (0, 6), (0, 0)]]],
+        fault: Some(Fault::RingNotSimple),
+    },
+    Case {
+        name: "a ring that runs along itself",
+        polygons: &[&[&[(0, 0), (6, 0), (6, 6), (4, 0), (2, 0), (0, 6), (0, 0)]]],
+        fault: Some(Fault::RingNotSimple),
+    },
+    Case {
+        name: "a spike",
+        polygons: &[&[&[(0, 0), (6, 0), (6, 6), (6, 9), (6, 6), (0, 6), (0, 0)]]],
+        fault: Some(Fault::RingNotSimple),
+    },
+    Case {
+        name: "points in a line",
+        polygons: &[&[&[(0, 0), (4, 0), (8, 0), (0, 0)]]],
+        fault: Some(Fault::RingNotSimple),
+    },
+    Case {
+        name: "an open hole",
+        polygons: &[&[SHELL, OPEN]],
+        fault: Some(Fault::OpenRing),
+    },
+    Case {
+        name: "a ring that isn't simple before an open one",
+        polygons: &[&[BOW_TIE], &[OPEN]],
+        fault: Some(Fault::RingNotSimple),
+    },
+    Case {
+        name: "a hole",
+        polygons: &[&[SHELL, HOLE]],
+        fault: None,
+    },
+    Case {
+        name: "a hole that touches the shell at a point",
+        polygons: &[&[SHELL, &[(0, 15), (10, 10), (10, 20), (0, 15)]]],
+        fault: None,
+    },
+    Case {
+        name: "a hole that touches the shell at two points",
+        polygons: &[&[SHELL, &[(0, 15), (15, 10), (30, 15), (15, 20), (0, 15)]]],
+        fault: None,
+    },
+    Case {
+        name: "a hole equal to its shell",
+        polygons: &[&[SHELL, SHELL]],
+        fault: Some(Fault::RingsMeet),
+    },
+    Case {
+        name: "a hole with an edge along the shell",
+        polygons: &[&[SHELL, &[(0, 10), (10, 10), (10, 20), (0, 20), (0, 10)]]],
+        fault: Some(Fault::RingsMeet),
+    },
+    Case {
+        name: "a hole along the shell that leads out of it",
+        polygons: &[&[SHELL, &[(0, 10), (-9, 15), (0, 20), (0, 10)]]],
+        fault: Some(Fault::RingsMeet),
+    },
+    Case {
+        name: "a hole beside the shell",
+        polygons: &[&[SHELL, &[(40, 10), (50, 10), (50, 20), (40, 10)]]],
+        fault: Some(Fault::HoleOutside),
+    },
+    Case {
+        name: "a hole beside the shell that touches it at a point",
+        polygons: &[&[SHELL, &[(30, 10), (50, 10), (50, 20), (30, 10)]]],
+        fault: Some(Fault::HoleOutside),
+    },
+    Case {
+        name: "a hole over the shell's corner",
+        polygons: &[&[SHELL, &[(20, 20), (40, 20), (40, 40), (20, 40), (20, 20)]]],
+        fault: Some(Fault::HoleOutside),
+    },
+    Case {
+        name: "a hole round the shell",
+        polygons: &[&[HOLE, SHELL]],
+        fault: Some(Fault::HoleOutside),
+    },
+    Case {
+        name: "a hole in a hole",
+        polygons: &[&[SHELL, HOLE, &[(12, 12), (18, 12), (18, 18), (12, 12)]]],
+        fault: Some(Fault::HolesNested),
+    },
+    Case {
+        name: "holes that cross",
+        polygons: &[&[
+            SHELL,
+            HOLE,
+            &[(15, 15), (25, 15), (25, 25), (15, 25), (15, 15)],
+        ]],
+        fault: Some(Fault::HolesNested),
+    },
+    Case {
+        name: "holes that touch at a point",
+        polygons: &[&[SHELL, HOLE, &[(20, 20), (25, 20), (25, 25), (20, 20)]]],
+        fault: None,
+    },
+    Case {
+        name: "equal holes",
+        polygons: &[&[SHELL, HOLE, HOLE]],
+        fault: Some(Fault::RingsMeet),
+    },
+    Case {
+        name: "an island in a hole",
+        polygons: &[&[SHELL, HOLE], &[&[(12, 12), (18, 12), (18, 18), (12, 12)]]],
+        fault: None,
+    },
+    Case {
+        name: "an island over the edge of a hole",
+        polygons: &[&[SHELL, HOLE], &[&[(12, 12), (25, 12), (25, 18), (12, 12)]]],
+        fault: Some(Fault::PolygonsOverlap),
+    },
+    Case {
+        name: "equal polygons",
+        polygons: &[&[SHELL], &[SHELL]],
+        fault: Some(Fault::RingsMeet),
+    },
+    Case {
+        name: "a polygon in another one",
+        polygons: &[&[SHELL], &[HOLE]],
+        fault: Some(Fault::PolygonsOverlap),
+    },
+    Case {
+        name: "polygons that share a point",
+        polygons: &[&[SHELL], &[&[(30, 30), (40, 30), (40, 40), (30, 30)]]],
+        fault: None,
+    },
+    Case {
+        name: "polygons that share an edge",
+        polygons: &[&[SHELL], &[&[(30, 0), (60, 0), (30, 30), (30, 0)]]],
+        fault: Some(Fault::RingsMeet),
+    },
+    Case {
+        name: "polygons that share a part of an edge",
+        polygons: &[&[SHELL], &[&[(30, 20), (60, 20), (30, 50), (30, 20)]]],
+        fault: Some(Fault::RingsMeet),
+    },
+    Case {
+        name: "polygons far from one another",
+        polygons: &[&[SHELL], &[&[(60, 60), (70, 60), (60, 70), (60, 60)]]],
+        fault: None,
+    },
+    Case {
+        name: "a hole outside, and then equal holes of the next polygon",
+        polygons: &[
+            &[SHELL, &[(40, 10), (50, 10), (50, 20), (40, 10)]],
+            &[
+                &[(100, 0), (130, 0), (130, 30), (100, 0)],
+                &[(120, 5), (125, 5), (125, 10), (120, 5)],
+                &[(120, 5), (125, 5), (125, 10), (120, 5)],
+            ],
+        ],
+        fault: Some(Fault::RingsMeet),
+    },
+];
+
+/// Rings that are too short, which they would not be with more points on their edges.
+const SHORT: &[Case] = &[
+    Case {
+        name: "a ring to and fro",
+        polygons: &[&[&[(0, 0), (9, 0), (0, 0)]]],
+        fault: Some(Fault::ShortRing),
+    },
+    Case {
+        name: "a ring of two points, one repeated",
+        polygons: &[&[&[(0, 0), (0, 0), (9, 0), (0, 0)]]],
+        fault: Some(Fault::ShortRing),
+    },
+    Case {
+        name: "a ring of one point",
+        polygons: &[&[&[(3, 4)]]],
+        fault: Some(Fault::ShortRing),
+    },
+    Case {
+        name: "a short hole before an open one",
+        polygons: &[&[SHELL, &[(12, 12), (18, 12), (12, 12)], OPEN]],
+        fault: Some(Fault::ShortRing),
+    },
+];
+
+#[test]
+fn first_faults_of_polygons(rt: HostRuntime) -> Result<(), Fail> {
+    for case in CASES {
+        let plain = have_fault(rt.alloc(), case.polygons, 1, case.fault)?;
+        assert!(rt; plain, "{}", case.name);
+        let cut = have_fault(rt.alloc(), case.polygons, MANY, case.fault)?;
+        assert!(rt; cut, "{}, cut", case.name);
+    }
+    for case in SHORT {
+        let plain = have_fault(rt.alloc(), case.polygons, 1, case.fault)?;
+        assert!(rt; plain, "{}", case.name);
+    }
+    Ok(())
+}
+
+/// Lines of such lists.
+fn lines(alloc: Global, all: &[Places], pieces: i32) -> Result<Geometry, Fail> {
+    Ok(Geometry::MultiLineString(lists(alloc, all, 0, pieces)?))
+}
+
+/// Points of such a list.
+fn points(alloc: Global, places: &[(i32, i32)]) -> Result<Geometry, Fail> {
+    Ok(Geometry::MultiPoint(list(alloc, places, 0, 1)?))
+}
+
+/// The geometry, if it is valid.
+fn valid(alloc: Global, geometry: Geometry) -> Result<Valid, Fail> {
+    if geometry.check_size().is_err() {
+        return Err("not sized".into());
+    }
+    match validate(alloc, geometry) {
+        Ok(valid) => Ok(valid),
+        Err(_) => Err("not valid".into()),
+    }
+}
+
+#[test]
+fn short_lines(rt: HostRuntime) -> Result<(), Fail> {
+    let short = Some(Refusal::Invalid(Fault::ShortLine));
+    let repeated = lines(rt.alloc(), &[&[(0, 0), (1, 1)], &[(7, 7), (7, 7)]], 1)?;
+    assert_eq!(rt; refusal(rt.alloc(), &repeated)?, short);
+    let crossing = lines(rt.alloc(), &[&[(0, 0), (4, 4)], &[(0, 4), (4, 0)]], 1)?;
+    assert_eq!(rt; refusal(rt.alloc(), &crossing)?, None);
+    Ok(())
+}
+
+/// Whether the geometry is valid and simple.
+fn simple(alloc: Global, geometry: Geometry) -> Result<bool, Fail> {
+    let valid = valid(alloc, geometry)?;
+    Ok(is_simple(alloc, &valid)?)
+}
+
+#[test]
+fn simple_geometries(rt: HostRuntime) -> Result<(), Fail> {
+    let alloc = rt.alloc();
+    assert!(rt;
+        simple(
+            alloc,
+            lines(alloc, &[&[(0, 0), (4, 4)], &[(4, 4), (8, 0)]], 1)?
+        )?
+    );
+    assert!(rt;
+        !simple(
+            alloc,
+            lines(alloc, &[&[(0, 0), (4, 4)], &[(0, 4), (4, 0)]], MANY)?
+        )?
+    );
+    assert!(rt; simple(alloc, points(alloc, &[(2, 1), (1, 2), (1, 1)])?)?);
+    assert!(rt; !simple(alloc, points(alloc, &[(2, 1), (1, 2), (2, 1)])?)?);
+    assert!(rt; simple(alloc, polygons(alloc, &[&[SHELL, HOLE]], 0, 1)?)?);
+    Ok(())
+}
+
+#[test]
+fn vertices_of_valid_geometries(rt: HostRuntime) -> Result<(), Fail> {
+    let alloc = rt.alloc();
+    let mut square = valid(alloc, polygons(alloc, &[&[HOLE]], 0, 1)?)?;
+    let far = GridPoint::new(30, 30).ok_or("off the grid")?;
+    let tie = square.move_vertex(alloc, 0, 0, 1, far);
+    assert_eq!(rt; tie.err(), Some(Refusal::Invalid(Fault::RingNotSimple)));
+    assert_eq!(rt;
+        square.insert_vertex(alloc, 0, 0, 5, far).err(),
+        Some(Refusal::NoVertex)
+    );
+    let above = GridPoint::new(10, 30).ok_or("off the grid")?;
+    let along = square.insert_vertex(alloc, 0, 0, 1, above);
+    assert_eq!(rt; along.err(), Some(Refusal::Invalid(Fault::RingNotSimple)));
+    assert_eq!(rt; square.geometry().vertex(0, 0, 1), GridPoint::new(20, 10));
+    assert!(rt; square.move_vertex(alloc, 0, 0, 2, far).is_ok());
+    assert_eq!(rt; square.geometry().vertex(0, 0, 2), Some(far));
+    assert!(rt; square.remove_vertex(alloc, 0, 0, 3).is_ok());
+    let short = square.remove_vertex(alloc, 0, 0, 0);
+    assert_eq!(rt; short.err(), Some(Refusal::Invalid(Fault::ShortRing)));
+    assert_eq!(rt;
+        square.remove_vertex(alloc, 0, 1, 0).err(),
+        Some(Refusal::NoVertex)
+    );
+    Ok(())
+}
+
+#[test]
+fn only_point_stays(rt: HostRuntime) -> Result<(), Fail> {
+    let alloc = rt.alloc();
+    let mut one = valid(alloc, points(alloc, &[(3, 4)])?)?;
+    assert_eq!(rt;
+        one.remove_vertex(alloc, 0, 0, 0).err(),
+        Some(Refusal::Empty)
+    );
+    let more = GridPoint::new(5, 6).ok_or("off the grid")?;
+    assert!(rt; one.insert_vertex(alloc, 0, 0, 1, more).is_ok());
+    assert!(rt; one.remove_vertex(alloc, 0, 0, 0).is_ok());
+    Ok(())
+}
