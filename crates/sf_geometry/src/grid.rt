@@ -10,7 +10,7 @@ use sf_grid::GridPoint;
 
 impl Geometry {
     /// Tells a proof that each point is on the grid. It reads the points and does nothing with
-    /// them, so nothing of it is left in a program.
+    /// them, so a compiler may leave it out.
     pub fn lies_on_grid(&self)
         ensures { LiesOnGrid self.now }
     {

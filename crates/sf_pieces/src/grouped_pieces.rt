@@ -41,7 +41,8 @@ impl GroupedPieces {
         }
     }
 
-    /// Adds the edges of a line or ring, in their order, to a group.
+    /// Adds the edges of a line or ring, in their order, to a group. Where memory is wanting, some
+    /// of them may have been added.
     pub fn push_edges(&mut self, points: &[GridPoint], group: u32) -> Result<(), AllocError>
         ensures { OnOk result (self.new ≡ self.old ++ marked group (map piece_of (edges_of points.now))) }
     {

@@ -11,7 +11,7 @@ use sf_grid::GridPoint;
 use sf_pieces::GroupedPieces;
 use std::alloc::{AllocError, Global};
 
-/// How many edges are compared in pairs at most: of more edges a walk takes less time than all their
+/// How many edges are compared in pairs at most: of many edges a walk takes less time than all their
 /// pairs.
 const PAIRS_MAX: usize = 48;
 
