@@ -1,6 +1,6 @@
-//! Times of the calls of `sf_grid`, of walks over the cells of large rings and combs, and of the checks
-//! of validity and simplicity. The first argument chooses: `grid`, `cells` or `validity`. The second
-//! one is the number of rounds.
+//! Times of the calls of `sf_grid`, of walks over the cells of large rings and combs, of the checks of
+//! validity and simplicity, and of reading and writing text and binary. The first argument chooses:
+//! `grid`, `cells`, `validity` or `texts`. The second one is the number of rounds.
 #![tactic(auto)]
 
 mod cells;
@@ -9,6 +9,8 @@ mod outlines;
 mod polygons;
 mod shape;
 mod sinks;
+mod sized;
+mod texts;
 mod timing;
 mod validity;
 
@@ -20,6 +22,7 @@ enum Choice {
     Grid,
     Cells,
     Validity,
+    Texts,
 }
 
 fn main(rt: HostRuntime) -> io::Result<()> {
@@ -30,6 +33,7 @@ fn main(rt: HostRuntime) -> io::Result<()> {
             "grid" => choice = Choice::Grid,
             "cells" => choice = Choice::Cells,
             "validity" => choice = Choice::Validity,
+            "texts" => choice = Choice::Texts,
             word => {
                 if let Ok(n) = word.parse::<u32>() {
                     rounds = n;
@@ -41,5 +45,6 @@ fn main(rt: HostRuntime) -> io::Result<()> {
         Choice::Grid => grid::run(&rt, rounds),
         Choice::Cells => cells::run(&rt, rounds),
         Choice::Validity => validity::run(&rt, rounds),
+        Choice::Texts => texts::run(&rt, rounds),
     }
 }

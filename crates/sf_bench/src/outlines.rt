@@ -35,9 +35,20 @@ impl Outline {
 
     /// The corners of a ring of so many edges, each once.
     pub(crate) fn corners(&self, alloc: Global, size: u16) -> Result<Vec<GridPoint>, AllocError> {
+        self.corners_from(alloc, size, 0, size)
+    }
+
+    /// Some corners of a ring of so many edges: a count of them, from this one on.
+    pub(crate) fn corners_from(
+        &self,
+        alloc: Global,
+        size: u16,
+        first: u16,
+        count: u16,
+    ) -> Result<Vec<GridPoint>, AllocError> {
         let mut points = Vec::new(alloc);
-        for k in 0..size {
-            if let Some(point) = point(self.corner(size, k)) {
+        for k in 0..count {
+            if let Some(point) = point(self.corner(size, first.wrapping_add(k))) {
                 points.push(point)?;
             }
         }

@@ -7,7 +7,7 @@ use sf_grid::GridPoint;
 use std::alloc::{AllocError, Global};
 
 /// The rings of a polygon.
-type Rings = Sequence<Sequence<GridPoint>>;
+pub(crate) type Rings = Sequence<Sequence<GridPoint>>;
 
 /// A polygon of one ring with these corners.
 pub(crate) fn polygon(alloc: Global, corners: Vec<GridPoint>) -> Result<Geometry, AllocError> {
@@ -15,14 +15,14 @@ pub(crate) fn polygon(alloc: Global, corners: Vec<GridPoint>) -> Result<Geometry
 }
 
 /// The rings of a polygon that has only a shell.
-fn one_ring(alloc: Global, corners: Vec<GridPoint>) -> Result<Rings, AllocError> {
+pub(crate) fn one_ring(alloc: Global, corners: Vec<GridPoint>) -> Result<Rings, AllocError> {
     let mut rings = Vec::new(alloc);
     rings.push(ring(corners)?)?;
     Ok(Sequence::from_vec(rings))
 }
 
 /// A ring with these corners.
-fn ring(corners: Vec<GridPoint>) -> Result<Sequence<GridPoint>, AllocError> {
+pub(crate) fn ring(corners: Vec<GridPoint>) -> Result<Sequence<GridPoint>, AllocError> {
     let mut points = corners;
     close(&mut points)?;
     Ok(Sequence::from_vec(points))

@@ -2,10 +2,11 @@
 
 use crate::cells::walk_often;
 use crate::shape::Shape;
+use crate::sized::SizedGeometry;
 use sf_geometry::Geometry;
 use sf_refusals::Refusal;
 use sf_validity::{Valid, check, is_simple, validate};
-use std::alloc::Global;
+use std::alloc::{AllocError, Global};
 use std::fmt::{self, Display, Formatter, Write};
 use std::io;
 use std::time::Instant;
@@ -19,7 +20,15 @@ pub(crate) enum Work {
     IsSimple(Valid),
     /// A walk with a sink that folds the cells.
     Walk(Shape),
-    /// Nothing, since the geometry isn't valid.
+    /// Reading well-known text.
+    ReadText(String),
+    /// Writing well-known text.
+    WriteText(Geometry),
+    /// Reading well-known binary.
+    ReadBinary(Vec<u8>),
+    /// Writing well-known binary.
+    WriteBinary(SizedGeometry),
+    /// Nothing, since the geometry isn't what the call asks for.
     Refused(Refusal),
 }
 
@@ -30,6 +39,10 @@ enum Answer {
     Simple,
     NotSimple,
     Folded(u64),
+    /// The x of the first point, without its sign.
+    Read(u32),
+    /// How many bytes were written.
+    Written(usize),
     Refused(Refusal),
 }
 
@@ -40,6 +53,8 @@ impl Answer {
             Answer::Simple => "simple",
             Answer::NotSimple => "not simple",
             Answer::Folded(_) => "walked",
+            Answer::Read(_) => "read",
+            Answer::Written(_) => "written",
             Answer::Refused(refusal) => refusal.name(),
         }
     }
@@ -51,6 +66,8 @@ impl Answer {
             Answer::Simple => 101,
             Answer::NotSimple => 102,
             Answer::Folded(word) => *word,
+            Answer::Read(x) => u64::from(*x),
+            Answer::Written(length) => *length as u64,
             Answer::Refused(refusal) => u64::from(refusal.number()),
         }
     }
@@ -68,12 +85,37 @@ impl Work {
         }
     }
 
+    /// Reading the canonical text of a geometry.
+    pub(crate) fn text_reading(alloc: Global, geometry: &Geometry) -> Result<Work, AllocError> {
+        Ok(Work::ReadText(sf_wkt::write(alloc, geometry)?))
+    }
+
+    /// Reading the canonical binary of a geometry, which is written of a sized one.
+    pub(crate) fn binary_reading(alloc: Global, geometry: Geometry) -> Result<Work, AllocError> {
+        match SizedGeometry::new(geometry) {
+            Ok(sized) => Ok(Work::ReadBinary(sf_wkb::write(alloc, &sized.geometry)?)),
+            Err(refusal) => Ok(Work::Refused(refusal.into())),
+        }
+    }
+
+    /// Writing the canonical binary of a geometry, which is asked of a sized one.
+    pub(crate) fn binary_writing(geometry: Geometry) -> Work {
+        match SizedGeometry::new(geometry) {
+            Ok(sized) => Work::WriteBinary(sized),
+            Err(refusal) => Work::Refused(refusal.into()),
+        }
+    }
+
     /// One call.
     fn call(&self, alloc: Global) -> Answer {
         match self {
             Work::Check(geometry) => checked(alloc, geometry),
             Work::IsSimple(valid) => asked(alloc, valid),
             Work::Walk(shape) => walked(alloc, shape),
+            Work::ReadText(text) => answer_of(sf_wkt::read(alloc, text.as_str())),
+            Work::WriteText(geometry) => text_written(alloc, geometry),
+            Work::ReadBinary(bytes) => answer_of(sf_wkb::read(alloc, bytes.as_slice())),
+            Work::WriteBinary(sized) => binary_written(alloc, sized),
             Work::Refused(refusal) => Answer::Refused(*refusal),
         }
     }
@@ -109,7 +151,8 @@ impl Work {
             }
         }
         Ok(Figure {
-            nanos: least.nanos / u128::from(repeated.calls).max(1),
+            nanos: least.nanos,
+            calls: repeated.calls,
             answer,
             word: least.word,
         })
@@ -130,10 +173,11 @@ struct Taken {
     word: u64,
 }
 
-/// The time of a call and its answer. It is shown in microseconds.
+/// The time of several calls and the answer of one. It is shown as microseconds for each call.
 #[derive(Clone, Copy)]
 pub(crate) struct Figure {
     nanos: u128,
+    calls: u32,
     answer: Answer,
     /// The answers of all calls, so that none can be left out.
     pub(crate) word: u64,
@@ -141,7 +185,7 @@ pub(crate) struct Figure {
 
 impl Display for Figure {
     fn fmt<W: Write>(&self, f: &mut Formatter<W>) -> fmt::Result {
-        let hundredths = self.nanos / 10;
+        let hundredths = self.nanos / u128::from(self.calls).max(1) / 10;
         let name = self.answer.name();
         write!(
             f,
@@ -149,6 +193,22 @@ impl Display for Figure {
             hundredths / 100,
             hundredths % 100
         )
+    }
+}
+
+/// A figure of calls that each take so many points. It is shown as nanoseconds for each point.
+#[derive(Clone, Copy)]
+pub(crate) struct PerPoint {
+    pub(crate) figure: Figure,
+    pub(crate) points: u16,
+}
+
+impl Display for PerPoint {
+    fn fmt<W: Write>(&self, f: &mut Formatter<W>) -> fmt::Result {
+        let points = u128::from(self.figure.calls).wrapping_mul(u128::from(self.points));
+        let tenths = self.figure.nanos.wrapping_mul(10) / points.max(1);
+        let name = self.figure.answer.name();
+        write!(f, "{}.{} ns ({name})", tenths / 10, tenths % 10)
     }
 }
 
@@ -173,6 +233,31 @@ fn asked(alloc: Global, valid: &Valid) -> Answer {
 fn walked(alloc: Global, shape: &Shape) -> Answer {
     match walk_often(alloc, shape, 1) {
         Ok(word) => Answer::Folded(word),
+        Err(_) => Answer::Refused(Refusal::Memory),
+    }
+}
+
+/// What is told of a geometry that was read, or of why there is none.
+fn answer_of<E: Into<Refusal>>(read: Result<Geometry, E>) -> Answer {
+    match read {
+        Ok(geometry) => {
+            let first = geometry.vertex(0, 0, 0);
+            Answer::Read(first.map_or(0, |point| point.x().unsigned_abs()))
+        }
+        Err(fault) => Answer::Refused(fault.into()),
+    }
+}
+
+fn text_written(alloc: Global, geometry: &Geometry) -> Answer {
+    match sf_wkt::write(alloc, geometry) {
+        Ok(text) => Answer::Written(text.len()),
+        Err(_) => Answer::Refused(Refusal::Memory),
+    }
+}
+
+fn binary_written(alloc: Global, sized: &SizedGeometry) -> Answer {
+    match sf_wkb::write(alloc, &sized.geometry) {
+        Ok(bytes) => Answer::Written(bytes.len()),
         Err(_) => Answer::Refused(Refusal::Memory),
     }
 }

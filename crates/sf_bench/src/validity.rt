@@ -12,7 +12,7 @@ use std::io;
 const OUTLINES: [Outline; 3] = [Outline::Smooth, Outline::Star, Outline::Comb];
 
 /// How many edges the rings have.
-const SIZES: [u16; 9] = [4, 8, 16, 32, 48, 64, 256, 1024, 4095];
+const SIZES: [u16; 9] = [4, 8, 16, 32, 64, 80, 256, 1024, 4095];
 
 /// How many times the calls of a row are timed in each round.
 const TIMES: u32 = 7;

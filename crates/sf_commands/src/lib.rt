@@ -3,6 +3,7 @@
 
 mod command;
 mod parsing;
+mod spelling;
 mod verb;
 mod words;
 

@@ -1,20 +1,22 @@
-ghost use Rattle.std.specs.Prelude.{◌≡◌, IfOk};
-ghost use Rattle.sf_commands.specs.Commands.{command_of, by_verb, layer_arguments as layer_command_of, add_arguments as add_command_of, show_arguments as show_command_of, undo_arguments as undo_command_of, layer_kind_of as layer_kind_named, OrMemory};
+//! Lines as commands: one function for the words after each verb.
+ghost use Rattle.std.specs.Prelude.{◌≡◌};
+ghost use Rattle.sf_commands.specs.Commands.{command_of, by_verb, layer_arguments as layer_command_of, add_arguments as add_command_of, addhex_arguments as addhex_command_of, feature_arguments as feature_command_of, feature_named, show_arguments as show_command_of, undo_arguments as undo_command_of, OrMemory};
+ghost use Rattle.sf_commands.specs.declared.command.Command.TheVariants.{Hex, Simple, Extent};
 ghost use Rattle.sf_commands.specs.Words.{words as words_of, skip_blanks, skip_word};
 
 use super::command::Command;
+use super::spelling::{bytes_of, id_of, layer_kind_of, text_of};
 use super::verb::{Verb, verb_of};
 use super::words::Words;
 use sf_edits::Edit;
-use sf_geometry::{Geometry, Kind};
-use sf_layers::{LayerKind, Text};
+use sf_layers::Text;
 use sf_lines::LINE_MAX;
 use sf_refusals::Refusal;
-use std::alloc::{AllocError, Global};
+use std::alloc::Global;
 
 /// The command of a line, or the refusal that the line alone decides: `LineTooLong` above 131,072 bytes,
-/// `BadCommand` for wrong words or a wrong number of them, then the faults of a well-known text. `Memory`
-/// may come in place of either.
+/// `BadCommand` for wrong words or a wrong number of them, then `Syntax` for a text that is no hexadecimal
+/// and the faults of a well-known text or binary. `Memory` may come in place of any of them.
 pub fn parse(alloc: Global, line: &str) -> Result<Command, Refusal>
     ensures { OrMemory (command_of line.now) result }
 {
@@ -33,7 +35,11 @@ fn arguments_of(alloc: Global, verb: Option<Verb>, words: Words<'_>) -> Result<C
     match verb {
         Some(Verb::Layer) => layer_arguments(alloc, words),
         Some(Verb::Add) => add_arguments(alloc, words),
+        Some(Verb::AddHex) => addhex_arguments(alloc, words),
         Some(Verb::Show) => show_arguments(alloc, words),
+        Some(Verb::Hex) => hex_arguments(alloc, words),
+        Some(Verb::Box) => box_arguments(alloc, words),
+        Some(Verb::Simple) => simple_arguments(alloc, words),
         Some(Verb::Undo) => undo_arguments(words),
         None => Err(Refusal::BadCommand),
     }
@@ -65,6 +71,19 @@ fn add_arguments(alloc: Global, mut words: Words<'_>) -> Result<Command, Refusal
     Ok(Command::Edit(Edit::AddFeature { layer, geometry }))
 }
 
+/// The binary is one word of hexadecimal.
+fn addhex_arguments(alloc: Global, mut words: Words<'_>) -> Result<Command, Refusal>
+    ensures { OrMemory (addhex_command_of (words_of words.entry)) result }
+{
+    let layer = words.next()?;
+    let text = words.next()?;
+    words.finish()?;
+    let bytes = bytes_of(alloc, text)?;
+    let geometry = sf_wkb::read(alloc, &bytes)?;
+    let layer = text_of(alloc, layer)?;
+    Ok(Command::Edit(Edit::AddFeature { layer, geometry }))
+}
+
 fn show_arguments(alloc: Global, mut words: Words<'_>) -> Result<Command, Refusal>
     ensures { OrMemory (show_command_of (words_of words.entry)) result }
 {
@@ -73,39 +92,41 @@ fn show_arguments(alloc: Global, mut words: Words<'_>) -> Result<Command, Refusa
     Ok(Command::Show(text_of(alloc, layer)?))
 }
 
+fn hex_arguments(alloc: Global, words: Words<'_>) -> Result<Command, Refusal>
+    ensures { OrMemory (feature_command_of Hex (words_of words.entry)) result }
+{
+    let (layer, id) = feature_of(alloc, words)?;
+    Ok(Command::Hex(layer, id))
+}
+
+fn box_arguments(alloc: Global, words: Words<'_>) -> Result<Command, Refusal>
+    ensures { OrMemory (feature_command_of Extent (words_of words.entry)) result }
+{
+    let (layer, id) = feature_of(alloc, words)?;
+    Ok(Command::Extent(layer, id))
+}
+
+fn simple_arguments(alloc: Global, words: Words<'_>) -> Result<Command, Refusal>
+    ensures { OrMemory (feature_command_of Simple (words_of words.entry)) result }
+{
+    let (layer, id) = feature_of(alloc, words)?;
+    Ok(Command::Simple(layer, id))
+}
+
+/// The layer and the identifier that are all words of a line.
+fn feature_of(alloc: Global, mut words: Words<'_>) -> Result<(Text, u32), Refusal>
+    ensures { OrMemory (feature_named (words_of words.entry)) result }
+{
+    let layer = words.next()?;
+    let id = words.next()?;
+    words.finish()?;
+    let id = id_of(id).ok_or(Refusal::BadCommand)?;
+    Ok((text_of(alloc, layer)?, id))
+}
+
 fn undo_arguments(words: Words<'_>) -> Result<Command, Refusal>
     ensures { result ≡ undo_command_of (words_of words.entry) }
 {
     words.finish()?;
     Ok(Command::Undo)
-}
-
-/// The kind of a layer that a word spells, in small letters.
-fn layer_kind_of(word: &str) -> Option<LayerKind>
-    ensures { result ≡ layer_kind_named word.now }
-{
-    if word == "any" {
-        Some(LayerKind::Any)
-    } else if word == "point" {
-        Some(LayerKind::Only(Kind::Point))
-    } else if word == "linestring" {
-        Some(LayerKind::Only(Kind::LineString))
-    } else if word == "polygon" {
-        Some(LayerKind::Only(Kind::Polygon))
-    } else if word == "multipoint" {
-        Some(LayerKind::Only(Kind::MultiPoint))
-    } else if word == "multilinestring" {
-        Some(LayerKind::Only(Kind::MultiLineString))
-    } else if word == "multipolygon" {
-        Some(LayerKind::Only(Kind::MultiPolygon))
-    } else {
-        None
-    }
-}
-
-/// A copy of a word, for a command to keep.
-fn text_of(alloc: Global, word: &str) -> Result<Text, AllocError>
-    ensures { IfOk result (λ text. text ≡ word.now) }
-{
-    Ok(Text::from_string(String::from_str(alloc, word)?))
 }

@@ -6,7 +6,11 @@ ghost use Rattle.sf_commands.specs.Commands.{verb_of as verb_named};
 pub(crate) enum Verb {
     Layer,
     Add,
+    AddHex,
     Show,
+    Hex,
+    Box,
+    Simple,
     Undo,
 }
 
@@ -18,8 +22,16 @@ pub(crate) fn verb_of(word: &str) -> Option<Verb>
         Some(Verb::Layer)
     } else if word == "add" {
         Some(Verb::Add)
+    } else if word == "addhex" {
+        Some(Verb::AddHex)
     } else if word == "show" {
         Some(Verb::Show)
+    } else if word == "hex" {
+        Some(Verb::Hex)
+    } else if word == "box" {
+        Some(Verb::Box)
+    } else if word == "simple" {
+        Some(Verb::Simple)
     } else if word == "undo" {
         Some(Verb::Undo)
     } else {

@@ -12,7 +12,7 @@ decimal-more n several small = decimal_step n several (omega arith)
 pub length-decimal-more : (n : ℕ) → 10 ≤ n → n < 2 ^ 32 → length (decimal n) ≡ length (decimal (n / 10)) + 1
 length-decimal-more n several small = ap length (decimal-more n several small) ∙ length-append (decimal (n / 10)) ((48 + n % 10) ∷ [])
 
--- an identifier has at most ten digits
+-- a number of 32 bits has at most ten digits
 pub length-decimal-id : (n : ℕ) → n < 2 ^ 32 → length (decimal n) ≤ 10
 length-decimal-id n small = length-decimal-le 10 n (lit< tt) (omega arith) (omega arith)
 

@@ -1,13 +1,16 @@
 ghost use Rattle.std.specs.Prelude.{◌≡◌, ◌≤◌, ◌+◌, ◌<◌, ◌++◌, [], ◌∷◌, codes, decimal, length};
-ghost use Rattle.sf_console.specs.Answers.{accepted_line, refusal_line};
+ghost use Rattle.std.specs.Fmt.{signed_decimal};
+ghost use Rattle.sf_console.specs.Answers.{accepted_line, refusal_line, line as line_of, truth as truth_word, extent_text};
 
 use sf_edits::Answer;
+use sf_geometry::Extent;
 use sf_refusals::Refusal;
 use std::fmt::{InlineText, Write};
 use std::marker::Model;
 
-/// Room for each answer of one line, in bytes.
-const ROOM: usize = 32;
+/// Room for each answer of one line, in bytes: the longest has four numbers of at most 11 bytes, three
+/// blanks and a line feed.
+const ROOM: usize = 48;
 
 /// An answer of one line, with its line feed. It stands on the stack, so it takes no memory.
 #[derive(Drop)]
@@ -56,6 +59,31 @@ impl AnswerLine {
         line
     }
 
+    /// The answer of a test.
+    pub(crate) fn truth(is: bool) -> AnswerLine
+        ensures { result ≡ line_of (truth_word is) }
+    {
+        let mut line = AnswerLine::empty();
+        line.push(if is { "true\n" } else { "false\n" });
+        line
+    }
+
+    /// The corners of a box, the least one first.
+    pub(crate) fn extent(extent: Extent) -> AnswerLine
+        ensures { result ≡ line_of (extent_text extent) }
+    {
+        let mut line = AnswerLine::empty();
+        line.push_integer(extent.min_x);
+        line.push_blank();
+        line.push_integer(extent.min_y);
+        line.push_blank();
+        line.push_integer(extent.max_x);
+        line.push_blank();
+        line.push_integer(extent.max_y);
+        line.push("\n");
+        line
+    }
+
     /// The bytes of the answer.
     pub(crate) fn as_bytes(&self) -> &[u8]
         ensures { result.now ≡ self.now }
@@ -76,6 +104,25 @@ impl AnswerLine {
         ensures { self.new ≡ self.old ++ piece.now }
     {
         self.text.write_str(piece).unwrap();
+    }
+
+    fn push_blank(&mut self)
+        requires { length self.old < ROOM }
+        ensures text { self.new ≡ self.old ++ codes " " }
+        ensures len { length self.new ≡ length self.old + 1 }
+    {
+        self.push(" ");
+    }
+
+    fn push_integer(&mut self, number: i32)
+        requires { length self.old + 11 ≤ ROOM }
+        ensures text { self.new ≡ self.old ++ signed_decimal number }
+        ensures len { length self.new ≤ length self.old + 11 }
+    {
+        if number < 0 {
+            self.push("-");
+        }
+        self.push_decimal(number.unsigned_abs());
     }
 
     // `write!` does not promise to succeed where there is room.

@@ -1,18 +1,19 @@
 //! A line, and its reply.
-ghost use Rattle.std.specs.Prelude.{◌≡◌, ◌⊎◌, ℕ, List, Ok, true};
+ghost use Rattle.std.specs.Prelude.{◌≡◌, ◌⊎◌, ℕ, List, Ok, Err, true, MatchResult};
 ghost use Rattle.sf_layers.specs.Content.{layer_of};
 ghost use Rattle.sf_lines.specs.Buffers.{IsBufferOf};
-ghost use Rattle.sf_console.specs.Answers.{reply_text, refusal_line, shown};
+ghost use Rattle.sf_console.specs.Answers.{reply_text, refusal_line, shown, found, told, hex_text, simple_text, box_text};
 ghost use Rattle.sf_console.specs.Readings.{Asked, reading, text_reading};
 ghost use Rattle.sf_console.specs.Session.{IsAnswered, IsLastAnswered};
 
-use super::reply::{Reply, feature_rows};
+use super::reply::{Reply, feature_rows, hex_line};
 use sf_commands::{Command, is_blank_text, parse};
 use sf_edits::Answer;
 use sf_history::Editor;
 use sf_layers::{Store, Text};
 use sf_lines::{LineBuffer, without_return};
 use sf_refusals::Refusal;
+use sf_validity::{Valid, is_simple};
 use std::alloc::Global;
 use std::str::from_utf8;
 
@@ -77,6 +78,9 @@ fn execute(alloc: Global, editor: &mut Editor, command: Command) -> Result<Reply
             Ok(Reply::Accepted(Answer::Done))
         }
         Command::Show(name) => show(alloc, editor.store(), &name),
+        Command::Hex(layer, id) => hex(alloc, editor.store(), &layer, id),
+        Command::Simple(layer, id) => simple(alloc, editor.store(), &layer, id),
+        Command::Extent(layer, id) => extent(editor.store(), &layer, id),
     }
 }
 
@@ -85,5 +89,41 @@ fn show(alloc: Global, store: &Store, name: &Text) -> Result<Reply, Refusal>
     ensures { (reply_text result ≡ shown (layer_of store.now name.now)) ⊎ (reply_text result ≡ refusal_line Refusal.Memory) }
 {
     let layer = store.layer(name.as_str()).ok_or(Refusal::NoLayer)?;
-    Ok(Reply::Rows(feature_rows(alloc, layer)?))
+    Ok(Reply::Lines(feature_rows(alloc, layer)?))
+}
+
+/// The canonical bytes of a feature's geometry.
+fn hex(alloc: Global, store: &Store, layer: &Text, id: u32) -> Result<Reply, Refusal>
+    ensures { (reply_text result ≡ told hex_text (layer_of store.now layer.now) id) ⊎ (reply_text result ≡ refusal_line Refusal.Memory) }
+{
+    let valid = valid_of(store, layer, id)?;
+    Ok(Reply::Lines(hex_line(alloc, valid)?))
+}
+
+/// Whether a feature's geometry is simple.
+fn simple(alloc: Global, store: &Store, layer: &Text, id: u32) -> Result<Reply, Refusal>
+    ensures { (reply_text result ≡ told simple_text (layer_of store.now layer.now) id) ⊎ (reply_text result ≡ refusal_line Refusal.Memory) }
+{
+    let valid = valid_of(store, layer, id)?;
+    Ok(Reply::Truth(is_simple(alloc, valid)?))
+}
+
+/// The envelope of a feature's geometry.
+fn extent(store: &Store, layer: &Text, id: u32) -> Result<Reply, Refusal>
+    ensures { reply_text result ≡ told box_text (layer_of store.now layer.now) id }
+{
+    let valid = valid_of(store, layer, id)?;
+    Ok(Reply::Extent(valid.geometry().envelope()))
+}
+
+/// The geometry of a feature. `NoLayer` where no layer has the name, `NoFeature` where the layer has none
+/// under the identifier.
+fn valid_of<'a>(store: &'a Store, layer: &Text, id: u32) -> Result<&'a Valid, Refusal>
+    ensures { MatchResult result
+        (λ valid. found (layer_of store.now layer.now) id ≡ Ok valid.now)
+        (λ refusal. found (layer_of store.now layer.now) id ≡ Err refusal) }
+{
+    let layer = store.layer(layer.as_str()).ok_or(Refusal::NoLayer)?;
+    let feature = layer.feature(id).ok_or(Refusal::NoFeature)?;
+    Ok(feature.valid())
 }

@@ -1,8 +1,10 @@
 ghost use Rattle.std.specs.Prelude.{◌≡◌, string_bytes, map, IfOk};
-ghost use Rattle.sf_console.specs.Answers.{rows, feature_row};
+ghost use Rattle.sf_console.specs.Answers.{rows, feature_row, line as line_of, hex_text};
 
 use sf_edits::Answer;
+use sf_geometry::Extent;
 use sf_layers::Layer;
+use sf_validity::Valid;
 use std::alloc::{AllocError, Global};
 
 /// What a line that is not refused is answered with.
@@ -12,8 +14,12 @@ pub(crate) enum Reply {
     Nothing,
     /// The answer of an edit or an undo.
     Accepted(Answer),
-    /// The number of some rows, and the rows, each with its line feed.
-    Rows(String),
+    /// One line or more, each with its line feed.
+    Lines(String),
+    /// Whether something is so.
+    Truth(bool),
+    /// The corners of a box.
+    Extent(Extent),
 }
 
 /// The number of a layer's features, and a row for each, in rising order of the identifiers.
@@ -28,4 +34,14 @@ pub(crate) fn feature_rows(alloc: Global, layer: &Layer) -> Result<String, Alloc
         text.push('\n')?;
     }
     Ok(text)
+}
+
+/// The canonical bytes of a geometry in small hexadecimal, and a line feed.
+pub(crate) fn hex_line(alloc: Global, valid: &Valid) -> Result<String, AllocError>
+    ensures { IfOk result (λ line. string_bytes line ≡ line_of (hex_text valid.now)) }
+{
+    let bytes = sf_wkb::write(alloc, valid.geometry())?;
+    let mut line = hex::encode(alloc, bytes.as_slice())?;
+    line.push('\n')?;
+    Ok(line)
 }

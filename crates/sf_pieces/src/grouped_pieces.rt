@@ -61,7 +61,8 @@ impl GroupedPieces {
 
     /// Adds a point to a group.
     pub fn push_dot(&mut self, point: GridPoint, group: u32) -> Result<(), AllocError>
-        ensures { OnOk result (self.new ≡ self.old ++ (Dot point, group) ∷ []) }
+        ensures added { OnOk result (self.new ≡ self.old ++ (Dot point, group) ∷ []) }
+        ensures unchanged { OnErr result (self.new ≡ self.old) }
     {
         self.push(Piece::Dot(point), group)
     }
@@ -91,7 +92,8 @@ impl GroupedPieces {
     /// Adds a piece to a group.
     fn push(&mut self, piece: Piece, group: u32) -> Result<(), AllocError>
         requires { HasLength piece }
-        ensures { OnOk result (self.new ≡ self.old ++ (piece, group) ∷ []) }
+        ensures added { OnOk result (self.new ≡ self.old ++ (piece, group) ∷ []) }
+        ensures unchanged { OnErr result (self.new ≡ self.old) }
     {
         self.pieces.reserve(1)?;
         self.groups.push(group)?;

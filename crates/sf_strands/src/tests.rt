@@ -7,7 +7,7 @@ use std::alloc::Global;
 use std::test::Fail;
 
 /// Into how many pieces even one edge is cut so that they are more than are compared in pairs.
-const MANY: i32 = 60;
+const MANY: i32 = 90;
 
 /// The end of this step, of so many, from the one place to the other, both so many times as far
 /// from the origin.

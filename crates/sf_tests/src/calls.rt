@@ -7,6 +7,14 @@ use std::test::Fail;
 fn parse_reads_commands(rt: HostRuntime) {
     assert!(rt; matches!(parse(rt.alloc(), " undo "), Ok(Command::Undo)));
     assert!(rt; matches!(parse(rt.alloc(), "show w"), Ok(Command::Show(_))));
+    assert!(rt;
+        matches!(
+            parse(rt.alloc(), "hex w 4294967295"),
+            Ok(Command::Hex(_, 4_294_967_295))
+        )
+    );
+    assert!(rt; matches!(parse(rt.alloc(), "simple w 007"), Ok(Command::Simple(_, 7))));
+    assert!(rt; matches!(parse(rt.alloc(), "box w 1"), Ok(Command::Extent(_, 1))));
 }
 
 #[test]
@@ -15,15 +23,19 @@ fn editor_edits_and_undoes(rt: HostRuntime) -> Result<(), Fail> {
     for (line, answer) in [
         ("layer add w any", Answer::Done),
         ("add w POINT (3 -4)", Answer::Id(1)),
+        (
+            "addhex w 0101000000000000000000f03f0000000000000040",
+            Answer::Id(2),
+        ),
     ] {
         let Ok(Command::Edit(edit)) = parse(rt.alloc(), line) else {
             return Err(Fail::from("no edit"));
         };
         assert!(rt; matches!(editor.edit(rt.alloc(), edit), Ok(given) if given == answer));
     }
-    assert_eq!(rt; editor.depths(), (2, 0));
+    assert_eq!(rt; editor.depths(), (3, 0));
     assert!(rt; editor.undo(rt.alloc()).is_ok());
-    assert_eq!(rt; editor.depths(), (1, 0));
+    assert_eq!(rt; editor.depths(), (2, 0));
     assert_eq!(rt; editor.store().layer_count(), 1);
     Ok(())
 }

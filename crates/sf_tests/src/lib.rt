@@ -3,6 +3,8 @@
 #![tactic(auto)]
 
 #[cfg(test)]
+mod binaries;
+#[cfg(test)]
 mod calls;
 #[cfg(test)]
 mod classes;
@@ -10,6 +12,8 @@ mod classes;
 mod dialogs;
 #[cfg(test)]
 mod faults;
+#[cfg(test)]
+mod features;
 #[cfg(test)]
 mod sessions;
 #[cfg(test)]

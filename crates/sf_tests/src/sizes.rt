@@ -57,6 +57,29 @@ fn longest_addition(rt: HostRuntime) -> Result<(), Fail> {
     Ok(())
 }
 
+/// The line that adds a point, and so many equal ones behind it, as one MultiPoint.
+fn multi_point_line(alloc: Global, more: usize) -> Result<String, AllocError> {
+    let mut line = String::from_str(alloc, "add w MULTIPOINT (1 2")?;
+    line.push_str(", 1 2".repeat(alloc, more)?.as_str())?;
+    line.push_str(")\n")?;
+    Ok(line)
+}
+
+#[test]
+fn most_points(rt: HostRuntime) -> Result<(), Fail> {
+    let mut input = String::from_str(rt.alloc(), "layer add w any\n")?;
+    for more in [4_095, 4_096] {
+        input.push_str(multi_point_line(rt.alloc(), more)?.as_str())?;
+    }
+    input.push_str("box w 1\nsimple w 1\n")?;
+    let mut whole = input.as_bytes();
+    assert_eq!(rt;
+        answers(rt.alloc(), &mut whole)?.as_str(),
+        "ok\nok 1\nrefused 9 TooManyVertices\n1 2 1 2\nfalse\n"
+    );
+    Ok(())
+}
+
 /// The lines that add the features at one place and show them.
 fn long_input(alloc: Global) -> Result<String, AllocError> {
     let mut input = String::from_str(alloc, "layer add w point\n")?;

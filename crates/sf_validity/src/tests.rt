@@ -9,54 +9,78 @@ use std::test::Fail;
 
 type Places = &'static [(i32, i32)];
 
-/// Into how many pieces even one edge is cut so that a ring has more than are compared in pairs.
-const MANY: i32 = 60;
+/// How the places of a shape become points: how many times as far from the origin they lie, and into
+/// how many pieces each edge is cut.
+#[derive(Clone, Copy)]
+struct Cut {
+    scale: i32,
+    pieces: i32,
+}
 
-/// A place turned by right angles and mirrored, in one of eight ways.
+const WHOLE: Cut = Cut {
+    scale: 1,
+    pieces: 1,
+};
+
+/// Even one edge has more pieces than are compared in pairs.
+const FINE: Cut = Cut {
+    scale: 90,
+    pieces: 90,
+};
+
+/// The same for edges from one end of the grid to the other, whose length is 75 times 13,981.
+const FINE_OVER_GRID: Cut = Cut {
+    scale: 1,
+    pieces: 75,
+};
+
+impl Cut {
+    /// The end of this step along an edge, in one coordinate of its ends.
+    fn coordinate(&self, from: i32, to: i32, step: i32) -> i32 {
+        let from = from.wrapping_mul(self.scale);
+        let run = to.wrapping_mul(self.scale).wrapping_sub(from);
+        let piece = run.checked_div(self.pieces).unwrap_or(0);
+        from.wrapping_add(piece.wrapping_mul(step))
+    }
+}
+
+/// A place turned by right angles and mirrored, in one of eight ways. The middle of the grid, between
+/// -1 and 0, stays where it is.
 fn turned(place: (i32, i32), way: u32) -> (i32, i32) {
     let (x, y) = if way & 1 == 0 {
         place
     } else {
         (place.1, place.0)
     };
-    let x = if way & 2 == 0 { x } else { x.wrapping_neg() };
-    let y = if way & 4 == 0 { y } else { y.wrapping_neg() };
+    let x = if way & 2 == 0 { x } else { !x };
+    let y = if way & 4 == 0 { y } else { !y };
     (x, y)
 }
 
-/// The end of this step, of so many, from the one place to the other, both so many times as far
-/// from the origin.
-fn between(from: (i32, i32), to: (i32, i32), pieces: i32, step: i32) -> Result<GridPoint, Fail> {
-    let run = to.0.wrapping_sub(from.0);
-    let rise = to.1.wrapping_sub(from.1);
-    let x = from
-        .0
-        .wrapping_mul(pieces)
-        .wrapping_add(run.wrapping_mul(step));
-    let y = from
-        .1
-        .wrapping_mul(pieces)
-        .wrapping_add(rise.wrapping_mul(step));
+/// The end of this step along an edge between two places.
+fn between(from: (i32, i32), to: (i32, i32), cut: &Cut, step: i32) -> Result<GridPoint, Fail> {
+    let x = cut.coordinate(from.0, to.0, step);
+    let y = cut.coordinate(from.1, to.1, step);
     Ok(GridPoint::new(x, y).ok_or("off the grid")?)
 }
 
-/// The list of these places, turned, with points that cut each edge into as many pieces.
+/// The list of these places, turned, with points that cut each edge.
 fn list(
     alloc: Global,
     places: &[(i32, i32)],
     way: u32,
-    pieces: i32,
+    cut: &Cut,
 ) -> Result<Sequence<GridPoint>, Fail> {
     let mut points = Vec::new(alloc);
     for pair in places.windows(2) {
-        for step in 0..pieces {
+        for step in 0..cut.pieces {
             let (from, to) = (turned(pair[0], way), turned(pair[1], way));
-            points.push(between(from, to, pieces, step)?)?;
+            points.push(between(from, to, cut, step)?)?;
         }
     }
     if let Some(last) = places.last() {
         let last = turned(*last, way);
-        points.push(between(last, last, pieces, 0)?)?;
+        points.push(between(last, last, cut, 0)?)?;
     }
     Ok(Sequence::from_vec(points))
 }
@@ -66,20 +90,20 @@ fn lists(
     alloc: Global,
     all: &[Places],
     way: u32,
-    pieces: i32,
+    cut: &Cut,
 ) -> Result<Sequence<Sequence<GridPoint>>, Fail> {
     let mut found = Vec::new(alloc);
     for places in all {
-        found.push(list(alloc, places, way, pieces)?)?;
+        found.push(list(alloc, places, way, cut)?)?;
     }
     Ok(Sequence::from_vec(found))
 }
 
 /// Polygons of such lists.
-fn polygons(alloc: Global, all: &[&[Places]], way: u32, pieces: i32) -> Result<Geometry, Fail> {
+fn polygons(alloc: Global, all: &[&[Places]], way: u32, cut: &Cut) -> Result<Geometry, Fail> {
     let mut found = Vec::new(alloc);
     for rings in all {
-        found.push(lists(alloc, rings, way, pieces)?)?;
+        found.push(lists(alloc, rings, way, cut)?)?;
     }
     Ok(Geometry::MultiPolygon(Sequence::from_vec(found)))
 }
@@ -96,11 +120,11 @@ fn refusal(alloc: Global, geometry: &Geometry) -> Result<Option<Refusal>, Fail> 
 fn have_fault(
     alloc: Global,
     all: &[&[Places]],
-    pieces: i32,
+    cut: &Cut,
     fault: Option<Fault>,
 ) -> Result<bool, Fail> {
     for way in 0..8 {
-        let geometry = polygons(alloc, all, way, pieces)?;
+        let geometry = polygons(alloc, all, way, cut)?;
         if refusal(alloc, &geometry)? != fault.map(Refusal::Invalid) {
             return Ok(false);
         }
@@ -326,29 +350,70 @@ const SHORT: &[Case] = &[
     },
 ];
 
+/// The least and the greatest coordinate of the grid.
+const LOW: i32 = -524_288;
+
+const HIGH: i32 = 524_287;
+
+/// The ring over all four corners of the grid.
+const GRID: Places = &[
+    (LOW, LOW),
+    (HIGH, LOW),
+    (HIGH, HIGH),
+    (LOW, HIGH),
+    (LOW, LOW),
+];
+
+/// Shapes whose edges go from one corner of the grid to another.
+const CORNERS: &[Case] = &[
+    Case {
+        name: "a ring over the corners of the grid",
+        polygons: &[&[GRID]],
+        fault: None,
+    },
+    Case {
+        name: "a bow tie over the corners of the grid",
+        polygons: &[&[&[
+            (LOW, LOW),
+            (HIGH, HIGH),
+            (HIGH, LOW),
+            (LOW, HIGH),
+            (LOW, LOW),
+        ]]],
+        fault: Some(Fault::RingNotSimple),
+    },
+    Case {
+        name: "a hole equal to its shell, over the corners of the grid",
+        polygons: &[&[GRID, GRID]],
+        fault: Some(Fault::RingsMeet),
+    },
+];
+
 #[test]
 fn first_faults_of_polygons(rt: HostRuntime) -> Result<(), Fail> {
-    for case in CASES {
-        let plain = have_fault(rt.alloc(), case.polygons, 1, case.fault)?;
-        assert!(rt; plain, "{}", case.name);
-        let cut = have_fault(rt.alloc(), case.polygons, MANY, case.fault)?;
-        assert!(rt; cut, "{}, cut", case.name);
-    }
-    for case in SHORT {
-        let plain = have_fault(rt.alloc(), case.polygons, 1, case.fault)?;
-        assert!(rt; plain, "{}", case.name);
+    for (cases, cut) in [
+        (CASES, WHOLE),
+        (CASES, FINE),
+        (SHORT, WHOLE),
+        (CORNERS, WHOLE),
+        (CORNERS, FINE_OVER_GRID),
+    ] {
+        for case in cases {
+            let as_wanted = have_fault(rt.alloc(), case.polygons, &cut, case.fault)?;
+            assert!(rt; as_wanted, "{}, {} pieces", case.name, cut.pieces);
+        }
     }
     Ok(())
 }
 
 /// Lines of such lists.
-fn lines(alloc: Global, all: &[Places], pieces: i32) -> Result<Geometry, Fail> {
-    Ok(Geometry::MultiLineString(lists(alloc, all, 0, pieces)?))
+fn lines(alloc: Global, all: &[Places], cut: &Cut) -> Result<Geometry, Fail> {
+    Ok(Geometry::MultiLineString(lists(alloc, all, 0, cut)?))
 }
 
 /// Points of such a list.
 fn points(alloc: Global, places: &[(i32, i32)]) -> Result<Geometry, Fail> {
-    Ok(Geometry::MultiPoint(list(alloc, places, 0, 1)?))
+    Ok(Geometry::MultiPoint(list(alloc, places, 0, &WHOLE)?))
 }
 
 /// The geometry, if it is valid.
@@ -365,9 +430,9 @@ fn valid(alloc: Global, geometry: Geometry) -> Result<Valid, Fail> {
 #[test]
 fn short_lines(rt: HostRuntime) -> Result<(), Fail> {
     let short = Some(Refusal::Invalid(Fault::ShortLine));
-    let repeated = lines(rt.alloc(), &[&[(0, 0), (1, 1)], &[(7, 7), (7, 7)]], 1)?;
+    let repeated = lines(rt.alloc(), &[&[(0, 0), (1, 1)], &[(7, 7), (7, 7)]], &WHOLE)?;
     assert_eq!(rt; refusal(rt.alloc(), &repeated)?, short);
-    let crossing = lines(rt.alloc(), &[&[(0, 0), (4, 4)], &[(0, 4), (4, 0)]], 1)?;
+    let crossing = lines(rt.alloc(), &[&[(0, 0), (4, 4)], &[(0, 4), (4, 0)]], &WHOLE)?;
     assert_eq!(rt; refusal(rt.alloc(), &crossing)?, None);
     Ok(())
 }
@@ -378,31 +443,78 @@ fn simple(alloc: Global, geometry: Geometry) -> Result<bool, Fail> {
     Ok(is_simple(alloc, &valid)?)
 }
 
+/// Lines, and whether they are simple.
+struct LineCase {
+    name: &'static str,
+    lines: &'static [Places],
+    are_simple: bool,
+}
+
+const CROSSING: &[LineCase] = &[
+    LineCase {
+        name: "lines end to end",
+        lines: &[&[(0, 0), (4, 4)], &[(4, 4), (8, 0)]],
+        are_simple: true,
+    },
+    LineCase {
+        name: "crossing lines",
+        lines: &[&[(0, 0), (4, 4)], &[(0, 4), (4, 0)]],
+        are_simple: false,
+    },
+];
+
+const DIAGONALS: &[LineCase] = &[
+    LineCase {
+        name: "a line between opposite corners of the grid",
+        lines: &[&[(LOW, LOW), (HIGH, HIGH)]],
+        are_simple: true,
+    },
+    LineCase {
+        name: "crossing lines between opposite corners of the grid",
+        lines: &[&[(LOW, LOW), (HIGH, HIGH)], &[(LOW, HIGH), (HIGH, LOW)]],
+        are_simple: false,
+    },
+];
+
+#[test]
+fn simple_lines(rt: HostRuntime) -> Result<(), Fail> {
+    for (cases, cut) in [
+        (CROSSING, WHOLE),
+        (CROSSING, FINE),
+        (DIAGONALS, WHOLE),
+        (DIAGONALS, FINE_OVER_GRID),
+    ] {
+        for case in cases {
+            let geometry = lines(rt.alloc(), case.lines, &cut)?;
+            let found = simple(rt.alloc(), geometry)?;
+            assert_eq!(rt;
+                found,
+                case.are_simple,
+                "{}, {} pieces",
+                case.name, cut.pieces
+            );
+        }
+    }
+    Ok(())
+}
+
 #[test]
 fn simple_geometries(rt: HostRuntime) -> Result<(), Fail> {
     let alloc = rt.alloc();
-    assert!(rt;
-        simple(
-            alloc,
-            lines(alloc, &[&[(0, 0), (4, 4)], &[(4, 4), (8, 0)]], 1)?
-        )?
-    );
-    assert!(rt;
-        !simple(
-            alloc,
-            lines(alloc, &[&[(0, 0), (4, 4)], &[(0, 4), (4, 0)]], MANY)?
-        )?
-    );
+    for cut in [WHOLE, FINE_OVER_GRID] {
+        let diagonal = list(alloc, &[(LOW, HIGH), (HIGH, LOW)], 0, &cut)?;
+        assert!(rt; simple(alloc, Geometry::LineString(diagonal))?);
+    }
     assert!(rt; simple(alloc, points(alloc, &[(2, 1), (1, 2), (1, 1)])?)?);
     assert!(rt; !simple(alloc, points(alloc, &[(2, 1), (1, 2), (2, 1)])?)?);
-    assert!(rt; simple(alloc, polygons(alloc, &[&[SHELL, HOLE]], 0, 1)?)?);
+    assert!(rt; simple(alloc, polygons(alloc, &[&[SHELL, HOLE]], 0, &WHOLE)?)?);
     Ok(())
 }
 
 #[test]
 fn vertices_of_valid_geometries(rt: HostRuntime) -> Result<(), Fail> {
     let alloc = rt.alloc();
-    let mut square = valid(alloc, polygons(alloc, &[&[HOLE]], 0, 1)?)?;
+    let mut square = valid(alloc, polygons(alloc, &[&[HOLE]], 0, &WHOLE)?)?;
     let far = GridPoint::new(30, 30).ok_or("off the grid")?;
     let tie = square.move_vertex(alloc, 0, 0, 1, far);
     assert_eq!(rt; tie.err(), Some(Refusal::Invalid(Fault::RingNotSimple)));

@@ -1,4 +1,4 @@
-use Rattle.std.proofs.Common.{◌≡◌, ◌∙◌, Ok, Result, ap, subst, sym}
+use Rattle.std.proofs.Common.{◌∙◌, Ok, Result, ap, subst, sym}
 use Rattle.sf_refusals.specs.declared.refusal.Refusal.{Refusal}
 use Rattle.sf_wkt.specs.Grammar.{read}
 use Rattle.sf_commands.specs.declared.command.Command.{Command}

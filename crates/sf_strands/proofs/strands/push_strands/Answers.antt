@@ -18,5 +18,5 @@ returns-in_ok-push_dot c =
     (pushed-open c.args.strands.now c.push_edges.new.self c.push_dots-else-eq.new.strands c.push_dot.new.self c.push_dot-else-eq.new.self c.args.points.now c.in-Some.starts.now
     c.in-Some-split_first.inner.now c.in-Some-split_first.first.now c.in-Some.last.now c.requires
     (record { whole = c.in-Some.ensures.cases.0; front = c.in-Some-split_first.ensures.cases.0 })
-    (sym c.eq.ensures ∙ c.if-eq.false) c.in_ok-push_edges.ensures c.in_ok-push_dots.ensures c.in_ok-push_dot.ensures)
-    c.push_dot-else-eq.ensures
+    (sym c.eq.ensures ∙ c.if-eq.false) c.in_ok-push_edges.ensures c.in_ok-push_dots.ensures c.in_ok-push_dot.ensures.added)
+    c.push_dot-else-eq.ensures.added

@@ -19,7 +19,7 @@ loop-to-preserved c =
     ap (λ ps. c.loop-to.self ++ edges_in c.args.group (from ∷ ps)) (sym next) ∙ c.loop-to.invariant in
     elim c.if-ne.branch [
       | then-ne+in_ok-push w ↦
-          ap (λ ms. ms ++ edges_in c.args.group (to ∷ rest)) (w.self-is ∙ w.in_ok-push.ensures)
+          ap (λ ms. ms ++ edges_in c.args.group (to ∷ rest)) (w.self-is ∙ w.in_ok-push.ensures.added)
           ∙ edges_in-other c.loop-to.self c.args.group from to rest (not-true (is_same from to) (sym c.ne.ensures ∙ w.if-ne.true))
           ∙ before
       | else-ne w ↦

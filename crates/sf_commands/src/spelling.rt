@@ -1,0 +1,83 @@
+//! What single words spell: kinds of layers, identifiers, bytes and names.
+ghost use Rattle.std.specs.Prelude.{◌≡◌, ◌⊎◌, ◌&&◌, nat_le, length, Ok, IsErr, IfOk, MatchResult};
+ghost use Rattle.std.specs.Char.{is_ascii_digit};
+ghost use Rattle.std.specs.List.{list_all};
+ghost use Rattle.hex.specs.Hex.{decode_of};
+ghost use Rattle.sf_commands.specs.Commands.{id_digits_max, id_of as id_spelled, layer_kind_of as layer_kind_named};
+
+use hex::FromHexError;
+use sf_geometry::Kind;
+use sf_layers::{LayerKind, Text};
+use sf_refusals::Refusal;
+use std::alloc::{AllocError, Global};
+
+/// How many digits an identifier has at most.
+const ID_DIGITS_MAX: usize = 10;
+
+/// The kind of a layer that a word spells, in small letters.
+pub(crate) fn layer_kind_of(word: &str) -> Option<LayerKind>
+    ensures { result ≡ layer_kind_named word.now }
+{
+    if word == "any" {
+        Some(LayerKind::Any)
+    } else if word == "point" {
+        Some(LayerKind::Only(Kind::Point))
+    } else if word == "linestring" {
+        Some(LayerKind::Only(Kind::LineString))
+    } else if word == "polygon" {
+        Some(LayerKind::Only(Kind::Polygon))
+    } else if word == "multipoint" {
+        Some(LayerKind::Only(Kind::MultiPoint))
+    } else if word == "multilinestring" {
+        Some(LayerKind::Only(Kind::MultiLineString))
+    } else if word == "multipolygon" {
+        Some(LayerKind::Only(Kind::MultiPolygon))
+    } else {
+        None
+    }
+}
+
+/// The identifier that one to ten digits spell, where it is at most 4294967295.
+pub(crate) fn id_of(word: &str) -> Option<u32>
+    ensures { result ≡ id_spelled word.now }
+{
+    if !is_short_numeral(word) {
+        return None;
+    }
+    word.parse().ok()
+}
+
+/// Whether a word has ASCII digits alone, at most ten of them.
+fn is_short_numeral(word: &str) -> bool
+    ensures { result ≡ (nat_le (length word.now) id_digits_max && list_all is_ascii_digit word.now) }
+{
+    word.len() <= ID_DIGITS_MAX && is_numeral(word.as_bytes())
+}
+
+/// Whether all bytes are ASCII digits.
+fn is_numeral(bytes: &[u8]) -> bool
+    ensures { result ≡ list_all is_ascii_digit bytes.now }
+{
+    bytes.iter().all(|byte| byte.is_ascii_digit())
+}
+
+/// The bytes that a word spells in hexadecimal, two digits in either case for each byte. `Syntax` where
+/// the word isn't that, `Memory` where no memory was found.
+pub(crate) fn bytes_of(alloc: Global, word: &str) -> Result<Vec<u8>, Refusal>
+    ensures { MatchResult result
+        (λ bytes. decode_of word.now ≡ Ok bytes.items)
+        (λ refusal. (refusal ≡ Refusal.Memory) ⊎ ((refusal ≡ Refusal.Syntax) × IsErr (decode_of word.now))) }
+{
+    match hex::decode(alloc, word) {
+        Ok(bytes) => Ok(bytes),
+        Err(FromHexError::OutOfMemory) => Err(Refusal::Memory),
+        Err(_) => Err(Refusal::Syntax),
+    }
+}
+
+/// A copy of a word, for a command to keep.
+pub(crate) fn text_of(alloc: Global, word: &str) -> Result<Text, AllocError>
+    ensures { IfOk result (λ text. text ≡ word.now) }
+{
+    Ok(Text::from_string(String::from_str(alloc, word)?))
+}
