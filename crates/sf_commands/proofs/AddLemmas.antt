@@ -1,5 +1,5 @@
--- What `add` makes of the words after it.
-use Rattle.std.proofs.Common.{◌≡◌, ◌≢◌, ℕ, List, [], ◌∷◌, Result, Ok, Err, refl, sym, ap, ◌∙◌, subst}
+-- What `add` and `replace` make of the words after it.
+use Rattle.std.proofs.Common.{◌≡◌, ◌≢◌, ℕ, List, [], ◌∷◌, Option, Result, Ok, Err, refl, sym, ap, ◌∙◌, subst}
 use Rattle.std.specs.Result.{IsErrAnd}
 use Rattle.sf_refusals.specs.declared.refusal.Refusal.{Refusal}
 use Rattle.sf_refusals.specs.declared.refusal.Refusal.TheVariants.{Memory}
@@ -8,22 +8,47 @@ use Rattle.sf_wkt.specs.declared.fault.WktFault.{WktFault}
 use Rattle.sf_wkt.specs.declared.fault.WktFault.TheVariants as faults
 use Rattle.sf_wkt.specs.Faults.{refusal_of}
 use Rattle.sf_wkt.specs.Grammar.{OrMemory as ReadsOrMemory, read}
+use Rattle.sf_steps.specs.declared.edit.Edit.TheVariants as edits
 use Rattle.sf_commands.specs.declared.command.Command.{Command}
+use Rattle.sf_commands.specs.declared.command.Command.TheVariants.{Edit}
 use Rattle.sf_commands.specs.Words.{words, skip_blanks, skip_word}
-use Rattle.sf_commands.specs.Commands.{add_arguments, add_command, OrMemory}
+use Rattle.sf_commands.specs.Commands.{id_of, given, of_text, add_arguments, replace_arguments, OrMemory}
 
-with_text : (layer text : List ℕ) (more : List (List ℕ)) → more ≢ [] → add_arguments (layer ∷ more) text ≡ add_command layer (read text)
+with_text : (layer text : List ℕ) (more : List (List ℕ)) → more ≢ []
+    → add_arguments (layer ∷ more) text ≡ of_text (read text) (λ geometry. Edit (edits.AddFeature layer geometry))
 with_text layer text [] some = absurd (some refl)
 with_text layer text (word ∷ more) some = refl
 
 -- what the words after `add` give, where a text stands behind the first of them
 pub add_arguments-text : (line next layer text : List ℕ) → words line ≡ layer ∷ words next → next ≡ skip_word line
-    → words next ≢ [] → text ≡ skip_blanks next → add_arguments (words line) (skip_blanks (skip_word line)) ≡ add_command layer (read text)
+    → words next ≢ [] → text ≡ skip_blanks next
+    → add_arguments (words line) (skip_blanks (skip_word line)) ≡ of_text (read text) (λ geometry. Edit (edits.AddFeature layer geometry))
 add_arguments-text line next layer text first rest some behind =
     ap (λ w. add_arguments w (skip_blanks (skip_word line))) first
     ∙ ap (λ n. add_arguments (layer ∷ words next) (skip_blanks n)) (sym rest)
     ∙ ap (λ t. add_arguments (layer ∷ words next) t) (sym behind)
     ∙ with_text layer text (words next) some
+
+-- `replace` of a layer, an identifier if it could be read, and what a text was read as
+abbrev pub replaced_by : List ℕ → Option ℕ → Result Geometry WktFault → Result Command Refusal
+replaced_by layer id geometry = given id (λ id. of_text geometry (λ geometry. Edit (edits.ReplaceGeometry layer id geometry)))
+
+with_id_and_text : (layer id text : List ℕ) (more : List (List ℕ)) → more ≢ []
+    → replace_arguments (layer ∷ id ∷ more) text ≡ replaced_by layer (id_of id) (read text)
+with_id_and_text layer id text [] some = absurd (some refl)
+with_id_and_text layer id text (word ∷ more) some = refl
+
+-- what the words after `replace` give, where a text stands behind the second of them
+pub replace_arguments-text : (line next last layer id text : List ℕ) → words line ≡ layer ∷ words next → next ≡ skip_word line
+    → words next ≡ id ∷ words last → last ≡ skip_word next → words last ≢ [] → text ≡ skip_blanks last
+    → replace_arguments (words line) (skip_blanks (skip_word (skip_word line))) ≡ replaced_by layer (id_of id) (read text)
+replace_arguments-text line next last layer id text first rest second end some behind =
+    let all : words line ≡ layer ∷ id ∷ words last = first ∙ ap (λ w. layer ∷ w) second in
+    let left : last ≡ skip_word (skip_word line) = end ∙ ap skip_word rest in
+    ap (λ w. replace_arguments w (skip_blanks (skip_word (skip_word line)))) all
+    ∙ ap (λ n. replace_arguments (layer ∷ id ∷ words last) (skip_blanks n)) (sym left)
+    ∙ ap (λ t. replace_arguments (layer ∷ id ∷ words last) t) (sym behind)
+    ∙ with_id_and_text layer id text (words last) some
 
 OrMemory-same : {T : Type 0} (expected r : Result T Refusal) → r ≡ expected → OrMemory expected r
 OrMemory-same expected (Err Memory) h = tt
@@ -38,12 +63,12 @@ OrMemory-refused expected (Ok x) refusal h is = absurd is
 OrMemory-refused expected (Err e) refusal h is = OrMemory-same expected (Err e) (ap Err is ∙ sym h)
 
 -- a text that could not be read, or memory that ran out over it
-module _ (layer : List ℕ) (expected : Result Geometry WktFault) (r : Result Command Refusal) where
-  refused : (fault : WktFault) → Err fault ≡ expected → IsErrAnd r (λ e. e ≡ refusal_of fault) → OrMemory (add_command layer expected) r
-  refused fault h is = OrMemory-refused (add_command layer expected) r (refusal_of fault) (ap (add_command layer) (sym h)) is
+module _ (make : Geometry → Command) (expected : Result Geometry WktFault) (r : Result Command Refusal) where
+  refused : (fault : WktFault) → Err fault ≡ expected → IsErrAnd r (λ e. e ≡ refusal_of fault) → OrMemory (of_text expected make) r
+  refused fault h is = OrMemory-refused (of_text expected make) r (refusal_of fault) (ap (λ x. of_text x make) (sym h)) is
 
-  pub OrMemory-unread : (fault : WktFault) → ReadsOrMemory expected (Err fault) → IsErrAnd r (λ e. e ≡ refusal_of fault) → OrMemory (add_command layer expected) r
-  OrMemory-unread faults.Memory h is = OrMemory-memory (add_command layer expected) r is
+  pub OrMemory-unread : (fault : WktFault) → ReadsOrMemory expected (Err fault) → IsErrAnd r (λ e. e ≡ refusal_of fault) → OrMemory (of_text expected make) r
+  OrMemory-unread faults.Memory h is = OrMemory-memory (of_text expected make) r is
   OrMemory-unread (faults.Syntax place) h is = refused (faults.Syntax place) h is
   OrMemory-unread faults.OffGrid h is = refused faults.OffGrid h is
   OrMemory-unread faults.OutOfRange h is = refused faults.OutOfRange h is

@@ -1,3 +1,6 @@
 pub mod WordLemmas
 pub mod AddLemmas
 pub mod IdLemmas
+pub mod PointLemmas
+pub mod VertexLemmas
+pub mod Computed

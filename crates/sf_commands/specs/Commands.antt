@@ -19,17 +19,31 @@ use Rattle.sf_wkb.specs.Faults.{refusal_of as refusal_of_bytes}
 use Rattle.sf_wkb.specs.Grammar.{read as read_bytes}
 use Rattle.sf_layers.specs.declared.layer_kind.LayerKind.{LayerKind}
 use Rattle.sf_layers.specs.declared.layer_kind.LayerKind.TheVariants.{Any, Only}
-use Rattle.sf_edits.specs.declared.edit.Edit.TheVariants as edits
+use Rattle.sf_features.specs.declared.column_type.ColumnType.{ColumnType}
+use Rattle.sf_features.specs.declared.column_type.ColumnType.TheVariants as types
+use Rattle.sf_steps.specs.declared.edit.Edit.TheVariants as edits
 use Rattle.sf_commands.specs.declared.verb.Verb.{Verb}
 use Rattle.sf_commands.specs.declared.verb.Verb.TheVariants as verbs
+use Rattle.sf_commands.specs.declared.verb.Action.{Action}
+use Rattle.sf_commands.specs.declared.verb.Action.TheVariants as actions
 use Rattle.sf_commands.specs.declared.command.Command.{Command}
-use Rattle.sf_commands.specs.declared.command.Command.TheVariants.{Edit, Undo, Show, Hex, Simple, Extent}
+use Rattle.sf_commands.specs.declared.command.Command.TheVariants.{Edit, Undo, Redo, Layers, Columns, Show, Hex, Simple, Extent}
+use Rattle.sf_commands.specs.declared.vertex_place.VertexPlace.{VertexPlace}
 use Rattle.sf_commands.specs.Words.{words, skip_blanks, skip_word}
+use Rattle.sf_commands.specs.Values.{point_of}
 
 -- the verb that a word spells
 abbrev pub verb_of : List ℕ → Option Verb
-verb_of word = lookup (bytes_eq word) ((codes "layer", verbs.Layer) ∷ (codes "add", verbs.Add) ∷ (codes "addhex", verbs.AddHex)
-    ∷ (codes "show", verbs.Show) ∷ (codes "hex", verbs.Hex) ∷ (codes "box", verbs.Box) ∷ (codes "simple", verbs.Simple) ∷ (codes "undo", verbs.Undo) ∷ [])
+verb_of word = lookup (bytes_eq word) ((codes "layer", verbs.Layer) ∷ (codes "column", verbs.Column)
+    ∷ (codes "add", verbs.Add) ∷ (codes "addhex", verbs.AddHex) ∷ (codes "delete", verbs.Delete) ∷ (codes "replace", verbs.Replace)
+    ∷ (codes "vertex", verbs.Vertex) ∷ (codes "unset", verbs.Unset) ∷ (codes "undo", verbs.Undo) ∷ (codes "redo", verbs.Redo)
+    ∷ (codes "layers", verbs.Layers) ∷ (codes "columns", verbs.Columns) ∷ (codes "show", verbs.Show)
+    ∷ (codes "hex", verbs.Hex) ∷ (codes "box", verbs.Box) ∷ (codes "simple", verbs.Simple) ∷ [])
+
+-- what is done with a layer, a column or a vertex
+abbrev pub action_of : List ℕ → Option Action
+action_of word = lookup (bytes_eq word) ((codes "add", actions.Add) ∷ (codes "drop", actions.Drop) ∷ (codes "rename", actions.Rename)
+    ∷ (codes "move", actions.Move) ∷ (codes "insert", actions.Insert) ∷ (codes "remove", actions.Remove) ∷ [])
 
 -- the kind of a layer that a word spells
 abbrev pub layer_kind_of : List ℕ → Option LayerKind
@@ -37,24 +51,124 @@ layer_kind_of word = lookup (bytes_eq word) ((codes "any", Any) ∷ (codes "poin
     ∷ (codes "polygon", Only kinds.Polygon) ∷ (codes "multipoint", Only kinds.MultiPoint)
     ∷ (codes "multilinestring", Only kinds.MultiLineString) ∷ (codes "multipolygon", Only kinds.MultiPolygon) ∷ [])
 
+-- the type of a column that a word spells
+abbrev pub column_type_of : List ℕ → Option ColumnType
+column_type_of word = lookup (bytes_eq word) ((codes "int", types.Int) ∷ (codes "text", types.Text) ∷ [])
+
 -- how many digits an identifier has at most
 abbrev pub id_digits_max : ℕ
 id_digits_max = 10
 
--- the identifier that one to ten digits spell, where it has 32 bits
+-- the identifier, place or index that one to ten digits spell, where it has 32 bits
 abbrev pub id_of : List ℕ → Option ℕ
 id_of word = let id = digits_value word in
     if (nat_le (length word) id_digits_max && list_all is_ascii_digit word) && (nat_lt 0 (length word) && nat_lt id (2 ^ 32)) then Some id else None
 
--- `layer`, what is done with it, its name and its kind
-abbrev pub layer_command : List ℕ → List ℕ → Option LayerKind → Result Command Refusal
-layer_command action name None = Err BadCommand
-layer_command action name (Some kind) = if bytes_eq action (codes "add") then Ok (Edit (edits.AddLayer name kind)) else Err BadCommand
+-- what is made of a word that could be read
+abbrev pub given : {X Y : Type 0} → Option X → (X → Result Y Refusal) → Result Y Refusal
+given None make = Err BadCommand
+given (Some x) make = make x
 
--- `add` of what a text was read as
-abbrev pub add_command : List ℕ → Result Geometry WktFault → Result Command Refusal
-add_command layer (Ok geometry) = Ok (Edit (edits.AddFeature layer geometry))
-add_command layer (Err fault) = Err (refusal_of fault)
+-- what is made of what words name, or the refusal of them
+abbrev pub made : {X Y : Type 0} → Result X Refusal → (X → Result Y Refusal) → Result Y Refusal
+made (Ok x) make = make x
+made (Err refusal) make = Err refusal
+
+-- what is made of a geometry, if a text could be read as one
+abbrev pub of_text : Result Geometry WktFault → (Geometry → Command) → Result Command Refusal
+of_text (Ok geometry) make = Ok (make geometry)
+of_text (Err fault) make = Err (refusal_of fault)
+
+-- the words after `layer add`: a name and a kind
+abbrev pub add_layer : List (List ℕ) → Result Command Refusal
+add_layer (name ∷ kind ∷ []) = given (layer_kind_of kind) (λ kind. Ok (Edit (edits.AddLayer name kind)))
+add_layer arguments = Err BadCommand
+
+-- the words after `layer drop`: a name
+abbrev pub drop_layer : List (List ℕ) → Result Command Refusal
+drop_layer (name ∷ []) = Ok (Edit (edits.DropLayer name))
+drop_layer arguments = Err BadCommand
+
+-- the words after `layer rename`: a name and another
+abbrev pub rename_layer : List (List ℕ) → Result Command Refusal
+rename_layer (name ∷ new_name ∷ []) = Ok (Edit (edits.RenameLayer name new_name))
+rename_layer arguments = Err BadCommand
+
+-- the words after `layer move`: a name and a place
+abbrev pub move_layer : List (List ℕ) → Result Command Refusal
+move_layer (name ∷ place ∷ []) = given (id_of place) (λ place. Ok (Edit (edits.MoveLayer name place)))
+move_layer arguments = Err BadCommand
+
+-- what is done with a layer, and the words after it
+abbrev pub layer_command : Option Action → List (List ℕ) → Result Command Refusal
+layer_command (Some actions.Add) arguments = add_layer arguments
+layer_command (Some actions.Drop) arguments = drop_layer arguments
+layer_command (Some actions.Rename) arguments = rename_layer arguments
+layer_command (Some actions.Move) arguments = move_layer arguments
+layer_command action arguments = Err BadCommand
+
+-- the command of the words after `layer`
+abbrev pub layer_arguments : List (List ℕ) → Result Command Refusal
+layer_arguments [] = Err BadCommand
+layer_arguments (action ∷ arguments) = layer_command (action_of action) arguments
+
+-- the words after `column add`: a layer, a name and a type
+abbrev pub add_column : List (List ℕ) → Result Command Refusal
+add_column (layer ∷ name ∷ column_type ∷ []) =
+    given (column_type_of column_type) (λ column_type. Ok (Edit (edits.AddColumn layer name column_type)))
+add_column arguments = Err BadCommand
+
+-- the words after `column drop`: a layer and a name
+abbrev pub drop_column : List (List ℕ) → Result Command Refusal
+drop_column (layer ∷ name ∷ []) = Ok (Edit (edits.DropColumn layer name))
+drop_column arguments = Err BadCommand
+
+-- what is done with a column, and the words after it
+abbrev pub column_command : Option Action → List (List ℕ) → Result Command Refusal
+column_command (Some actions.Add) arguments = add_column arguments
+column_command (Some actions.Drop) arguments = drop_column arguments
+column_command action arguments = Err BadCommand
+
+-- the command of the words after `column`
+abbrev pub column_arguments : List (List ℕ) → Result Command Refusal
+column_arguments [] = Err BadCommand
+column_arguments (action ∷ arguments) = column_command (action_of action) arguments
+
+-- the vertex that four words name
+abbrev pub vertex_place : List ℕ → List ℕ → List ℕ → List ℕ → Result VertexPlace Refusal
+vertex_place id part ring index =
+    given (id_of id) (λ id. given (id_of part) (λ part. given (id_of ring) (λ ring. given (id_of index) (λ index.
+    Ok (record { id = id; part = part; ring = ring; index = index })))))
+
+-- the words after `vertex insert`: a layer, the numbers of a vertex, x and y
+abbrev pub insert_vertex : List (List ℕ) → Result Command Refusal
+insert_vertex (layer ∷ id ∷ part ∷ ring ∷ index ∷ x ∷ y ∷ []) =
+    made (vertex_place id part ring index) (λ v. made (point_of x y) (λ point. Ok (Edit (edits.InsertVertex layer v.id v.part v.ring v.index point))))
+insert_vertex arguments = Err BadCommand
+
+-- the words after `vertex move`: the same
+abbrev pub move_vertex : List (List ℕ) → Result Command Refusal
+move_vertex (layer ∷ id ∷ part ∷ ring ∷ index ∷ x ∷ y ∷ []) =
+    made (vertex_place id part ring index) (λ v. made (point_of x y) (λ point. Ok (Edit (edits.MoveVertex layer v.id v.part v.ring v.index point))))
+move_vertex arguments = Err BadCommand
+
+-- the words after `vertex remove`: a layer and the numbers of a vertex
+abbrev pub remove_vertex : List (List ℕ) → Result Command Refusal
+remove_vertex (layer ∷ id ∷ part ∷ ring ∷ index ∷ []) =
+    made (vertex_place id part ring index) (λ v. Ok (Edit (edits.RemoveVertex layer v.id v.part v.ring v.index)))
+remove_vertex arguments = Err BadCommand
+
+-- what is done with a vertex, and the words after it
+abbrev pub vertex_command : Option Action → List (List ℕ) → Result Command Refusal
+vertex_command (Some actions.Insert) arguments = insert_vertex arguments
+vertex_command (Some actions.Move) arguments = move_vertex arguments
+vertex_command (Some actions.Remove) arguments = remove_vertex arguments
+vertex_command action arguments = Err BadCommand
+
+-- the command of the words after `vertex`
+abbrev pub vertex_arguments : List (List ℕ) → Result Command Refusal
+vertex_arguments [] = Err BadCommand
+vertex_arguments (action ∷ arguments) = vertex_command (action_of action) arguments
 
 -- `addhex` of what bytes were read as
 abbrev pub bytes_command : List ℕ → Result Geometry WkbFault → Result Command Refusal
@@ -81,14 +195,9 @@ abbrev pub feature_command : (List ℕ → ℕ → Command) → Result (List ℕ
 feature_command command (Ok feature) = Ok (command feature.0 feature.1)
 feature_command command (Err refusal) = Err refusal
 
--- the command of the words after `layer`
-abbrev pub layer_arguments : List (List ℕ) → Result Command Refusal
-layer_arguments (action ∷ name ∷ kind ∷ []) = layer_command action name (layer_kind_of kind)
-layer_arguments arguments = Err BadCommand
-
 -- the command of the words after `add`; the text is the rest of the line from the second of them on
 abbrev pub add_arguments : List (List ℕ) → List ℕ → Result Command Refusal
-add_arguments (layer ∷ first ∷ more) text = add_command layer (read text)
+add_arguments (layer ∷ first ∷ more) text = of_text (read text) (λ geometry. Edit (edits.AddFeature layer geometry))
 add_arguments arguments text = Err BadCommand
 
 -- the command of the words after `addhex`; the binary is one word
@@ -100,26 +209,49 @@ addhex_arguments arguments = Err BadCommand
 abbrev pub feature_arguments : (List ℕ → ℕ → Command) → List (List ℕ) → Result Command Refusal
 feature_arguments command arguments = feature_command command (feature_named arguments)
 
--- the command of the words after `show`
-abbrev pub show_arguments : List (List ℕ) → Result Command Refusal
-show_arguments (layer ∷ []) = Ok (Show layer)
-show_arguments arguments = Err BadCommand
+-- the command of the words after `delete`: a layer and an identifier
+abbrev pub delete_arguments : List (List ℕ) → Result Command Refusal
+delete_arguments arguments = feature_arguments (λ layer id. Edit (edits.DeleteFeature layer id)) arguments
 
--- the command of the words after `undo`
-abbrev pub undo_arguments : List (List ℕ) → Result Command Refusal
-undo_arguments [] = Ok Undo
-undo_arguments arguments = Err BadCommand
+-- the command of the words after `replace`; the text is the rest of the line from the third of them on
+abbrev pub replace_arguments : List (List ℕ) → List ℕ → Result Command Refusal
+replace_arguments (layer ∷ id ∷ first ∷ more) text =
+    given (id_of id) (λ id. of_text (read text) (λ geometry. Edit (edits.ReplaceGeometry layer id geometry)))
+replace_arguments arguments text = Err BadCommand
+
+-- the command of the words after `unset`: a layer, an identifier and a column
+abbrev pub unset_arguments : List (List ℕ) → Result Command Refusal
+unset_arguments (layer ∷ id ∷ column ∷ []) = given (id_of id) (λ id. Ok (Edit (edits.ClearValue layer id column)))
+unset_arguments arguments = Err BadCommand
+
+-- a command with a layer's name alone after its verb
+abbrev pub of_layer : (List ℕ → Command) → List (List ℕ) → Result Command Refusal
+of_layer command (layer ∷ []) = Ok (command layer)
+of_layer command arguments = Err BadCommand
+
+-- a command with no word after its verb
+abbrev pub alone : Command → List (List ℕ) → Result Command Refusal
+alone command [] = Ok command
+alone command arguments = Err BadCommand
 
 -- the command of a verb and the line after it
 abbrev pub by_verb : Option Verb → List ℕ → Result Command Refusal
 by_verb (Some verbs.Layer) rest = layer_arguments (words rest)
+by_verb (Some verbs.Column) rest = column_arguments (words rest)
 by_verb (Some verbs.Add) rest = add_arguments (words rest) (skip_blanks (skip_word rest))
 by_verb (Some verbs.AddHex) rest = addhex_arguments (words rest)
-by_verb (Some verbs.Show) rest = show_arguments (words rest)
+by_verb (Some verbs.Delete) rest = delete_arguments (words rest)
+by_verb (Some verbs.Replace) rest = replace_arguments (words rest) (skip_blanks (skip_word (skip_word rest)))
+by_verb (Some verbs.Vertex) rest = vertex_arguments (words rest)
+by_verb (Some verbs.Unset) rest = unset_arguments (words rest)
+by_verb (Some verbs.Undo) rest = alone Undo (words rest)
+by_verb (Some verbs.Redo) rest = alone Redo (words rest)
+by_verb (Some verbs.Layers) rest = alone Layers (words rest)
+by_verb (Some verbs.Columns) rest = of_layer Columns (words rest)
+by_verb (Some verbs.Show) rest = of_layer Show (words rest)
 by_verb (Some verbs.Hex) rest = feature_arguments Hex (words rest)
 by_verb (Some verbs.Box) rest = feature_arguments Extent (words rest)
 by_verb (Some verbs.Simple) rest = feature_arguments Simple (words rest)
-by_verb (Some verbs.Undo) rest = undo_arguments (words rest)
 by_verb None rest = Err BadCommand
 
 -- the command of the words of a line, and the line after the first of them

@@ -1,10 +1,16 @@
 //! What a line of text asks for: its words, and the command that they spell.
 #![tactic(auto)]
 
+mod column_commands;
 mod command;
+mod feature_commands;
+mod layer_commands;
+mod number;
 mod parsing;
 mod spelling;
 mod verb;
+mod vertex_commands;
+mod vertex_place;
 mod words;
 
 pub use command::Command;

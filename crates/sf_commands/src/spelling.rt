@@ -3,11 +3,11 @@ ghost use Rattle.std.specs.Prelude.{◌≡◌, ◌⊎◌, ◌&&◌, nat_le, leng
 ghost use Rattle.std.specs.Char.{is_ascii_digit};
 ghost use Rattle.std.specs.List.{list_all};
 ghost use Rattle.hex.specs.Hex.{decode_of};
-ghost use Rattle.sf_commands.specs.Commands.{id_digits_max, id_of as id_spelled, layer_kind_of as layer_kind_named};
+ghost use Rattle.sf_commands.specs.Commands.{id_digits_max, id_of as id_spelled, layer_kind_of as layer_kind_named, column_type_of as column_type_named};
 
 use hex::FromHexError;
 use sf_geometry::Kind;
-use sf_layers::{LayerKind, Text};
+use sf_layers::{ColumnType, LayerKind, Text};
 use sf_refusals::Refusal;
 use std::alloc::{AllocError, Global};
 
@@ -37,7 +37,20 @@ pub(crate) fn layer_kind_of(word: &str) -> Option<LayerKind>
     }
 }
 
-/// The identifier that one to ten digits spell, where it is at most 4294967295.
+/// The type of a column that a word spells, in small letters.
+pub(crate) fn column_type_of(word: &str) -> Option<ColumnType>
+    ensures { result ≡ column_type_named word.now }
+{
+    if word == "int" {
+        Some(ColumnType::Int)
+    } else if word == "text" {
+        Some(ColumnType::Text)
+    } else {
+        None
+    }
+}
+
+/// The identifier, place or index that one to ten digits spell, where it is at most 4294967295.
 pub(crate) fn id_of(word: &str) -> Option<u32>
     ensures { result ≡ id_spelled word.now }
 {

@@ -1,17 +1,36 @@
 ghost use Rattle.std.specs.Prelude.{◌≡◌};
-ghost use Rattle.sf_commands.specs.Commands.{verb_of as verb_named};
+ghost use Rattle.sf_commands.specs.Commands.{action_of as action_named, verb_of as verb_named};
 
 /// The first word of a command.
 #[derive(Clone, Copy, Debug, PartialEq, Eq)]
 pub(crate) enum Verb {
     Layer,
+    Column,
     Add,
     AddHex,
+    Delete,
+    Replace,
+    Vertex,
+    Unset,
+    Undo,
+    Redo,
+    Layers,
+    Columns,
     Show,
     Hex,
     Box,
     Simple,
-    Undo,
+}
+
+/// What is done with a layer, a column or a vertex.
+#[derive(Clone, Copy, Debug, PartialEq, Eq)]
+pub(crate) enum Action {
+    Add,
+    Drop,
+    Rename,
+    Move,
+    Insert,
+    Remove,
 }
 
 /// The verb that a word spells, in small letters.
@@ -20,10 +39,28 @@ pub(crate) fn verb_of(word: &str) -> Option<Verb>
 {
     if word == "layer" {
         Some(Verb::Layer)
+    } else if word == "column" {
+        Some(Verb::Column)
     } else if word == "add" {
         Some(Verb::Add)
     } else if word == "addhex" {
         Some(Verb::AddHex)
+    } else if word == "delete" {
+        Some(Verb::Delete)
+    } else if word == "replace" {
+        Some(Verb::Replace)
+    } else if word == "vertex" {
+        Some(Verb::Vertex)
+    } else if word == "unset" {
+        Some(Verb::Unset)
+    } else if word == "undo" {
+        Some(Verb::Undo)
+    } else if word == "redo" {
+        Some(Verb::Redo)
+    } else if word == "layers" {
+        Some(Verb::Layers)
+    } else if word == "columns" {
+        Some(Verb::Columns)
     } else if word == "show" {
         Some(Verb::Show)
     } else if word == "hex" {
@@ -32,8 +69,27 @@ pub(crate) fn verb_of(word: &str) -> Option<Verb>
         Some(Verb::Box)
     } else if word == "simple" {
         Some(Verb::Simple)
-    } else if word == "undo" {
-        Some(Verb::Undo)
+    } else {
+        None
+    }
+}
+
+/// The action that a word spells, in small letters.
+pub(crate) fn action_of(word: &str) -> Option<Action>
+    ensures { result ≡ action_named word.now }
+{
+    if word == "add" {
+        Some(Action::Add)
+    } else if word == "drop" {
+        Some(Action::Drop)
+    } else if word == "rename" {
+        Some(Action::Rename)
+    } else if word == "move" {
+        Some(Action::Move)
+    } else if word == "insert" {
+        Some(Action::Insert)
+    } else if word == "remove" {
+        Some(Action::Remove)
     } else {
         None
     }

@@ -2,9 +2,9 @@ ghost use Rattle.std.specs.Prelude.{◌≡◌, ◌≤◌, ◌+◌, ◌<◌, ◌+
 ghost use Rattle.std.specs.Fmt.{signed_decimal};
 ghost use Rattle.sf_console.specs.Answers.{accepted_line, refusal_line, line as line_of, truth as truth_word, extent_text};
 
-use sf_edits::Answer;
 use sf_geometry::Extent;
 use sf_refusals::Refusal;
+use sf_steps::Answer;
 use std::fmt::{InlineText, Write};
 use std::marker::Model;
 

@@ -1,18 +1,19 @@
 //! A line, and its reply.
-ghost use Rattle.std.specs.Prelude.{◌≡◌, ◌⊎◌, ℕ, List, Ok, Err, true, MatchResult};
+ghost use Rattle.std.specs.Prelude.{◌≡◌, ◌⊎◌, ℕ, List, Ok, Err, true, map, MatchResult};
 ghost use Rattle.sf_layers.specs.Content.{layer_of};
 ghost use Rattle.sf_lines.specs.Buffers.{IsBufferOf};
-ghost use Rattle.sf_console.specs.Answers.{reply_text, refusal_line, shown, found, told, hex_text, simple_text, box_text};
+ghost use Rattle.sf_console.specs.Answers.{reply_text, refusal_line, rows, rows_of, layer_row, column_rows as column_rows_of, feature_rows as feature_rows_of, found, told, hex_text, simple_text, box_text};
 ghost use Rattle.sf_console.specs.Readings.{Asked, reading, text_reading};
 ghost use Rattle.sf_console.specs.Session.{IsAnswered, IsLastAnswered};
 
-use super::reply::{Reply, feature_rows, hex_line};
+use super::reply::{Reply, hex_line};
+use super::rows::{column_rows, feature_rows, layer_rows};
 use sf_commands::{Command, is_blank_text, parse};
-use sf_edits::Answer;
 use sf_history::Editor;
 use sf_layers::{Store, Text};
 use sf_lines::{LineBuffer, without_return};
 use sf_refusals::Refusal;
+use sf_steps::Answer;
 use sf_validity::{Valid, is_simple};
 use std::alloc::Global;
 use std::str::from_utf8;
@@ -77,6 +78,12 @@ fn execute(alloc: Global, editor: &mut Editor, command: Command) -> Result<Reply
             editor.undo(alloc)?;
             Ok(Reply::Accepted(Answer::Done))
         }
+        Command::Redo => {
+            editor.redo(alloc)?;
+            Ok(Reply::Accepted(Answer::Done))
+        }
+        Command::Layers => layers(alloc, editor.store()),
+        Command::Columns(name) => columns(alloc, editor.store(), &name),
         Command::Show(name) => show(alloc, editor.store(), &name),
         Command::Hex(layer, id) => hex(alloc, editor.store(), &layer, id),
         Command::Simple(layer, id) => simple(alloc, editor.store(), &layer, id),
@@ -84,9 +91,24 @@ fn execute(alloc: Global, editor: &mut Editor, command: Command) -> Result<Reply
     }
 }
 
+/// The layers in order.
+fn layers(alloc: Global, store: &Store) -> Result<Reply, Refusal>
+    ensures { (reply_text result ≡ rows (map layer_row store.now)) ⊎ (reply_text result ≡ refusal_line Refusal.Memory) }
+{
+    Ok(Reply::Lines(layer_rows(alloc, store)?))
+}
+
+/// The columns of the layer of that name.
+fn columns(alloc: Global, store: &Store, name: &Text) -> Result<Reply, Refusal>
+    ensures { (reply_text result ≡ rows_of column_rows_of (layer_of store.now name.now)) ⊎ (reply_text result ≡ refusal_line Refusal.Memory) }
+{
+    let layer = store.layer(name.as_str()).ok_or(Refusal::NoLayer)?;
+    Ok(Reply::Lines(column_rows(alloc, layer)?))
+}
+
 /// The features of the layer of that name.
 fn show(alloc: Global, store: &Store, name: &Text) -> Result<Reply, Refusal>
-    ensures { (reply_text result ≡ shown (layer_of store.now name.now)) ⊎ (reply_text result ≡ refusal_line Refusal.Memory) }
+    ensures { (reply_text result ≡ rows_of feature_rows_of (layer_of store.now name.now)) ⊎ (reply_text result ≡ refusal_line Refusal.Memory) }
 {
     let layer = store.layer(name.as_str()).ok_or(Refusal::NoLayer)?;
     Ok(Reply::Lines(feature_rows(alloc, layer)?))

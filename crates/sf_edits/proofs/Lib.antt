@@ -1,6 +1,9 @@
-pub mod Accepted
-pub mod AddingLaws
-pub mod Ends
+pub mod Carrying
+pub mod There
 pub mod FeatureLaws
-pub mod InverseLaws
+pub mod VertexLaws
+pub mod EntryLaws
+pub mod ValueLaws
 pub mod LayerLaws
+pub mod ColumnsOut
+pub mod ColumnLaws

@@ -1,12 +1,22 @@
-ghost use Rattle.std.specs.Prelude.{◌≡◌, IfOk, IfErr, OnErr, IsOk};
-ghost use Rattle.sf_edits.specs.Inverses.{Carries, Reverts, Fits};
+ghost use Rattle.std.specs.Prelude.{◌≡◌, IfErr, IfOk, IsOk, IsTrue, OnErr};
+ghost use Rattle.sf_steps.specs.Inverses.{Carries, Fits, Reverts, frees_only};
 
-use super::edit::Edit;
-use super::feature_edits::{add_feature, undo_add_feature};
-use super::inverse::Inverse;
-use super::layer_edits::{add_layer, undo_add_layer};
-use super::refusal::Refusal;
+use super::column_edits::{add_column, drop_column, undo_add_column, undo_drop_column};
+use super::feature_edits::{
+    add_feature, delete_feature, replace_geometry, undo_add_feature, undo_delete_feature,
+    undo_replace_geometry,
+};
+use super::layer_edits::{
+    add_layer, drop_layer, move_layer, rename_layer, undo_add_layer, undo_drop_layer,
+    undo_move_layer, undo_rename_layer,
+};
+use super::value_edits::{clear_value, set_value, undo_set_value};
+use super::vertex_edits::{
+    insert_vertex, move_vertex, remove_vertex, undo_insert_vertex, undo_move_vertex,
+    undo_remove_vertex,
+};
 use sf_layers::Store;
+use sf_steps::{Edit, Inverse, Refusal};
 use std::alloc::Global;
 
 /// Carries out an edit.
@@ -14,13 +24,59 @@ use std::alloc::Global;
 /// # Errors
 ///
 /// The edit is given back with the refusal of its first check that fails, in their order, or with
-/// `Memory` in the place of success. The store is then as it was.
+/// `Memory` in the place of success, of a fault of validity, and of identifiers that are used up
+/// behind it. The store is then as it was.
 pub fn apply(alloc: Global, store: &mut Store, edit: Edit) -> Result<Inverse, (Edit, Refusal)>
     ensures { Carries store.old edit result store.new }
 {
     match edit {
         Edit::AddLayer { name, kind } => add_layer(alloc, store, name, kind),
+        Edit::DropLayer { name } => drop_layer(alloc, store, name),
+        Edit::RenameLayer { name, new_name } => rename_layer(alloc, store, name, new_name),
+        Edit::MoveLayer { name, place } => move_layer(store, name, place),
+        Edit::AddColumn {
+            layer,
+            name,
+            column_type,
+        } => add_column(alloc, store, layer, name, column_type),
+        Edit::DropColumn { layer, name } => drop_column(alloc, store, layer, name),
         Edit::AddFeature { layer, geometry } => add_feature(alloc, store, layer, geometry),
+        Edit::DeleteFeature { layer, id } => delete_feature(store, layer, id),
+        Edit::ReplaceGeometry {
+            layer,
+            id,
+            geometry,
+        } => replace_geometry(alloc, store, layer, id, geometry),
+        Edit::InsertVertex {
+            layer,
+            id,
+            part,
+            ring,
+            index,
+            point,
+        } => insert_vertex(alloc, store, layer, id, part, ring, index, point),
+        Edit::MoveVertex {
+            layer,
+            id,
+            part,
+            ring,
+            index,
+            point,
+        } => move_vertex(alloc, store, layer, id, part, ring, index, point),
+        Edit::RemoveVertex {
+            layer,
+            id,
+            part,
+            ring,
+            index,
+        } => remove_vertex(alloc, store, layer, id, part, ring, index),
+        Edit::SetValue {
+            layer,
+            id,
+            column,
+            value,
+        } => set_value(alloc, store, layer, id, column, value),
+        Edit::ClearValue { layer, id, column } => clear_value(store, layer, id, column),
     }
 }
 
@@ -28,19 +84,72 @@ pub fn apply(alloc: Global, store: &mut Store, edit: Edit) -> Result<Inverse, (E
 ///
 /// # Errors
 ///
-/// Where no memory is found, the inverse is given back and nothing is changed.
+/// Where no memory is found, the inverse is given back and nothing is changed. What only takes out
+/// or exchanges takes no memory.
 pub fn revert(alloc: Global, store: &mut Store, inverse: Inverse) -> Result<Edit, Inverse>
     requires { Fits store.old inverse }
     ensures reverted { IfOk result (λ edit. Reverts store.old inverse edit store.new) }
     ensures given_back { IfErr result (λ back. back ≡ inverse) }
     ensures unchanged { OnErr result (store.new ≡ store.old) }
-
-    // No inverse so far puts anything in, so none takes memory.
-    ensures always { IsOk result }
+    ensures always { IsTrue (frees_only store.old inverse) → IsOk result }
 {
-    let _ = alloc;
-    Ok(match inverse {
-        Inverse::TakeLayer => undo_add_layer(store),
-        Inverse::TakeFeature { layer, id } => undo_add_feature(store, layer, id),
-    })
+    match inverse {
+        Inverse::TakeLayer => Ok(undo_add_layer(store)),
+        Inverse::PutLayer {
+            name,
+            place,
+            stored,
+            layer,
+        } => undo_drop_layer(alloc, store, name, place, stored, layer),
+        Inverse::RenameLayer {
+            name,
+            place,
+            stored,
+        } => undo_rename_layer(alloc, store, name, place, stored),
+        Inverse::MoveLayer { name, place } => Ok(undo_move_layer(store, name, place)),
+        Inverse::TakeColumn { layer } => Ok(undo_add_column(store, layer)),
+        Inverse::PutColumn {
+            layer,
+            name,
+            place,
+            column,
+            values,
+        } => undo_drop_column(alloc, store, layer, name, place, column, values),
+        Inverse::TakeFeature { layer, id } => Ok(undo_add_feature(store, layer, id)),
+        Inverse::PutFeature { layer, id, feature } => {
+            undo_delete_feature(alloc, store, layer, id, feature)
+        }
+        Inverse::PutGeometry { layer, id, old } => {
+            Ok(undo_replace_geometry(store, layer, id, old))
+        }
+        Inverse::TakeVertex {
+            layer,
+            id,
+            part,
+            ring,
+            index,
+        } => Ok(undo_insert_vertex(store, layer, id, part, ring, index)),
+        Inverse::MoveVertex {
+            layer,
+            id,
+            part,
+            ring,
+            index,
+            old,
+        } => Ok(undo_move_vertex(store, layer, id, part, ring, index, old)),
+        Inverse::PutVertex {
+            layer,
+            id,
+            part,
+            ring,
+            index,
+            old,
+        } => undo_remove_vertex(alloc, store, layer, id, part, ring, index, old),
+        Inverse::PutValue {
+            layer,
+            id,
+            column,
+            old,
+        } => undo_set_value(alloc, store, layer, id, column, old),
+    }
 }

@@ -1,26 +1,254 @@
+//! All edits in a row, each taken back after those behind it.
+
+ghost use Rattle.std.specs.Prelude.{◌≡◌, OnOk};
+
 use super::*;
-use sf_geometry::{Geometry, Kind};
+use sf_geometry::{Geometry, Sequence};
 use sf_grid::GridPoint;
-use sf_layers::{LayerKind, Store, Text};
+use sf_layers::{AttrValue, ColumnType, LayerKind, Store, Text};
+use std::alloc::Global;
 use std::test::Fail;
 
-// Each edit is carried out and taken back where memory is found.
+/// A text, which is empty where no memory is found.
+fn text(alloc: Global, s: &str) -> Text {
+    match String::from_str(alloc, s) {
+        Ok(string) => Text::from_string(string),
+        Err(_) => Text::from_string(String::new(alloc)),
+    }
+}
+
+/// The line through these places.
+fn line(alloc: Global, places: &[(i32, i32)]) -> Result<Geometry, Fail> {
+    let mut points = Vec::new(alloc);
+    for (x, y) in places {
+        points.push(GridPoint::new(*x, *y).ok_or("off the grid")?)?;
+    }
+    Ok(Geometry::LineString(Sequence::from_vec(points)))
+}
+
+/// The edit of a whole layer at a step.
+fn layer_edit(alloc: Global, step: u8) -> Option<Edit> {
+    let name = text(alloc, "pits");
+    match step {
+        0 => Some(Edit::AddLayer {
+            name: text(alloc, "wells"),
+            kind: LayerKind::Any,
+        }),
+        12 => Some(Edit::RenameLayer {
+            name: text(alloc, "wells"),
+            new_name: name,
+        }),
+        13 => Some(Edit::AddLayer {
+            name: text(alloc, "roads"),
+            kind: LayerKind::Any,
+        }),
+        14 => Some(Edit::MoveLayer { name, place: 1 }),
+        15 => Some(Edit::DropLayer {
+            name: text(alloc, "roads"),
+        }),
+        17 => Some(Edit::DropLayer { name }),
+        _ => None,
+    }
+}
+
+/// The edit of a column or a value at a step.
+fn value_edit(alloc: Global, step: u8) -> Option<Edit> {
+    let layer = text(alloc, "wells");
+    let depth = text(alloc, "depth");
+    let note = text(alloc, "note");
+    match step {
+        1 => Some(Edit::AddColumn {
+            layer,
+            name: depth,
+            column_type: ColumnType::Int,
+        }),
+        2 => Some(Edit::AddColumn {
+            layer,
+            name: note,
+            column_type: ColumnType::Text,
+        }),
+        4 => Some(Edit::SetValue {
+            layer,
+            id: 1,
+            column: depth,
+            value: AttrValue::Int(7),
+        }),
+        5 => Some(Edit::SetValue {
+            layer,
+            id: 1,
+            column: note,
+            value: AttrValue::Text(text(alloc, "dry")),
+        }),
+        10 => Some(Edit::ClearValue {
+            layer,
+            id: 1,
+            column: note,
+        }),
+        11 => Some(Edit::DropColumn { layer, name: depth }),
+        _ => None,
+    }
+}
+
+/// The edit of a feature or a vertex at a step.
+fn feature_edit(alloc: Global, step: u8) -> Result<Edit, Fail> {
+    let layer = text(alloc, "wells");
+    let point = GridPoint::new(5, i32::from(step)).ok_or("off the grid")?;
+    match step {
+        3 => Ok(Edit::AddFeature {
+            layer,
+            geometry: line(alloc, &[(0, 0), (10, 0), (10, 10)])?,
+        }),
+        6 => Ok(Edit::InsertVertex {
+            layer,
+            id: 1,
+            part: 0,
+            ring: 0,
+            index: 1,
+            point,
+        }),
+        7 => Ok(Edit::MoveVertex {
+            layer,
+            id: 1,
+            part: 0,
+            ring: 0,
+            index: 1,
+            point,
+        }),
+        8 => Ok(Edit::RemoveVertex {
+            layer,
+            id: 1,
+            part: 0,
+            ring: 0,
+            index: 1,
+        }),
+        9 => Ok(Edit::ReplaceGeometry {
+            layer,
+            id: 1,
+            geometry: line(alloc, &[(0, 0), (3, 4)])?,
+        }),
+        16 => Ok(Edit::DeleteFeature {
+            layer: text(alloc, "pits"),
+            id: 1,
+        }),
+        _ => Err(Fail::from("no such step")),
+    }
+}
+
+/// How many layers there are; of the first one the columns, the features, the next identifier and
+/// the next column number; and the number of values of its feature 1.
+type Counts = [usize; 6];
+
+fn counts(store: &Store) -> Counts {
+    let Some((_, layer)) = store.layer_at(0) else {
+        return [0; 6];
+    };
+    let values = match layer.feature(1) {
+        Some(feature) => feature.value_count(),
+        None => 0,
+    };
+    [
+        store.layer_count(),
+        layer.column_count(),
+        layer.feature_count(),
+        layer.next_id() as usize,
+        layer.next_column() as usize,
+        values,
+    ]
+}
+
+/// The number in column 1 of that feature, or else 0.
+fn number(store: &Store) -> i64 {
+    let Some((_, layer)) = store.layer_at(0) else {
+        return 0;
+    };
+    let Some(feature) = layer.feature(1) else {
+        return 0;
+    };
+    match feature.value(1) {
+        Some(AttrValue::Int(n)) => *n,
+        _ => 0,
+    }
+}
+
+/// Where its vertex 1 stands, or else the origin.
+fn vertex(store: &Store) -> (i32, i32) {
+    let Some((_, layer)) = store.layer_at(0) else {
+        return (0, 0);
+    };
+    let Some(feature) = layer.feature(1) else {
+        return (0, 0);
+    };
+    match feature.valid().geometry().vertex(0, 0, 1) {
+        Some(point) => (point.x(), point.y()),
+        None => (0, 0),
+    }
+}
+
+/// What the readers show after each step.
+const SHOWN: &[(Counts, i64, (i32, i32))] = &[
+    ([1, 0, 0, 1, 1, 0], 0, (0, 0)),
+    ([1, 1, 0, 1, 2, 0], 0, (0, 0)),
+    ([1, 2, 0, 1, 3, 0], 0, (0, 0)),
+    ([1, 2, 1, 2, 3, 0], 0, (10, 0)),
+    ([1, 2, 1, 2, 3, 1], 7, (10, 0)),
+    ([1, 2, 1, 2, 3, 2], 7, (10, 0)),
+    ([1, 2, 1, 2, 3, 2], 7, (5, 6)),
+    ([1, 2, 1, 2, 3, 2], 7, (5, 7)),
+    ([1, 2, 1, 2, 3, 2], 7, (10, 0)),
+    ([1, 2, 1, 2, 3, 2], 7, (3, 4)),
+    ([1, 2, 1, 2, 3, 1], 7, (3, 4)),
+    ([1, 1, 1, 2, 3, 0], 0, (3, 4)),
+    ([1, 1, 1, 2, 3, 0], 0, (3, 4)),
+    ([2, 1, 1, 2, 3, 0], 0, (3, 4)),
+    ([2, 0, 0, 1, 1, 0], 0, (0, 0)),
+    ([1, 1, 1, 2, 3, 0], 0, (3, 4)),
+    ([1, 1, 0, 2, 3, 0], 0, (0, 0)),
+    ([0, 0, 0, 0, 0, 0], 0, (0, 0)),
+];
+
+/// Whether the readers show this.
+fn shows(store: &Store, want: &(Counts, i64, (i32, i32))) -> bool {
+    counts(store) == want.0 && number(store) == want.1 && vertex(store) == want.2
+}
+
+/// Carries out the edit of a step, then those after it, and takes it back once they are taken back.
+fn there_and_back(
+    alloc: Global,
+    store: &mut Store,
+    step: u8,
+    left: &[(Counts, i64, (i32, i32))],
+) -> Result<(), Fail>
+    ensures { OnOk result (store.new ≡ store.old) }
+{
+    let Some((want, later)) = left.split_first() else {
+        return Ok(());
+    };
+    let before = (counts(store), number(store), vertex(store));
+    let edit = match layer_edit(alloc, step).or(value_edit(alloc, step)) {
+        Some(edit) => edit,
+        None => feature_edit(alloc, step)?,
+    };
+    let Ok(inverse) = apply(alloc, store, edit) else {
+        return Err(Fail::from("an edit was refused"));
+    };
+    if !shows(store, want) {
+        return Err(Fail::from("an edit shows something else"));
+    }
+    there_and_back(alloc, store, step.wrapping_add(1), later)?;
+    let Ok(_) = revert(alloc, store, inverse) else {
+        return Err(Fail::from("no memory"));
+    };
+    if shows(store, &before) {
+        Ok(())
+    } else {
+        Err(Fail::from("an edit was not taken back"))
+    }
+}
+
 #[test]
-fn layer_and_feature_are_added_and_taken_back(rt: HostRuntime) -> Result<(), Fail> {
+fn edits_in_a_row_are_taken_back_last_first(rt: HostRuntime) -> Result<(), Fail> {
     let mut store = Store::new(rt.alloc());
-    let name = Text::from_string(String::from_str(rt.alloc(), "wells")?);
-    let kind = LayerKind::Only(Kind::Point);
-    let layer_added = apply(rt.alloc(), &mut store, Edit::AddLayer { name, kind })?;
-    assert_eq!(rt; layer_added.answer(), Answer::Done);
-
-    let layer = Text::from_string(String::from_str(rt.alloc(), "wells")?);
-    let geometry = Geometry::Point(GridPoint::new(3, 4).ok_or("off the grid")?);
-    let feature_added = apply(rt.alloc(), &mut store, Edit::AddFeature { layer, geometry })?;
-    assert_eq!(rt; feature_added.answer(), Answer::Id(1));
-
-    let _ = revert(rt.alloc(), &mut store, feature_added)?;
-    assert_eq!(rt; store.layer("wells").ok_or("no layer")?.next_id(), 1);
-    let _ = revert(rt.alloc(), &mut store, layer_added)?;
+    there_and_back(rt.alloc(), &mut store, 0, SHOWN)?;
     assert_eq!(rt; store.layer_count(), 0);
     Ok(())
 }

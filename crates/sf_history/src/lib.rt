@@ -1,4 +1,4 @@
-//! A store with the history of its edits: what was done can be undone.
+//! A store with the history of its edits: what was done can be undone, and done again.
 #![tactic(auto)]
 
 mod editor;

@@ -6,10 +6,12 @@ use Rattle.std.specs.List.Sorted.{IsStrictlySortedBy}
 use Rattle.std.specs.Map.{lookup, keys_of, values_of, remove_entry}
 use Rattle.std.specs.Ordering.{nat_cmp}
 use Rattle.std.specs.BTreeMap.{insert_entry}
-use Rattle.sf_layers.specs.Names.{is_name}
-use Rattle.sf_layers.specs.Content.{Content, LayerContent, FeatureContent, layer_of, change_layer, with_next_feature, empty_layer}
+use Rattle.sf_features.specs.Names.{is_name}
+use Rattle.sf_features.specs.Features.{FeatureContent}
+use Rattle.sf_layers.specs.Content.{Content, LayerContent, layer_of, change_layer, with_next_feature, empty_layer}
 use Rattle.sf_layers.specs.declared.layer_kind.LayerKind.{LayerKind}
-use Rattle.sf_layers.specs.WellFormed.{IsDistinct, IsFeature, IsLayer, IsWellFormed, IsIssued, id_end, layers_max}
+use Rattle.sf_features.specs.Columns.{IsDistinct}
+use Rattle.sf_layers.specs.WellFormed.{IsFeature, IsLayer, IsWellFormed, IsIssued, id_end, layers_max}
 use Rattle.sf_layers.proofs.Changes.{all_layers-change_layer}
 use Rattle.sf_layers.proofs.Issued.{all-push, insert_entry-next, remove_entry-push, lookup-push, rising-push, IsIssued-next}
 use Rattle.sf_layers.proofs.Kept.{none_or, none-from, keys-change_layer, length-change_layer}

@@ -5,15 +5,20 @@ use Rattle.std.specs.List.Sorted.{IsStrictlySortedBy}
 use Rattle.std.specs.Map.{keys_of, values_of, remove_entry}
 use Rattle.std.specs.Ordering.{nat_cmp}
 use Rattle.sf_layers.specs.Content.{Content, LayerContent, change_layer, change_at, without_feature}
-use Rattle.sf_layers.specs.WellFormed.{IsDistinct, IsFeature, IsLayer, IsWellFormed}
+use Rattle.sf_features.specs.Columns.{IsDistinct}
+use Rattle.sf_layers.specs.WellFormed.{IsFeature, IsLayer, IsWellFormed}
+use Rattle.sf_layers.proofs.Orders.{map-remove}
 
 -- ---- a list with one element out
 
+pub remove-all : {X : Type 0} (P : X → Type 0) (xs : List X) (i : ℕ) → AllByRecursion P xs → AllByRecursion P (remove xs i)
+remove-all P [] zero h = h
+remove-all P [] (suc i) h = h
+remove-all P (x ∷ xs) zero h = h.1
+remove-all P (x ∷ xs) (suc i) h = (h.0, remove-all P xs i h.1)
+
 pub all-remove : {X Y : Type 0} (P : Y → Type 0) (f : X → Y) (xs : List X) (i : ℕ) → AllByRecursion P (map f xs) → AllByRecursion P (map f (remove xs i))
-all-remove P f [] zero h = h
-all-remove P f [] (suc i) h = h
-all-remove P f (x ∷ xs) zero h = h.1
-all-remove P f (x ∷ xs) (suc i) h = (h.0, all-remove P f xs i h.1)
+all-remove P f xs i h = subst (AllByRecursion P) (sym (map-remove f xs i)) (remove-all P (map f xs) i h)
 
 pub none_or : (a b : Bool) → (a || b) ≡ false → (a ≡ false) × (b ≡ false)
 none_or false b h = (refl, h)
@@ -22,7 +27,7 @@ none_or true b h = cc
 pub none-from : (a b : Bool) → a ≡ false → b ≡ false → (a || b) ≡ false
 none-from a b p q = ap (λ c. c || b) p ∙ q
 
-none-remove : {X Y : Type 0} (test : Y → Bool) (f : X → Y) (xs : List X) (i : ℕ) → list_any test (map f xs) ≡ false → list_any test (map f (remove xs i)) ≡ false
+pub none-remove : {X Y : Type 0} (test : Y → Bool) (f : X → Y) (xs : List X) (i : ℕ) → list_any test (map f xs) ≡ false → list_any test (map f (remove xs i)) ≡ false
 none-remove test f [] zero h = h
 none-remove test f [] (suc i) h = h
 none-remove test f (x ∷ xs) zero h = (none_or (test (f x)) (list_any test (map f xs)) h).1
@@ -30,7 +35,7 @@ none-remove test f (x ∷ xs) (suc i) h =
     let both = none_or (test (f x)) (list_any test (map f xs)) h in
     none-from (test (f x)) (list_any test (map f (remove xs i))) both.0 (none-remove test f xs i both.1)
 
-distinct-remove : {X Y : Type 0} (eq : Y → Y → Bool) (f : X → Y) (xs : List X) (i : ℕ) → IsDistinct eq (map f xs) → IsDistinct eq (map f (remove xs i))
+pub distinct-remove : {X Y : Type 0} (eq : Y → Y → Bool) (f : X → Y) (xs : List X) (i : ℕ) → IsDistinct eq (map f xs) → IsDistinct eq (map f (remove xs i))
 distinct-remove eq f [] zero h = h
 distinct-remove eq f [] (suc i) h = h
 distinct-remove eq f (x ∷ xs) zero h = h.1
@@ -82,7 +87,7 @@ keys-change_at [] place f = refl
 keys-change_at (e ∷ es) zero f = refl
 keys-change_at (e ∷ es) (suc i) f = ap (λ rest. e.0 ∷ rest) (keys-change_at es i f)
 
-length-change_at : (content : Content) (place : ℕ) (f : LayerContent → LayerContent) → length (change_at place f content) ≡ length content
+pub length-change_at : (content : Content) (place : ℕ) (f : LayerContent → LayerContent) → length (change_at place f content) ≡ length content
 length-change_at [] place f = refl
 length-change_at (e ∷ es) zero f = refl
 length-change_at (e ∷ es) (suc i) f = ap suc (length-change_at es i f)
@@ -107,7 +112,7 @@ all-remove_entry {K} {X} P f test (e ∷ es) h = at_entry (all-remove_entry P f 
     at_entry later true = h.1
     at_entry later false = (h.0, later)
 
-rising-remove_entry : {X : Type 0} (test : ℕ → Bool) (es : List (ℕ × X)) → IsStrictlySortedBy nat_cmp (keys_of es) → IsStrictlySortedBy nat_cmp (keys_of (remove_entry test es))
+pub rising-remove_entry : {X : Type 0} (test : ℕ → Bool) (es : List (ℕ × X)) → IsStrictlySortedBy nat_cmp (keys_of es) → IsStrictlySortedBy nat_cmp (keys_of (remove_entry test es))
 unfolding IsStrictlySortedBy
 rising-remove_entry test [] h = h
 rising-remove_entry {X} test (e ∷ es) h = at_entry (rising-remove_entry test es h.1) (test e.0)
@@ -127,3 +132,7 @@ IsLayer-without_feature id layer h = record {
   ids = all-remove_entry _ (λ x. x.0) (nat_eq id) layer.features h.ids;
   features = all-remove_entry (IsFeature layer.kind layer.columns) (λ x. x.1) (nat_eq id) layer.features h.features;
 }
+
+pub all-weaker : {X : Type 0} (P Q : X → Type 0) → ((x : X) → P x → Q x) → (xs : List X) → AllByRecursion P xs → AllByRecursion Q xs
+all-weaker P Q f [] h = h
+all-weaker P Q f (x ∷ xs) h = (f x h.0, all-weaker P Q f xs h.1)

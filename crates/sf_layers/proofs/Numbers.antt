@@ -8,7 +8,8 @@ use Rattle.std.specs.List.{AllByRecursion, list_any, position_or_len, IsDistinct
 use Rattle.std.specs.Map.{lookup, keys_of, values_of, update}
 use Rattle.indexmap.specs.IndexMap.{set_value_at}
 use Rattle.sf_layers.specs.Content.{LayerContent, place_of, change_at}
-use Rattle.sf_layers.specs.WellFormed.{IsDistinct, IsWellFormed}
+use Rattle.sf_features.specs.Columns.{IsDistinct}
+use Rattle.sf_layers.specs.WellFormed.{IsWellFormed}
 use Rattle.sf_layers.specs.Numbers.{Numbered, numbers_of, IsNumbered}
 use Rattle.sf_layers.proofs.Issued.{nat_eq-above}
 use Rattle.sf_layers.proofs.Kept.{none_or, all-remove}
@@ -60,7 +61,7 @@ place-number (e ∷ es) name n unique found = at_entry (bytes_eq name e.1.0) ref
 
 -- ---- a layer put in at a place
 
-cond-both : {X : Type 0} (a b : Bool) (x y z : X) → (a ≡ true → b ≡ true → ⊥) → cond a x (cond b y z) ≡ cond b y (cond a x z)
+pub cond-both : {X : Type 0} (a b : Bool) (x y z : X) → (a ≡ true → b ≡ true → ⊥) → cond a x (cond b y z) ≡ cond b y (cond a x z)
 cond-both true true x y z apart = absurd (apart refl refl)
 cond-both true false x y z apart = refl
 cond-both false true x y z apart = refl
@@ -70,7 +71,7 @@ none-head : {X : Type 0} (b : Bool) (x : X) (rest : Option X) → cond b (Some x
 none-head true x rest h = cc
 none-head false x rest h = (refl, h)
 
-lookup-insert : (entries : Numbered) (place n : ℕ) (name : List ℕ) (layer : LayerContent) (other : List ℕ) → lookup (bytes_eq name) (numbers_of entries) ≡ None
+pub lookup-insert : (entries : Numbered) (place n : ℕ) (name : List ℕ) (layer : LayerContent) (other : List ℕ) → lookup (bytes_eq name) (numbers_of entries) ≡ None
     → lookup (bytes_eq other) (numbers_of (insert entries place (n, (name, layer)))) ≡ cond (bytes_eq name other) (Some n) (lookup (bytes_eq other) (numbers_of entries))
 lookup-insert [] zero n name layer other absent = ap (λ b. cond b (Some n) None) (nat_list_eq_equiv.symm other name)
 lookup-insert [] (suc i) n name layer other absent = ap (λ b. cond b (Some n) None) (nat_list_eq_equiv.symm other name)
@@ -101,7 +102,7 @@ lookup-none (e ∷ es) name none =
     let both = none_or (bytes_eq name e.1.0) (list_any (bytes_eq name) (keys_of (values_of es))) none in
     ap (λ b. cond b (Some e.0) (lookup (bytes_eq name) (numbers_of es))) both.0 ∙ lookup-none es name both.1
 
-lookup-remove : (entries : Numbered) (place n : ℕ) (name : List ℕ) (layer : LayerContent) (other : List ℕ) → slice_get entries place ≡ Some (n, (name, layer))
+pub lookup-remove : (entries : Numbered) (place n : ℕ) (name : List ℕ) (layer : LayerContent) (other : List ℕ) → slice_get entries place ≡ Some (n, (name, layer))
     → IsDistinct bytes_eq (keys_of (values_of entries))
     → lookup (bytes_eq other) (numbers_of (remove entries place)) ≡ cond (bytes_eq name other) None (lookup (bytes_eq other) (numbers_of entries))
 lookup-remove [] place n name layer other at distinct = cc

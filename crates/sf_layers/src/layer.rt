@@ -1,25 +1,38 @@
-ghost use Rattle.std.specs.Prelude.{◌≡◌, ℕ, ◌<◌, Bool, false, length, option_copied, None, Some, IsSome, OnOk, OnErr, IfOk, IfErr};
+ghost use Rattle.std.specs.Prelude.{◌≡◌, ◌<◌, ◌≤◌, ◌-◌, ℕ, false, is_some, length, option_copied, None, Some, IsOkAnd, IsSome, IsSomeAnd, IfErr, IfOk, IfSome, OnErr, OnOk, slice_get};
+ghost use Rattle.std.specs.List.{AllByRecursion};
+ghost use Rattle.std.specs.Map.{keys_of, values_of};
 ghost use Rattle.std.specs.Map.Iter.{ShowsInOrder, deref_pair};
-ghost use Rattle.sf_layers.specs.Content.{FeatureContent, empty_layer, feature_of, with_feature, without_feature, with_next_id, with_next_feature, without_last_feature};
-ghost use Rattle.sf_layers.specs.WellFormed.{id_end};
+ghost use Rattle.sf_geometry.specs.Vertices.{insert_vertex, move_vertex, remove_vertex, vertex_of};
+ghost use Rattle.sf_rules.specs.Validity.{IsValid};
+ghost use Rattle.sf_validity.specs.Held.{IsHeld};
+ghost use Rattle.sf_validity.specs.Refusals.{RefusesChange};
+ghost use Rattle.sf_features.specs.Columns.{numbered};
+ghost use Rattle.sf_features.specs.Features.{FeatureContent, change_geometry, value_in, with_geometry, with_value, without_value};
+ghost use Rattle.sf_layers.specs.Content.{change_feature, column_named, column_place, column_values, empty_layer, feature_of, with_column, with_feature, with_last_column, with_next_column, with_next_feature, with_next_id, with_values, without_column, without_feature, without_last_column, without_last_feature, without_values};
+ghost use Rattle.sf_layers.specs.WellFormed.{column_end, id_end};
 
-use super::feature::Feature;
+use super::column_moves::{ids_with_value, put_all, take_from};
+use super::column_values::ColumnValues;
 use super::layer_kind::LayerKind;
-use std::alloc::Global;
+use sf_features::{AttrValue, Column, ColumnType, Columns, Feature, Text};
+use sf_grid::GridPoint;
+use sf_validity::{Refusal, Valid};
+use std::alloc::{AllocError, Global};
 use std::collections::{BTreeMap, btree_map};
 use std::marker::Model;
 
-/// A layer of features by identifier, with the counters of its identifiers and column numbers.
-#[derive(Drop)]
+/// A layer of features by identifier, with its columns in order and the counters of its identifiers
+/// and column numbers.
+#[derive(Debug, Drop)]
 pub struct Layer {
     kind: LayerKind,
     next_id: u32,
     next_column: u16,
+    columns: Columns,
     features: BTreeMap<u32, Feature>,
 }
 
 impl Model for Layer {
-    ghost use Rattle.std.specs.Prelude.{[]};
     ghost use Rattle.sf_layers.specs.Content.{LayerContent};
 
     ghost Value = { LayerContent };
@@ -28,7 +41,7 @@ impl Model for Layer {
       kind = a.kind;
       next_id = a.next_id;
       next_column = a.next_column;
-      columns = [];
+      columns = a.columns;
       features = a.features.entries;
     } };
 }
@@ -42,6 +55,7 @@ impl Layer {
             kind,
             next_id: 1,
             next_column: 1,
+            columns: Columns::new(alloc),
             features: BTreeMap::new(alloc),
         }
     }
@@ -89,6 +103,28 @@ impl Layer {
         self.features.iter()
     }
 
+    /// How many columns there are.
+    pub fn column_count(&self) -> usize
+        ensures { result ≡ length self.now.columns }
+    {
+        self.columns.len()
+    }
+
+    /// The column at a place of the order, or None from the number of columns on.
+    pub fn column_at(&self, place: usize) -> Option<&Column>
+        ensures { option_copied result ≡ slice_get self.now.columns place }
+    {
+        self.columns.at(place)
+    }
+
+    /// The place of the column of a name in the order, or None where no column has it.
+    pub fn column_place(&self, name: &str) -> Option<usize>
+        ensures there { IfSome result (λ place. place ≡ column_place self.now name.now) }
+        ensures found { is_some result ≡ is_some (column_named self.now name.now) }
+    {
+        self.columns.place(name)
+    }
+
     /// Whether the layer has an index of its features' boxes. No layer has one.
     pub fn indexed(&self) -> bool
         ensures { result ≡ false }
@@ -96,13 +132,12 @@ impl Layer {
         false
     }
 
-    /// Puts a feature under an identifier that is free. An Err gives it back and changes nothing.
-    pub(crate) fn put_feature(
-        &mut self,
-        alloc: Global,
-        id: u32,
-        feature: Feature,
-    ) -> Result<(), Feature>
+    /// Puts a feature under an identifier that is free.
+    ///
+    /// # Errors
+    ///
+    /// Where no memory is found, the feature is given back and nothing is changed.
+    pub fn put_feature(&mut self, alloc: Global, id: u32, feature: Feature) -> Result<(), Feature>
         requires { feature_of self.old id ≡ None }
         ensures put { OnOk result (self.new ≡ with_feature id feature self.old) }
         ensures given_back { IfErr result (λ back. back ≡ feature) }
@@ -120,7 +155,7 @@ impl Layer {
     }
 
     /// Takes the feature of an identifier out.
-    pub(crate) fn take_feature(&mut self, id: u32) -> Feature
+    pub fn take_feature(&mut self, id: u32) -> Feature
         requires { IsSome (feature_of self.old id) }
         ensures taken { feature_of self.old id ≡ Some result }
         ensures rest { self.new ≡ without_feature id self.old }
@@ -128,9 +163,12 @@ impl Layer {
         self.features.remove(&id).unwrap()
     }
 
-    /// Puts a feature under the next identifier and raises the counter. An Err gives it back and
-    /// changes nothing.
-    pub(crate) fn push_feature(&mut self, alloc: Global, feature: Feature) -> Result<u32, Feature>
+    /// Puts a feature under the next identifier, which it gives, and raises the counter.
+    ///
+    /// # Errors
+    ///
+    /// Where no memory is found, the feature is given back and nothing is changed.
+    pub fn push_feature(&mut self, alloc: Global, feature: Feature) -> Result<u32, Feature>
         requires room { self.old.next_id < id_end }
         requires free { feature_of self.old self.old.next_id ≡ None }
         ensures pushed { OnOk result (self.new ≡ with_next_feature feature self.old) }
@@ -145,7 +183,7 @@ impl Layer {
     }
 
     /// Takes the feature of an identifier out, which is the next one then.
-    pub(crate) fn pop_feature(&mut self, id: u32) -> Feature
+    pub fn pop_feature(&mut self, id: u32) -> Feature
         requires { IsSome (feature_of self.old id) }
         ensures taken { feature_of self.old id ≡ Some result }
         ensures rest { self.new ≡ without_last_feature id self.old }
@@ -155,9 +193,331 @@ impl Layer {
     }
 
     /// Sets the identifier that the next feature takes.
-    pub(crate) fn set_next_id(&mut self, next_id: u32)
+    pub fn set_next_id(&mut self, next_id: u32)
         ensures { self.new ≡ with_next_id next_id self.old }
     {
         self.next_id = next_id;
+    }
+
+    /// Sets the number that the next column takes.
+    pub fn set_next_column(&mut self, next_column: u16)
+        ensures { self.new ≡ with_next_column next_column self.old }
+    {
+        self.next_column = next_column;
+    }
+
+    /// Puts a column at a place of the order, under a name and a number that are free.
+    ///
+    /// # Errors
+    ///
+    /// Where no memory is found, the column is given back and nothing is changed.
+    pub fn put_column(&mut self, alloc: Global, place: usize, column: Column) -> Result<(), Column>
+        requires within { place ≤ length self.old.columns }
+        requires free { column_named self.old column.name ≡ None }
+        requires unused { numbered self.old.columns column.number ≡ None }
+        ensures put { OnOk result (self.new ≡ with_column place column self.old) }
+        ensures given_back { IfErr result (λ back. back ≡ column) }
+        ensures unchanged { OnErr result (self.new ≡ self.old) }
+    {
+        self.columns.put(alloc, place, column)
+    }
+
+    /// Takes the column at a place out of the order; values under its number stay.
+    pub fn take_column(&mut self, place: usize) -> Column
+        requires { place < length self.old.columns }
+        ensures taken { slice_get self.old.columns place ≡ Some result }
+        ensures rest { self.new ≡ without_column place self.old }
+    {
+        self.columns.take(place)
+    }
+
+    /// Puts a column last, under the next number, and raises the counter.
+    ///
+    /// # Errors
+    ///
+    /// Where no memory is found, the name is given back and nothing is changed.
+    pub fn push_column(
+        &mut self,
+        alloc: Global,
+        name: Text,
+        column_type: ColumnType,
+    ) -> Result<(), Text>
+        requires room { self.old.next_column < column_end }
+        requires free { column_named self.old name ≡ None }
+        requires unused { numbered self.old.columns self.old.next_column ≡ None }
+        ensures pushed { OnOk result (self.new ≡ with_last_column name column_type self.old) }
+        ensures given_back { IfErr result (λ back. back ≡ name) }
+        ensures unchanged { OnErr result (self.new ≡ self.old) }
+    {
+        let number = self.next_column;
+        let last = self.columns.len();
+        let column = Column {
+            number,
+            name,
+            column_type,
+        };
+        match self.columns.put(alloc, last, column) {
+            Ok(()) => {
+                self.next_column = number + 1;
+                Ok(())
+            }
+            Err(column) => Err(column.name),
+        }
+    }
+
+    /// Takes the last column out, whose number is the next one again.
+    pub fn pop_column(&mut self) -> Column
+        requires some { 0 < length self.old.columns }
+        requires counted { 0 < self.old.next_column }
+        ensures taken { slice_get self.old.columns (length self.old.columns - 1) ≡ Some result }
+        ensures rest { self.new ≡ without_last_column self.old }
+    {
+        self.next_column -= 1;
+        let last = self.columns.len() - 1;
+        self.columns.take(last)
+    }
+
+    /// Puts a value into a column of a feature, and gives the one whose place it takes.
+    ///
+    /// # Errors
+    ///
+    /// Where no memory is found, the value is given back and nothing is changed. Over another value
+    /// it takes none.
+    pub fn put_value(
+        &mut self,
+        id: u32,
+        number: u16,
+        value: AttrValue,
+    ) -> Result<Option<AttrValue>, AttrValue>
+        requires { IsSome (feature_of self.old id) }
+        ensures put { OnOk result
+            (self.new ≡ change_feature id (with_value number value) self.old) }
+        ensures old { IfOk result (λ old.
+            IsSomeAnd (feature_of self.old id) (λ feature. old ≡ value_in number feature)) }
+        ensures given_back { IfErr result (λ back. back ≡ value) }
+        ensures unchanged { OnErr result (self.new ≡ self.old) }
+        ensures none { OnErr result
+            (IsSomeAnd (feature_of self.old id) (λ feature. value_in number feature ≡ None)) }
+    {
+        match self.features.get_mut(&id) {
+            Some(feature) => feature.put_value(number, value),
+            None => unreachable!(),
+        }
+    }
+
+    /// Takes the value out of a column of a feature, if there is one.
+    pub fn take_value(&mut self, id: u32, number: u16) -> Option<AttrValue>
+        requires { IsSome (feature_of self.old id) }
+        ensures taken { IsSomeAnd (feature_of self.old id) (λ feature.
+            result ≡ value_in number feature) }
+        ensures rest { self.new ≡ change_feature id (without_value number) self.old }
+    {
+        match self.features.get_mut(&id) {
+            Some(feature) => feature.take_value(number),
+            None => unreachable!(),
+        }
+    }
+
+    /// Takes all values out of the column of a number.
+    ///
+    /// # Errors
+    ///
+    /// Where no memory is found, nothing is changed.
+    pub(crate) fn take_values(
+        &mut self,
+        alloc: Global,
+        number: u16,
+    ) -> Result<ColumnValues, AllocError>
+        ensures taken { IfOk result (λ values. values ≡ column_values number self.old) }
+        ensures rest { OnOk result (self.new ≡ without_values number self.old) }
+        ensures unchanged { OnErr result (self.new ≡ self.old) }
+    {
+        let ids = ids_with_value(alloc, &self.features, number)?;
+        let mut values = Vec::with_capacity(alloc, ids.len())?;
+        take_from(&mut self.features, number, ids.as_slice(), &mut values);
+        Ok(ColumnValues { ids, values })
+    }
+
+    /// Puts values into the column of a number, in which no feature has one.
+    ///
+    /// # Errors
+    ///
+    /// Where no memory is found, the values are given back and nothing is changed.
+    pub(crate) fn put_values(
+        &mut self,
+        number: u16,
+        values: ColumnValues,
+    ) -> Result<(), ColumnValues>
+        requires there { AllByRecursion (λ id. IsSome (feature_of self.old id)) (keys_of values) }
+        requires bare { AllByRecursion (λ feature. value_in number feature ≡ None)
+            (values_of self.old.features) }
+        ensures put { OnOk result (self.new ≡ with_values number values self.old) }
+        ensures given_back { IfErr result (λ back. back ≡ values) }
+        ensures unchanged { OnErr result (self.new ≡ self.old) }
+    {
+        let ColumnValues { ids, mut values } = values;
+        match put_all(&mut self.features, number, ids.as_slice(), &mut values) {
+            Ok(()) => Ok(()),
+            Err(_) => Err(ColumnValues { ids, values }),
+        }
+    }
+
+    /// Puts another geometry in the place of a feature's, and gives that one.
+    pub(crate) fn exchange_geometry(&mut self, id: u32, valid: Valid) -> Valid
+        requires { IsSome (feature_of self.old id) }
+        ensures given { IsSomeAnd (feature_of self.old id) (λ feature.
+            result ≡ feature.geometry) }
+        ensures put { self.new ≡ change_feature id (with_geometry valid) self.old }
+    {
+        match self.features.get_mut(&id) {
+            Some(feature) => feature.exchange_geometry(valid),
+            None => unreachable!(),
+        }
+    }
+
+    /// Puts a vertex into a feature's geometry, before an index or last.
+    pub(crate) fn insert_vertex(
+        &mut self,
+        alloc: Global,
+        id: u32,
+        part: u32,
+        ring: u32,
+        index: u32,
+        point: GridPoint,
+    ) -> Result<(), Refusal>
+        requires { IsSome (feature_of self.old id) }
+        ensures inserted { OnOk result (self.new ≡ change_feature id
+            (change_geometry (λ g. insert_vertex g part ring index point)) self.old) }
+        ensures valid { OnOk result (IsSomeAnd (feature_of self.old id) (λ feature.
+            IsOkAnd (insert_vertex feature.geometry part ring index point) IsHeld)) }
+        ensures refused { IfErr result (λ refusal.
+            IsSomeAnd (feature_of self.old id) (λ feature.
+            RefusesChange (insert_vertex feature.geometry part ring index point) refusal)) }
+        ensures unchanged { OnErr result (self.new ≡ self.old) }
+    {
+        match self.features.get_mut(&id) {
+            Some(feature) => feature.insert_vertex(alloc, part, ring, index, point),
+            None => unreachable!(),
+        }
+    }
+
+    /// Moves a vertex of a feature's geometry, and gives the point where it was.
+    pub(crate) fn move_vertex(
+        &mut self,
+        alloc: Global,
+        id: u32,
+        part: u32,
+        ring: u32,
+        index: u32,
+        point: GridPoint,
+    ) -> Result<GridPoint, Refusal>
+        requires { IsSome (feature_of self.old id) }
+        ensures moved { OnOk result (self.new ≡ change_feature id
+            (change_geometry (λ g. move_vertex g part ring index point)) self.old) }
+        ensures valid { OnOk result (IsSomeAnd (feature_of self.old id) (λ feature.
+            IsOkAnd (move_vertex feature.geometry part ring index point) IsHeld)) }
+        ensures given { IfOk result (λ old. IsSomeAnd (feature_of self.old id) (λ feature.
+            vertex_of feature.geometry part ring index ≡ Some old)) }
+        ensures refused { IfErr result (λ refusal.
+            IsSomeAnd (feature_of self.old id) (λ feature.
+            RefusesChange (move_vertex feature.geometry part ring index point) refusal)) }
+        ensures unchanged { OnErr result (self.new ≡ self.old) }
+    {
+        match self.features.get_mut(&id) {
+            Some(feature) => feature.move_vertex(alloc, part, ring, index, point),
+            None => unreachable!(),
+        }
+    }
+
+    /// Takes a vertex out of a feature's geometry, and gives its point.
+    pub(crate) fn remove_vertex(
+        &mut self,
+        alloc: Global,
+        id: u32,
+        part: u32,
+        ring: u32,
+        index: u32,
+    ) -> Result<GridPoint, Refusal>
+        requires { IsSome (feature_of self.old id) }
+        ensures removed { OnOk result (self.new ≡ change_feature id
+            (change_geometry (λ g. remove_vertex g part ring index)) self.old) }
+        ensures valid { OnOk result (IsSomeAnd (feature_of self.old id) (λ feature.
+            IsOkAnd (remove_vertex feature.geometry part ring index) IsHeld)) }
+        ensures given { IfOk result (λ old. IsSomeAnd (feature_of self.old id) (λ feature.
+            vertex_of feature.geometry part ring index ≡ Some old)) }
+        ensures refused { IfErr result (λ refusal.
+            IsSomeAnd (feature_of self.old id) (λ feature.
+            RefusesChange (remove_vertex feature.geometry part ring index) refusal)) }
+        ensures unchanged { OnErr result (self.new ≡ self.old) }
+    {
+        match self.features.get_mut(&id) {
+            Some(feature) => feature.remove_vertex(alloc, part, ring, index),
+            None => unreachable!(),
+        }
+    }
+
+    /// Puts a vertex in where it is known that the geometry is valid with it. An Err changes nothing.
+    pub(crate) fn put_vertex_back(
+        &mut self,
+        alloc: Global,
+        id: u32,
+        part: u32,
+        ring: u32,
+        index: u32,
+        point: GridPoint,
+    ) -> Result<(), AllocError>
+        requires { IsSomeAnd (feature_of self.old id) (λ feature.
+            IsOkAnd (insert_vertex feature.geometry part ring index point) IsValid) }
+        ensures inserted { OnOk result (self.new ≡ change_feature id
+            (change_geometry (λ g. insert_vertex g part ring index point)) self.old) }
+        ensures unchanged { OnErr result (self.new ≡ self.old) }
+    {
+        match self.features.get_mut(&id) {
+            Some(feature) => feature.put_vertex_back(alloc, part, ring, index, point),
+            None => unreachable!(),
+        }
+    }
+
+    /// Moves a vertex where it is known that the geometry is valid then, and gives the point where it was.
+    pub(crate) fn move_vertex_back(
+        &mut self,
+        id: u32,
+        part: u32,
+        ring: u32,
+        index: u32,
+        point: GridPoint,
+    ) -> GridPoint
+        requires { IsSomeAnd (feature_of self.old id) (λ feature.
+            IsOkAnd (move_vertex feature.geometry part ring index point) IsValid) }
+        ensures moved { self.new ≡ change_feature id
+            (change_geometry (λ g. move_vertex g part ring index point)) self.old }
+        ensures given { IsSomeAnd (feature_of self.old id) (λ feature.
+            vertex_of feature.geometry part ring index ≡ Some result) }
+    {
+        match self.features.get_mut(&id) {
+            Some(feature) => feature.move_vertex_back(part, ring, index, point),
+            None => unreachable!(),
+        }
+    }
+
+    /// Takes a vertex out where it is known that the geometry is valid without it, and gives its point.
+    pub(crate) fn take_vertex_back(
+        &mut self,
+        id: u32,
+        part: u32,
+        ring: u32,
+        index: u32,
+    ) -> GridPoint
+        requires { IsSomeAnd (feature_of self.old id) (λ feature.
+            IsOkAnd (remove_vertex feature.geometry part ring index) IsValid) }
+        ensures removed { self.new ≡ change_feature id
+            (change_geometry (λ g. remove_vertex g part ring index)) self.old }
+        ensures given { IsSomeAnd (feature_of self.old id) (λ feature.
+            vertex_of feature.geometry part ring index ≡ Some result) }
+    {
+        match self.features.get_mut(&id) {
+            Some(feature) => feature.take_vertex_back(part, ring, index),
+            None => unreachable!(),
+        }
     }
 }

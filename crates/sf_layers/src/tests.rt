@@ -20,7 +20,7 @@ fn layer_and_feature_are_put(rt: HostRuntime) -> Result<(), Fail> {
     let Ok(valid) = validate(rt.alloc(), Geometry::Point(point)) else {
         return Err(Fail::from("no memory"));
     };
-    let feature = Feature::new(valid);
+    let feature = Feature::new(rt.alloc(), valid);
     let Ok(()) = store.put_feature(rt.alloc(), 0, 1, feature) else {
         return Err(Fail::from("no memory"));
     };
@@ -32,5 +32,25 @@ fn layer_and_feature_are_put(rt: HostRuntime) -> Result<(), Fail> {
         return Err(Fail::from("another kind"));
     };
     assert_eq!(rt; (found.x(), found.y()), (3, 4));
+    let depth = Text::from_string(String::from_str(rt.alloc(), "depth")?);
+    let Ok(()) = store.push_column(rt.alloc(), 0, depth, ColumnType::Int) else {
+        return Err(Fail::from("no memory"));
+    };
+    let Ok(None) = store.put_value(rt.alloc(), 0, 1, 1, AttrValue::Int(7)) else {
+        return Err(Fail::from("no memory"));
+    };
+    let Ok(values) = store.take_values(rt.alloc(), 0, 1) else {
+        return Err(Fail::from("no memory"));
+    };
+    assert_eq!(rt; values.count(), 1);
+    let Ok(()) = store.put_values(rt.alloc(), 0, 1, values) else {
+        return Err(Fail::from("no memory"));
+    };
+    let pits = Text::from_string(String::from_str(rt.alloc(), "pits")?);
+    let Ok(_) = store.rename_layer(rt.alloc(), 0, pits) else {
+        return Err(Fail::from("no memory"));
+    };
+    store.move_layer(0, 0);
+    assert_eq!(rt; store.place("pits"), Some(0));
     Ok(())
 }

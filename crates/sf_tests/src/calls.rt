@@ -18,7 +18,7 @@ fn parse_reads_commands(rt: HostRuntime) {
 }
 
 #[test]
-fn editor_edits_and_undoes(rt: HostRuntime) -> Result<(), Fail> {
+fn editor_edits_undoes_and_redoes(rt: HostRuntime) -> Result<(), Fail> {
     let mut editor = Editor::new(rt.alloc());
     for (line, answer) in [
         ("layer add w any", Answer::Done),
@@ -35,7 +35,10 @@ fn editor_edits_and_undoes(rt: HostRuntime) -> Result<(), Fail> {
     }
     assert_eq!(rt; editor.depths(), (3, 0));
     assert!(rt; editor.undo(rt.alloc()).is_ok());
-    assert_eq!(rt; editor.depths(), (2, 0));
+    assert_eq!(rt; editor.depths(), (2, 1));
+    assert!(rt; editor.redo(rt.alloc()).is_ok());
+    assert_eq!(rt; editor.depths(), (3, 0));
     assert_eq!(rt; editor.store().layer_count(), 1);
+    assert_eq!(rt; editor.into_store().layer_count(), 1);
     Ok(())
 }

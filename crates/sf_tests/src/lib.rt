@@ -11,6 +11,8 @@ mod classes;
 #[cfg(test)]
 mod dialogs;
 #[cfg(test)]
+mod editing;
+#[cfg(test)]
 mod faults;
 #[cfg(test)]
 mod features;

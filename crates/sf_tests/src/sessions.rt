@@ -2,7 +2,7 @@
 use super::support::{ByteByByte, answers};
 use std::test::Fail;
 
-const SESSIONS: [(&[u8], &str); 35] = [
+const SESSIONS: [(&[u8], &str); 36] = [
     // A first session. It also refuses a program that always answers for want of memory, and a `serve`
     // that reports a read fault at once.
     (
@@ -15,7 +15,8 @@ const SESSIONS: [(&[u8], &str); 35] = [
     (b" \t\r\n", ""),
     (b"undo\n", "refused 29 NothingToUndo\n"),
     (b"LAYERS\n", "refused 31 BadCommand\n"),
-    (b"layers", "refused 31 BadCommand\n"),
+    (b"layers", "rows 0\n"),
+    (b"layers x", "refused 31 BadCommand\n"),
     (b"undo", "refused 29 NothingToUndo\n"),
     // Ends of lines.
     (b"undo\r\n", "refused 29 NothingToUndo\n"),

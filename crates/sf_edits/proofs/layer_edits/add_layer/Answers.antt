@@ -1,43 +1,30 @@
-use Rattle.std.proofs.Common.{◌≡◌, ◌∙◌, sym, ap, subst, [], ◌∷◌, ◌++◌, length, insert, None, Some, refl}
-use Rattle.sf_layers.specs.Content.{empty_layer}
+use Rattle.std.proofs.Common.{◌≡◌, ◌∙◌, sym, ap, subst, None, Some, refl}
 use Rattle.sf_layers.specs.WellFormed.{IsWellFormed}
-use Rattle.sf_layers.proofs.Added.{IsWellFormed-push, IsLayer-empty_layer}
-use Rattle.sf_edits.specs.declared.edit.Edit.TheVariants.{AddLayer}
-use Rattle.sf_edits.specs.declared.inverse.Inverse.TheVariants.{TakeLayer}
-use Rattle.sf_edits.specs.Steps.{checks, first_refusal}
-use Rattle.sf_edits.proofs.Accepted.{LayerPasses-passed}
-use Rattle.sf_edits.proofs.Ends.{insert-length}
-use Rattle.sf_edits.proofs.InverseLaws.{Carries-done, Carries-refused, Carries-memory}
+use Rattle.sf_steps.specs.declared.edit.Edit.TheVariants.{AddLayer}
+use Rattle.sf_steps.specs.declared.inverse.Inverse.TheVariants.{TakeLayer}
+use Rattle.sf_steps.specs.Steps.{checks, first_refusal}
+use Rattle.sf_steps.proofs.StepsFine.{effect_fine}
+use Rattle.sf_edits.proofs.Carrying.{Carries-done, Carries-refused, Carries-memory}
+use Rattle.sf_edits.proofs.LayerLaws.{added-last, adding-free}
 use Rattle.sf_edits.proofs.layer_edits.add_layer.Goals as goal
 
 passed : (c : goal.After-new) → first_refusal (checks c.args.store.now (AddLayer c.args.name c.args.kind)) ≡ None
 passed c = subst (λ name. first_refusal (checks c.args.store.now (AddLayer name c.args.kind)) ≡ None) c.as_str.ensures (c.in-Ok.ensures.passed c.args.kind)
 
--- the layer stands last
-last : (c : goal.After-new) → insert c.args.store.now c.in-Ok.place (c.args.name, c.new.result) ≡ c.args.store.now ++ (c.args.name, empty_layer c.args.kind) ∷ []
-last c =
-    ap (λ place. insert c.args.store.now place (c.args.name, c.new.result)) c.in-Ok.ensures.place
-    ∙ ap (λ layer. insert c.args.store.now (length c.args.store.now) (c.args.name, layer)) c.new.ensures
-    ∙ insert-length c.args.store.now (c.args.name, empty_layer c.args.kind)
-
 pub put_layer-requires-clause-free : goal.put_layer-requires-clause-free
-put_layer-requires-clause-free c = (LayerPasses-passed c.args.store.now c.args.name c.args.kind (passed c)).absent
+put_layer-requires-clause-free c = adding-free c.args.store.now c.args.name c.args.kind (passed c)
 
 pub put_layer-requires-clause-fits : goal.put_layer-requires-clause-fits
 put_layer-requires-clause-fits c =
-    let passes = LayerPasses-passed c.args.store.now c.args.name c.args.kind (passed c) in
-    subst IsWellFormed (sym (last c))
-    (IsWellFormed-push c.args.store.now c.args.name (empty_layer c.args.kind) passes.named passes.absent passes.room (IsLayer-empty_layer c.args.kind) c.in-Ok.ensures.well_formed)
+    subst IsWellFormed (sym (added-last c.args.store.now c.args.name c.args.kind c.in-Ok.place c.new.result c.in-Ok.ensures.place c.new.ensures))
+    (effect_fine c.args.store.now (AddLayer c.args.name c.args.kind) tt c.in-Ok.ensures.well_formed (passed c))
 
 pub returns-in-Ok-put_layer : goal.returns-in-Ok-put_layer
 returns-in-Ok-put_layer c =
     let passed : first_refusal (checks c.args.store.now (AddLayer c.args.name c.args.kind)) ≡ None =
     subst (λ name. first_refusal (checks c.args.store.now (AddLayer name c.args.kind)) ≡ None) c.as_str.ensures (c.in-Ok.ensures.passed c.args.kind) in
     Carries-done c.args.store.now c.put_layer.new.self (AddLayer c.args.name c.args.kind) TakeLayer c.in-Ok.ensures.well_formed passed
-    (sym (c.in-Ok-put_layer.ensures.put
-    ∙ ap (λ place. insert c.args.store.now place (c.args.name, c.new.result)) c.in-Ok.ensures.place
-    ∙ ap (λ layer. insert c.args.store.now (length c.args.store.now) (c.args.name, layer)) c.new.ensures
-    ∙ insert-length c.args.store.now (c.args.name, empty_layer c.args.kind))) refl
+    (sym (c.in-Ok-put_layer.ensures.put ∙ added-last c.args.store.now c.args.name c.args.kind c.in-Ok.place c.new.result c.in-Ok.ensures.place c.new.ensures)) refl
 
 pub returns-in-Err : goal.returns-in-Err
 returns-in-Err c =

@@ -4,7 +4,8 @@ use Rattle.sf_geometry.specs.declared.geometry.Geometry.TheVariants as geometrie
 use Rattle.sf_geometry.specs.declared.kind.Kind.TheVariants.{Point}
 use Rattle.sf_grid.specs.Plane.{Coordinates}
 use Rattle.sf_layers.specs.declared.layer_kind.LayerKind.TheVariants.{Only}
-use Rattle.sf_layers.specs.Content.{Content, FeatureContent, plain_feature, change_at, with_feature, with_next_id}
+use Rattle.sf_features.specs.Features.{FeatureContent, plain_feature}
+use Rattle.sf_layers.specs.Content.{Content, change_at, with_feature, with_next_id}
 use Rattle.sf_layers.specs.WellFormed.{IsWellFormed}
 use Rattle.sf_validity.specs.Held.{IsHeld}
 use Rattle.sf_layers.proofs.tests.layer_and_feature_are_put.Goals as goal

@@ -1,0 +1,81 @@
+-- Numbers, points and values that words spell.
+use Rattle.std.specs.Prelude.{ℕ, ◌-◌, ℤ, Bool, false, not, ◌&&◌, ◌==◌, List, [], ◌∷◌, ◌++◌, length, drop, take, flat_map, Option, None, Some, Result, Ok, Err, nat_lt, bytes_eq, if◌then◌else◌}
+use Rattle.std.specs.Char.{is_ascii_digit}
+use Rattle.std.specs.List.{list_all}
+use Rattle.sf_refusals.specs.declared.refusal.Refusal.{Refusal}
+use Rattle.sf_refusals.specs.declared.refusal.Refusal.TheVariants.{BadCommand}
+use Rattle.sf_grid.specs.Plane.{Coordinates}
+use Rattle.sf_wkt.specs.declared.fault.WktFault.{WktFault}
+use Rattle.sf_wkt.specs.Faults.{refusal_of}
+use Rattle.sf_wkt.specs.Tokens.{digits_value, signed, sign_len, is_negative, digits_len, number_len, is_whole, coordinate}
+use Rattle.sf_features.specs.declared.attr_value.AttrValue.{AttrValue}
+use Rattle.sf_features.specs.declared.attr_value.AttrValue.TheVariants.{Int, Text}
+use Rattle.sf_features.specs.Values.{fits_int}
+
+-- whether a word has the form of a number, after its sign
+abbrev pub is_number : List ℕ → Bool
+is_number unsigned = nat_lt 0 (digits_len unsigned) && number_len unsigned == length unsigned
+
+-- the coordinate that bytes after a sign are, or why they are none, where they have that form
+abbrev pub unsigned_coordinate : Bool → List ℕ → Option (Result ℤ WktFault)
+unsigned_coordinate negative unsigned =
+    let n = signed negative (digits_value (take (digits_len unsigned) unsigned)) in
+    if is_number unsigned then Some (coordinate n (is_whole (drop (digits_len unsigned) unsigned))) else None
+
+-- the coordinate that a word in the form of a number is, or why it is none
+abbrev pub coordinate_of : List ℕ → Option (Result ℤ WktFault)
+coordinate_of word = unsigned_coordinate (is_negative word) (drop (sign_len word) word)
+
+-- the point of two numbers: the form of both comes first, then the fault of x before that of y
+abbrev pub point_by : Option (Result ℤ WktFault) → Option (Result ℤ WktFault) → Result Coordinates Refusal
+point_by None y = Err BadCommand
+point_by (Some x) None = Err BadCommand
+point_by (Some (Err fault)) (Some y) = Err (refusal_of fault)
+point_by (Some (Ok x)) (Some (Err fault)) = Err (refusal_of fault)
+point_by (Some (Ok x)) (Some (Ok y)) = Ok (record { x = x; y = y })
+
+-- the point that two words spell
+abbrev pub point_of : List ℕ → List ℕ → Result Coordinates Refusal
+point_of x y = point_by (coordinate_of x) (coordinate_of y)
+
+-- the number that an optional sign and digits spell, where it has 64 bits
+abbrev pub int_of : List ℕ → Option AttrValue
+int_of text =
+    let digits = drop (sign_len text) text in
+    let n = signed (is_negative text) (digits_value digits) in
+    if nat_lt 0 (length digits) && list_all is_ascii_digit digits && fits_int n then Some (Int n) else None
+
+-- no quote
+abbrev pub is_plain : ℕ → Bool
+is_plain b = not (b == 39)
+
+-- a byte of a text between quotes: each quote is doubled
+abbrev pub quoted_byte : ℕ → List ℕ
+quoted_byte b = if b == 39 then 39 ∷ 39 ∷ [] else b ∷ []
+
+-- a text in quotes
+abbrev pub quoted : List ℕ → List ℕ
+quoted text = 39 ∷ flat_map quoted_byte text ++ 39 ∷ []
+
+-- the bytes with each second one of two quotes dropped, where the byte before them is a quote that counts or not
+abbrev pub undoubled : Bool → List ℕ → List ℕ
+undoubled after_quote [] = []
+undoubled after_quote (b ∷ bytes) =
+    let second = after_quote && b == 39 in
+    let rest = undoubled (not second && b == 39) bytes in
+    if second then rest else b ∷ rest
+
+-- the text that is written so in quotes
+abbrev pub text_of : List ℕ → Option AttrValue
+text_of bytes =
+    let text = undoubled false (take (length bytes - 2) (drop 1 bytes)) in
+    if bytes_eq (quoted text) bytes then Some (Text text) else None
+
+-- whether the bytes begin with a quote
+abbrev pub begins_with_quote : List ℕ → Bool
+begins_with_quote [] = false
+begins_with_quote (b ∷ bytes) = b == 39
+
+-- the value that the rest of a line spells
+abbrev pub value_of : List ℕ → Option AttrValue
+value_of bytes = if begins_with_quote bytes then text_of bytes else int_of bytes

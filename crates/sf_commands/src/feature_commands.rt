@@ -1,0 +1,119 @@
+//! Commands about whole features and their geometries.
+ghost use Rattle.std.specs.Prelude.{◌≡◌};
+ghost use Rattle.sf_commands.specs.Commands.{add_arguments as add_command_of, addhex_arguments as addhex_command_of, delete_arguments as delete_command_of, replace_arguments as replace_command_of, unset_arguments as unset_command_of, feature_arguments as feature_command_of, feature_named, of_layer, OrMemory};
+ghost use Rattle.sf_commands.specs.declared.command.Command.TheVariants.{Show, Hex, Simple, Extent};
+ghost use Rattle.sf_commands.specs.Words.{words as words_of, skip_blanks, skip_word};
+
+use super::command::Command;
+use super::spelling::{bytes_of, id_of, text_of};
+use super::words::Words;
+use sf_layers::Text;
+use sf_refusals::Refusal;
+use sf_steps::Edit;
+use std::alloc::Global;
+
+/// The text is the rest of the line from the second word after `add` on.
+pub(crate) fn add_arguments(alloc: Global, mut words: Words<'_>) -> Result<Command, Refusal>
+    ensures { OrMemory (add_command_of (words_of words.entry) (skip_blanks (skip_word words.entry))) result }
+{
+    let layer = words.next()?;
+    let geometry = sf_wkt::read(alloc, words.rest()?)?;
+    let layer = text_of(alloc, layer)?;
+    Ok(Command::Edit(Edit::AddFeature { layer, geometry }))
+}
+
+/// The binary is one word of hexadecimal.
+pub(crate) fn addhex_arguments(alloc: Global, mut words: Words<'_>) -> Result<Command, Refusal>
+    ensures { OrMemory (addhex_command_of (words_of words.entry)) result }
+{
+    let layer = words.next()?;
+    let text = words.next()?;
+    words.finish()?;
+    let bytes = bytes_of(alloc, text)?;
+    let geometry = sf_wkb::read(alloc, &bytes)?;
+    let layer = text_of(alloc, layer)?;
+    Ok(Command::Edit(Edit::AddFeature { layer, geometry }))
+}
+
+/// The command of the words after `delete`.
+pub(crate) fn delete_arguments(alloc: Global, words: Words<'_>) -> Result<Command, Refusal>
+    ensures { OrMemory (delete_command_of (words_of words.entry)) result }
+{
+    let (layer, id) = feature_of(alloc, words)?;
+    Ok(Command::Edit(Edit::DeleteFeature { layer, id }))
+}
+
+/// The text is the rest of the line from the third word after `replace` on.
+pub(crate) fn replace_arguments(alloc: Global, mut words: Words<'_>) -> Result<Command, Refusal>
+    ensures { OrMemory (replace_command_of (words_of words.entry) (skip_blanks (skip_word (skip_word words.entry)))) result }
+{
+    let layer = words.next()?;
+    let id = words.next()?;
+    let text = words.rest()?;
+    let id = id_of(id).ok_or(Refusal::BadCommand)?;
+    let geometry = sf_wkt::read(alloc, text)?;
+    let layer = text_of(alloc, layer)?;
+    Ok(Command::Edit(Edit::ReplaceGeometry {
+        layer,
+        id,
+        geometry,
+    }))
+}
+
+/// The command of the words after `unset`.
+pub(crate) fn unset_arguments(alloc: Global, mut words: Words<'_>) -> Result<Command, Refusal>
+    ensures { OrMemory (unset_command_of (words_of words.entry)) result }
+{
+    let layer = words.next()?;
+    let id = words.next()?;
+    let column = words.next()?;
+    words.finish()?;
+    let id = id_of(id).ok_or(Refusal::BadCommand)?;
+    let layer = text_of(alloc, layer)?;
+    let column = text_of(alloc, column)?;
+    Ok(Command::Edit(Edit::ClearValue { layer, id, column }))
+}
+
+/// The command of the words after `show`.
+pub(crate) fn show_arguments(alloc: Global, mut words: Words<'_>) -> Result<Command, Refusal>
+    ensures { OrMemory (of_layer Show (words_of words.entry)) result }
+{
+    let layer = words.next()?;
+    words.finish()?;
+    Ok(Command::Show(text_of(alloc, layer)?))
+}
+
+/// The command of the words after `hex`.
+pub(crate) fn hex_arguments(alloc: Global, words: Words<'_>) -> Result<Command, Refusal>
+    ensures { OrMemory (feature_command_of Hex (words_of words.entry)) result }
+{
+    let (layer, id) = feature_of(alloc, words)?;
+    Ok(Command::Hex(layer, id))
+}
+
+/// The command of the words after `box`.
+pub(crate) fn box_arguments(alloc: Global, words: Words<'_>) -> Result<Command, Refusal>
+    ensures { OrMemory (feature_command_of Extent (words_of words.entry)) result }
+{
+    let (layer, id) = feature_of(alloc, words)?;
+    Ok(Command::Extent(layer, id))
+}
+
+/// The command of the words after `simple`.
+pub(crate) fn simple_arguments(alloc: Global, words: Words<'_>) -> Result<Command, Refusal>
+    ensures { OrMemory (feature_command_of Simple (words_of words.entry)) result }
+{
+    let (layer, id) = feature_of(alloc, words)?;
+    Ok(Command::Simple(layer, id))
+}
+
+/// The layer and the identifier that are all words of a line.
+fn feature_of(alloc: Global, mut words: Words<'_>) -> Result<(Text, u32), Refusal>
+    ensures { OrMemory (feature_named (words_of words.entry)) result }
+{
+    let layer = words.next()?;
+    let id = words.next()?;
+    words.finish()?;
+    let id = id_of(id).ok_or(Refusal::BadCommand)?;
+    Ok((text_of(alloc, layer)?, id))
+}

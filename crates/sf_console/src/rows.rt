@@ -1,0 +1,148 @@
+//! Answers of rows: their number, and a line for each.
+ghost use Rattle.std.specs.Prelude.{◌≡◌, ◌++◌, flat_map, map, string_bytes, IfOk, OnOk};
+ghost use Rattle.std.specs.List.{prefix_len};
+ghost use Rattle.sf_commands.specs.Values.{is_plain, quoted};
+ghost use Rattle.sf_console.specs.Answers.{column_rows as column_rows_of, column_type_word as column_type_word_of, feature_rows as feature_rows_of, layer_kind_word as layer_kind_word_of, layer_row, rows, shown_value, value_text};
+
+use sf_geometry::Kind;
+use sf_layers::{AttrValue, Column, ColumnType, Feature, Layer, LayerKind, Store};
+use std::alloc::{AllocError, Global};
+
+/// A row for each layer, in order.
+pub(crate) fn layer_rows(alloc: Global, store: &Store) -> Result<String, AllocError>
+    ensures { IfOk result (λ text. string_bytes text ≡ rows (map layer_row store.now)) }
+{
+    let count = store.layer_count();
+    let mut text = String::new(alloc);
+    writeln!(text, "rows {count}")?;
+    for place in 0..count {
+        let (name, layer) = store.layer_at(place).unwrap();
+        text.push_str(name)?;
+        text.push(' ')?;
+        text.push_str(layer_kind_word(layer.kind()))?;
+        text.push('\n')?;
+    }
+    Ok(text)
+}
+
+/// The word of a layer's kind.
+fn layer_kind_word(kind: LayerKind) -> &'static str
+    ensures { result.now ≡ layer_kind_word_of kind }
+{
+    match kind {
+        LayerKind::Any => "any",
+        LayerKind::Only(Kind::Point) => "point",
+        LayerKind::Only(Kind::LineString) => "linestring",
+        LayerKind::Only(Kind::Polygon) => "polygon",
+        LayerKind::Only(Kind::MultiPoint) => "multipoint",
+        LayerKind::Only(Kind::MultiLineString) => "multilinestring",
+        LayerKind::Only(Kind::MultiPolygon) => "multipolygon",
+    }
+}
+
+/// A row for each column of a layer, in order.
+pub(crate) fn column_rows(alloc: Global, layer: &Layer) -> Result<String, AllocError>
+    ensures { IfOk result (λ text. string_bytes text ≡ rows (column_rows_of layer.now)) }
+{
+    let count = layer.column_count();
+    let mut text = String::new(alloc);
+    writeln!(text, "rows {count}")?;
+    for place in 0..count {
+        let column = layer.column_at(place).unwrap();
+        text.push_str(column.name.as_str())?;
+        text.push(' ')?;
+        text.push_str(column_type_word(column.column_type))?;
+        text.push('\n')?;
+    }
+    Ok(text)
+}
+
+/// The word of a column's type.
+fn column_type_word(column_type: ColumnType) -> &'static str
+    ensures { result.now ≡ column_type_word_of column_type }
+{
+    match column_type {
+        ColumnType::Int => "int",
+        ColumnType::Text => "text",
+    }
+}
+
+/// A row for each feature of a layer, in rising order of the identifiers, with its values in the order
+/// of the columns.
+pub(crate) fn feature_rows(alloc: Global, layer: &Layer) -> Result<String, AllocError>
+    ensures { IfOk result (λ text. string_bytes text ≡ rows (feature_rows_of layer.now)) }
+{
+    let mut text = String::new(alloc);
+    writeln!(text, "rows {}", layer.feature_count())?;
+    for (id, feature) in layer.features() {
+        write!(text, "{id} ")?;
+        sf_wkt::append(alloc, &mut text, feature.valid().geometry())?;
+        push_values(&mut text, layer, feature)?;
+        text.push('\n')?;
+    }
+    Ok(text)
+}
+
+/// The values of a feature in the columns of its layer, in their order.
+fn push_values(text: &mut String, layer: &Layer, feature: &Feature) -> Result<(), AllocError>
+    ensures { OnOk result (string_bytes text.new
+        ≡ string_bytes text.old ++ flat_map (shown_value feature.now) layer.now.columns) }
+{
+    for place in 0..layer.column_count() {
+        push_value(text, layer.column_at(place).unwrap(), feature)?;
+    }
+    Ok(())
+}
+
+/// The value of a feature in a column, if there is one, under the column's name.
+fn push_value(text: &mut String, column: &Column, feature: &Feature) -> Result<(), AllocError>
+    ensures { OnOk result (string_bytes text.new
+        ≡ string_bytes text.old ++ shown_value feature.now column.now) }
+{
+    let Some(value) = feature.value(column.number) else {
+        return Ok(());
+    };
+    text.push(' ')?;
+    text.push_str(column.name.as_str())?;
+    text.push('=')?;
+    match value {
+        AttrValue::Int(number) => write!(text, "{number}")?,
+        AttrValue::Text(value) => push_quoted(text, value.as_str())?,
+    }
+    Ok(())
+}
+
+/// A text in quotes, each quote in it doubled.
+fn push_quoted(text: &mut String, value: &str) -> Result<(), AllocError>
+    ensures { OnOk result (string_bytes text.new ≡ string_bytes text.old ++ quoted value.now) }
+{
+    text.push('\'')?;
+    let mut rest = value;
+    let mut end = plain_len(rest);
+    while end < rest.len() {
+        text.push_str(&rest[..end])?;
+        text.push_str("''")?;
+        let quote = &rest[end..];
+        rest = &quote[1..];
+        end = plain_len(rest);
+    }
+    text.push_str(rest)?;
+    text.push('\'')
+}
+
+/// How many bytes stand before the first quote of a text.
+fn plain_len(text: &str) -> usize
+    ensures { result ≡ prefix_len is_plain text.now }
+{
+    text.as_bytes()
+        .iter()
+        .take_while(|byte| is_plain_byte(**byte))
+        .count()
+}
+
+/// Whether a byte is no quote.
+fn is_plain_byte(byte: u8) -> bool
+    ensures { result ≡ is_plain byte }
+{
+    byte != b'\''
+}

@@ -1,0 +1,5 @@
+pub mod Entries
+pub mod Orders
+pub mod Numbers
+pub mod VertexLaws
+pub mod GridLaws

@@ -1,0 +1,29 @@
+use Rattle.std.proofs.Common.{◌≡◌, ◌∙◌, IsSome, length, zip, sym, ap, subst, arith}
+use Rattle.std.proofs.lemmas.Map.Made.{keys_of-zip}
+use Rattle.std.specs.List.{AllByRecursion}
+use Rattle.std.specs.Map.{keys_of}
+use Rattle.sf_layers.specs.Content.{LayerContent, feature_of, with_values}
+use Rattle.sf_layers.specs.Moves.{put_each}
+use Rattle.sf_layers.proofs.Outcomes.{OnOk-is, OnOk-not}
+use Rattle.sf_layers.proofs.Values.{with_values-put}
+use Rattle.sf_layers.specs.contracts.layer.Layer.{the_view}
+use Rattle.sf_layers.proofs.layer.Layer.put_values.Goals as goal
+use Rattle.sf_layers.proofs.layer.Layer.put_values.Goals.{in-Ok, in-Err}
+
+pub put_all-requires-clause-there : goal.put_all-requires-clause-there
+put_all-requires-clause-there c =
+    let ids = c.values.inside.ids.items in
+    let values = c.values.inside.values.items in
+    let long : length values ≡ length ids = omega (arith, c.values.invariant.0, c.values.inside.ids.ok.0, c.values.inside.values.ok.0) in
+    subst (AllByRecursion (λ id. IsSome (feature_of (the_view c.self.inside) id))) (ap keys_of (sym c.values.view_is) ∙ keys_of-zip ids values long ∙ sym c.as_slice.ensures.value)
+    (subst (λ layer. AllByRecursion (λ id. IsSome (feature_of layer id)) (keys_of c.args.values)) (sym c.self.view_is) c.requires.there)
+
+pub returns-clause-put : goal.returns-clause-put
+returns-clause-put c = elim c.match-put_all.branch [
+  | in-Ok w ↦
+      let pairs = ap (λ ids. zip ids c.values.inside.values.items) c.as_slice.ensures.value ∙ c.values.view_is in
+      OnOk-is c.match-put_all.result tt w.result-is
+      (ap (λ fs. let l : LayerContent = record (the_view c.self.inside) { features = fs } in l) (w.in-Ok.ensures.put ∙ ap (λ vs. put_each c.args.number vs c.self.inside.features.entries) pairs)
+      ∙ sym (with_values-put c.args.number c.args.values (the_view c.self.inside)) ∙ ap (with_values c.args.number c.args.values) c.self.view_is)
+  | in-Err w ↦ OnOk-not _ c.match-put_all.result _ w.result-is
+]

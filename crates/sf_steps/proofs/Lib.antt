@@ -1,0 +1,9 @@
+pub mod Passes
+pub mod LayersBack
+pub mod FeaturesBack
+pub mod VerticesBack
+pub mod VerticesAgain
+pub mod StepsFine
+pub mod InverseLaws
+pub mod Judged
+pub mod JudgeLaws

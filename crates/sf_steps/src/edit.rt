@@ -1,0 +1,94 @@
+use sf_geometry::Geometry;
+use sf_grid::GridPoint;
+use sf_layers::{AttrValue, ColumnType, LayerKind, Text};
+
+/// A change of a store. Layers and columns are named by their texts, features by their identifiers, vertices by
+/// part, ring and index.
+#[derive(Debug, Drop)]
+pub enum Edit {
+    /// Puts an empty layer last.
+    AddLayer {
+        name: Text,
+        kind: LayerKind,
+    },
+    /// Takes a layer out, with all that it has.
+    DropLayer {
+        name: Text,
+    },
+    /// Gives a layer another name, in its place.
+    RenameLayer {
+        name: Text,
+        new_name: Text,
+    },
+    /// Moves a layer so that it stands at a place of the order.
+    MoveLayer {
+        name: Text,
+        place: u32,
+    },
+    /// Puts a column last, under the layer's next column number.
+    AddColumn {
+        layer: Text,
+        name: Text,
+        column_type: ColumnType,
+    },
+    /// Takes a column out, with all values in it.
+    DropColumn {
+        layer: Text,
+        name: Text,
+    },
+    /// Puts a feature with no values into a layer, under the layer's next identifier.
+    AddFeature {
+        layer: Text,
+        geometry: Geometry,
+    },
+    /// Takes a feature out. Its identifier is not given again.
+    DeleteFeature {
+        layer: Text,
+        id: u32,
+    },
+    /// Puts another geometry in the place of a feature's; the values stay.
+    ReplaceGeometry {
+        layer: Text,
+        id: u32,
+        geometry: Geometry,
+    },
+    /// Puts a vertex before an index, or last where the index is their number.
+    InsertVertex {
+        layer: Text,
+        id: u32,
+        part: u32,
+        ring: u32,
+        index: u32,
+        point: GridPoint,
+    },
+    /// Moves the vertex at an index.
+    MoveVertex {
+        layer: Text,
+        id: u32,
+        part: u32,
+        ring: u32,
+        index: u32,
+        point: GridPoint,
+    },
+    /// Takes the vertex at an index out.
+    RemoveVertex {
+        layer: Text,
+        id: u32,
+        part: u32,
+        ring: u32,
+        index: u32,
+    },
+    /// Puts a value into a column of a feature.
+    SetValue {
+        layer: Text,
+        id: u32,
+        column: Text,
+        value: AttrValue,
+    },
+    /// Takes the value out of a column of a feature, if there is one.
+    ClearValue {
+        layer: Text,
+        id: u32,
+        column: Text,
+    },
+}

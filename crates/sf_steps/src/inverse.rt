@@ -1,0 +1,109 @@
+ghost use Rattle.std.specs.Prelude.{◌≡◌};
+ghost use Rattle.sf_steps.specs.Inverses.{answer_of, weight};
+
+use super::answer::Answer;
+use sf_grid::GridPoint;
+use sf_layers::{AttrValue, BoxedLayer, BoxedValues, Column, Feature, Text};
+use sf_validity::Valid;
+
+/// What takes an accepted edit back. It holds what the edit took out, moved and not copied; what is
+/// large stands behind a box, so that a list of inverses stays small.
+#[derive(Debug, Drop)]
+pub enum Inverse {
+    /// Takes the last layer off.
+    TakeLayer,
+    /// Puts a layer back at its place, under its stored name. The edit's own name is kept for doing
+    /// it again.
+    PutLayer {
+        name: Text,
+        place: usize,
+        stored: Text,
+        layer: BoxedLayer,
+    },
+    /// Gives the layer at a place its stored old name back. The edit's own is kept for doing it again.
+    RenameLayer {
+        name: Text,
+        place: usize,
+        stored: Text,
+    },
+    /// Moves a layer back to its old place.
+    MoveLayer {
+        name: Text,
+        place: usize,
+    },
+    /// Takes the last column of a layer off, and the layer's counter back to its number.
+    TakeColumn {
+        layer: Text,
+    },
+    /// Puts a column back at its place, and its values into their features. The edit's own name is
+    /// kept for doing it again.
+    PutColumn {
+        layer: Text,
+        name: Text,
+        place: usize,
+        column: Column,
+        values: BoxedValues,
+    },
+    /// Takes a feature off, and the layer's counter back to its identifier.
+    TakeFeature {
+        layer: Text,
+        id: u32,
+    },
+    /// Puts a feature back.
+    PutFeature {
+        layer: Text,
+        id: u32,
+        feature: Feature,
+    },
+    /// Puts a feature's old geometry back.
+    PutGeometry {
+        layer: Text,
+        id: u32,
+        old: Valid,
+    },
+    /// Takes the vertex at an index out.
+    TakeVertex {
+        layer: Text,
+        id: u32,
+        part: u32,
+        ring: u32,
+        index: u32,
+    },
+    /// Moves the vertex at an index back.
+    MoveVertex {
+        layer: Text,
+        id: u32,
+        part: u32,
+        ring: u32,
+        index: u32,
+        old: GridPoint,
+    },
+    /// Puts a vertex back before an index.
+    PutVertex {
+        layer: Text,
+        id: u32,
+        part: u32,
+        ring: u32,
+        index: u32,
+        old: GridPoint,
+    },
+    /// Puts the old value back into a column of a feature, or leaves none there.
+    PutValue {
+        layer: Text,
+        id: u32,
+        column: Text,
+        old: Option<AttrValue>,
+    },
+}
+
+impl Inverse {
+    /// What the edit answered.
+    pub fn answer(&self) -> Answer
+        ensures { result ≡ answer_of self.now }
+    {
+        match self {
+            Inverse::TakeFeature { id, .. } => Answer::Id(*id),
+            _ => Answer::Done,
+        }
+    }
+}
