@@ -1,4 +1,4 @@
--- What `add` and `replace` make of the words after it.
+-- What `add`, `replace` and `set` make of the words after it.
 use Rattle.std.proofs.Common.{◌≡◌, ◌≢◌, ℕ, List, [], ◌∷◌, Option, Result, Ok, Err, refl, sym, ap, ◌∙◌, subst}
 use Rattle.std.specs.Result.{IsErrAnd}
 use Rattle.sf_refusals.specs.declared.refusal.Refusal.{Refusal}
@@ -8,11 +8,13 @@ use Rattle.sf_wkt.specs.declared.fault.WktFault.{WktFault}
 use Rattle.sf_wkt.specs.declared.fault.WktFault.TheVariants as faults
 use Rattle.sf_wkt.specs.Faults.{refusal_of}
 use Rattle.sf_wkt.specs.Grammar.{OrMemory as ReadsOrMemory, read}
+use Rattle.sf_features.specs.declared.attr_value.AttrValue.{AttrValue}
 use Rattle.sf_steps.specs.declared.edit.Edit.TheVariants as edits
 use Rattle.sf_commands.specs.declared.command.Command.{Command}
 use Rattle.sf_commands.specs.declared.command.Command.TheVariants.{Edit}
-use Rattle.sf_commands.specs.Words.{words, skip_blanks, skip_word}
-use Rattle.sf_commands.specs.Commands.{id_of, given, of_text, add_arguments, replace_arguments, OrMemory}
+use Rattle.sf_commands.specs.Words.{words, skip_blanks, skip_word, trimmed_end}
+use Rattle.sf_commands.specs.Commands.{id_of, given, of_text, add_arguments, replace_arguments, set_arguments, OrMemory}
+use Rattle.sf_commands.specs.Values.{value_of}
 
 with_text : (layer text : List ℕ) (more : List (List ℕ)) → more ≢ []
     → add_arguments (layer ∷ more) text ≡ of_text (read text) (λ geometry. Edit (edits.AddFeature layer geometry))
@@ -49,6 +51,28 @@ replace_arguments-text line next last layer id text first rest second end some b
     ∙ ap (λ n. replace_arguments (layer ∷ id ∷ words last) (skip_blanks n)) (sym left)
     ∙ ap (λ t. replace_arguments (layer ∷ id ∷ words last) t) (sym behind)
     ∙ with_id_and_text layer id text (words last) some
+
+-- `set` in a layer of an identifier if it could be read, in a column to a value if it could be read
+abbrev pub set_by : List ℕ → Option ℕ → List ℕ → Option AttrValue → Result Command Refusal
+set_by layer id column value = given id (λ id. given value (λ value. Ok (Edit (edits.SetValue layer id column value))))
+
+with_column_and_text : (layer id column text : List ℕ) (more : List (List ℕ)) → more ≢ []
+    → set_arguments (layer ∷ id ∷ column ∷ more) text ≡ set_by layer (id_of id) column (value_of (trimmed_end text))
+with_column_and_text layer id column text [] some = absurd (some refl)
+with_column_and_text layer id column text (word ∷ more) some = refl
+
+-- what the words after `set` give, where a text stands behind the third of them
+pub set_arguments-text : (line next middle last layer id column text : List ℕ) → words line ≡ layer ∷ words next → next ≡ skip_word line
+    → words next ≡ id ∷ words middle → middle ≡ skip_word next → words middle ≡ column ∷ words last → last ≡ skip_word middle
+    → words last ≢ [] → text ≡ skip_blanks last
+    → set_arguments (words line) (skip_blanks (skip_word (skip_word (skip_word line)))) ≡ set_by layer (id_of id) column (value_of (trimmed_end text))
+set_arguments-text line next middle last layer id column text first rest second more third end some behind =
+    let all : words line ≡ layer ∷ id ∷ column ∷ words last = first ∙ ap (λ w. layer ∷ w) (second ∙ ap (λ w. id ∷ w) third) in
+    let left : last ≡ skip_word (skip_word (skip_word line)) = end ∙ ap skip_word (more ∙ ap skip_word rest) in
+    ap (λ w. set_arguments w (skip_blanks (skip_word (skip_word (skip_word line))))) all
+    ∙ ap (λ n. set_arguments (layer ∷ id ∷ column ∷ words last) (skip_blanks n)) (sym left)
+    ∙ ap (λ t. set_arguments (layer ∷ id ∷ column ∷ words last) t) (sym behind)
+    ∙ with_column_and_text layer id column text (words last) some
 
 OrMemory-same : {T : Type 0} (expected r : Result T Refusal) → r ≡ expected → OrMemory expected r
 OrMemory-same expected (Err Memory) h = tt

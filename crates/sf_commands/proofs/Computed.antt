@@ -1,9 +1,10 @@
 -- Commands of lines, computed from the definitions alone.
-use Rattle.std.proofs.Common.{◌≡◌, pos, negsuc, Ok, Err, codes, refl}
+use Rattle.std.proofs.Common.{◌≡◌, pos, negsuc, Ok, Err, [], codes, refl}
 use Rattle.sf_refusals.specs.declared.refusal.Refusal.TheVariants.{Syntax, OffGrid, OutOfRange, BadCommand}
 use Rattle.sf_geometry.specs.declared.geometry.Geometry.TheVariants as geometries
 use Rattle.sf_geometry.specs.declared.kind.Kind.TheVariants as kinds
 use Rattle.sf_layers.specs.declared.layer_kind.LayerKind.TheVariants.{Only}
+use Rattle.sf_features.specs.declared.attr_value.AttrValue.TheVariants as values
 use Rattle.sf_features.specs.declared.column_type.ColumnType.TheVariants as types
 use Rattle.sf_steps.specs.declared.edit.Edit.TheVariants as edits
 use Rattle.sf_commands.specs.declared.command.Command.TheVariants.{Edit, Undo, Redo, Layers, Columns, Show, Hex, Simple, Extent}
@@ -32,6 +33,29 @@ feature_deleted = refl
 
 geometry_replaced : command_of (codes "replace wells 7  POINT (1 -2)") ≡ Ok (Edit (edits.ReplaceGeometry (codes "wells") 7 (geometries.Point (record { x = pos 1; y = negsuc 1 }))))
 geometry_replaced = refl
+
+value_set : (command_of (codes "set wells 7 depth -0012 ") ≡ Ok (Edit (edits.SetValue (codes "wells") 7 (codes "depth") (values.Int (negsuc 11)))))
+    × (command_of (codes "set wells 7 depth +9223372036854775807") ≡ Ok (Edit (edits.SetValue (codes "wells") 7 (codes "depth") (values.Int (pos 9223372036854775807)))))
+    × (command_of (codes "set wells 7 depth -9223372036854775808") ≡ Ok (Edit (edits.SetValue (codes "wells") 7 (codes "depth") (values.Int (negsuc 9223372036854775807)))))
+value_set = (refl, refl, refl)
+
+text_set : (command_of (codes "set wells 7 label 'it''s  old' ") ≡ Ok (Edit (edits.SetValue (codes "wells") 7 (codes "label") (values.Text (codes "it's  old")))))
+    × (command_of (codes "set wells 7 label ''") ≡ Ok (Edit (edits.SetValue (codes "wells") 7 (codes "label") (values.Text []))))
+    × (command_of (codes "set wells 7 label ''''") ≡ Ok (Edit (edits.SetValue (codes "wells") 7 (codes "label") (values.Text (codes "'")))))
+    × (command_of (codes "set wells 7 label 'a'''") ≡ Ok (Edit (edits.SetValue (codes "wells") 7 (codes "label") (values.Text (codes "a'")))))
+text_set = (refl, refl, refl, refl)
+
+-- what spells no number
+no_numbers : (command_of (codes "set wells 7 depth") ≡ Err BadCommand) × (command_of (codes "set wells 7 depth 1 2") ≡ Err BadCommand)
+    × (command_of (codes "set wells 7 depth -") ≡ Err BadCommand) × (command_of (codes "set wells 7 depth 9223372036854775808") ≡ Err BadCommand)
+    × (command_of (codes "set wells 7 depth 1.0") ≡ Err BadCommand) × (command_of (codes "set wells x depth 1") ≡ Err BadCommand)
+no_numbers = (refl, refl, refl, refl, refl, refl)
+
+-- what is no text in quotes
+no_texts : (command_of (codes "set wells 7 label '") ≡ Err BadCommand) × (command_of (codes "set wells 7 label 'a'b'") ≡ Err BadCommand)
+    × (command_of (codes "set wells 7 label 'a' b") ≡ Err BadCommand) × (command_of (codes "set wells 7 label 'a''") ≡ Err BadCommand)
+    × (command_of (codes "set wells 7 label '''") ≡ Err BadCommand) × (command_of (codes "set wells 7 label a") ≡ Err BadCommand)
+no_texts = (refl, refl, refl, refl, refl, refl)
 
 value_cleared : command_of (codes "unset wells 7 depth") ≡ Ok (Edit (edits.ClearValue (codes "wells") 7 (codes "depth")))
 value_cleared = refl

@@ -7,8 +7,8 @@ use Rattle.sf_grid.specs.Bounds.{IsCoordinate, is_coordinate}
 use Rattle.sf_grid.specs.Plane.{Coordinates, IsOnGrid}
 use Rattle.sf_wkt.specs.declared.fault.WktFault.{WktFault}
 use Rattle.sf_wkt.specs.declared.fault.WktFault.TheVariants.{OutOfRange}
-use Rattle.sf_wkt.specs.Tokens.{coordinate, signed, digits_value, digits_len, is_whole, is_negative, sign_len}
-use Rattle.sf_commands.specs.Values.{is_number, unsigned_coordinate, coordinate_of, point_by, point_of}
+use Rattle.sf_wkt.specs.Tokens.{coordinate, coordinate_of, signed, digits_value, digits_len, is_number, is_whole, is_negative, sign_len, unsigned_coordinate}
+use Rattle.sf_commands.specs.Values.{point_by, point_of}
 use mir.Val.{SFits, to_z, of_z}
 
 by_test : (n m : ℤ) (b : Bool) → is_coordinate n ≡ b → (if not b then Err OutOfRange else Ok n) ≡ Ok m → IsCoordinate m
@@ -23,7 +23,8 @@ if_some : (b : Bool) (r s : Result ℤ WktFault) → (if b then Some r else None
 if_some false r s h = cc
 if_some true r s h = cc
 
-unsigned_on_grid : (negative : Bool) (unsigned : List ℕ) (m : ℤ) → unsigned_coordinate negative unsigned ≡ Some (Ok m) → IsCoordinate m
+unsigned_on_grid : (negative : Bool) (unsigned : List ℕ) (m : ℤ)
+    → (if is_number unsigned then Some (unsigned_coordinate negative unsigned) else None) ≡ Some (Ok m) → IsCoordinate m
 unsigned_on_grid negative unsigned m h =
     let n = signed negative (digits_value (take (digits_len unsigned) unsigned)) in
     let whole = is_whole (drop (digits_len unsigned) unsigned) in

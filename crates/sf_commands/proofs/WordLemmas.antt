@@ -1,9 +1,10 @@
 -- Words of a line, and where a text may be cut between them.
-use Rattle.std.proofs.Common.{◌≡◌, ◌≢◌, ℕ, suc, ◌+◌, ◌-◌, ◌<◌, Bool, true, false, not, cond, List, [], ◌∷◌, length, take, drop, get_or, refl, sym, ap, ◌∙◌, subst, arith}
-use Rattle.std.specs.List.{prefix_len}
+use Rattle.std.proofs.Common.{◌≡◌, ◌≢◌, ℕ, zero, suc, ◌+◌, ◌-◌, ◌<◌, Bool, true, false, not, cond, List, [], ◌∷◌, length, take, drop, get_or, reverse, refl, sym, ap, ◌∙◌, subst, arith}
+use Rattle.std.specs.List.{prefix_len, suffix_len}
 use Rattle.std.specs.Str.{IsCharBoundary, IsUtf8}
-use Rattle.std.proofs.lemmas.Str.{IsCharBoundary-after_ascii, IsCharBoundary-before_ascii}
-use Rattle.std.proofs.lemmas.List.Sums.{prefix_len-le-length, prefix_len_passes, prefix_len_stops}
+use Rattle.std.proofs.lemmas.Str.{IsCharBoundary-after_ascii, IsCharBoundary-before_ascii, IsCharBoundary-end}
+use Rattle.std.proofs.lemmas.List.Sums.{prefix_len-le-length, prefix_len_passes, prefix_len_stops, suffix_len-le-length}
+use Rattle.std.proofs.lemmas.List.{get_or-reverse}
 use Rattle.std.proofs.lemmas.Grind.{common_steps}
 use Rattle.sf_wkt.specs.Tokens.{is_blank}
 use Rattle.sf_commands.specs.Words.{words, at_blank, onto_first, skip_blanks}
@@ -109,3 +110,17 @@ words-some line some none = cc (words-next line (skip_blanks line) refl some)
 -- a line that has a word has a text behind its blanks
 pub some_text : (line : List ℕ) → words line ≢ [] → length (skip_blanks line) ≢ 0
 some_text line some none = some (words-none line none)
+
+-- a text may be cut before the blanks at its end
+pub before-last-blanks : (text : List ℕ) → IsCharBoundary text (length text - suffix_len is_blank text)
+before-last-blanks text = by (suffix_len is_blank text) refl
+  where
+    by : (n : ℕ) → suffix_len is_blank text ≡ n → IsCharBoundary text (length text - suffix_len is_blank text)
+    by zero is = subst (IsCharBoundary text) (omega (arith, is)) (IsCharBoundary-end text)
+    by (suc n) is =
+        let within = suffix_len-le-length is_blank text in
+        let passed : is_blank (get_or (reverse text) n 0) ≡ true = prefix_len_passes is_blank (reverse text) n 0 (omega (arith, is)) in
+        let at : get_or (reverse text) n 0 ≡ get_or text (length text - 1 - n) 0 = get_or-reverse text n 0 (omega (arith, is, within)) in
+        let here : length text - 1 - n ≡ length text - suffix_len is_blank text = omega (arith, is, within) in
+        IsCharBoundary-before_ascii text (length text - suffix_len is_blank text) (omega (arith, is, within))
+        (blank_is_ascii _ (ap (λ k. is_blank (get_or text k 0)) (sym here) ∙ ap is_blank (sym at) ∙ passed))

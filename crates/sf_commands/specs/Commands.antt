@@ -29,14 +29,14 @@ use Rattle.sf_commands.specs.declared.verb.Action.TheVariants as actions
 use Rattle.sf_commands.specs.declared.command.Command.{Command}
 use Rattle.sf_commands.specs.declared.command.Command.TheVariants.{Edit, Undo, Redo, Layers, Columns, Show, Hex, Simple, Extent}
 use Rattle.sf_commands.specs.declared.vertex_place.VertexPlace.{VertexPlace}
-use Rattle.sf_commands.specs.Words.{words, skip_blanks, skip_word}
-use Rattle.sf_commands.specs.Values.{point_of}
+use Rattle.sf_commands.specs.Words.{words, skip_blanks, skip_word, trimmed_end}
+use Rattle.sf_commands.specs.Values.{point_of, value_of}
 
 -- the verb that a word spells
 abbrev pub verb_of : List ℕ → Option Verb
 verb_of word = lookup (bytes_eq word) ((codes "layer", verbs.Layer) ∷ (codes "column", verbs.Column)
     ∷ (codes "add", verbs.Add) ∷ (codes "addhex", verbs.AddHex) ∷ (codes "delete", verbs.Delete) ∷ (codes "replace", verbs.Replace)
-    ∷ (codes "vertex", verbs.Vertex) ∷ (codes "unset", verbs.Unset) ∷ (codes "undo", verbs.Undo) ∷ (codes "redo", verbs.Redo)
+    ∷ (codes "vertex", verbs.Vertex) ∷ (codes "set", verbs.Set) ∷ (codes "unset", verbs.Unset) ∷ (codes "undo", verbs.Undo) ∷ (codes "redo", verbs.Redo)
     ∷ (codes "layers", verbs.Layers) ∷ (codes "columns", verbs.Columns) ∷ (codes "show", verbs.Show)
     ∷ (codes "hex", verbs.Hex) ∷ (codes "box", verbs.Box) ∷ (codes "simple", verbs.Simple) ∷ [])
 
@@ -219,6 +219,12 @@ replace_arguments (layer ∷ id ∷ first ∷ more) text =
     given (id_of id) (λ id. of_text (read text) (λ geometry. Edit (edits.ReplaceGeometry layer id geometry)))
 replace_arguments arguments text = Err BadCommand
 
+-- the command of the words after `set`; the value is the rest of the line from the fourth of them on
+abbrev pub set_arguments : List (List ℕ) → List ℕ → Result Command Refusal
+set_arguments (layer ∷ id ∷ column ∷ first ∷ more) text =
+    given (id_of id) (λ id. given (value_of (trimmed_end text)) (λ value. Ok (Edit (edits.SetValue layer id column value))))
+set_arguments arguments text = Err BadCommand
+
 -- the command of the words after `unset`: a layer, an identifier and a column
 abbrev pub unset_arguments : List (List ℕ) → Result Command Refusal
 unset_arguments (layer ∷ id ∷ column ∷ []) = given (id_of id) (λ id. Ok (Edit (edits.ClearValue layer id column)))
@@ -243,6 +249,7 @@ by_verb (Some verbs.AddHex) rest = addhex_arguments (words rest)
 by_verb (Some verbs.Delete) rest = delete_arguments (words rest)
 by_verb (Some verbs.Replace) rest = replace_arguments (words rest) (skip_blanks (skip_word (skip_word rest)))
 by_verb (Some verbs.Vertex) rest = vertex_arguments (words rest)
+by_verb (Some verbs.Set) rest = set_arguments (words rest) (skip_blanks (skip_word (skip_word (skip_word rest))))
 by_verb (Some verbs.Unset) rest = unset_arguments (words rest)
 by_verb (Some verbs.Undo) rest = alone Undo (words rest)
 by_verb (Some verbs.Redo) rest = alone Redo (words rest)

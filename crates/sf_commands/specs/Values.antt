@@ -7,24 +7,10 @@ use Rattle.sf_refusals.specs.declared.refusal.Refusal.TheVariants.{BadCommand}
 use Rattle.sf_grid.specs.Plane.{Coordinates}
 use Rattle.sf_wkt.specs.declared.fault.WktFault.{WktFault}
 use Rattle.sf_wkt.specs.Faults.{refusal_of}
-use Rattle.sf_wkt.specs.Tokens.{digits_value, signed, sign_len, is_negative, digits_len, number_len, is_whole, coordinate}
+use Rattle.sf_wkt.specs.Tokens.{digits_value, signed, sign_len, is_negative, coordinate_of}
 use Rattle.sf_features.specs.declared.attr_value.AttrValue.{AttrValue}
 use Rattle.sf_features.specs.declared.attr_value.AttrValue.TheVariants.{Int, Text}
 use Rattle.sf_features.specs.Values.{fits_int}
-
--- whether a word has the form of a number, after its sign
-abbrev pub is_number : List ℕ → Bool
-is_number unsigned = nat_lt 0 (digits_len unsigned) && number_len unsigned == length unsigned
-
--- the coordinate that bytes after a sign are, or why they are none, where they have that form
-abbrev pub unsigned_coordinate : Bool → List ℕ → Option (Result ℤ WktFault)
-unsigned_coordinate negative unsigned =
-    let n = signed negative (digits_value (take (digits_len unsigned) unsigned)) in
-    if is_number unsigned then Some (coordinate n (is_whole (drop (digits_len unsigned) unsigned))) else None
-
--- the coordinate that a word in the form of a number is, or why it is none
-abbrev pub coordinate_of : List ℕ → Option (Result ℤ WktFault)
-coordinate_of word = unsigned_coordinate (is_negative word) (drop (sign_len word) word)
 
 -- the point of two numbers: the form of both comes first, then the fault of x before that of y
 abbrev pub point_by : Option (Result ℤ WktFault) → Option (Result ℤ WktFault) → Result Coordinates Refusal

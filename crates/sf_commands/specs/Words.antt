@@ -1,6 +1,6 @@
 -- The words of a line, which spaces and tabs part.
-use Rattle.std.specs.Prelude.{ℕ, Bool, true, not, List, [], ◌∷◌, drop, if◌then◌else◌}
-use Rattle.std.specs.List.{prefix_len}
+use Rattle.std.specs.Prelude.{ℕ, ◌-◌, Bool, true, not, List, [], ◌∷◌, length, drop, take, if◌then◌else◌}
+use Rattle.std.specs.List.{prefix_len, suffix_len}
 use Rattle.sf_wkt.specs.Tokens.{is_blank}
 
 -- whether a line ends here, or a blank stands here
@@ -26,3 +26,7 @@ skip_blanks line = drop (prefix_len is_blank line) line
 -- the line after its first word
 abbrev pub skip_word : List ℕ → List ℕ
 skip_word line = drop (prefix_len (λ b. not (is_blank b)) (skip_blanks line)) (skip_blanks line)
+
+-- a text without the blanks at its end
+abbrev pub trimmed_end : List ℕ → List ℕ
+trimmed_end text = take (length text - suffix_len is_blank text) text

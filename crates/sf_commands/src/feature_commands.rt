@@ -1,12 +1,13 @@
 //! Commands about whole features and their geometries.
 ghost use Rattle.std.specs.Prelude.{◌≡◌};
-ghost use Rattle.sf_commands.specs.Commands.{add_arguments as add_command_of, addhex_arguments as addhex_command_of, delete_arguments as delete_command_of, replace_arguments as replace_command_of, unset_arguments as unset_command_of, feature_arguments as feature_command_of, feature_named, of_layer, OrMemory};
+ghost use Rattle.sf_commands.specs.Commands.{add_arguments as add_command_of, addhex_arguments as addhex_command_of, delete_arguments as delete_command_of, replace_arguments as replace_command_of, set_arguments as set_command_of, unset_arguments as unset_command_of, feature_arguments as feature_command_of, feature_named, of_layer, OrMemory};
 ghost use Rattle.sf_commands.specs.declared.command.Command.TheVariants.{Show, Hex, Simple, Extent};
 ghost use Rattle.sf_commands.specs.Words.{words as words_of, skip_blanks, skip_word};
 
 use super::command::Command;
 use super::spelling::{bytes_of, id_of, text_of};
-use super::words::Words;
+use super::value::value_of;
+use super::words::{Words, trimmed_end};
 use sf_layers::Text;
 use sf_refusals::Refusal;
 use sf_steps::Edit;
@@ -57,6 +58,27 @@ pub(crate) fn replace_arguments(alloc: Global, mut words: Words<'_>) -> Result<C
         layer,
         id,
         geometry,
+    }))
+}
+
+/// The value is the rest of the line from the fourth word after `set` on, without blanks at its end.
+pub(crate) fn set_arguments(alloc: Global, mut words: Words<'_>) -> Result<Command, Refusal>
+    ensures { OrMemory (set_command_of (words_of words.entry) (skip_blanks (skip_word (skip_word (skip_word words.entry))))) result }
+{
+    let layer = words.next()?;
+    let id = words.next()?;
+    let column = words.next()?;
+    let text = words.rest()?;
+    let id = id_of(id).ok_or(Refusal::BadCommand)?;
+    let value = value_of(alloc, trimmed_end(text))?;
+    let value = value.ok_or(Refusal::BadCommand)?;
+    let layer = text_of(alloc, layer)?;
+    let column = text_of(alloc, column)?;
+    Ok(Command::Edit(Edit::SetValue {
+        layer,
+        id,
+        column,
+        value,
     }))
 }
 

@@ -8,7 +8,7 @@ use super::column_commands::{column_arguments, columns_arguments};
 use super::command::Command;
 use super::feature_commands::{
     add_arguments, addhex_arguments, box_arguments, delete_arguments, hex_arguments,
-    replace_arguments, show_arguments, simple_arguments, unset_arguments,
+    replace_arguments, set_arguments, show_arguments, simple_arguments, unset_arguments,
 };
 use super::layer_commands::{layer_arguments, layers_arguments};
 use super::verb::{Verb, verb_of};
@@ -44,6 +44,7 @@ fn arguments_of(alloc: Global, verb: Option<Verb>, words: Words<'_>) -> Result<C
         Some(Verb::Delete) => delete_arguments(alloc, words),
         Some(Verb::Replace) => replace_arguments(alloc, words),
         Some(Verb::Vertex) => vertex_arguments(alloc, words),
+        Some(Verb::Set) => set_arguments(alloc, words),
         Some(Verb::Unset) => unset_arguments(alloc, words),
         Some(Verb::Undo) => undo_arguments(words),
         Some(Verb::Redo) => redo_arguments(words),

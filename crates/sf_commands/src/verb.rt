@@ -11,6 +11,7 @@ pub(crate) enum Verb {
     Delete,
     Replace,
     Vertex,
+    Set,
     Unset,
     Undo,
     Redo,
@@ -51,6 +52,8 @@ pub(crate) fn verb_of(word: &str) -> Option<Verb>
         Some(Verb::Replace)
     } else if word == "vertex" {
         Some(Verb::Vertex)
+    } else if word == "set" {
+        Some(Verb::Set)
     } else if word == "unset" {
         Some(Verb::Unset)
     } else if word == "undo" {

@@ -4,7 +4,7 @@ ghost use Rattle.sf_commands.specs.Commands.{vertex_arguments as vertex_command_
 ghost use Rattle.sf_commands.specs.Words.{words as words_of};
 
 use super::command::Command;
-use super::number::point_of;
+use super::point::point_of;
 use super::spelling::{id_of, text_of};
 use super::verb::{Action, action_of};
 use super::vertex_place::VertexPlace;

@@ -1,8 +1,8 @@
 //! The words of a line, which spaces and tabs part.
 ghost use Rattle.std.specs.Prelude.{◌≡◌, ◌≢◌, [], ◌∷◌, MatchResult, not};
-ghost use Rattle.std.specs.List.{prefix_len, list_all};
+ghost use Rattle.std.specs.List.{prefix_len, suffix_len, list_all};
 ghost use Rattle.sf_wkt.specs.Tokens.{is_blank as is_blank_byte};
-ghost use Rattle.sf_commands.specs.Words.{words as words_of, skip_blanks as skip_blanks_of, skip_word as skip_word_of};
+ghost use Rattle.sf_commands.specs.Words.{words as words_of, skip_blanks as skip_blanks_of, skip_word as skip_word_of, trimmed_end as trimmed_end_of};
 
 use sf_refusals::Refusal;
 use std::marker::Model;
@@ -102,4 +102,22 @@ fn skip_blanks(text: &str) -> &str
     ensures { result.now ≡ skip_blanks_of text.now }
 {
     &text[blanks_len(text.as_bytes())..]
+}
+
+/// The text without the blanks at its end.
+pub(crate) fn trimmed_end(text: &str) -> &str
+    ensures { result.now ≡ trimmed_end_of text.now }
+{
+    &text[..text.len() - blanks_at_end(text.as_bytes())]
+}
+
+/// How many blanks stand behind the last word.
+fn blanks_at_end(bytes: &[u8]) -> usize
+    ensures { result ≡ suffix_len is_blank_byte bytes.now }
+{
+    bytes
+        .iter()
+        .rev()
+        .take_while(|byte| is_blank(**byte))
+        .count()
 }

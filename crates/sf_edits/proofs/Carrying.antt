@@ -1,5 +1,5 @@
 -- What the function of an edit, or of what takes it back, has to show.
-use Rattle.std.proofs.Common.{◌≡◌, ℕ, true, List, [], ◌∷◌, ◌++◌, Option, None, Some, option_and_then, Ok, Err, inl, inr, refl, ap, sym, subst, ◌∙◌}
+use Rattle.std.proofs.Common.{◌≡◌, ℕ, true, List, [], ◌∷◌, ◌++◌, Option, None, Some, option_and_then, Result, Ok, Err, IfOk, inl, inr, refl, ap, sym, subst, ◌∙◌}
 use Rattle.sf_layers.specs.Content.{Content, LayerContent, change_at, change_layer, feature_at, feature_in, feature_of, layer_at, layer_of, place_of}
 use Rattle.sf_layers.specs.WellFormed.{IsWellFormed}
 use Rattle.sf_layers.proofs.Changes.{change_at-place_of, layer_of-place_of}
@@ -9,9 +9,11 @@ use Rattle.sf_steps.specs.declared.inverse.Inverse.{Inverse}
 use Rattle.sf_steps.specs.declared.refusal.Refusal.{Refusal}
 use Rattle.sf_steps.specs.declared.refusal.Refusal.TheVariants.{Memory}
 use Rattle.sf_steps.specs.Steps.{answer, checks, effect, first_refusal, memory_may_replace, result_of, step}
-use Rattle.sf_steps.specs.Inverses.{Accepts, Carries, Fits, Restores, Reverts, RevertsOrKeeps, answer_of, described, inverse_of, taken_back}
+use Rattle.sf_steps.specs.Inverses.{Accepts, Carries, Fits, Restores, Reverts, RevertsOrKeeps, answer_of, described, inverse_of, taken_back, weight}
+use Rattle.sf_steps.specs.Weights.{touched}
 use Rattle.sf_steps.proofs.Passes.{Accepted, Accepted-step, step-passed}
 use Rattle.sf_steps.proofs.InverseLaws.{Accepts-inverse_of}
+use Rattle.sf_steps.proofs.WeightLaws.{weighs}
 
 -- ---- carrying an edit out
 
@@ -73,6 +75,13 @@ Carries-wanting old new edit back may is same = record {
   given_back = is;
   unchanged = same;
 }
+
+-- its inverse holds as much as it took out or overwrote
+pub Carries-weight : (old new : Content) (edit carried : Edit) (result : Result Inverse (Edit × Refusal)) → edit ≡ carried → Carries old carried result new
+    → IfOk result (λ inverse. weight inverse ≡ touched old edit)
+Carries-weight old new edit carried (Ok inverse) is carries =
+    ap weight carries.inverse ∙ weighs old new carried (answer_of inverse) carries.accepted.led ∙ ap (touched old) (sym is)
+Carries-weight old new edit carried (Err refused) is carries = tt
 
 -- ---- taking it back
 

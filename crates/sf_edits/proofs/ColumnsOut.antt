@@ -1,13 +1,11 @@
 -- A layer from which a column was taken out with its values: what is free in it, and what is bare.
-use Rattle.std.proofs.Common.{◌≡◌, ℕ, zero, suc, Bool, true, false, cond, List, [], ◌∷◌, map, filter_map, find, remove, slice_get, Option, None, Some, is_some, option_map, bytes_eq, nat_eq, refl, ap, sym, subst, ◌∙◌, arith}
+use Rattle.std.proofs.Common.{◌≡◌, ℕ, zero, suc, Bool, true, false, cond, List, [], ◌∷◌, map, filter_map, find, remove, slice_get, Option, None, Some, is_some, option_map, bytes_eq, nat_eq, refl, ap, sym, ◌∙◌, arith}
 use Rattle.std.proofs.lemmas.Bool.{eq-eqb}
 use Rattle.std.proofs.lemmas.Bool.Decides.{nat_tests}
 use Rattle.std.specs.Cmp.Lexicographic.{nat_list_eq_equiv}
 use Rattle.std.specs.List.{AllByRecursion, cons_option, list_any}
-use Rattle.std.specs.List.Sorted.{IsStrictlySortedBy}
-use Rattle.std.specs.Map.{keys_of, lookup, remove_entry, values_of}
+use Rattle.std.specs.Map.{keys_of, lookup, values_of}
 use Rattle.std.specs.Option.{IsSome}
-use Rattle.std.specs.Ordering.{nat_cmp}
 use Rattle.sf_features.specs.Columns.{IsDistinct, named, numbered}
 use Rattle.sf_features.specs.Features.{FeatureContent, value_in, without_value}
 use Rattle.sf_features.specs.declared.attr_value.AttrValue.{AttrValue}
@@ -15,7 +13,8 @@ use Rattle.sf_features.specs.declared.column.Column.{Column}
 use Rattle.sf_layers.specs.Content.{LayerContent, column_values, feature_of, without_values}
 use Rattle.sf_layers.specs.WellFormed.{IsFeature, IsLayer}
 use Rattle.sf_layers.proofs.Kept.{all-weaker, none_or}
-use Rattle.sf_layers.proofs.Values.{HasRising, lookup-below}
+use Rattle.sf_layers.proofs.Values.{HasRising}
+use Rattle.sf_steps.proofs.InverseLaws.{lookup-remove_entry}
 
 -- ---- columns
 
@@ -51,17 +50,6 @@ number-out layer place column fine there =
     find-remove nat_eq (λ c. c.number) (λ c. nat_eq c.number column.number) layer.columns place column (λ c h. grind (arith, nat_tests, h)) (λ c h. h) there fine.column_numbers
 
 -- ---- values
-
-module _ {X : Type 0} where
-  -- what is taken out is not there
-  lookup-remove_entry : (k : ℕ) (es : List (ℕ × X)) → IsStrictlySortedBy nat_cmp (keys_of es) → lookup (nat_eq k) (remove_entry (nat_eq k) es) ≡ None
-  unfolding IsStrictlySortedBy
-  lookup-remove_entry k [] rising = refl
-  lookup-remove_entry k (e ∷ es) rising = by (lookup-remove_entry k es rising.1) (nat_eq k e.0) refl
-    where
-      by : lookup (nat_eq k) (remove_entry (nat_eq k) es) ≡ None → (b : Bool) → nat_eq k e.0 ≡ b → lookup (nat_eq k) (cond b es (e ∷ remove_entry (nat_eq k) es)) ≡ None
-      by later true is = let same : e.0 ≡ k = grind (arith, nat_tests, is) in subst (λ n. lookup (nat_eq n) es ≡ None) same (lookup-below e.0 es rising.0)
-      by later false is = ap (λ b. cond b (Some e.1) (lookup (nat_eq k) (remove_entry (nat_eq k) es))) is ∙ later
 
 abbrev valued : ℕ → ℕ × FeatureContent → Option (ℕ × AttrValue)
 valued number entry = option_map (λ value. (entry.0, value)) (value_in number entry.1)

@@ -1,5 +1,6 @@
 ghost use Rattle.std.specs.Prelude.{◌≡◌, IfErr, IfOk, IsOk, IsTrue, OnErr};
-ghost use Rattle.sf_steps.specs.Inverses.{Carries, Fits, Reverts, frees_only};
+ghost use Rattle.sf_steps.specs.Inverses.{Carries, Fits, Reverts, frees_only, weight};
+ghost use Rattle.sf_steps.specs.Weights.{touched};
 
 use super::column_edits::{add_column, drop_column, undo_add_column, undo_drop_column};
 use super::feature_edits::{
@@ -27,7 +28,8 @@ use std::alloc::Global;
 /// `Memory` in the place of success, of a fault of validity, and of identifiers that are used up
 /// behind it. The store is then as it was.
 pub fn apply(alloc: Global, store: &mut Store, edit: Edit) -> Result<Inverse, (Edit, Refusal)>
-    ensures { Carries store.old edit result store.new }
+    ensures carried_out { Carries store.old edit result store.new }
+    ensures weight { IfOk result (λ inverse. weight inverse ≡ touched store.old edit) }
 {
     match edit {
         Edit::AddLayer { name, kind } => add_layer(alloc, store, name, kind),

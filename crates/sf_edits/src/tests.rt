@@ -3,7 +3,7 @@
 ghost use Rattle.std.specs.Prelude.{◌≡◌, OnOk};
 
 use super::*;
-use sf_geometry::{Geometry, Sequence};
+use sf_geometry::{Geometry, Kind, Sequence};
 use sf_grid::GridPoint;
 use sf_layers::{AttrValue, ColumnType, LayerKind, Store, Text};
 use std::alloc::Global;
@@ -249,6 +249,154 @@ fn there_and_back(
 fn edits_in_a_row_are_taken_back_last_first(rt: HostRuntime) -> Result<(), Fail> {
     let mut store = Store::new(rt.alloc());
     there_and_back(rt.alloc(), &mut store, 0, SHOWN)?;
+    assert_eq!(rt; store.layer_count(), 0);
+    Ok(())
+}
+
+/// An edit of the layer of points `w` as a whole, of its columns or of its features at a step.
+fn point_edit(alloc: Global, step: u8) -> Result<Edit, Fail> {
+    let layer = text(alloc, "w");
+    let point = GridPoint::new(i32::from(step), 0).ok_or("off the grid")?;
+    let geometry = Geometry::Point(point);
+    match step {
+        0 => Ok(Edit::AddLayer {
+            name: layer,
+            kind: LayerKind::Only(Kind::Point),
+        }),
+        1 => Ok(Edit::AddColumn {
+            layer,
+            name: text(alloc, "depth"),
+            column_type: ColumnType::Int,
+        }),
+        2 => Ok(Edit::AddColumn {
+            layer,
+            name: text(alloc, "label"),
+            column_type: ColumnType::Text,
+        }),
+        3..=5 => Ok(Edit::AddFeature { layer, geometry }),
+        9 => Ok(Edit::DropColumn {
+            layer,
+            name: text(alloc, "depth"),
+        }),
+        14 => Ok(Edit::ReplaceGeometry {
+            layer,
+            id: 1,
+            geometry,
+        }),
+        15 => Ok(Edit::MoveVertex {
+            layer,
+            id: 1,
+            part: 0,
+            ring: 0,
+            index: 0,
+            point,
+        }),
+        16 => Ok(Edit::DeleteFeature { layer, id: 1 }),
+        17 => Ok(Edit::MoveLayer {
+            name: layer,
+            place: 0,
+        }),
+        18 => Ok(Edit::DropLayer { name: layer }),
+        _ => Err(Fail::from("no such step")),
+    }
+}
+
+/// An edit of a value of that layer at a step.
+fn point_value_edit(alloc: Global, step: u8) -> Option<Edit> {
+    let layer = text(alloc, "w");
+    let depth = text(alloc, "depth");
+    let label = text(alloc, "label");
+    match step {
+        6 => Some(Edit::SetValue {
+            layer,
+            id: 1,
+            column: depth,
+            value: AttrValue::Int(12),
+        }),
+        7 => Some(Edit::SetValue {
+            layer,
+            id: 3,
+            column: depth,
+            value: AttrValue::Int(-7),
+        }),
+        8 => Some(Edit::SetValue {
+            layer,
+            id: 1,
+            column: label,
+            value: AttrValue::Text(text(alloc, "deep")),
+        }),
+        10 | 11 => Some(Edit::SetValue {
+            layer,
+            id: 2,
+            column: label,
+            value: AttrValue::Text(text(alloc, "dry")),
+        }),
+        12 | 13 => Some(Edit::ClearValue {
+            layer,
+            id: 2,
+            column: label,
+        }),
+        _ => None,
+    }
+}
+
+/// What the inverse of each step's edit weighs, and whether the edit is taken back at once.
+const WEIGHTS: &[(u64, bool)] = &[
+    (0, false),
+    (0, false),
+    (0, false),
+    (0, false),
+    (0, false),
+    (0, false),
+    (0, false),
+    (0, false),
+    (0, false),
+    (3, true),
+    (0, false),
+    (1, false),
+    (1, false),
+    (0, false),
+    (1, true),
+    (1, true),
+    (3, true),
+    (0, true),
+    (8, false),
+];
+
+/// Carries out the edit of a step, compares what its inverse weighs, and may take it back.
+fn weigh(
+    alloc: Global,
+    store: &mut Store,
+    step: u8,
+    want: u64,
+    taken_back: bool,
+) -> Result<(), Fail> {
+    let edit = match point_value_edit(alloc, step) {
+        Some(edit) => edit,
+        None => point_edit(alloc, step)?,
+    };
+    let Ok(inverse) = apply(alloc, store, edit) else {
+        return Err(Fail::from("an edit was refused"));
+    };
+    if inverse.weight() != want {
+        return Err(Fail::from("an inverse weighs something else"));
+    }
+    if taken_back {
+        let Ok(_) = revert(alloc, store, inverse) else {
+            return Err(Fail::from("no memory"));
+        };
+    }
+    Ok(())
+}
+
+#[test]
+fn inverses_weigh_what_their_edits_touch(rt: HostRuntime) -> Result<(), Fail> {
+    let mut store = Store::new(rt.alloc());
+    let mut step: u8 = 0;
+    for (want, taken_back) in WEIGHTS {
+        weigh(rt.alloc(), &mut store, step, *want, *taken_back)?;
+        step = step.wrapping_add(1);
+    }
     assert_eq!(rt; store.layer_count(), 0);
     Ok(())
 }

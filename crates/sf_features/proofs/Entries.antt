@@ -10,6 +10,11 @@ use Rattle.std.specs.BTreeMap.{insert_entry}
 use Rattle.std.specs.List.{AllByRecursion, AllWithin}
 use Rattle.std.specs.List.Sorted.{IsStrictlySortedBy, IsNonDecreasingBy}
 use Rattle.std.specs.Map.{lookup, keys_of, remove_entry}
+use Rattle.std.proofs.lemmas.List.Elements.{All-from_recursion}
+use Rattle.std.proofs.lemmas.Map.Entries.{length-keys_of}
+use Rattle.std.proofs.lemmas.Map.Views.{length-le_from_below}
+use Rattle.sf_features.specs.declared.attr_value.AttrValue.{AttrValue}
+use Rattle.sf_features.specs.Features.{AreByNumber, number_end}
 
 -- ---- numbers compared
 
@@ -207,3 +212,40 @@ number-hit n es i e equal is = ap (λ p. p.0) is ∙ equal-same (get_or es i e).
 pub hit : {X : Type 0} (n : ℕ) (es : List (ℕ × X)) (i : ℕ) (e : ℕ × X) → i < length es → ((d : ℕ × X) → nat_cmp (get_or es i d).0 n ≡ Equal) → e ≡ get_or es i e → slice_get es i ≡ Some (n, e.1)
 hit {X} n es i e within equal is =
     slice_get_read es (length es) i e refl within is ∙ ap (λ k. let p : ℕ × X = (k, e.1) in Some p) (number-hit n es i e equal is)
+
+-- ---- values by column number
+
+all-insert_entry : {X : Type 0} (P : ℕ → Type 0) (k : ℕ) (v : X) (es : List (ℕ × X)) → P k → AllByRecursion P (keys_of es) → AllByRecursion P (keys_of (insert_entry nat_cmp es k v))
+all-insert_entry P k v [] here all = (here, tt)
+all-insert_entry {X} P k v (e ∷ es) here all = by (all-insert_entry P k v es here all.1) (nat_cmp k e.0)
+  where
+    by : AllByRecursion P (keys_of (insert_entry nat_cmp es k v)) → (o : Ordering)
+        → AllByRecursion P (keys_of (match_ordering o ((k, v) ∷ e ∷ es) ((e.0, v) ∷ es) (e ∷ insert_entry nat_cmp es k v)))
+    by later Less = (here, all)
+    by later Equal = all
+    by later Greater = (all.0, later)
+
+-- there are none
+pub AreByNumber-none : AreByNumber []
+unfolding IsStrictlySortedBy
+AreByNumber-none = record { rising = tt; below = tt }
+
+-- one is put in
+pub AreByNumber-insert_entry : (number : ℕ) (value : AttrValue) (values : List (ℕ × AttrValue)) → number < number_end → AreByNumber values → AreByNumber (insert_entry nat_cmp values number value)
+AreByNumber-insert_entry number value values below are = record {
+  rising = rising-insert_entry number value values are.rising;
+  below = all-insert_entry (λ n. n < number_end) number value values below are.below;
+}
+
+-- one is taken out
+pub AreByNumber-remove_entry : (test : ℕ → Bool) (values : List (ℕ × AttrValue)) → AreByNumber values → AreByNumber (remove_entry test values)
+AreByNumber-remove_entry test values are = record {
+  rising = rising-remove_entry test values are.rising;
+  below = all-remove_entry (λ n. n < number_end) test values are.below;
+}
+
+-- there are no more of them than numbers
+pub AreByNumber-few : (values : List (ℕ × AttrValue)) → AreByNumber values → length values ≤ number_end
+AreByNumber-few values are =
+    let few = length-le_from_below number_end (keys_of values) are.rising (All-from_recursion (λ n. n < number_end) (keys_of values) are.below) in
+    omega (arith, few, length-keys_of values)

@@ -1,12 +1,12 @@
 -- A change of vertices that brings points of the grid leaves a geometry on the grid.
-use Rattle.std.proofs.Common.{◌≡◌, ℕ, zero, suc, ◌-◌, Bool, true, false, if◌then◌else◌, List, [], ◌∷◌, ◌++◌, length, take, Option, None, Some, option_map, option_and_then, Ok, refl, ap, sym, subst}
+use Rattle.std.proofs.Common.{◌≡◌, ℕ, zero, suc, ◌-◌, Bool, true, false, if◌then◌else◌, List, [], ◌∷◌, ◌++◌, length, take, Option, None, Some, option_map, option_and_then, Ok, refl, subst}
 use Rattle.std.specs.Prelude.{insert, remove, slice_get, slice_set, nat_le, nat_lt}
 use Rattle.std.specs.List.{AllByRecursion}
 use Rattle.sf_grid.specs.Plane.{Coordinates, IsOnGrid}
 use Rattle.sf_geometry.specs.declared.geometry.Geometry.{Geometry}
 use Rattle.sf_geometry.specs.declared.geometry.Geometry.TheVariants.{Point, LineString, Polygon, MultiPoint, MultiLineString, MultiPolygon}
 use Rattle.sf_geometry.specs.Parts.{LiesOnGrid, joined}
-use Rattle.sf_geometry.specs.Vertices.{Change, change_at, change_ring, changed, exchange, insert_vertex, insertion, move_vertex, one_point, outcome, removal, remove_vertex, ring_of, ring_vertices}
+use Rattle.sf_geometry.specs.Vertices.{Change, change_at, change_ring, changed, exchange, insert_vertex, insertion, move_vertex, one_point, removal, remove_vertex, ring_of, ring_vertices}
 use Rattle.sf_features.proofs.VertexLaws.{outcome-Ok}
 
 some_same : {X : Type 0} (x y : X) → Some x ≡ Some y → x ≡ y

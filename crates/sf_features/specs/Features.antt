@@ -1,6 +1,8 @@
 -- A feature: its geometry, and its values by column number.
-use Rattle.std.specs.Prelude.{ℕ, List, [], Option, Result, Ok, Err, nat_eq}
-use Rattle.std.specs.Map.{lookup, remove_entry}
+use Rattle.std.specs.Prelude.{ℕ, ◌<◌, List, [], Option, Result, Ok, Err, nat_eq}
+use Rattle.std.specs.List.{AllByRecursion}
+use Rattle.std.specs.List.Sorted.{IsStrictlySortedBy}
+use Rattle.std.specs.Map.{keys_of, lookup, remove_entry}
 use Rattle.std.specs.Ordering.{nat_cmp}
 use Rattle.std.specs.BTreeMap.{insert_entry}
 use Rattle.sf_geometry.specs.declared.geometry.Geometry.{Geometry}
@@ -11,6 +13,15 @@ use Rattle.sf_features.specs.declared.attr_value.AttrValue.{AttrValue}
 pub record FeatureContent : Type 0 where
   pub geometry : Geometry
   pub values : List (ℕ × AttrValue)
+
+-- no number of a column reaches this
+abbrev pub number_end : ℕ
+number_end = 65536
+
+-- values by column number: the numbers rise, and are below their end
+pub record AreByNumber (values : List (ℕ × AttrValue)) : Type 0 where
+  pub rising : IsStrictlySortedBy nat_cmp (keys_of values)
+  pub below : AllByRecursion (λ number. number < number_end) (keys_of values)
 
 -- a feature with no values
 abbrev pub plain_feature : Geometry → FeatureContent

@@ -1,4 +1,4 @@
-ghost use Rattle.std.specs.Prelude.{◌≡◌, ◌<◌, ◌≤◌, [], None, Some, IfErr, IfSome, OnErr, OnOk, insert, is_some, length, option_copied, remove, slice_get};
+ghost use Rattle.std.specs.Prelude.{◌≡◌, ◌<◌, ◌≤◌, ◌^◌, [], None, Some, IfErr, IfSome, OnErr, OnOk, insert, is_some, length, option_copied, remove, slice_get};
 ghost use Rattle.sf_features.specs.Columns.{named, numbered, place_named};
 
 use super::column::Column;
@@ -44,7 +44,8 @@ impl Columns {
 
     /// How many columns there are.
     pub fn len(&self) -> usize
-        ensures { result ≡ length self.now }
+        ensures len { result ≡ length self.now }
+        ensures small { result < 2 ^ 63 }
     {
         self.columns.len()
     }

@@ -1,4 +1,4 @@
-ghost use Rattle.std.specs.Prelude.{◌≡◌, ◌⊎◌, length, option_copied, Err, None, Ok, Some, IfErr, IfOk, IsOk, IsOkAnd, OnErr, OnOk};
+ghost use Rattle.std.specs.Prelude.{◌≡◌, ◌≤◌, ◌⊎◌, length, option_copied, Err, None, Ok, Some, IfErr, IfOk, IsOk, IsOkAnd, OnErr, OnOk};
 ghost use Rattle.std.specs.List.Sorted.{IsBinarySearchResult, IsSearchInRange, IsStrictlySortedBy};
 ghost use Rattle.std.specs.Map.{keys_of};
 ghost use Rattle.std.specs.Ordering.{nat_cmp};
@@ -6,7 +6,7 @@ ghost use Rattle.sf_geometry.specs.Vertices.{insert_vertex, move_vertex, remove_
 ghost use Rattle.sf_rules.specs.Validity.{IsValid};
 ghost use Rattle.sf_validity.specs.Held.{IsHeld};
 ghost use Rattle.sf_validity.specs.Refusals.{RefusesChange};
-ghost use Rattle.sf_features.specs.Features.{change_geometry, plain_feature, value_in, with_geometry, with_value, without_value};
+ghost use Rattle.sf_features.specs.Features.{change_geometry, number_end, plain_feature, value_in, with_geometry, with_value, without_value};
 
 use super::attr_value::AttrValue;
 use sf_grid::GridPoint;
@@ -22,16 +22,13 @@ pub struct Feature {
 }
 
 impl Model for Feature {
-    ghost use Rattle.std.specs.List.Sorted.{IsStrictlySortedBy};
-    ghost use Rattle.std.specs.Map.{keys_of};
-    ghost use Rattle.std.specs.Ordering.{nat_cmp};
-    ghost use Rattle.sf_features.specs.Features.{FeatureContent};
+    ghost use Rattle.sf_features.specs.Features.{AreByNumber, FeatureContent};
 
     ghost Value = { FeatureContent };
 
     ghost view = { λ a. record { geometry = a.valid; values = a.values.items } };
 
-    ghost invariant = { λ a. IsStrictlySortedBy nat_cmp (keys_of a.values.items) };
+    ghost invariant = { λ a. AreByNumber a.values.items };
 }
 
 impl Feature {
@@ -70,9 +67,10 @@ impl Feature {
         }
     }
 
-    /// How many values there are.
+    /// How many values there are: at most one for each of the 65,536 numbers.
     pub fn value_count(&self) -> usize
-        ensures { result ≡ length self.now.values }
+        ensures count { result ≡ length self.now.values }
+        ensures few { result ≤ number_end }
     {
         self.values.len()
     }

@@ -1,11 +1,11 @@
 -- What is written through a map's entry is a change of the entry.
-use Rattle.std.proofs.Common.{◌≡◌, ℕ, Bool, true, false, cond, if◌then◌else◌, List, [], ◌∷◌, Option, Some, None, IsSomeAnd, nat_eq, refl, ap, sym, subst, ◌∙◌, arith}
+use Rattle.std.proofs.Common.{◌≡◌, ℕ, Bool, true, false, cond, if◌then◌else◌, List, [], ◌∷◌, Option, Some, IsSomeAnd, nat_eq, refl, ap, sym, subst, ◌∙◌, arith}
 use Rattle.std.proofs.lemmas.Bool.Decides.{nat_tests}
 use Rattle.std.specs.BTreeMap.{is_at}
 use Rattle.std.specs.Map.{lookup, set_value}
 use Rattle.std.specs.Ordering.{nat_cmp}
 use Rattle.sf_features.specs.Features.{FeatureContent}
-use Rattle.sf_layers.specs.Content.{Content, LayerContent, change_value, change_feature, feature_of}
+use Rattle.sf_layers.specs.Content.{LayerContent, change_value, change_feature, feature_of}
 
 pub is_at-nat_eq : (k n : ℕ) → is_at (nat_cmp k) n ≡ nat_eq k n
 is_at-nat_eq k n = grind (arith, nat_tests)

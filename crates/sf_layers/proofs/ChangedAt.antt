@@ -3,22 +3,19 @@ use Rattle.std.proofs.Common.{◌≡◌, ℕ, zero, suc, Bool, true, false, cond
 use Rattle.std.proofs.lemmas.Map.Made.{keys_of-map_values}
 use Rattle.std.specs.List.{AllByRecursion}
 use Rattle.std.specs.List.Sorted.{IsStrictlySortedBy}
-use Rattle.std.specs.Map.{lookup, keys_of, values_of}
+use Rattle.std.specs.Map.{lookup, values_of}
 use Rattle.std.specs.Ordering.{nat_cmp}
-use Rattle.sf_geometry.specs.declared.geometry.Geometry.{Geometry}
-use Rattle.sf_geometry.specs.declared.refusal.Refusal.{Refusal}
-use Rattle.sf_geometry.specs.Kinds.{kind_of}
 use Rattle.sf_geometry.specs.Vertices.{Change, changed, outcome}
 use Rattle.sf_validity.specs.Held.{IsHeld}
 use Rattle.sf_features.specs.Features.{FeatureContent, change_geometry, result_or, with_geometry, without_value}
 use Rattle.sf_features.specs.Columns.{IsDistinct}
 use Rattle.sf_features.proofs.VertexLaws.{kind_of-outcome}
-use Rattle.sf_layers.specs.Content.{Content, LayerContent, admits, change_at, change_feature, feature_at, feature_of, layer_at, without_values}
+use Rattle.sf_layers.specs.Content.{Content, LayerContent, admits, change_at, change_feature, feature_at, feature_of, without_values}
 use Rattle.sf_layers.specs.WellFormed.{IsFeature, IsIssued, IsLayer, IsWellFormed}
 use Rattle.sf_layers.proofs.Changes.{IsLayer-slice_get}
 use Rattle.sf_layers.proofs.ColumnsAdded.{IsFeature-without_value}
 use Rattle.sf_layers.proofs.Fine.{IsLayer-change_feature}
-use Rattle.sf_layers.proofs.Kept.{keys-change_at, length-change_at, IsWellFormed-change_at}
+use Rattle.sf_layers.proofs.Kept.{keys-change_at, length-change_at}
 use Rattle.std.proofs.Common.{arith}
 use Rattle.std.specs.Prelude.{bytes_eq}
 

@@ -1,11 +1,9 @@
 -- A column taken out of a layer with its values, and put back.
-use Rattle.std.proofs.Common.{◌≡◌, ℕ, suc, ◌+◌, Bool, true, false, not, cond, List, [], ◌∷◌, map, find, insert, remove, slice_get, Option, Some, None, bytes_eq, refl, ap, sym, ◌∙◌, arith}
-use Rattle.std.specs.Option.{option_map_or}
-use Rattle.std.specs.List.{AllByRecursion, position_or_len}
+use Rattle.std.proofs.Common.{◌≡◌, ℕ, suc, ◌+◌, Bool, true, false, not, cond, List, [], ◌∷◌, map, find, slice_get, Some, bytes_eq, ap, ◌∙◌, arith}
+use Rattle.std.specs.List.{position_or_len}
 use Rattle.std.specs.Map.{values_of}
-use Rattle.sf_features.specs.declared.attr_value.AttrValue.{AttrValue}
 use Rattle.sf_features.specs.declared.column.Column.{Column}
-use Rattle.sf_layers.specs.Content.{LayerContent, column_named, column_place, number_named, column_values, with_values, without_values, with_column, without_column}
+use Rattle.sf_layers.specs.Content.{LayerContent, column_named, column_place, column_values, with_values, without_values, with_column, without_column}
 use Rattle.sf_layers.specs.WellFormed.{IsFeature, IsLayer}
 use Rattle.sf_layers.proofs.Kept.{all-weaker}
 use Rattle.sf_layers.proofs.Places.{insert-remove}

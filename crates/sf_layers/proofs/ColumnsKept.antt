@@ -1,11 +1,11 @@
 -- Columns put in and taken out, with their values, leave a layer well formed.
-use Rattle.std.proofs.Common.{◌≡◌, ℕ, zero, suc, ◌+◌, ◌<◌, ◌≤◌, Bool, true, false, cond, ◌||◌, List, [], ◌∷◌, ◌++◌, map, length, find, remove, slice_get, Option, Some, None, IsTrue, IsSomeAnd, bytes_eq, nat_eq, refl, ap, sym, subst, ◌∙◌, arith}
+use Rattle.std.proofs.Common.{◌≡◌, ℕ, zero, suc, ◌<◌, Bool, true, false, cond, List, [], ◌∷◌, map, remove, slice_get, Some, IsTrue, IsSomeAnd, bytes_eq, nat_eq, refl, ap, sym, subst, ◌∙◌, arith}
 use Rattle.std.proofs.lemmas.Bool.Decides.{nat_tests}
 use Rattle.std.proofs.lemmas.Map.Made.{keys_of-map_values}
 use Rattle.std.specs.declared.cmp.Ordering.TheVariants.{Less}
 use Rattle.std.specs.List.{AllByRecursion}
 use Rattle.std.specs.List.Sorted.{IsStrictlySortedBy}
-use Rattle.std.specs.Map.{lookup, keys_of, values_of, remove_entry}
+use Rattle.std.specs.Map.{keys_of, values_of, remove_entry}
 use Rattle.std.specs.Ordering.{nat_cmp}
 use Rattle.sf_features.specs.declared.attr_value.AttrValue.{AttrValue}
 use Rattle.sf_features.specs.declared.column.Column.{Column}
@@ -13,7 +13,7 @@ use Rattle.sf_layers.specs.declared.layer_kind.LayerKind.{LayerKind}
 use Rattle.sf_features.specs.Features.{FeatureContent, without_value}
 use Rattle.sf_layers.specs.Content.{LayerContent, without_values, without_column}
 use Rattle.sf_features.specs.Values.{is_of_type}
-use Rattle.sf_features.specs.Columns.{IsDistinct, numbered}
+use Rattle.sf_features.specs.Columns.{numbered}
 use Rattle.sf_layers.specs.WellFormed.{IsFeature, IsLayer, IsValue, IsColumn, IsIssued}
 use Rattle.sf_layers.proofs.Kept.{distinct-remove, remove-all, rising-remove_entry}
 use Rattle.sf_layers.proofs.Values.{less-below}

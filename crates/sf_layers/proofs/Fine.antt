@@ -1,6 +1,5 @@
 -- Layers put in, moved and renamed, features changed and columns added leave a content well formed.
-use Rattle.std.proofs.Common.{◌≡◌, ℕ, zero, suc, ◌+◌, ◌<◌, ◌≤◌, Bool, true, false, cond, ◌||◌, if◌then◌else◌, List, [], ◌∷◌, ◌++◌, map, length, find, insert, remove, slice_get, slice_set, Option, Some, None, IsTrue, IsSomeAnd, bytes_eq, nat_eq, refl, ap, sym, subst, ◌∙◌, arith, length-append}
-use Rattle.std.proofs.lemmas.Bool.Decides.{nat_tests}
+use Rattle.std.proofs.Common.{◌≡◌, ℕ, zero, suc, ◌+◌, ◌<◌, Bool, true, false, cond, if◌then◌else◌, List, [], ◌∷◌, map, length, insert, remove, slice_get, slice_set, Some, None, IsTrue, bytes_eq, nat_eq, refl, ap, sym, subst, ◌∙◌, arith}
 use Rattle.std.specs.Cmp.Lexicographic.{nat_list_eq_equiv}
 use Rattle.std.specs.List.{list_any, AllByRecursion}
 use Rattle.std.specs.List.Sorted.{IsStrictlySortedBy}
@@ -10,16 +9,12 @@ use Rattle.std.specs.declared.cmp.Ordering.{Ordering}
 use Rattle.std.specs.declared.cmp.Ordering.TheVariants.{Less, Equal, Greater}
 use Rattle.std.specs.Option.{option_map_or}
 use Rattle.std.specs.Ordering.{nat_cmp, match_ordering}
-use Rattle.sf_features.specs.declared.attr_value.AttrValue.{AttrValue}
-use Rattle.sf_features.specs.declared.column.Column.{Column}
-use Rattle.sf_layers.specs.declared.layer_kind.LayerKind.{LayerKind}
 use Rattle.sf_features.specs.Names.{is_name}
 use Rattle.sf_features.specs.Features.{FeatureContent}
 use Rattle.sf_layers.specs.Content.{Content, LayerContent, layer_of, place_of, change_value, change_feature, feature_of, moved, renamed_at}
-use Rattle.sf_features.specs.Columns.{IsDistinct, numbered}
-use Rattle.sf_features.specs.Values.{is_of_type}
-use Rattle.sf_layers.specs.WellFormed.{IsFeature, IsLayer, IsWellFormed, IsValue, IsColumn, IsIssued, layers_max, column_end}
-use Rattle.sf_layers.proofs.Kept.{none_or, none-from, none-remove, all-weaker, IsWellFormed-remove}
+use Rattle.sf_features.specs.Columns.{IsDistinct}
+use Rattle.sf_layers.specs.WellFormed.{IsFeature, IsLayer, IsWellFormed, IsIssued, layers_max}
+use Rattle.sf_layers.proofs.Kept.{none_or, none-from, IsWellFormed-remove}
 use Rattle.sf_layers.proofs.Values.{all_below, nat_cmp-of_below, less-below, equal-same, greater-above}
 use Rattle.sf_layers.proofs.Places.{entry_at_place, layer_of-remove, slice_get-below, length-remove}
 

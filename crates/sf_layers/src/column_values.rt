@@ -1,4 +1,4 @@
-ghost use Rattle.std.specs.Prelude.{◌≡◌, [], length};
+ghost use Rattle.std.specs.Prelude.{◌≡◌, ◌<◌, ◌^◌, [], length};
 
 use sf_features::AttrValue;
 use std::alloc::Global;
@@ -42,7 +42,8 @@ impl ColumnValues {
 
     /// How many values there are.
     pub fn count(&self) -> usize
-        ensures { result ≡ length self.now }
+        ensures count { result ≡ length self.now }
+        ensures small { result < 2 ^ 63 }
     {
         self.values.len()
     }

@@ -1,4 +1,4 @@
-ghost use Rattle.std.specs.Prelude.{◌≡◌, ◌<◌, ◌≤◌, ◌-◌, ℕ, false, is_some, length, option_copied, None, Some, IsOkAnd, IsSome, IsSomeAnd, IfErr, IfOk, IfSome, OnErr, OnOk, slice_get};
+ghost use Rattle.std.specs.Prelude.{◌≡◌, ◌<◌, ◌≤◌, ◌-◌, ◌^◌, ℕ, false, is_some, length, option_copied, None, Some, IsOkAnd, IsSome, IsSomeAnd, IfErr, IfOk, IfSome, OnErr, OnOk, slice_get};
 ghost use Rattle.std.specs.List.{AllByRecursion};
 ghost use Rattle.std.specs.Map.{keys_of, values_of};
 ghost use Rattle.std.specs.Map.Iter.{ShowsInOrder, deref_pair};
@@ -95,6 +95,18 @@ impl Layer {
         self.features.len()
     }
 
+    /// Tells a proof that there is at most one feature for each of the 2^32 identifiers. It does
+    /// nothing, so a compiler may leave it out.
+    pub fn has_few_features(&self)
+        ensures { length self.now.features ≤ 2 ^ 32 }
+    {
+        let count = self.features.len();
+        if let Some((id, _)) = self.features.last_key_value() {
+            // Identifiers rise.
+            prove!(count <= *id as usize + 1);
+        }
+    }
+
     /// The features with their identifiers, rising.
     pub fn features(&self) -> btree_map::Iter<'_, u32, Feature>
         ensures rest { result ≡ self.now.features }
@@ -105,7 +117,8 @@ impl Layer {
 
     /// How many columns there are.
     pub fn column_count(&self) -> usize
-        ensures { result ≡ length self.now.columns }
+        ensures count { result ≡ length self.now.columns }
+        ensures small { result < 2 ^ 63 }
     {
         self.columns.len()
     }

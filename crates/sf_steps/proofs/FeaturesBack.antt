@@ -1,6 +1,5 @@
 -- The inverses of the edits of features and their values describe the content before.
-use Rattle.std.proofs.Common.{◌≡◌, ℕ, Bool, true, false, cond, if◌then◌else◌, List, [], ◌∷◌, Option, None, Some, is_some, option_map, option_and_then, Ok, nat_eq, bytes_eq, refl, ap, sym, subst, ◌∙◌}
-use Rattle.std.specs.BTreeMap.{insert_entry}
+use Rattle.std.proofs.Common.{◌≡◌, ℕ, Bool, true, false, cond, if◌then◌else◌, List, [], ◌∷◌, Option, None, Some, is_some, option_map, option_and_then, nat_eq, refl, ap, sym, subst, ◌∙◌}
 use Rattle.std.specs.List.{AllByRecursion}
 use Rattle.std.specs.List.Sorted.{IsStrictlySortedBy}
 use Rattle.std.specs.Map.{lookup, keys_of, values_of, remove_entry}
@@ -9,13 +8,13 @@ use Rattle.std.specs.Ordering.{nat_cmp}
 use Rattle.sf_geometry.specs.declared.geometry.Geometry.{Geometry}
 use Rattle.sf_features.specs.declared.attr_value.AttrValue.{AttrValue}
 use Rattle.sf_features.specs.Features.{FeatureContent, value_in, with_geometry, with_value, without_value}
-use Rattle.sf_layers.specs.Content.{Content, LayerContent, layer_of, has_layer, feature_of, change_value, change_layer, change_feature, with_feature, without_feature, column_named, change_in, feature_in}
-use Rattle.sf_layers.specs.WellFormed.{IsWellFormed, IsLayer, IsFeature}
+use Rattle.sf_layers.specs.Content.{Content, LayerContent, layer_of, has_layer, change_value, change_layer, change_feature, with_feature, without_feature, column_named, change_in, feature_in}
+use Rattle.sf_layers.specs.WellFormed.{IsWellFormed, IsFeature}
 use Rattle.sf_layers.proofs.Changes.{IsLayer-layer_of, layer_of-change_layer}
 use Rattle.sf_layers.proofs.Values.{insert_entry-insert_entry, insert_entry-remove_entry, remove_entry-insert_entry, remove_entry-none}
 use Rattle.sf_steps.specs.declared.edit.Edit.TheVariants as edits
-use Rattle.sf_steps.specs.declared.refusal.Refusal.TheVariants.{NoLayer, NoFeature, NoColumn}
-use Rattle.sf_steps.specs.Steps.{first_refusal, checks, effect, column_in, number_in}
+use Rattle.sf_steps.specs.declared.refusal.Refusal.TheVariants.{NoLayer, NoFeature}
+use Rattle.sf_steps.specs.Steps.{first_refusal, checks, effect, number_in}
 use Rattle.sf_steps.specs.Inverses.{described, inverse_of, the_feature, put_value, value_under}
 use Rattle.sf_steps.proofs.Passes.{passed, FeatureThere, FeatureThere-feature_in, feature_in-there}
 use Rattle.sf_steps.proofs.LayersBack.{change_layer-back}

@@ -1,7 +1,6 @@
 -- The inverse of an accepted edit takes the content and the edit back.
-use Rattle.std.proofs.Common.{◌≡◌, ℕ, ◌+◌, ◌-◌, ◌<◌, ◌≤◌, Bool, true, false, not, cond, if◌then◌else◌, List, [], ◌∷◌, ◌++◌, length, take, slice_get, slice_set, Option, None, Some, is_some, option_map, option_and_then, Result, Ok, Err, IsTrue, nat_eq, nat_lt, bytes_eq, refl, ap, sym, subst, ◌∙◌, arith, length-append}
+use Rattle.std.proofs.Common.{◌≡◌, ℕ, ◌+◌, ◌-◌, Bool, true, false, cond, if◌then◌else◌, List, [], ◌∷◌, ◌++◌, length, take, slice_get, slice_set, None, Some, is_some, option_map, option_and_then, Result, Ok, nat_eq, refl, ap, sym, subst, ◌∙◌, arith, length-append}
 use Rattle.std.proofs.lemmas.Bool.Decides.{nat_tests}
-use Rattle.std.specs.BTreeMap.{insert_entry}
 use Rattle.std.specs.List.Sorted.{IsStrictlySortedBy}
 use Rattle.std.specs.Map.{lookup, keys_of, remove_entry}
 use Rattle.std.specs.Option.{option_map_or}
@@ -9,30 +8,25 @@ use Rattle.std.specs.Ordering.{nat_cmp}
 use Rattle.sf_grid.specs.Plane.{Coordinates}
 use Rattle.sf_geometry.specs.declared.geometry.Geometry.{Geometry}
 use Rattle.sf_geometry.specs.declared.refusal.Refusal.{Refusal as GeometryRefusal}
-use Rattle.sf_geometry.specs.Size.{size_fault}
 use Rattle.sf_geometry.specs.Vertices.{vertex_of, insert_vertex, move_vertex, remove_vertex}
-use Rattle.sf_rules.specs.Verdicts.{first_fault}
-use Rattle.sf_features.specs.declared.attr_value.AttrValue.{AttrValue}
 use Rattle.sf_features.specs.declared.column.Column.{Column}
 use Rattle.sf_features.specs.declared.column_type.ColumnType.{ColumnType}
-use Rattle.sf_layers.specs.declared.layer_kind.LayerKind.{LayerKind}
 use Rattle.sf_features.specs.Features.{FeatureContent, change_geometry, plain_feature, result_or, value_in, with_geometry, with_value, without_value}
-use Rattle.sf_layers.specs.Content.{Content, LayerContent, empty_layer, layer_of, has_layer, place_of, change_value, change_layer, change_feature, change_in, feature_of, feature_in, renamed_at, without_last_column, without_last_feature, without_feature}
-use Rattle.sf_layers.specs.WellFormed.{IsWellFormed, IsLayer, layers_max}
+use Rattle.sf_layers.specs.Content.{Content, LayerContent, empty_layer, layer_of, has_layer, place_of, change_value, change_layer, change_feature, change_in, feature_of, feature_in, without_last_column, without_last_feature}
+use Rattle.sf_layers.specs.WellFormed.{IsWellFormed}
 use Rattle.sf_layers.proofs.Added.{feature_of-with_next_feature, remove_entry-with_next_feature}
 use Rattle.sf_layers.proofs.Changes.{IsLayer-layer_of, layer_of-change_layer}
 use Rattle.sf_layers.proofs.Places.{entry_at_place, slice_get-slice_set}
 use Rattle.sf_layers.proofs.Values.{lookup-insert_entry, lookup-below}
-use Rattle.sf_steps.specs.declared.answer.Answer.{Answer}
 use Rattle.sf_steps.specs.declared.edit.Edit.{Edit}
 use Rattle.sf_steps.specs.declared.edit.Edit.TheVariants.{AddLayer, DropLayer, RenameLayer, MoveLayer, AddColumn, DropColumn, AddFeature, DeleteFeature, ReplaceGeometry, InsertVertex, MoveVertex, RemoveVertex, SetValue, ClearValue}
-use Rattle.sf_steps.specs.declared.refusal.Refusal.TheVariants.{NoLayer, NoFeature, BadName, LayerExists}
-use Rattle.sf_steps.specs.Steps.{unless, first_refusal, checks, effect, answer, step, next_id_of, number_in, vertex_check, change_check, add_feature, add_column}
-use Rattle.sf_steps.specs.Inverses.{described, taken_back, inverse_of, answer_of, adding_layer, adding_column, renaming, setting, last_column, vertex_in, value_under, the_vertex, no_edit, Accepts, Restores}
+use Rattle.sf_steps.specs.declared.refusal.Refusal.TheVariants.{NoLayer, NoFeature}
+use Rattle.sf_steps.specs.Steps.{unless, first_refusal, checks, effect, answer, step, next_id_of, number_in, vertex_check, add_feature, add_column}
+use Rattle.sf_steps.specs.Inverses.{described, taken_back, inverse_of, answer_of, adding_layer, adding_column, renaming, setting, vertex_in, the_vertex, no_edit}
 use Rattle.sf_steps.specs.Laws.{InverseTakesBack}
 use Rattle.sf_steps.proofs.Passes.{Accepted-step, passed, passed_fault, there_from_test, FeatureThere, FeatureThere-feature_in, feature_in-there, changed_to}
 use Rattle.sf_steps.proofs.LayersBack.{DropLayer-back, RenameLayer-back, MoveLayer-back, MoveLayer-again, DropColumn-back, change_layer-back}
-use Rattle.sf_steps.proofs.FeaturesBack.{change_value-back, change_in-back, number_in-change_in, IsFeature-there, SetValue-back, ClearValue-back, DeleteFeature-back, ReplaceGeometry-back}
+use Rattle.sf_steps.proofs.FeaturesBack.{change_in-back, number_in-change_in, IsFeature-there, SetValue-back, ClearValue-back, DeleteFeature-back, ReplaceGeometry-back}
 use Rattle.sf_steps.proofs.VerticesBack.{HasWholeRings, insert_vertex-back, move_vertex-back, remove_vertex-back}
 use Rattle.sf_steps.proofs.VerticesAgain.{inserted_vertex, moved_vertex, removed_vertex, was_vertex}
 use Rattle.sf_steps.proofs.Judged.{no_size_fault, whole-rings}

@@ -1,11 +1,11 @@
 -- What a step says of a geometry, it says over all points of the plane.
-use Rattle.std.proofs.Common.{◌≡◌, ℕ, Bool, true, false, not, List, [], ◌∷◌, Option, None, Some, is_some, option_map, option_and_then, Result, Ok, Err, IsSomeAnd, length, nat_lt, refl, ap, sym, subst, ◌∙◌}
+use Rattle.std.proofs.Common.{◌≡◌, ℕ, Bool, true, false, not, List, [], ◌∷◌, Option, None, Some, option_map, option_and_then, Result, Ok, Err, IsSomeAnd, length, nat_lt, refl, ap, sym, subst, ◌∙◌}
 use Rattle.std.specs.Prelude.{IfSome}
 use Rattle.sf_geometry.specs.declared.geometry.Geometry.{Geometry}
 use Rattle.sf_geometry.specs.declared.refusal.Refusal.{Refusal as GeometryRefusal}
 use Rattle.sf_geometry.specs.declared.refusal.Refusal.TheVariants as geometries
 use Rattle.sf_geometry.specs.Size.{size_fault}
-use Rattle.sf_geometry.specs.Vertices.{Change, changed, exchange, insertion, outcome, removal, insert_vertex, move_vertex, remove_vertex}
+use Rattle.sf_geometry.specs.Vertices.{Change, changed, exchange, insertion, outcome, removal}
 use Rattle.sf_rules.specs.declared.fault.Fault.{Fault}
 use Rattle.sf_rules.specs.Validity.{IsFirstFault, IsValid}
 use Rattle.sf_rules.specs.Verdicts.{first_fault}
@@ -19,8 +19,8 @@ use Rattle.sf_steps.specs.declared.edit.Edit.TheVariants.{AddLayer, DropLayer, R
 use Rattle.sf_steps.specs.declared.refusal.Refusal.{Refusal}
 use Rattle.sf_steps.specs.declared.refusal.Refusal.TheVariants.{Invalid, NoLayer, LayerExists, BadName, NoFeature, NoColumn, ColumnExists, WrongValue, WrongKind, IdsExhausted, ColumnsExhausted, BadPlace}
 use Rattle.sf_steps.specs.Refusals.{from_geometry}
-use Rattle.sf_steps.specs.Steps.{answer, change_check, checks, column_takes, effect, first_refusal, has_column, has_feature, layer_passes, result_of, size_check, step, takes_kind, unless, validity_check, vertex_check}
-use Rattle.sf_steps.specs.Laws.{JudgesOverThePlane, StepJudgesOverThePlane, geometry_made, made}
+use Rattle.sf_steps.specs.Steps.{answer, change_check, checks, column_takes, effect, first_refusal, has_column, has_feature, layer_passes, result_of, size_check, takes_kind, unless, validity_check, vertex_check}
+use Rattle.sf_steps.specs.Laws.{StepJudgesOverThePlane, geometry_made, made}
 use Rattle.sf_steps.proofs.Judged.{is_first, sized, valid}
 use Rattle.sf_steps.proofs.Passes.{Accepted-step, FeatureThere, FeatureThere-feature_in, feature_in-there, passed, passed_fault}
 use Rattle.sf_steps.proofs.StepsFine.{outcome-sized, vertex_check-there}

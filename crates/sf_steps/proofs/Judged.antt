@@ -1,5 +1,5 @@
 -- What the checks of a geometry tell of it over the plane.
-use Rattle.std.proofs.Common.{◌≡◌, ◌++◌, Bool, true, false, List, [], ◌∷◌, None, Some, Ok, nat_le, arith, refl, subst}
+use Rattle.std.proofs.Common.{◌≡◌, ◌++◌, Bool, true, false, List, [], ◌∷◌, None, Some, nat_le, arith, refl, subst}
 use borrow.Author.Tests.{leb-true}
 use Rattle.std.specs.List.{AllByRecursion}
 use Rattle.sf_geometry.specs.declared.geometry.Geometry.{Geometry}

@@ -1,19 +1,18 @@
 -- The inverses of the edits of layers and columns describe the content before.
-use Rattle.std.proofs.Common.{◌≡◌, ℕ, ◌<◌, true, List, [], ◌∷◌, length, Option, None, Some, is_some, refl, ap, sym, ◌∙◌, insert, remove, nat_lt, bytes_eq}
+use Rattle.std.proofs.Common.{◌≡◌, ℕ, List, [], length, None, Some, is_some, ap, ◌∙◌, insert, remove, nat_lt}
 use Rattle.std.proofs.lemmas.Bool.{ltb-true}
 use Rattle.std.specs.Option.{option_map_or}
-use Rattle.sf_features.specs.declared.column.Column.{Column}
-use Rattle.sf_layers.specs.Content.{Content, LayerContent, layer_of, has_layer, place_of, change_layer, renamed_at, moved, with_column, with_values, without_values, without_column, column_values, column_place, number_named, column_named}
-use Rattle.sf_layers.specs.WellFormed.{IsWellFormed, IsLayer}
+use Rattle.sf_layers.specs.Content.{Content, LayerContent, layer_of, has_layer, place_of, change_layer, without_values, without_column, column_values, column_place, number_named}
+use Rattle.sf_layers.specs.WellFormed.{IsWellFormed}
 use Rattle.sf_layers.proofs.Changes.{change_layer-change_layer, change_layer-at, IsLayer-layer_of}
 use Rattle.sf_layers.proofs.Changes.{change_layer-same}
 use Rattle.sf_layers.proofs.Places.{insert-remove, entry_at_place, moved-back, place_of-moved, renamed-back}
 use Rattle.sf_layers.proofs.Columns.{column-back}
 use Rattle.sf_steps.specs.declared.edit.Edit.TheVariants as edits
-use Rattle.sf_steps.specs.declared.refusal.Refusal.TheVariants.{NoLayer, BadPlace, NoColumn, BadName, LayerExists}
-use Rattle.sf_steps.specs.Steps.{unless, first_refusal, checks, effect, drop_column, column_in}
+use Rattle.sf_steps.specs.declared.refusal.Refusal.TheVariants.{NoLayer, BadPlace, NoColumn}
+use Rattle.sf_steps.specs.Steps.{first_refusal, checks, effect, drop_column, column_in}
 use Rattle.sf_steps.specs.Inverses.{described, inverse_of, taken_back, the_layer, the_column, put_column, dropped_column}
-use Rattle.sf_steps.proofs.Passes.{passed, there_from_test, ColumnThere, ColumnThere-column_in, column_in-there}
+use Rattle.sf_steps.proofs.Passes.{passed, there_from_test, ColumnThere-column_in, column_in-there}
 
 the_layer-found : (content : Content) (name : List ℕ) (layer : LayerContent) → layer_of content name ≡ Some layer → the_layer content name ≡ layer
 the_layer-found content name layer found = ap (λ o. option_map_or (λ l. l) o (the_layer [] [])) found

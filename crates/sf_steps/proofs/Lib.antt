@@ -7,3 +7,4 @@ pub mod StepsFine
 pub mod InverseLaws
 pub mod Judged
 pub mod JudgeLaws
+pub mod WeightLaws

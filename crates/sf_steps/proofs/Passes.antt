@@ -1,17 +1,14 @@
 -- What an accepted step has passed.
-use Rattle.std.proofs.Common.{◌≡◌, ℕ, ◌<◌, Bool, true, false, not, List, [], ◌∷◌, length, Option, None, Some, is_some, option_and_then, Result, Ok, Err, IsTrue, nat_lt, refl, ap, sym, ◌∙◌}
-use Rattle.std.proofs.lemmas.Bool.{ltb-true}
-use Rattle.std.specs.Option.{option_map_or}
+use Rattle.std.proofs.Common.{◌≡◌, ℕ, Bool, true, false, not, List, ◌∷◌, Option, None, Some, is_some, option_and_then, Result, Ok, Err, refl, ap, ◌∙◌}
 use Rattle.sf_geometry.specs.declared.geometry.Geometry.{Geometry}
 use Rattle.sf_geometry.specs.declared.refusal.Refusal.{Refusal as GeometryRefusal}
 use Rattle.sf_features.specs.declared.column.Column.{Column}
 use Rattle.sf_features.specs.Features.{FeatureContent}
-use Rattle.sf_layers.specs.Content.{Content, LayerContent, layer_of, has_layer, feature_of, column_named, feature_in}
+use Rattle.sf_layers.specs.Content.{Content, LayerContent, layer_of, feature_of, column_named, feature_in}
 use Rattle.sf_steps.specs.declared.answer.Answer.{Answer}
 use Rattle.sf_steps.specs.declared.edit.Edit.{Edit}
 use Rattle.sf_steps.specs.declared.refusal.Refusal.{Refusal}
-use Rattle.sf_steps.specs.declared.refusal.Refusal.TheVariants.{NoLayer, NoFeature, NoColumn}
-use Rattle.sf_steps.specs.Steps.{unless, first_refusal, checks, effect, answer, result_of, step, column_in, layer_passes, vertex_check, change_check}
+use Rattle.sf_steps.specs.Steps.{unless, first_refusal, checks, effect, answer, result_of, step, column_in, change_check}
 
 -- an accepted step passed its checks, and has its effect and its answer
 pub record Accepted (content : Content) (edit : Edit) (new : Content) (given : Answer) : Type 0 where

@@ -1,12 +1,9 @@
 -- An accepted step leads from a well-formed content to a well-formed one.
-use Rattle.std.proofs.Common.{◌≡◌, ℕ, zero, suc, ◌<◌, Bool, true, false, not, List, [], ◌∷◌, length, Option, None, Some, is_some, option_map, option_and_then, Result, Ok, Err, IsTrue, nat_lt, refl, ap, sym, subst, ◌∙◌}
+use Rattle.std.proofs.Common.{◌≡◌, ℕ, ◌<◌, Bool, true, false, not, List, [], ◌∷◌, length, Option, None, Some, is_some, option_map, option_and_then, Result, Ok, IsTrue, nat_lt, refl, ap, sym, subst, ◌∙◌}
 use Rattle.std.proofs.lemmas.Bool.{ltb-true}
 use Rattle.std.specs.List.Sorted.{IsStrictlySortedBy}
 use Rattle.std.specs.Option.{option_map_or}
-use Rattle.sf_grid.specs.Plane.{Coordinates}
 use Rattle.sf_geometry.specs.declared.geometry.Geometry.{Geometry}
-use Rattle.sf_geometry.specs.declared.geometry.Geometry.TheVariants.{Point, LineString, Polygon, MultiPoint, MultiLineString, MultiPolygon}
-use Rattle.sf_geometry.specs.declared.kind.Kind.{Kind}
 use Rattle.sf_geometry.specs.declared.refusal.Refusal.{Refusal as GeometryRefusal}
 use Rattle.sf_geometry.specs.Kinds.{kind_of}
 use Rattle.sf_geometry.specs.Parts.{LiesOnGrid}
@@ -15,10 +12,8 @@ use Rattle.sf_rules.specs.Validity.{IsValid}
 use Rattle.sf_features.proofs.GridLaws.{LiesOnGrid-insert_vertex, LiesOnGrid-move_vertex, LiesOnGrid-remove_vertex}
 use Rattle.sf_features.proofs.VertexLaws.{kind_of-outcome}
 use Rattle.sf_steps.proofs.Judged.{sized, valid}
-use Rattle.sf_geometry.specs.Vertices.{Change, changed, change_at, change_ring, one_point, outcome, sized_or_refused, insertion, exchange, removal, insert_vertex, move_vertex, remove_vertex}
-use Rattle.sf_rules.specs.declared.fault.Fault.{Fault}
+use Rattle.sf_geometry.specs.Vertices.{Change, changed, outcome, sized_or_refused, insertion, exchange, removal}
 use Rattle.sf_rules.specs.Verdicts.{first_fault}
-use Rattle.sf_features.specs.declared.attr_value.AttrValue.{AttrValue}
 use Rattle.sf_features.specs.declared.column.Column.{Column}
 use Rattle.sf_layers.specs.declared.layer_kind.LayerKind.{LayerKind}
 use Rattle.sf_features.specs.Names.{is_name}
@@ -34,15 +29,13 @@ use Rattle.sf_layers.proofs.ColumnsKept.{IsLayer-without_column}
 use Rattle.sf_layers.proofs.Fine.{IsWellFormed-moved, IsWellFormed-renamed_at, IsLayer-change_feature}
 use Rattle.sf_layers.proofs.Kept.{IsWellFormed-remove, IsWellFormed-change_at, IsLayer-without_feature}
 use Rattle.sf_layers.proofs.Places.{entry_at_place}
-use Rattle.sf_steps.specs.declared.answer.Answer.{Answer}
 use Rattle.sf_steps.specs.declared.edit.Edit.{Edit}
 use Rattle.sf_steps.specs.declared.edit.Edit.TheVariants.{AddLayer, DropLayer, RenameLayer, MoveLayer, AddColumn, DropColumn, AddFeature, DeleteFeature, ReplaceGeometry, InsertVertex, MoveVertex, RemoveVertex, SetValue, ClearValue}
-use Rattle.sf_steps.specs.declared.refusal.Refusal.{Refusal}
-use Rattle.sf_steps.specs.declared.refusal.Refusal.TheVariants.{Invalid, NoLayer, LayerExists, BadName, NoFeature, NoColumn, ColumnExists, WrongValue, WrongKind, IdsExhausted, ColumnsExhausted, BadPlace}
+use Rattle.sf_steps.specs.declared.refusal.Refusal.TheVariants.{Invalid, NoLayer, LayerExists, BadName, NoFeature, NoColumn, ColumnExists, WrongValue, WrongKind, IdsExhausted, ColumnsExhausted}
 use Rattle.sf_steps.specs.Refusals.{from_geometry}
-use Rattle.sf_steps.specs.Steps.{unless, first_refusal, checks, effect, step, column_in, number_in, takes_kind, layer_passes, size_check, validity_check, change_check, vertex_check, add_feature, add_column, drop_column}
+use Rattle.sf_steps.specs.Steps.{unless, first_refusal, checks, effect, column_in, number_in, takes_kind, layer_passes, size_check, validity_check, change_check, vertex_check, add_feature, add_column, drop_column}
 use Rattle.sf_steps.specs.Laws.{BringsGridPoints, StepKeepsWellFormed}
-use Rattle.sf_steps.proofs.Passes.{Accepted-step, passed, passed_fault, absent_from_not, there_from_test, FeatureThere, FeatureThere-feature_in, feature_in-there, ColumnThere, ColumnThere-column_in, column_in-there, changed_to}
+use Rattle.sf_steps.proofs.Passes.{Accepted-step, passed, passed_fault, absent_from_not, there_from_test, FeatureThere, FeatureThere-feature_in, feature_in-there, ColumnThere-column_in, column_in-there, changed_to}
 use Rattle.sf_steps.proofs.FeaturesBack.{IsFeature-there}
 
 pub none_mapped : {X Y : Type 0} (f : X → Y) (o : Option X) → option_map f o ≡ None → o ≡ None

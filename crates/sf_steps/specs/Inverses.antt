@@ -2,7 +2,6 @@
 use Rattle.std.specs.Prelude.{◌≡◌, ℕ, ◌+◌, ◌-◌, ◌⊎◌, pos, Bool, true, false, List, [], length, take, insert, sum_by, Option, None, Some, is_some, option_and_then, slice_get, Result, Ok, Err, IfOk, IfErr, OnErr, IsTrue}
 use Rattle.std.specs.Option.{option_map_or}
 use Rattle.sf_grid.specs.Plane.{Coordinates}
-use Rattle.sf_geometry.specs.declared.geometry.Geometry.{Geometry}
 use Rattle.sf_geometry.specs.declared.geometry.Geometry.TheVariants.{Point}
 use Rattle.sf_geometry.specs.Size.{point_count}
 use Rattle.sf_geometry.specs.Vertices.{vertex_of, insert_vertex, move_vertex, remove_vertex}

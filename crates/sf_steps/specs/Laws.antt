@@ -1,5 +1,5 @@
 -- What holds of every step and its inverse.
-use Rattle.std.specs.Prelude.{◌≡◌, List, Option, None, Some, Result, Ok, Err, IfSome, IsSomeAnd, option_and_then}
+use Rattle.std.specs.Prelude.{◌≡◌, Option, None, Some, Result, Ok, Err, IfSome, IsSomeAnd, option_and_then}
 use Rattle.sf_grid.specs.Plane.{IsOnGrid}
 use Rattle.sf_geometry.specs.declared.geometry.Geometry.{Geometry}
 use Rattle.sf_geometry.specs.declared.refusal.Refusal.{Refusal as GeometryRefusal}
@@ -14,7 +14,8 @@ use Rattle.sf_steps.specs.declared.edit.Edit.{Edit}
 use Rattle.sf_steps.specs.declared.edit.Edit.TheVariants.{AddFeature, InsertVertex, MoveVertex, RemoveVertex, ReplaceGeometry}
 use Rattle.sf_steps.specs.declared.refusal.Refusal.TheVariants.{Invalid}
 use Rattle.sf_steps.specs.Steps.{step}
-use Rattle.sf_steps.specs.Inverses.{Accepts, answer_of, inverse_of}
+use Rattle.sf_steps.specs.Inverses.{Accepts, answer_of, inverse_of, weight}
+use Rattle.sf_steps.specs.Weights.{touched}
 
 -- the points that the edit brings are on the grid; the type of points says so of each
 abbrev pub BringsGridPoints : Edit → Type 0
@@ -37,6 +38,12 @@ InverseTakesBack =
     (old new : Content) (edit : Edit) (answer : Answer)
     → IsWellFormed old → step old edit ≡ Ok (new, answer)
     → Accepts old edit (inverse_of old edit) new × (answer_of (inverse_of old edit) ≡ answer)
+
+-- the inverse of an accepted edit holds as much as the edit takes out of the content or overwrites
+abbrev pub InverseWeighsWhatWasTouched : Type 0
+InverseWeighsWhatWasTouched =
+    (old new : Content) (edit : Edit) (answer : Answer)
+    → step old edit ≡ Ok (new, answer) → weight (inverse_of old edit) ≡ touched old edit
 
 -- the geometry that comes of a change, where it can be made
 abbrev pub made : Result Geometry GeometryRefusal → Option Geometry

@@ -2,6 +2,7 @@ ghost use Rattle.std.specs.Prelude.{◌≡◌};
 ghost use Rattle.sf_steps.specs.Inverses.{answer_of, weight};
 
 use super::answer::Answer;
+use super::weight::{feature_weight, layer_weight};
 use sf_grid::GridPoint;
 use sf_layers::{AttrValue, BoxedLayer, BoxedValues, Column, Feature, Text};
 use sf_validity::Valid;
@@ -104,6 +105,26 @@ impl Inverse {
         match self {
             Inverse::TakeFeature { id, .. } => Answer::Id(*id),
             _ => Answer::Done,
+        }
+    }
+
+    /// How many grid points, values and columns the inverse holds.
+    pub fn weight(&self) -> u64
+        ensures { result ≡ weight self.now }
+    {
+        match self {
+            Inverse::PutLayer { layer, .. } => layer_weight(layer.layer()),
+            Inverse::PutColumn { values, .. } => values.values().count() as u64 + 1,
+            Inverse::PutFeature { feature, .. } => feature_weight(feature),
+            Inverse::PutGeometry { old, .. } => old.geometry().point_count() as u64,
+            Inverse::MoveVertex { .. } | Inverse::PutVertex { .. } => 1,
+            Inverse::PutValue { old, .. } => u64::from(old.is_some()),
+            Inverse::TakeLayer
+            | Inverse::RenameLayer { .. }
+            | Inverse::MoveLayer { .. }
+            | Inverse::TakeColumn { .. }
+            | Inverse::TakeFeature { .. }
+            | Inverse::TakeVertex { .. } => 0,
         }
     }
 }

@@ -1,5 +1,5 @@
 //! Laws of steps and inverses. The functions do nothing: each one's contract is its law.
-ghost use Rattle.sf_steps.specs.Laws.{InverseTakesBack, StepJudgesOverThePlane, StepKeepsWellFormed};
+ghost use Rattle.sf_steps.specs.Laws.{InverseTakesBack, InverseWeighsWhatWasTouched, StepJudgesOverThePlane, StepKeepsWellFormed};
 
 /// An accepted edit leads from a well-formed content to a well-formed content.
 pub fn step_keeps_well_formed()
@@ -10,6 +10,12 @@ pub fn step_keeps_well_formed()
 /// the edit's answer.
 pub fn inverse_takes_back()
     ensures { InverseTakesBack }
+{}
+
+/// The inverse of an accepted edit holds as many grid points, values and columns as the edit takes out
+/// of the content or overwrites.
+pub fn inverse_weighs_what_was_touched()
+    ensures { InverseWeighsWhatWasTouched }
 {}
 
 /// A geometry that a step takes is valid over all points of the plane, and one that it refuses as

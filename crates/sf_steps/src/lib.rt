@@ -6,6 +6,7 @@ mod edit;
 mod inverse;
 pub mod laws;
 mod refusal;
+mod weight;
 
 pub use answer::Answer;
 pub use edit::Edit;

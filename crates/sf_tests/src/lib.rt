@@ -17,8 +17,12 @@ mod faults;
 #[cfg(test)]
 mod features;
 #[cfg(test)]
+mod limits;
+#[cfg(test)]
 mod sessions;
 #[cfg(test)]
 mod sizes;
 #[cfg(test)]
 mod support;
+#[cfg(test)]
+mod values;

@@ -71,11 +71,11 @@ fn most_points(rt: HostRuntime) -> Result<(), Fail> {
     for more in [4_095, 4_096] {
         input.push_str(multi_point_line(rt.alloc(), more)?.as_str())?;
     }
-    input.push_str("box w 1\nsimple w 1\n")?;
+    input.push_str("vertex insert w 1 0 0 0 7 7\nbox w 1\nsimple w 1\n")?;
     let mut whole = input.as_bytes();
     assert_eq!(rt;
         answers(rt.alloc(), &mut whole)?.as_str(),
-        "ok\nok 1\nrefused 9 TooManyVertices\n1 2 1 2\nfalse\n"
+        "ok\nok 1\nrefused 9 TooManyVertices\nrefused 9 TooManyVertices\n1 2 1 2\nfalse\n"
     );
     Ok(())
 }

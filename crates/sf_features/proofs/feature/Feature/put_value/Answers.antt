@@ -3,8 +3,8 @@ use Rattle.std.specs.BTreeMap.{insert_entry}
 use Rattle.std.specs.List.Sorted.{IsStrictlySortedBy}
 use Rattle.std.specs.Map.{keys_of}
 use Rattle.std.specs.Ordering.{nat_cmp}
-use Rattle.sf_features.specs.Features.{FeatureContent, value_in}
-use Rattle.sf_features.proofs.Entries.{IsGap, answers-rise, lookup-at, lookup-gap, slice_set-at, insert-gap, rising-insert_entry, number-hit, hit}
+use Rattle.sf_features.specs.Features.{AreByNumber, FeatureContent, value_in}
+use Rattle.sf_features.proofs.Entries.{IsGap, answers-rise, lookup-at, lookup-gap, slice_set-at, insert-gap, AreByNumber-insert_entry, number-hit, hit}
 use Rattle.sf_features.proofs.feature.Feature.put_value.Goals as goal
 use Rattle.sf_features.proofs.feature.Feature.put_value.Goals.{in-Ok-insert, in-Err-insert}
 
@@ -22,8 +22,11 @@ is_read c = c.index_mut.ensures.value ∙ ap (λ f. get_or f.values c.in-Ok.plac
 stands : (c : goal.After-self-1) → slice_get c.args.self.now.values c.in-Ok.place ≡ Some (c.args.number, c.index_mut.result.now.1)
 stands c = hit c.args.number c.args.self.now.values c.in-Ok.place c.index_mut.result.now c.in-Ok.ensures.within c.in-Ok.ensures.found (is_read c)
 
+fine : (c : goal.After-self-1) → AreByNumber c.args.self.now.values
+fine c = subst (λ f. AreByNumber f.values) c.self.view_is c.self.invariant
+
 rising : (c : goal.After-self-1) → IsStrictlySortedBy nat_cmp (keys_of c.args.self.now.values)
-rising c = subst (λ f. IsStrictlySortedBy nat_cmp (keys_of f.values)) c.self.view_is c.self.invariant
+rising c = (fine c).rising
 
 exchanged : (c : goal.After-self-1)
     → slice_set c.self.inside.values.items c.in-Ok.place (c.index_mut.result.now.0, c.replace-old.new.dest) ≡ insert_entry nat_cmp c.args.self.now.values c.args.number c.args.value
@@ -37,7 +40,7 @@ exchanged c =
 
 pub invariant_of-self : goal.invariant_of-self
 invariant_of-self c =
-    subst (λ es. IsStrictlySortedBy nat_cmp (keys_of es)) (sym (exchanged c)) (rising-insert_entry c.args.number c.args.value c.args.self.now.values (rising c))
+    subst AreByNumber (sym (exchanged c)) (AreByNumber-insert_entry c.args.number c.args.value c.args.self.now.values (omega (arith, c.ranges.number)) (fine c))
 
 pub returns-in-Ok-clause-put : goal.returns-in-Ok-clause-put
 returns-in-Ok-clause-put c =
@@ -50,8 +53,11 @@ returns-in-Ok-clause-old c =
 
 -- ---- where none is there
 
+by_number : (c : goal.Joined-insert) → AreByNumber c.args.self.now.values
+by_number c = subst (λ f. AreByNumber f.values) c.self.view_is c.self.invariant
+
 rises : (c : goal.Joined-insert) → IsStrictlySortedBy nat_cmp (keys_of c.args.self.now.values)
-rises c = subst (λ f. IsStrictlySortedBy nat_cmp (keys_of f.values)) c.self.view_is c.self.invariant
+rises c = (by_number c).rising
 
 is_gap : (c : goal.Joined-insert) → IsGap c.args.number c.args.self.now.values c.in-Err.place
 is_gap c = c.in-Err.ensures.found (answers-rise c.args.number c.args.self.now.values (rises c))
@@ -66,8 +72,8 @@ added c =
 
 pub invariant_of-self-in-Err : goal.invariant_of-self-in-Err
 invariant_of-self-in-Err c = elim c.match-insert.branch [
-  | in-Ok-insert w ↦ subst (λ es. IsStrictlySortedBy nat_cmp (keys_of es)) (sym (rw w.in-Ok-insert.is at c.insert.ensures.items ∙ added c)) (rising-insert_entry c.args.number c.args.value c.args.self.now.values (rises c))
-  | in-Err-insert w ↦ subst (λ es. IsStrictlySortedBy nat_cmp (keys_of es)) (sym (rw w.in-Err-insert.is at c.insert.ensures.items)) c.self.invariant
+  | in-Ok-insert w ↦ subst AreByNumber (sym (rw w.in-Ok-insert.is at c.insert.ensures.items ∙ added c)) (AreByNumber-insert_entry c.args.number c.args.value c.args.self.now.values (omega (arith, c.ranges.number)) (by_number c))
+  | in-Err-insert w ↦ subst AreByNumber (sym (rw w.in-Err-insert.is at c.insert.ensures.items)) c.self.invariant
 ]
 
 pub returns-after-insert-clause-put : goal.returns-after-insert-clause-put

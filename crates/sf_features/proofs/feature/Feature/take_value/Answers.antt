@@ -2,8 +2,8 @@ use Rattle.std.proofs.Common.{◌≡◌, ◌∙◌, ap, sym, subst, length, get_
 use Rattle.std.specs.List.Sorted.{IsStrictlySortedBy}
 use Rattle.std.specs.Map.{keys_of, remove_entry}
 use Rattle.std.specs.Ordering.{nat_cmp}
-use Rattle.sf_features.specs.Features.{FeatureContent, value_in}
-use Rattle.sf_features.proofs.Entries.{answers-rise, lookup-at, lookup-gap, remove-at, remove_entry-none, rising-remove_entry, hit}
+use Rattle.sf_features.specs.Features.{AreByNumber, FeatureContent, value_in}
+use Rattle.sf_features.proofs.Entries.{answers-rise, lookup-at, lookup-gap, remove-at, remove_entry-none, AreByNumber-remove_entry, hit}
 use Rattle.sf_features.proofs.feature.Feature.take_value.Goals as goal
 
 pub remove-value-requires : goal.remove-value-requires
@@ -11,8 +11,11 @@ remove-value-requires c = omega (arith, c.in-Ok.ensures.within, ap (λ f. length
 
 -- ---- a value that is there
 
+fine : (c : goal.After-remove-value) → AreByNumber c.args.self.now.values
+fine c = subst (λ f. AreByNumber f.values) c.self.view_is c.self.invariant
+
 rising : (c : goal.After-remove-value) → IsStrictlySortedBy nat_cmp (keys_of c.args.self.now.values)
-rising c = subst (λ f. IsStrictlySortedBy nat_cmp (keys_of f.values)) c.self.view_is c.self.invariant
+rising c = (fine c).rising
 
 stands : (c : goal.After-remove-value) → slice_get c.args.self.now.values c.in-Ok.place ≡ Some (c.args.number, c.remove-value.result.1)
 stands c =
@@ -27,7 +30,7 @@ taken_out c =
 
 pub invariant_of-self : goal.invariant_of-self
 invariant_of-self c =
-    subst (λ es. IsStrictlySortedBy nat_cmp (keys_of es)) (sym (taken_out c)) (rising-remove_entry (nat_eq c.args.number) c.args.self.now.values (rising c))
+    subst AreByNumber (sym (taken_out c)) (AreByNumber-remove_entry (nat_eq c.args.number) c.args.self.now.values (fine c))
 
 pub returns-in-Ok-clause-taken : goal.returns-in-Ok-clause-taken
 returns-in-Ok-clause-taken c = sym (lookup-at c.args.number c.remove-value.result.1 c.args.self.now.values c.in-Ok.place (rising c) (stands c))
@@ -42,8 +45,8 @@ returns-in-Ok-clause-rest c =
 absent : (c : goal.In-Err) → value_in c.args.number c.args.self.now ≡ None
 absent c =
     let values = c.args.self.now.values in
-    let rises : IsStrictlySortedBy nat_cmp (keys_of values) = subst (λ f. IsStrictlySortedBy nat_cmp (keys_of f.values)) c.self.view_is c.self.invariant in
-    lookup-gap c.args.number values c.in-Err.field-0 (c.in-Err.ensures.found (answers-rise c.args.number values rises))
+    let are : AreByNumber values = subst (λ f. AreByNumber f.values) c.self.view_is c.self.invariant in
+    lookup-gap c.args.number values c.in-Err.field-0 (c.in-Err.ensures.found (answers-rise c.args.number values are.rising))
 
 pub returns-in-Err-clause-taken : goal.returns-in-Err-clause-taken
 returns-in-Err-clause-taken c = sym (absent c)

@@ -1,0 +1,15 @@
+pub mod LetterLaws
+pub mod CharacterLaws
+pub mod ContactLaws
+pub mod SetLaws
+pub mod PlaceLaws
+pub mod PushLaws
+pub mod GroupLaws
+pub mod FoldLaws
+pub mod SizeLaws
+pub mod MatrixLaws
+pub mod SharedLaws
+pub mod EnvelopeLaws
+pub mod Computed
+pub mod ComputedPredicates
+pub mod ComputedPlaces

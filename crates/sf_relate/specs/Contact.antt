@@ -1,0 +1,52 @@
+-- When two geometries share a point: what is known of their matrix without one.
+use Rattle.std.specs.Prelude.{◌≡◌, ◌↔◌, Bool, ◌||◌, IsTrue, IsFalse}
+use Rattle.sf_grid.specs.Plane.{Coordinates, IsPoint, Point as PlanePoint, grid_point}
+use Rattle.sf_geometry.specs.declared.geometry.Geometry.{Geometry}
+use Rattle.sf_geometry.specs.declared.geometry.Geometry.TheVariants.{Point}
+use Rattle.sf_geometry.specs.declared.extent.Extent.{Extent}
+use Rattle.sf_geometry.specs.Envelope.{envelope_of, extents_meet}
+use Rattle.sf_geometry.specs.Parts.{HasClosedRings}
+use Rattle.sf_geometry.specs.PointSets.{in_boundary, in_interior}
+use Rattle.sf_plane.specs.declared.dim.Dim.{Dim}
+use Rattle.sf_plane.specs.Boxes.{Box, in_box}
+use Rattle.sf_relate.specs.declared.predicate.Predicate.TheVariants.{Intersects}
+use Rattle.sf_relate.specs.Matrices.{matrix_of}
+use Rattle.sf_relate.specs.Patterns.{has_contact}
+use Rattle.sf_relate.specs.Predicates.{holds}
+
+-- q is in the interior or the boundary
+abbrev pub is_in : Geometry → PlanePoint → Bool
+is_in a q = in_interior a q || in_boundary a q
+
+-- a point that both have
+pub record SharePoint (a b : Geometry) : Type 0 where
+  pub q : PlanePoint
+  pub is_point : IsPoint q
+  pub in_first : IsTrue (is_in a q)
+  pub in_second : IsTrue (is_in b q)
+
+-- contact is a shared point; intersects is contact, disjoint is none
+pub record ContactIsShared (a b : Geometry) : Type 0 where
+  pub shared : IsTrue (has_contact (matrix_of a b)) ↔ SharePoint a b
+  pub intersects : (d e : Dim) → holds Intersects d e (matrix_of a b) ≡ has_contact (matrix_of a b)
+
+-- an envelope as a box of the plane; the point is in it
+abbrev pub box_of_extent : Extent → Box
+box_of_extent e = record { min_x = e.min_x; min_y = e.min_y; max_x = e.max_x; max_y = e.max_y }
+
+abbrev pub in_extent : Extent → PlanePoint → Bool
+in_extent e q = in_box (box_of_extent e) q
+
+-- what is in a geometry with closed rings is in its envelope
+abbrev pub LiesInBox : Type 0
+LiesInBox =
+    (a : Geometry) (q : PlanePoint) → HasClosedRings a → IsPoint q → IsTrue (is_in a q) → IsTrue (in_extent (envelope_of a) q)
+
+-- so where two envelopes share no point there is no contact
+abbrev pub ApartHasNoContact : Type 0
+ApartHasNoContact =
+    (a b : Geometry) → HasClosedRings a → HasClosedRings b → IsFalse (extents_meet (envelope_of a) (envelope_of b)) → IsFalse (has_contact (matrix_of a b))
+
+-- a Point has contact just where it is in the other geometry
+abbrev pub PointHasContact : Type 0
+PointHasContact = (p : Coordinates) (b : Geometry) → has_contact (matrix_of (Point p) b) ≡ is_in b (grid_point p)

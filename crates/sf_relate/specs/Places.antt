@@ -1,0 +1,105 @@
+-- Where a cell lies in a geometry, by counts alone: whether something of it is on the cell, and the parities of its ends
+-- there and of its edges above.
+use Rattle.std.specs.Prelude.{◌≡◌, ℕ, ◌+◌, ◌*◌, Bool, true, false, List, nat_lt, slice_index, slice_index_or, slice_set, if◌then◌else◌, replicate}
+use Rattle.std.specs.List.{count_by}
+use Rattle.sf_grid.specs.EvenOdd.{is_odd}
+use Rattle.sf_grid.specs.Plane.{IsPoint, Point as PlanePoint}
+use Rattle.sf_cells.specs.Groups.{Item}
+use Rattle.sf_cells.specs.Pieces.{is_above, is_on}
+use Rattle.sf_geometry.specs.declared.geometry.Geometry.{Geometry}
+use Rattle.sf_geometry.specs.declared.geometry.Geometry.TheVariants.{Point, LineString, Polygon, MultiPoint, MultiLineString, MultiPolygon}
+use Rattle.sf_geometry.specs.PointSets.{in_boundary, in_interior}
+use Rattle.sf_plane.specs.declared.dim.Dim.{Dim}
+use Rattle.sf_plane.specs.declared.dim.Dim.TheVariants.{Nothing}
+use Rattle.sf_plane.specs.Unions.{dim_of, greater_dim}
+use Rattle.sf_rules.specs.Validity.{IsValid}
+use Rattle.sf_relate.specs.declared.place.Place.{Place}
+use Rattle.sf_relate.specs.declared.place.Place.TheVariants.{Interior, Boundary, Exterior}
+use Rattle.sf_relate.specs.declared.shape.Shape.{Shape}
+use Rattle.sf_relate.specs.declared.shape.Shape.TheVariants.{Points, Lines, Areas}
+use Rattle.sf_relate.specs.declared.sink.MatrixSink.{MatrixSink}
+use Rattle.sf_relate.specs.AllPieces.{end_dots_of, pieces_of}
+
+-- ---- the place of a cell
+-- what a geometry is made of
+abbrev pub shape_of : Geometry → Shape
+shape_of (Point p) = Points
+shape_of (MultiPoint ps) = Points
+shape_of (LineString ps) = Lines
+shape_of (MultiLineString lines) = Lines
+shape_of (Polygon rings) = Areas
+shape_of (MultiPolygon polygons) = Areas
+
+-- it is made of polygons
+abbrev pub is_areal : Shape → Bool
+is_areal Areas = true
+is_areal shape = false
+
+-- of a geometry, by how many of its pieces are on a cell, how many of its ends are there, and how many of its edges are above
+abbrev pub place_by : Shape → ℕ → ℕ → ℕ → Place
+place_by Points on ends above = if nat_lt 0 on then Interior else Exterior
+place_by Lines on ends above = if nat_lt 0 on then (if is_odd ends then Boundary else Interior) else Exterior
+place_by Areas on ends above = if nat_lt 0 on then Boundary else (if is_odd above then Interior else Exterior)
+
+-- the place of an item in the first and in the second geometry; the count of a group that is not there is 0
+abbrev pub first_place : Shape → Item → Place
+first_place shape i = place_by shape (slice_index i.on 0) (slice_index i.on 2) (slice_index i.above 0)
+
+abbrev pub second_place : Shape → Item → Place
+second_place shape i = place_by shape (slice_index i.on 1) (slice_index i.on 3) (slice_index i.above 1)
+
+-- ---- the place of a point
+-- the place of q by counts
+abbrev pub place_at : Geometry → PlanePoint → Place
+place_at a q =
+    place_by (shape_of a) (count_by (is_on q) (pieces_of a)) (count_by (is_on q) (end_dots_of a)) (count_by (is_above q) (pieces_of a))
+
+-- both are one place
+abbrev pub is_place : Place → Place → Bool
+is_place Interior Interior = true
+is_place Boundary Boundary = true
+is_place Exterior Exterior = true
+is_place p q = false
+
+-- the place is that of q: of the three sets of a, q is in that one alone
+pub record IsPlaceOf (a : Geometry) (q : PlanePoint) (place : Place) : Type 0 where
+  pub interior : in_interior a q ≡ is_place Interior place
+  pub boundary : in_boundary a q ≡ is_place Boundary place
+
+-- of a valid geometry the counts give the place of each point of the plane
+abbrev pub CountsTellPlaces : Type 0
+CountsTellPlaces = (a : Geometry) (q : PlanePoint) → IsValid a → IsPoint q → IsPlaceOf a q (place_at a q)
+
+-- ---- the matrix of items
+-- the place of an entry among the nine, row by row
+abbrev pub row_of : Place → ℕ
+row_of Interior = 0
+row_of Boundary = 1
+row_of Exterior = 2
+
+abbrev pub entry_place : Place → Place → ℕ
+entry_place p q = 3 * row_of p + row_of q
+
+-- the entries with a dimension at one of them, unless a greater one is there
+abbrev pub raised : List Dim → ℕ → Dim → List Dim
+raised entries place d = slice_set entries place (greater_dim (slice_index_or entries place Nothing) d)
+
+-- the entries once an item was handed out
+abbrev pub with_item : Shape → Shape → List Dim → Item → List Dim
+with_item a b entries i = raised entries (entry_place (first_place a i) (second_place b i)) (dim_of i.dim)
+
+-- what a sink has: the shapes of the geometries, and the entries so far
+pub record Gathered : Type 0 where
+  pub first : Shape
+  pub second : Shape
+  pub entries : List Dim
+
+abbrev pub gathered_by : MatrixSink → Gathered
+gathered_by s = record { first = s.first; second = s.second; entries = s.entries }
+
+abbrev pub with_cell : Gathered → Item → Gathered
+with_cell g i = record g { entries = with_item g.first g.second g.entries i }
+
+-- no entry
+abbrev pub no_entries : List Dim
+no_entries = replicate 9 Nothing

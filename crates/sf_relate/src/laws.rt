@@ -1,0 +1,49 @@
+//! Laws of matrices, patterns and predicates, each the contract of a function that does nothing.
+
+ghost use Rattle.sf_geometry.specs.declared.geometry.Geometry.{Geometry};
+ghost use Rattle.sf_relate.specs.Contact.{ApartHasNoContact, ContactIsShared, LiesInBox, PointHasContact};
+ghost use Rattle.sf_relate.specs.Matrices.{MatricesAreOverThePlane};
+ghost use Rattle.sf_relate.specs.Patterns.{PatternsNeedContact};
+ghost use Rattle.sf_relate.specs.Places.{CountsTellPlaces};
+ghost use Rattle.sf_relate.specs.Predicates.{PredicatesNeedContact};
+
+/// The entries as they are computed are the matrix over the plane, and no others are, of all
+/// geometries.
+pub fn matrices_are_over_the_plane()
+    ensures { MatricesAreOverThePlane }
+{}
+
+/// Of a valid geometry the counts at a point tell its place.
+pub fn counts_tell_places()
+    ensures { CountsTellPlaces }
+{}
+
+/// A pattern that needs contact matches no matrix without it.
+pub fn patterns_need_contact()
+    ensures { PatternsNeedContact }
+{}
+
+/// A predicate that needs contact holds of no matrix without it.
+pub fn predicates_need_contact()
+    ensures { PredicatesNeedContact }
+{}
+
+/// Two geometries have contact just where they share a point of their interiors or boundaries.
+pub fn contact_is_shared()
+    ensures { (a b : Geometry) → ContactIsShared a b }
+{}
+
+/// A Point has contact just where it lies in the other geometry.
+pub fn point_has_contact()
+    ensures { PointHasContact }
+{}
+
+/// What is in a geometry with closed rings lies in its envelope.
+pub fn lies_in_box()
+    ensures { LiesInBox }
+{}
+
+/// Geometries with closed rings whose envelopes share no point have no contact.
+pub fn apart_has_no_contact()
+    ensures { ApartHasNoContact }
+{}

@@ -1,0 +1,67 @@
+ghost use Rattle.std.specs.Prelude.{◌≡◌, Result};
+ghost use Rattle.sf_relate.specs.Patterns.{asks_contact, matches, pattern_of};
+ghost use Rattle.sf_relate.specs.declared.refusal.Refusal.TheVariants.{BadPattern};
+ghost use Rattle.std.specs.Option.{ok_or};
+
+use super::letter::Letter;
+use super::matrix::Matrix;
+use super::refusal::Refusal;
+use std::marker::Model;
+
+/// What nine entries are to be.
+#[derive(Clone, Copy, Debug, PartialEq, Eq)]
+pub struct Pattern {
+    letters: [Letter; 9],
+}
+
+impl Model for Pattern {
+    ghost use Rattle.std.specs.Prelude.{List};
+    ghost use Rattle.sf_relate.specs.declared.letter.Letter.{Letter};
+
+    ghost Value = { List Letter };
+
+    ghost view = { λ a. a.letters };
+
+    ghost inverse = { λ ls. record { letters = ls } };
+}
+
+impl Pattern {
+    /// The pattern of nine letters, or BadPattern exactly where they aren't nine of `T t F f * 0 1 2`.
+    pub fn parse(text: &str) -> Result<Pattern, Refusal>
+        ensures { result ≡ ok_or (pattern_of text.now) BadPattern }
+    {
+        let bytes = text.as_bytes();
+        if bytes.len() != 9 {
+            return Err(Refusal::BadPattern);
+        }
+        let mut letters = [Letter::Any; 9];
+        for place in 0..9 {
+            match Letter::of(bytes[place]) {
+                None => return Err(Refusal::BadPattern),
+                Some(letter) => letters[place] = letter,
+            }
+        }
+        Ok(Pattern { letters })
+    }
+
+    /// Whether the matrix matches.
+    pub fn matches(&self, matrix: &Matrix) -> bool
+        ensures { result ≡ matches self.now matrix.now.0 }
+    {
+        self.letters
+            .iter()
+            .zip(matrix.0.iter())
+            .all(|(letter, dim)| letter.admits(*dim))
+    }
+
+    /// Whether only geometries that share a point can match: an entry of interiors and boundaries
+    /// is to be filled.
+    pub fn needs_contact(&self) -> bool
+        ensures { result ≡ asks_contact self.now }
+    {
+        self.letters[0].asks_filled()
+            || self.letters[1].asks_filled()
+            || self.letters[3].asks_filled()
+            || self.letters[4].asks_filled()
+    }
+}

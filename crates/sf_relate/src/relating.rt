@@ -1,0 +1,37 @@
+//! Matrices of two geometries.
+
+ghost use Rattle.std.specs.Prelude.{◌≡◌, IfOk};
+ghost use Rattle.sf_relate.specs.Matrices.{IsMatrix, matrix_of};
+
+use super::grouping::{FIRST, FIRST_ENDS, SECOND, SECOND_ENDS, push_grouped};
+use super::matrix::Matrix;
+use super::shape::Shape;
+use super::sink::MatrixSink;
+use sf_pieces::GroupedPieces;
+use sf_plane::Dim;
+use sf_validity::Valid;
+use std::alloc::{AllocError, Global};
+
+/// The matrix of two geometries.
+///
+/// # Errors
+///
+/// Want of memory alone.
+pub fn relate(alloc: Global, a: &Valid, b: &Valid) -> Result<Matrix, AllocError>
+    ensures plane { IfOk result (λ matrix. IsMatrix a.now b.now matrix.0) }
+    ensures computed { IfOk result (λ matrix. matrix.0 ≡ matrix_of a.now b.now) }
+{
+    let first = a.geometry();
+    let second = b.geometry();
+    let mut pieces = GroupedPieces::new(alloc);
+    push_grouped(alloc, &mut pieces, second, SECOND, SECOND_ENDS)?;
+    push_grouped(alloc, &mut pieces, first, FIRST, FIRST_ENDS)?;
+    let mut sink = MatrixSink {
+        first: Shape::of(first),
+        second: Shape::of(second),
+        entries: [Dim::Nothing; 9],
+    };
+    let areal = [sink.first.is_areal(), sink.second.is_areal()];
+    pieces.walk(alloc, &areal, &mut sink)?;
+    Ok(Matrix(sink.entries))
+}

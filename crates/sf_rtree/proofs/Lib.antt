@@ -1,0 +1,16 @@
+pub mod Meeting
+pub mod Computed
+pub mod Order
+pub mod Sizes
+pub mod Changes
+pub mod Boxes
+pub mod Curve
+pub mod Maps
+pub mod Entries
+pub mod Roots
+pub mod Found
+pub mod Lists
+pub mod Parts
+pub mod Levels
+pub mod Built
+pub mod Fixtures

@@ -1,0 +1,15 @@
+//! Indexes of boxes by identifier: the trait, an R-tree and a list.
+#![tactic(auto)]
+
+mod build;
+mod entry;
+mod index;
+mod list;
+mod node;
+#[cfg(test)]
+mod tests;
+mod tree;
+
+pub use index::SpatialIndex;
+pub use list::ListIndex;
+pub use tree::RTree;
