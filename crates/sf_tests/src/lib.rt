@@ -26,3 +26,5 @@ mod sizes;
 mod support;
 #[cfg(test)]
 mod values;
+#[cfg(test)]
+mod weights;
