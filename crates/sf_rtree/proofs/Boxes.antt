@@ -8,9 +8,10 @@ use Rattle.std.proofs.lemmas.Int.{ints}
 use Rattle.sf_geometry.specs.declared.extent.Extent.{Extent}
 use Rattle.sf_rtree.specs.declared.node.Branch.{Branch}
 use Rattle.sf_rtree.specs.Boxed.{Boxed, joined}
+use Rattle.sf_rtree.specs.Curves.{put}
 use Rattle.sf_rtree.specs.Nodes.{Covers, covers, entries_below}
 use Rattle.sf_rtree.proofs.Meeting.{and-both, and-left, and-right, branch_at, entries_below-step}
-use Rattle.sf_rtree.proofs.Order.{all_both, all_map}
+use Rattle.sf_rtree.proofs.Order.{all-put, all_both, all_map}
 
 below_both : (a b c : ℤ) → IsTrue (int_le a b) → IsTrue (int_le (int_min a c) b)
 below_both a b c h = grind (arith, ints)
@@ -65,3 +66,9 @@ cover-branch a new bs i b h is was are c =
     (all_map (λ x. IsTrue (covers a x.extent)) (λ x. IsTrue (covers (joined a b.extent) x.extent)) (λ x p. joined-left a b.extent x.extent p) (entries_below (take i bs)) c)
     (all_map (λ x. IsTrue (covers b.extent x.extent)) (λ x. IsTrue (covers (joined a b.extent) x.extent)) (λ x p. joined-right a b.extent x.extent p) b.node.entries
     (subst (λ x. Covers x.extent x.node.entries) (sym is) (branch_at (λ x. Covers x.extent x.node.entries) bs i b are h)))))
+
+-- a box over entries, joined with that of a further one
+pub cover-put : (a : Extent) (e : Boxed) (es : List Boxed) → Covers a es → Covers (joined a e.extent) (put e es)
+cover-put a e es c =
+    all-put (λ x. IsTrue (covers (joined a e.extent) x.extent)) e es (joined-right a e.extent e.extent (covers-itself e.extent))
+    (all_map (λ x. IsTrue (covers a x.extent)) (λ x. IsTrue (covers (joined a e.extent) x.extent)) (λ x p. joined-left a e.extent x.extent p) es c)

@@ -1,5 +1,5 @@
 -- What a change of a node's members makes of its entries.
-use Rattle.std.specs.Prelude.{◌≡◌, ℕ, ◌+◌, ◌*◌, ◌<◌, ◌≤◌, ◌^◌, List, [], ◌∷◌, ◌++◌, length, Result, Ok, Err, IfOk, Option, Some, None, option_to_list, true, if◌then◌else◌}
+use Rattle.std.specs.Prelude.{◌≡◌, ℕ, ◌+◌, ◌*◌, ◌<◌, ◌≤◌, ◌^◌, List, [], ◌∷◌, ◌++◌, length, Result, Ok, Err, IfOk, Option, Some, None, option_to_list, true, if◌then◌else◌, slice_set}
 use Rattle.std.specs.List.{AllByRecursion, insert, remove}
 use Rattle.std.proofs.Common.{refl, ap, sym, ◌∙◌, append_assoc, append-nil, take, drop, get_or, arith, add-one, subst, zero, suc}
 use Rattle.sf_rtree.specs.declared.entry.Key.{Key}
@@ -70,6 +70,43 @@ branch-level levels [] i b h k is = absurd (omega arith)
 branch-level levels (a ∷ bs) zero b h k is = subst (IsBranch levels) (sym is) h.0
 branch-level levels (a ∷ bs) (suc i) b h k is = branch-level levels bs i b h.1 (omega (arith, k)) is
 
+pub all_removed : {X : Type 0} (P : X → Type 0) (xs : List X) (i : ℕ) → AllByRecursion P xs → AllByRecursion P (remove xs i)
+all_removed P [] zero h = tt
+all_removed P [] (suc i) h = tt
+all_removed P (x ∷ xs) zero h = h.1
+all_removed P (x ∷ xs) (suc i) h = (h.0, all_removed P xs i h.1)
+
+branch-in_order : (bs : List Branch) (i : ℕ) (b : Branch) → i < length bs → b ≡ get_or bs i b → AreInOrder (entries_below bs)
+    → AreInOrder b.node.entries
+branch-in_order [] i b h is order = absurd (omega (arith, h))
+branch-in_order (a ∷ bs) zero b h is order =
+    subst (λ x. AreInOrder x.node.entries) (sym is) (in_order-left a.node.entries (entries_below bs) order)
+branch-in_order (a ∷ bs) (suc i) b h is order =
+    branch-in_order bs i b (omega (arith, h)) is (in_order-right a.node.entries (entries_below bs) order)
+
+-- a branch of a node, and the others once it was taken
+pub record IsTaken (bs : List Branch) (i : ℕ) (b : Branch) (rest : List Branch) : Type 0 where
+  pub bound : i < length bs
+  pub is : b ≡ get_or bs i b
+  pub others : rest ≡ remove bs i
+  pub branch : IsBranch (levels_below bs) b
+  pub rest_are : AllByRecursion (IsBranch (levels_below bs)) rest
+  pub in_order : AreInOrder b.node.entries
+
+pub is_taken : (bs now : List Branch) (i : ℕ) (b : Branch) (rest : List Branch) → AreBranches bs → now ≡ bs → i < length bs → b ≡ get_or now i b
+    → rest ≡ remove now i → IsTaken bs i b rest
+is_taken bs now i b rest are was h is others =
+    let at : b ≡ get_or bs i b = is ∙ ap (λ cs. get_or cs i b) was in
+    let them : rest ≡ remove bs i = others ∙ ap (λ cs. remove cs i) was in
+    record {
+      bound = h;
+      is = at;
+      others = them;
+      branch = branch-level (levels_below bs) bs i b are.branches h at;
+      rest_are = subst (AllByRecursion (IsBranch (levels_below bs))) (sym them) (all_removed (IsBranch (levels_below bs)) bs i are.branches);
+      in_order = branch-in_order bs i b h at are.in_order;
+    }
+
 -- what the levels of the first branch say of a node
 pub record FirstSays (k : ℕ) (s : Subtree) : Type 0 where
   pub levels : s.levels ≡ k + 1
@@ -133,6 +170,17 @@ halves n bs new more is also low high h =
       );
     }
 
+-- a branch put where another one stood
+pub set-inserted : (bs : List Branch) (i : ℕ) (b : Branch) → i < length bs → slice_set bs i b ≡ insert (remove bs i) i b
+set-inserted [] i b h = absurd (omega (arith, h))
+set-inserted (c ∷ bs) zero b h = refl
+set-inserted (c ∷ bs) (suc i) b h = ap (λ cs. c ∷ cs) (set-inserted bs i b (omega (arith, h)))
+
+pub remove-set : (bs : List Branch) (i : ℕ) (b : Branch) → i < length bs → remove (slice_set bs i b) i ≡ remove bs i
+remove-set [] i b h = absurd (omega (arith, h))
+remove-set (c ∷ bs) zero b h = refl
+remove-set (c ∷ bs) (suc i) b h = ap (λ cs. c ∷ cs) (remove-set bs i b (omega (arith, h)))
+
 pub put_one : (bs : List Branch) (i : ℕ) (b : Branch)
     → entries_below (insert bs i b) ≡ entries_below (take i bs) ++ b.node.entries ++ entries_below (drop i bs)
 put_one bs i b =
@@ -143,6 +191,9 @@ insert-next : (bs : List Branch) (i : ℕ) (b s : Branch) → i ≤ length bs �
 insert-next bs zero b s h = refl
 insert-next [] (suc i) b s h = absurd (omega (arith, h))
 insert-next (c ∷ bs) (suc i) b s h = ap (λ cs. c ∷ cs) (insert-next bs i b s (omega (arith, h)))
+
+pub of_one_node : (g : Grown) → g.split ≡ None → entries_of (nodes_of g) ≡ g.node.entries
+of_one_node g none = ap (λ o. g.node.entries ++ entries_of (option_to_list o)) none ∙ append-nil g.node.entries
 
 pub put_one_node : (bs new : List Branch) (i : ℕ) (b : Branch) (g : Grown) → new ≡ insert bs i b → b.node ≡ g.node → g.split ≡ None
     → entries_below new ≡ entries_below (take i bs) ++ entries_of (nodes_of g) ++ entries_below (drop i bs)

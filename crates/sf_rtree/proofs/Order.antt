@@ -120,7 +120,7 @@ if-append : (b : Bool) (xs ys zs : List Boxed) → (if b then xs ++ zs else ys +
 if-append true xs ys zs = refl
 if-append false xs ys zs = refl
 
-put-past : (e : Boxed) (xs ys : List Boxed) → AllByRecursion (λ f. IsTrue (comes_before (key_of f) (key_of e))) xs
+pub put-past : (e : Boxed) (xs ys : List Boxed) → AllByRecursion (λ f. IsTrue (comes_before (key_of f) (key_of e))) xs
     → put e (xs ++ ys) ≡ xs ++ put e ys
 put-past e [] ys h = refl
 put-past e (x ∷ xs) ys h =

@@ -1,18 +1,18 @@
 -- How many entries are below a node, and when branches are a node's.
-use Rattle.std.specs.Prelude.{◌≡◌, ℕ, ◌+◌, ◌*◌, ◌-◌, ◌<◌, ◌≤◌, ◌^◌, List, [], ◌∷◌, ◌++◌, length}
+use Rattle.std.specs.Prelude.{◌≡◌, ℕ, ◌+◌, ◌*◌, ◌-◌, ◌<◌, ◌≤◌, ◌^◌, Bool, true, false, List, [], ◌∷◌, ◌++◌, length, IsTrue, IsFalse, if◌then◌else◌}
 use Rattle.std.specs.List.{AllByRecursion}
-use Rattle.std.proofs.Common.{ap, sym, ◌∙◌, append-nil, take, drop, get_or, arith, add-one, subst, zero, suc}
+use Rattle.std.proofs.Common.{refl, ap, sym, ◌∙◌, append-nil, take, drop, get_or, arith, add-one, subst, zero, suc}
 use Rattle.std.proofs.Math.Nat.{mul-suc, pow-suc, mul-le-mul_left}
 use Rattle.std.proofs.lemmas.List.{length-append, take-append-drop}
 use Rattle.sf_rtree.specs.declared.node.Branch.{Branch}
 use Rattle.sf_rtree.specs.declared.node.Members.{Members}
 use Rattle.sf_rtree.specs.declared.node.Members.TheVariants.{Leaf, Inner}
 use Rattle.sf_rtree.specs.Boxed.{Boxed}
-use Rattle.sf_rtree.specs.Curves.{AreInOrder, IsLast, key_of}
+use Rattle.sf_rtree.specs.Curves.{AreInOrder, IsLast, comes_before, key_of, put}
 use Rattle.sf_rtree.specs.declared.entry.Key.{Key}
 use Rattle.sf_rtree.specs.Nodes.{AreBranches, AreEntries, Covers, IsBranch, IsSized, IsNode, entries_below, levels_below, subtree_of}
 use Rattle.sf_rtree.proofs.Meeting.{entries_below-append}
-use Rattle.sf_rtree.proofs.Order.{in_order-left, in_order-right, all_left, all_map, all_right}
+use Rattle.sf_rtree.proofs.Order.{in_order-left, in_order-right, all_left, all_map, all_right, past_last, put-past}
 
 pub below-few : (levels : ℕ) (bs : List Branch) → AllByRecursion (IsBranch levels) bs
     → length (entries_below bs) ≤ 8 ^ levels * length bs
@@ -117,6 +117,36 @@ last-append k [] ys h = h
 last-append k (x ∷ []) [] h = absurd h
 last-append k (x ∷ []) (y ∷ ys) h = h
 last-append k (x ∷ z ∷ xs) ys h = last-append k (z ∷ xs) ys h
+
+-- ---- the last one of entries with a further one
+
+last-if : (l : Key) (b : Bool) (xs ys : List Boxed) → IsLast l xs → IsLast l ys → IsLast l (if b then xs else ys)
+last-if l true xs ys h k = h
+last-if l false xs ys h k = k
+
+last-stays : (l : Key) (e : Boxed) (es : List Boxed) → IsLast l es → IsFalse (comes_before l (key_of e)) → IsLast l (put e es)
+last-stays l e [] last h = absurd last
+last-stays l e (f ∷ []) last h =
+    let here : comes_before (key_of f) (key_of e) ≡ false = subst (λ k. IsFalse (comes_before k (key_of e))) last h in
+    subst (λ b. IsLast l (if b then f ∷ e ∷ [] else e ∷ f ∷ [])) (sym here) last
+last-stays l e (f ∷ g ∷ es) last h =
+    last-if l (comes_before (key_of f) (key_of e)) (f ∷ put e (g ∷ es)) (e ∷ f ∷ g ∷ es)
+    (last-append l (f ∷ []) (put e (g ∷ es)) (last-stays l e (g ∷ es) last h)) last
+
+last-moves : (l : Key) (e : Boxed) (es : List Boxed) → AreInOrder es → IsLast l es → IsTrue (comes_before l (key_of e)) → IsLast (key_of e) (put e es)
+last-moves l e es order last h =
+    subst (IsLast (key_of e))
+    (sym (ap (put e) (sym (append-nil es)) ∙ put-past e es [] (past_last l (key_of e) es last order h)))
+    (last-append (key_of e) es (e ∷ []) refl)
+
+-- it is the later one of the last one and the further one
+pub last-put : (l : Key) (e : Boxed) (es : List Boxed) → AreInOrder es → IsLast l es
+    → IsLast (if comes_before l (key_of e) then key_of e else l) (put e es)
+last-put l e es order last = at (comes_before l (key_of e)) refl
+  where
+    at : (b : Bool) → comes_before l (key_of e) ≡ b → IsLast (if b then key_of e else l) (put e es)
+    at true is = last-moves l e es order last is
+    at false is = last-stays l e es last is
 
 pub last_below : (levels : ℕ) (bs : List Branch) (i : ℕ) (b : Branch) → AllByRecursion (IsBranch levels) bs → suc i ≡ length bs → b ≡ get_or bs i b
     → IsLast b.last (entries_below bs)

@@ -1,8 +1,8 @@
 //! Nodes of an R-tree.
 
-ghost use Rattle.std.specs.Prelude.{◌≡◌, ◌≤◌, ◌<◌, ◌+◌, ◌-◌, ◌*◌, ◌^◌, ◌++◌, ◌∷◌, [], length, IfOk, OnOk, MatchOption, take, drop};
+ghost use Rattle.std.specs.Prelude.{◌≡◌, ◌≤◌, ◌<◌, ◌+◌, ◌-◌, ◌*◌, ◌^◌, ◌++◌, ◌∷◌, [], length, IfOk, OnOk, MatchOption, take, drop, get_or, if◌then◌else◌};
 ghost use Rattle.std.specs.List.{AllByRecursion, insert, remove};
-ghost use Rattle.sf_rtree.specs.Curves.{AreInOrder, IsLast, put, taken};
+ghost use Rattle.sf_rtree.specs.Curves.{AreInOrder, IsLast, comes_before, put, taken};
 ghost use Rattle.sf_rtree.specs.Nodes.{AreBranches, AreEntries, Covers, IsBranch, IsPlace, IsSized, entries_below, ids_among, inner_of, leaf_of, levels_below};
 ghost use Rattle.sf_rtree.specs.Growths.{AreFilled, AreNodes, entries_of, nodes_of};
 
@@ -166,6 +166,23 @@ impl Node {
         }
     }
 
+    /// The branch of the node, with a box and a key that are known to hold for it.
+    fn into_branch_within(self, extent: Extent, last: Key) -> Branch
+        requires members { 3 ≤ self.members }
+        requires covered { Covers extent self.entries }
+        requires last { IsLast last self.entries }
+        ensures branch { IsBranch self.levels result }
+        ensures node { result.node ≡ self }
+    {
+        // What holds of every node is known of this one once a field of it is read.
+        let _ = &self.members;
+        Branch {
+            extent,
+            last,
+            node: self,
+        }
+    }
+
     /// One node over what came of a root.
     pub fn over(alloc: Global, grown: Grown) -> Result<Node, AllocError>
         requires filled { AreFilled grown.node.levels 0 grown }
@@ -199,9 +216,11 @@ impl Node {
             }
             Members::Inner(mut branches) => {
                 let place = branch_place(branches.as_slice(), &entry.key());
-                let Branch { node, .. } = branches.remove(place);
-                let grown = node.insert(alloc, entry)?;
-                put_nodes(&mut branches, place, grown)?;
+                let branch = take_branch(alloc, &mut branches, place);
+                let extent = join(&branch.extent, &entry.extent());
+                let last = later(branch.last, entry.key());
+                let grown = branch.node.insert(alloc, entry)?;
+                put_grown(&mut branches, place, extent, last, grown)?;
                 split_inner(branches)
             }
         }
@@ -230,7 +249,7 @@ impl Node {
             }
             Members::Inner(mut branches) => {
                 let place = branch_place(branches.as_slice(), &key);
-                let Branch { node, .. } = branches.remove(place);
+                let Branch { node, .. } = take_branch(alloc, &mut branches, place);
                 let node = node.remove(alloc, key)?;
                 put_back(&mut branches, place, node)?;
                 Ok(over_branches(branches))
@@ -360,8 +379,97 @@ fn put_nodes(branches: &mut Vec<Branch>, place: usize, grown: Grown) -> Result<(
     }
 }
 
-/// Puts a node among the branches, joined with a neighbour where its members are too few.
+/// The later of two keys.
+fn later(a: Key, b: Key) -> Key
+    ensures { result ≡ if comes_before a b then b else a }
+{
+    if a.is_before(&b) { b } else { a }
+}
+
+/// Takes the branch at a place. One with no entry stands there until another one is put.
+fn take_branch(alloc: Global, branches: &mut Vec<Branch>, place: usize) -> Branch
+    requires within { place < length branches.old.items }
+    ensures branch { result ≡ get_or branches.old.items place result }
+    ensures others { remove branches.new.items place ≡ remove branches.old.items place }
+    ensures length { length branches.new.items ≡ length branches.old.items }
+{
+    let nothing = Branch {
+        extent: NOWHERE,
+        last: Key { place: 0, id: 0 },
+        node: Node::new(alloc),
+    };
+    std::mem::replace(&mut branches[place], nothing)
+}
+
+/// Puts a branch in the place of the one that stands there.
+fn put_branch(branches: &mut Vec<Branch>, place: usize, branch: Branch)
+    requires within { place < length branches.old.items }
+    ensures put { branches.new.items ≡ insert (remove branches.old.items place) place branch }
+    ensures length { length branches.new.items ≡ length branches.old.items }
+{
+    branches[place] = branch;
+}
+
+/// Puts what came of the node of a branch in the branch's place. The box and the key are those of a
+/// single node.
+fn put_grown(
+    branches: &mut Vec<Branch>,
+    place: usize,
+    extent: Extent,
+    last: Key,
+    grown: Grown,
+) -> Result<(), AllocError>
+    requires within { place < length branches.old.items }
+    requires filled { AreFilled grown.node.levels 3 grown }
+    requires covered { Covers extent (entries_of (nodes_of grown)) }
+    requires last { IsLast last (entries_of (nodes_of grown)) }
+    requires branches { AllByRecursion (IsBranch grown.node.levels) (remove branches.old.items place) }
+    ensures members { OnOk result (length branches.new.items + 1
+        ≡ length branches.old.items + length (nodes_of grown)) }
+    ensures branches { OnOk result (AllByRecursion (IsBranch grown.node.levels) branches.new.items) }
+    ensures entries { OnOk result (entries_below branches.new.items
+        ≡ entries_below (take place (remove branches.old.items place)) ++ entries_of (nodes_of grown)
+        ++ entries_below (drop place (remove branches.old.items place))) }
+{
+    let Grown { node, split } = grown;
+    match split {
+        None => {
+            put_branch(branches, place, node.into_branch_within(extent, last));
+            Ok(())
+        }
+        Some(second) => {
+            put_branch(branches, place, node.into_branch());
+            branches.insert(place + 1, second.into_branch())?;
+            Ok(())
+        }
+    }
+}
+
+/// Puts a node in the place of a branch, joined with a neighbour where its members are too few.
 fn put_back(branches: &mut Vec<Branch>, place: usize, node: Node) -> Result<(), AllocError>
+    requires within { place < length branches.old.items }
+    requires some { 2 ≤ length branches.old.items }
+    requires members { 2 ≤ node.members }
+    requires branches { AllByRecursion (IsBranch node.levels) (remove branches.old.items place) }
+    requires in_order { AreInOrder (entries_below (take place (remove branches.old.items place)) ++ node.entries
+        ++ entries_below (drop place (remove branches.old.items place))) }
+    ensures enough { OnOk result (length branches.old.items ≤ length branches.new.items + 1) }
+    ensures few { OnOk result (length branches.new.items ≤ length branches.old.items) }
+    ensures branches { OnOk result (AllByRecursion (IsBranch node.levels) branches.new.items) }
+    ensures entries { OnOk result (entries_below branches.new.items
+        ≡ entries_below (take place (remove branches.old.items place)) ++ node.entries
+        ++ entries_below (drop place (remove branches.old.items place))) }
+{
+    if node.len() >= 3 {
+        put_branch(branches, place, node.into_branch());
+        return Ok(());
+    }
+    branches.remove(place);
+    put_joined(branches, place, node)
+}
+
+/// Puts a node among the branches, joined with a neighbour.
+fn put_joined(branches: &mut Vec<Branch>, place: usize, node: Node) -> Result<(), AllocError>
     requires within { place ≤ length branches.old.items }
     requires some { 1 ≤ length branches.old.items }
     requires members { 2 ≤ node.members }
@@ -375,9 +483,6 @@ fn put_back(branches: &mut Vec<Branch>, place: usize, node: Node) -> Result<(), 
         ≡ entries_below (take place branches.old.items) ++ node.entries
         ++ entries_below (drop place branches.old.items)) }
 {
-    if node.len() >= 3 {
-        return put_nodes(branches, place, Grown { node, split: None });
-    }
     if place < branches.len() {
         let Branch { node: right, .. } = branches.remove(place);
         let grown = node.join(right)?;
