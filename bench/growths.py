@@ -154,7 +154,7 @@ def main():
         sys.exit(f"{PROGRAM} is missing: run `rt run` in crates/sfstore first")
     with tempfile.TemporaryDirectory() as folder:
         path = library(folder)
-        number, lines, at_start = 0, 0, 0
+        number, lines, others = 0, 0, 0
         while True:
             number += 1
             met, status, output = refused_run(path, number)
@@ -162,8 +162,8 @@ def main():
                 break
             refused = check(number, status, output)
             lines += refused
-            at_start += refused == 0
-        print(f"{number - 1} growths refused in turn: {lines} lines refused, {at_start} runs with none")
+            others += refused == 0
+        print(f"{number - 1} growths refused in turn: {lines} lines refused, {others} runs with none")
 
 
 if __name__ == "__main__":
