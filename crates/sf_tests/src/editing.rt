@@ -143,7 +143,8 @@ fn store_after(alloc: Global, edits: usize, undos: usize, redos: usize) -> Resul
 fn every_edit_undone_and_redone(rt: HostRuntime) -> Result<(), Fail> {
     for edits in 0..=EDITS.len() {
         let wanted = store_after(rt.alloc(), edits, 0, 0)?;
-        let undone = store_after(rt.alloc(), EDITS.len(), EDITS.len() - edits, 0)?;
+        let undos = EDITS.len().saturating_sub(edits);
+        let undone = store_after(rt.alloc(), EDITS.len(), undos, 0)?;
         assert!(rt; undone == wanted, "{edits} edits left of all");
         let redone = store_after(rt.alloc(), EDITS.len(), EDITS.len(), edits)?;
         assert!(rt; redone == wanted, "{edits} edits done again");

@@ -83,7 +83,7 @@ fn push_texts(text: &mut String, alloc: Global, letters: usize) -> Result<(), Al
     writeln!(text, "set w 1 t '{ascii}'")?;
     let quotes = "''".repeat(alloc, letters)?;
     writeln!(text, "set w 1 t '{quotes}'")?;
-    let front = "a".repeat(alloc, letters - 4)?;
+    let front = "a".repeat(alloc, letters.saturating_sub(4))?;
     writeln!(text, "set w 1 t '{front}\u{1f600}'")
 }
 
