@@ -26,5 +26,3 @@ mod sizes;
 mod support;
 #[cfg(test)]
 mod values;
-#[cfg(test)]
-mod weights;
