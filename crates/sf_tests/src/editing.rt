@@ -1,7 +1,5 @@
 //! Sessions that edit: layers, columns, features and vertices, each taken back and done again.
-use super::support::{ByteByByte, answers, answers_of};
-use sf_console::Editor;
-use std::alloc::Global;
+use super::support::{ByteByByte, answers};
 use std::test::Fail;
 
 const SESSIONS: [(&str, &str); 14] = [
@@ -86,68 +84,6 @@ fn edits_in_one_piece_and_byte_by_byte(rt: HostRuntime) -> Result<(), Fail> {
             bytes: input.as_bytes(),
         };
         assert_eq!(rt; answers(rt.alloc(), &mut bytes)?.as_str(), output);
-    }
-    Ok(())
-}
-
-/// Every edit, some of them in several forms.
-const EDITS: [&str; 24] = [
-    "layer add a any\n",
-    "layer add b point\n",
-    "layer rename b c\n",
-    "layer move c 0\n",
-    "column add a depth int\n",
-    "column add a label text\n",
-    "add a POINT (1 1)\n",
-    "add a LINESTRING (0 0, 5 5)\n",
-    "addhex a 010100000000000000000008400000000000001040\n",
-    "add a POLYGON ((0 0, 9 0, 9 9, 0 9, 0 0), (1 1, 2 1, 2 2, 1 1))\n",
-    "add a MULTIPOLYGON (((0 0, 5 0, 5 5, 0 0)), ((6 6, 9 6, 9 9, 6 6)))\n",
-    "set a 1 depth 12\n",
-    "set a 1 label 'it''s'\n",
-    "set a 2 depth -7\n",
-    "set a 1 depth 13\n",
-    "replace a 1 MULTIPOINT (1 1, 2 2)\n",
-    "vertex insert a 2 0 0 1 3 4\n",
-    "vertex move a 2 0 0 0 -1 0\n",
-    "vertex remove a 2 0 0 1\n",
-    "unset a 1 label\n",
-    "delete a 3\n",
-    "column drop a depth\n",
-    "layer move c 1\n",
-    "layer drop c\n",
-];
-
-/// Questions whose answers tell all that the store has.
-const QUESTIONS: &str = "layers\ncolumns a\nshow a\ncolumns b\nshow b\ncolumns c\nshow c\n";
-
-/// What the store has after so many of the edits, then so many undos, and then so many redos.
-fn store_after(alloc: Global, edits: usize, undos: usize, redos: usize) -> Result<String, Fail> {
-    let mut input = String::new(alloc);
-    for edit in EDITS.iter().take(edits) {
-        input.push_str(edit)?;
-    }
-    input.push_str("undo\n".repeat(alloc, undos)?.as_str())?;
-    input.push_str("redo\n".repeat(alloc, redos)?.as_str())?;
-    let mut editor = Editor::new(alloc);
-    let mut lines = input.as_bytes();
-    let accepted = answers_of(alloc, &mut editor, &mut lines)?;
-    if accepted.contains("refused") {
-        return Err(Fail::from("a line was refused"));
-    }
-    let mut questions = QUESTIONS.as_bytes();
-    answers_of(alloc, &mut editor, &mut questions)
-}
-
-#[test]
-fn every_edit_undone_and_redone(rt: HostRuntime) -> Result<(), Fail> {
-    for edits in 0..=EDITS.len() {
-        let wanted = store_after(rt.alloc(), edits, 0, 0)?;
-        let undos = EDITS.len().saturating_sub(edits);
-        let undone = store_after(rt.alloc(), EDITS.len(), undos, 0)?;
-        assert!(rt; undone == wanted, "{edits} edits left of all");
-        let redone = store_after(rt.alloc(), EDITS.len(), EDITS.len(), edits)?;
-        assert!(rt; redone == wanted, "{edits} edits done again");
     }
     Ok(())
 }

@@ -17,8 +17,6 @@ mod faults;
 #[cfg(test)]
 mod features;
 #[cfg(test)]
-mod limits;
-#[cfg(test)]
 mod sessions;
 #[cfg(test)]
 mod sizes;
