@@ -71,7 +71,7 @@ pub record IsApart (m : List Dim) : Type 0 where
   pub ee : Dim
   pub is : m ≡ dims.Nothing ∷ dims.Nothing ∷ ie ∷ dims.Nothing ∷ dims.Nothing ∷ be ∷ ei ∷ eb ∷ ee ∷ []
 
-empty-entry : (d : Dim) → is_filled d ≡ false → d ≡ dims.Nothing
+pub empty-entry : (d : Dim) → is_filled d ≡ false → d ≡ dims.Nothing
 empty-entry dims.Nothing h = refl
 empty-entry dims.Zero h = absurd (true≢false h)
 empty-entry dims.One h = absurd (true≢false h)

@@ -13,3 +13,7 @@ pub mod EnvelopeLaws
 pub mod Computed
 pub mod ComputedPredicates
 pub mod ComputedPlaces
+pub mod NeighbourLaws
+pub mod TestedPlaces
+pub mod PointLaws
+pub mod FirstLaws

@@ -86,7 +86,7 @@ areas-told n e v on odd inside h k is = (
     around false false = refl
 
 -- ---- lines: something on q, and the ends there
-on-lines : (lines : List (List Coordinates)) (q : PlanePoint) → nat_lt 0 (count_by (is_on q) (map piece_of (flat_map edges_of_list lines))) ≡ list_any (λ ps. on_line ps q) lines
+pub on-lines : (lines : List (List Coordinates)) (q : PlanePoint) → nat_lt 0 (count_by (is_on q) (map piece_of (flat_map edges_of_list lines))) ≡ list_any (λ ps. on_line ps q) lines
 on-lines lines q =
     some-count (is_on q) (map piece_of (flat_map edges_of_list lines))
     ∙ any-map (is_on q) piece_of (flat_map edges_of_list lines)
@@ -120,7 +120,7 @@ ends-once q i (p ∷ ps) = by_test (is_closed (p ∷ ps)) refl
         two (same_point (grid_point p) q) (same_point (grid_point (last_from p ps)) q)
         (λ h k. both_ways (is_closed (p ∷ ps)) e (both-same p (last_from p ps) q i h k))
 
-count-ends : (lines : List (List Coordinates)) (q : PlanePoint) → IsPoint q →
+pub count-ends : (lines : List (List Coordinates)) (q : PlanePoint) → IsPoint q →
     count_by (is_on q) (map pieces.Dot (flat_map ends_of_line lines)) ≡ count_by (λ ps. is_among (ends_of_line ps) q) lines
 count-ends lines q i =
     count-map (is_on q) pieces.Dot (flat_map ends_of_line lines)

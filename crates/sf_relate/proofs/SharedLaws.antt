@@ -1,5 +1,5 @@
 -- Contact is a shared point; a Point has contact just where it is in the other geometry.
-use Rattle.std.proofs.Common.{◌≡◌, refl, ap, ◌∙◌, lit<, true, false, ◌||◌, List, [], ◌∷◌, inl, inr}
+use Rattle.std.proofs.Common.{◌≡◌, refl, ap, ◌∙◌, lit<, Bool, true, false, ◌||◌, not, List, [], ◌∷◌, inl, inr}
 use Rattle.std.specs.Prelude.{◌↔◌, IsTrue}
 use Rattle.std.proofs.lemmas.Bool.{and_from, and_parts, both_ways, or_cases, or_left, or_right}
 use Rattle.sf_grid.specs.Plane.{IsPoint, IsSamePoint, Point as PlanePoint, grid_point, same_point}
@@ -16,7 +16,7 @@ use Rattle.sf_plane.specs.declared.dim.Dim.{Dim}
 use Rattle.sf_plane.specs.declared.dim.Dim.TheVariants as dims
 use Rattle.sf_plane.specs.Dimension.{HasDimension, HasPoint, PointSet}
 use Rattle.sf_plane.specs.Unions.{AreInOneCell, dimension_by_samples}
-use Rattle.sf_relate.specs.declared.predicate.Predicate.TheVariants.{Intersects}
+use Rattle.sf_relate.specs.declared.predicate.Predicate.TheVariants.{Disjoint, Intersects}
 use Rattle.sf_relate.specs.AllPieces.{all_pieces}
 use Rattle.sf_relate.specs.Contact.{ContactIsShared, PointHasContact, SharePoint, is_in}
 use Rattle.sf_relate.specs.Matrices.{both, matrix_of}
@@ -25,13 +25,13 @@ use Rattle.sf_relate.specs.Predicates.{holds}
 use Rattle.sf_relate.proofs.SetLaws.{boundary_union, interior_union, matrices_are_over_the_plane, second_has}
 
 -- an entry is filled just where its set has a point
-filled : (set : PointSet) (d : Dim) → HasDimension set d → is_filled d ≡ true → HasPoint set
+pub filled : (set : PointSet) (d : Dim) → HasDimension set d → is_filled d ≡ true → HasPoint set
 filled set dims.Nothing h f = absurd (both_ways false refl f)
 filled set dims.Zero h f = h.0
 filled set dims.One h f = point_in_segment set h.0
 filled set dims.Two h f = point_in_segment set (segment_in_triangle set h)
 
-fills : (set : PointSet) (d : Dim) → HasDimension set d → HasPoint set → is_filled d ≡ true
+pub fills : (set : PointSet) (d : Dim) → HasDimension set d → HasPoint set → is_filled d ≡ true
 fills set dims.Nothing h p = absurd (h p)
 fills set dims.Zero h p = refl
 fills set dims.One h p = refl
@@ -106,22 +106,29 @@ intersects-contact d e dims.Nothing dims.Nothing ie dims.Nothing dims.One be ei 
 intersects-contact d e dims.Nothing dims.Nothing ie dims.Nothing dims.Two be ei eb ee = refl
 intersects-contact d e dims.Nothing dims.Nothing ie dims.Nothing dims.Nothing be ei eb ee = refl
 
+-- a test by what its negation is
+negated : (b c : Bool) → not b ≡ c → b ≡ not c
+negated true c h = ap not h
+negated false c h = ap not h
+
 pub contact_is_shared : (a b : Geometry) → ContactIsShared a b
 contact_is_shared a b =
     let m = (matrices_are_over_the_plane a b).computed in
     let dim = λ (s t : PointSet). dimension_by_samples (all_pieces a b) (both s t) in
+    let intersects : (d e : Dim) → holds Intersects d e (matrix_of a b) ≡ has_contact (matrix_of a b) = λ d e.
+    intersects-contact d e (dim (in_interior a) (in_interior b)) (dim (in_interior a) (in_boundary b)) (dim (in_interior a) (in_exterior b))
+    (dim (in_boundary a) (in_interior b)) (dim (in_boundary a) (in_boundary b)) (dim (in_boundary a) (in_exterior b))
+    (dim (in_exterior a) (in_interior b)) (dim (in_exterior a) (in_boundary b)) (dim (in_exterior a) (in_exterior b)) in
     record {
       shared =
           contact_from a b (dim (in_interior a) (in_interior b)) (dim (in_interior a) (in_boundary b)) (dim (in_boundary a) (in_interior b)) (dim (in_boundary a) (in_boundary b))
           m.0 m.1.0 m.1.1.1.0 m.1.1.1.1.0;
-      intersects = λ d e.
-          intersects-contact d e (dim (in_interior a) (in_interior b)) (dim (in_interior a) (in_boundary b)) (dim (in_interior a) (in_exterior b))
-          (dim (in_boundary a) (in_interior b)) (dim (in_boundary a) (in_boundary b)) (dim (in_boundary a) (in_exterior b))
-          (dim (in_exterior a) (in_interior b)) (dim (in_exterior a) (in_boundary b)) (dim (in_exterior a) (in_exterior b));
+      intersects = intersects;
+      disjoint = λ d e. negated (holds Disjoint d e (matrix_of a b)) (has_contact (matrix_of a b)) (intersects d e);
     }
 
 -- one point, however it is written, is in one cell
-one_cell : (all : List Piece) (p q : PlanePoint) → IsPoint p → IsPoint q → IsSamePoint p q → AreInOneCell all p q
+pub one_cell : (all : List Piece) (p q : PlanePoint) → IsPoint p → IsPoint q → IsSamePoint p q → AreInOneCell all p q
 one_cell all p q i j s =
     let e = same_cell all p q i j s in
     record {

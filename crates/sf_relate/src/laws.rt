@@ -1,7 +1,7 @@
 //! Laws of matrices, patterns and predicates, each the contract of a function that does nothing.
 
 ghost use Rattle.sf_geometry.specs.declared.geometry.Geometry.{Geometry};
-ghost use Rattle.sf_relate.specs.Contact.{ApartHasNoContact, ContactIsShared, LiesInBox, PointHasContact};
+ghost use Rattle.sf_relate.specs.Contact.{ApartHasNoContact, ContactIsShared, FirstPointIsIn, LiesInBox, PointFillsItsPlace, PointHasContact};
 ghost use Rattle.sf_relate.specs.Matrices.{MatricesAreOverThePlane};
 ghost use Rattle.sf_relate.specs.Patterns.{PatternsNeedContact};
 ghost use Rattle.sf_relate.specs.Places.{CountsTellPlaces};
@@ -28,7 +28,8 @@ pub fn predicates_need_contact()
     ensures { PredicatesNeedContact }
 {}
 
-/// Two geometries have contact just where they share a point of their interiors or boundaries.
+/// Two geometries have contact just where they share a point of their interiors or boundaries;
+/// contact alone tells whether they intersect or are disjoint.
 pub fn contact_is_shared()
     ensures { (a b : Geometry) → ContactIsShared a b }
 {}
@@ -36,6 +37,17 @@ pub fn contact_is_shared()
 /// A Point has contact just where it lies in the other geometry.
 pub fn point_has_contact()
     ensures { PointHasContact }
+{}
+
+/// A Point's entries are filled at its place in the other geometry, and there alone; those of its
+/// boundary never are.
+pub fn point_fills_its_place()
+    ensures { PointFillsItsPlace }
+{}
+
+/// The first point of a valid geometry is in it.
+pub fn first_point_is_in()
+    ensures { FirstPointIsIn }
 {}
 
 /// What is in a geometry with closed rings lies in its envelope.

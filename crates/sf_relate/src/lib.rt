@@ -1,12 +1,15 @@
 //! DE-9IM matrices of two geometries, patterns, and the named predicates.
 #![tactic(auto)]
 
+mod first_points;
 mod grouping;
 pub mod laws;
 mod letter;
+mod locating;
 mod matrix;
 mod pattern;
 mod place;
+mod point_predicates;
 mod predicate;
 mod refusal;
 mod relating;
@@ -15,12 +18,15 @@ mod sink;
 #[cfg(test)]
 mod tests;
 
+pub use first_points::shares_first_point;
 pub use letter::Letter;
+pub use locating::locate;
 pub use matrix::Matrix;
 pub use pattern::Pattern;
 pub use place::Place;
+pub use point_predicates::holds_of_point;
 pub use predicate::{Predicate, holds};
 pub use refusal::Refusal;
 pub use relating::relate;
 pub use sf_plane::Dim;
-pub use shape::Shape;
+pub use shape::{Shape, dimension};

@@ -1,5 +1,7 @@
-ghost use Rattle.std.specs.Prelude.{◌≡◌, ◌<◌};
-ghost use Rattle.sf_relate.specs.Places.{place_by, row_of};
+ghost use Rattle.std.specs.Prelude.{◌≡◌, ◌<◌, ◌||◌};
+ghost use Rattle.sf_relate.specs.Locating.{in_one_alone, together};
+ghost use Rattle.sf_relate.specs.Places.{is_place, place_by, row_of};
+ghost use Rattle.sf_relate.specs.declared.place.Place.TheVariants as places;
 
 use super::shape::Shape;
 
@@ -42,6 +44,46 @@ impl Place {
                 } else {
                     Place::Exterior
                 }
+            }
+        }
+    }
+
+    /// Whether it is in the geometry: in its interior or on its boundary.
+    pub fn is_in(self) -> bool
+        ensures { result ≡ (is_place places.Interior self || is_place places.Boundary self) }
+    {
+        match self {
+            Place::Interior | Place::Boundary => true,
+            Place::Exterior => false,
+        }
+    }
+
+    /// The place in what just one of two areas has, from the places in both: on the boundary where
+    /// it is on that of one of them.
+    pub(crate) fn in_one_alone(self, other: Place) -> Place
+        ensures { result ≡ in_one_alone self other }
+    {
+        match (self, other) {
+            (Place::Boundary, _) | (_, Place::Boundary) => Place::Boundary,
+            (Place::Exterior, _) => other,
+            (Place::Interior, Place::Exterior) => Place::Interior,
+            (Place::Interior, Place::Interior) => Place::Exterior,
+        }
+    }
+
+    /// The place on two sets of lines together, from the places on both: on the boundary where it
+    /// is an end of an odd number of the lines.
+    pub(crate) fn together(self, other: Place) -> Place
+        ensures { result ≡ together self other }
+    {
+        match (self, other) {
+            (Place::Exterior, _) => other,
+            (_, Place::Exterior) => self,
+            (Place::Interior, Place::Interior) | (Place::Boundary, Place::Boundary) => {
+                Place::Interior
+            }
+            (Place::Interior, Place::Boundary) | (Place::Boundary, Place::Interior) => {
+                Place::Boundary
             }
         }
     }

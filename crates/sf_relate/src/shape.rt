@@ -1,7 +1,10 @@
 ghost use Rattle.std.specs.Prelude.{◌≡◌};
+ghost use Rattle.sf_geometry.specs.Kinds.{dimension_of, kind_of};
+ghost use Rattle.sf_plane.specs.Unions.{dim_of};
 ghost use Rattle.sf_relate.specs.Places.{is_areal, shape_of};
 
 use sf_geometry::Geometry;
+use sf_plane::Dim;
 
 /// What a geometry is made of: points, lines or polygons.
 #[derive(Clone, Copy, Debug, PartialEq, Eq)]
@@ -31,5 +34,16 @@ impl Shape {
             Shape::Areas => true,
             Shape::Points | Shape::Lines => false,
         }
+    }
+}
+
+/// The dimension of the geometries of a geometry's kind, which predicates go by.
+pub fn dimension(geometry: &Geometry) -> Dim
+    ensures { result ≡ dim_of (dimension_of (kind_of geometry.now)) }
+{
+    match Shape::of(geometry) {
+        Shape::Points => Dim::Zero,
+        Shape::Lines => Dim::One,
+        Shape::Areas => Dim::Two,
     }
 }

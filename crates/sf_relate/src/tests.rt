@@ -1,6 +1,9 @@
-//! Matrices of worked pairs and which predicates hold of them; patterns of texts.
+//! Matrices of worked pairs and which predicates hold of them; patterns of texts; places of points.
 
-use crate::{Dim, Pattern, Predicate, Refusal, holds, relate};
+use crate::{
+    Dim, Pattern, Place, Predicate, Refusal, dimension, holds, holds_of_point, locate, relate,
+    shares_first_point,
+};
 use sf_geometry::{Geometry, Sequence};
 use sf_grid::GridPoint;
 use sf_validity::{Valid, validate};
@@ -12,6 +15,7 @@ type Places = &'static [(i32, i32)];
 /// A geometry by its places.
 #[derive(Clone, Copy)]
 enum Made {
+    Point(i32, i32),
     Points(Places),
     Line(Places),
     Lines(&'static [Places]),
@@ -25,6 +29,14 @@ struct Case {
     second: Made,
     matrix: &'static str,
     predicates: &'static [Predicate],
+}
+
+/// A geometry, and points by their places in it.
+struct Located {
+    geometry: Made,
+    interior: Places,
+    boundary: Places,
+    exterior: Places,
 }
 
 const SQUARE: Places = &[(0, 0), (10, 0), (10, 10), (0, 10), (0, 0)];
@@ -128,6 +140,163 @@ const CASES: &[Case] = &[
     },
 ];
 
+const LOCATED: &[Located] = &[
+    Located {
+        geometry: Made::Point(3, 4),
+        interior: &[(3, 4)],
+        boundary: &[],
+        exterior: &[(4, 3), (3, 5), (-3, 4)],
+    },
+    Located {
+        geometry: Made::Points(&[(0, 0), (5, 5), (0, 0)]),
+        interior: &[(0, 0), (5, 5)],
+        boundary: &[],
+        exterior: &[(0, 5), (1, 1)],
+    },
+    // Repeated points, and an upright edge.
+    Located {
+        geometry: Made::Line(&[(0, 0), (0, 0), (4, 4), (4, 4), (4, 10), (8, 10), (8, 10)]),
+        interior: &[(1, 1), (4, 4), (4, 7), (4, 10), (6, 10)],
+        boundary: &[(0, 0), (8, 10)],
+        exterior: &[(-1, -1), (5, 5), (4, 3), (4, 11), (3, 7), (5, 7), (9, 10)],
+    },
+    Located {
+        geometry: Made::Line(CLOSED),
+        interior: &[(0, 0), (10, 0), (5, 0), (5, 5), (10, 5)],
+        boundary: &[],
+        exterior: &[(7, 3), (-1, 0), (0, 10), (11, 11)],
+    },
+    Located {
+        geometry: Made::Lines(&[RISING, FALLING]),
+        interior: &[(5, 5), (2, 2), (7, 3)],
+        boundary: &[(0, 0), (10, 0)],
+        exterior: &[(5, 6), (5, 4), (5, 0)],
+    },
+    // Three ends at one point.
+    Located {
+        geometry: Made::Lines(&[RISING, FALLING, UPRIGHT]),
+        interior: &[(2, 2), (7, 3), (5, 7)],
+        boundary: &[(5, 5), (0, 0), (10, 0), (5, 10)],
+        exterior: &[(5, 4), (5, 11), (4, 7), (6, 7)],
+    },
+    // An end on a closed line.
+    Located {
+        geometry: Made::Lines(&[CLOSED, &[(0, 0), (-5, 0)]]),
+        interior: &[(10, 0), (5, 5), (-2, 0)],
+        boundary: &[(0, 0), (-5, 0)],
+        exterior: &[(7, 3), (-6, 0)],
+    },
+    // Vertices above and below what lies inside, and beside it.
+    Located {
+        geometry: Made::Polygon(&[&[(0, 5), (5, 0), (10, 5), (5, 10), (0, 5)]]),
+        interior: &[(5, 5), (1, 5), (9, 5), (5, 1), (5, 9)],
+        boundary: &[(0, 5), (5, 0), (10, 5), (5, 10), (2, 3), (8, 7)],
+        exterior: &[
+            (5, -1),
+            (5, 11),
+            (-1, 5),
+            (11, 5),
+            (0, 4),
+            (0, 6),
+            (10, 4),
+            (10, 6),
+        ],
+    },
+    // Repeated points, and points above and below upright edges.
+    Located {
+        geometry: Made::Polygon(&[&[
+            (0, 0),
+            (0, 0),
+            (10, 0),
+            (10, 10),
+            (10, 10),
+            (0, 10),
+            (0, 0),
+            (0, 0),
+        ]]),
+        interior: &[(5, 5), (1, 1), (9, 9), (1, 9)],
+        boundary: &[(0, 0), (10, 10), (10, 5), (0, 5), (5, 10), (5, 0)],
+        exterior: &[
+            (0, -1),
+            (0, 11),
+            (10, -1),
+            (10, 11),
+            (-1, 0),
+            (11, 10),
+            (-1, 5),
+            (11, 5),
+        ],
+    },
+    Located {
+        geometry: Made::Polygon(&[&[
+            (0, 0),
+            (12, 0),
+            (12, 9),
+            (8, 9),
+            (8, 3),
+            (4, 3),
+            (4, 9),
+            (0, 9),
+            (0, 0),
+        ]]),
+        interior: &[(2, 5), (10, 5), (6, 2), (4, 2), (8, 1), (2, 3)],
+        boundary: &[(4, 3), (6, 3), (8, 3), (4, 6), (8, 9), (2, 9)],
+        exterior: &[(6, 5), (6, 9), (5, 4), (4, 10), (8, 10), (4, -1), (13, 9)],
+    },
+    Located {
+        geometry: Made::Polygons(&[&[LARGE, HOLE], &[ISLAND]]),
+        interior: &[(5, 5), (15, 15), (10, 9), (10, 21), (12, 25), (15, 5)],
+        boundary: &[(0, 0), (10, 15), (12, 12), (18, 15), (20, 20), (30, 15)],
+        exterior: &[
+            (11, 11),
+            (11, 15),
+            (19, 15),
+            (12, 11),
+            (12, 19),
+            (31, 15),
+            (15, -1),
+        ],
+    },
+    Located {
+        geometry: Made::Polygons(&[&[SQUARE], &[HOLE]]),
+        interior: &[(5, 5), (15, 15)],
+        boundary: &[(10, 10), (10, 5), (10, 15)],
+        exterior: &[(15, 5), (5, 15), (10, -1), (10, 21)],
+    },
+];
+
+/// Two geometries, and whether the first point of one of them lies in the other.
+const FIRST_POINTS: &[(Made, Made, bool)] = &[
+    (Made::Polygon(&[SQUARE]), Made::Polygon(&[ACROSS]), true),
+    (Made::Polygon(&[SQUARE]), Made::Polygon(&[BESIDE]), true),
+    (Made::Point(5, 5), Made::Lines(&[RISING, FALLING]), true),
+    (Made::Points(&[(9, 9), (0, 0)]), Made::Line(RISING), true),
+    (Made::Points(&[(9, 9), (5, 5)]), Made::Line(RISING), false),
+    (
+        Made::Line(&[(-5, 5), (15, 5)]),
+        Made::Polygon(&[SQUARE]),
+        false,
+    ),
+    (
+        Made::Polygons(&[&[LARGE, HOLE]]),
+        Made::Polygon(&[ISLAND]),
+        false,
+    ),
+];
+
+/// What a Point's place in the other geometry tells of a predicate: inside, on the boundary and
+/// outside.
+const TOLD: [(Predicate, [Option<bool>; 3]); 8] = [
+    (Predicate::Equals, [None, Some(false), Some(false)]),
+    (Predicate::Disjoint, [Some(false), Some(false), Some(true)]),
+    (Predicate::Intersects, [Some(true), Some(true), Some(false)]),
+    (Predicate::Touches, [Some(false), Some(true), Some(false)]),
+    (Predicate::Within, [Some(true), Some(false), Some(false)]),
+    (Predicate::Contains, [None, Some(false), Some(false)]),
+    (Predicate::Crosses, [Some(false), Some(false), Some(false)]),
+    (Predicate::Overlaps, [Some(false), Some(false), Some(false)]),
+];
+
 const PREDICATES: [Predicate; 8] = [
     Predicate::Equals,
     Predicate::Disjoint,
@@ -143,7 +312,7 @@ impl Made {
     /// The dimension of the geometry.
     fn dimension(self) -> Dim {
         match self {
-            Made::Points(_) => Dim::Zero,
+            Made::Point(_, _) | Made::Points(_) => Dim::Zero,
             Made::Line(_) | Made::Lines(_) => Dim::One,
             Made::Polygon(_) | Made::Polygons(_) => Dim::Two,
         }
@@ -152,6 +321,7 @@ impl Made {
     /// The geometry.
     fn geometry(self, alloc: Global) -> Result<Geometry, Fail> {
         Ok(match self {
+            Made::Point(x, y) => Geometry::Point(GridPoint::new(x, y).ok_or("off the grid")?),
             Made::Points(places) => Geometry::MultiPoint(list(alloc, places)?),
             Made::Line(places) => Geometry::LineString(list(alloc, places)?),
             Made::Lines(all) => Geometry::MultiLineString(lists(alloc, all)?),
@@ -261,6 +431,50 @@ fn matches_of_patterns(rt: HostRuntime) -> Result<(), Fail> {
     for (text, wanted) in cases {
         let found = Pattern::parse(text).map(|pattern| pattern.matches(&matrix));
         assert_eq!(rt; found, Ok(wanted), "{text}");
+    }
+    Ok(())
+}
+
+/// The first of some points that isn't at the place.
+fn misplaced(geometry: &Valid, points: Places, place: Place) -> Option<(i32, i32)> {
+    for (x, y) in points {
+        let found = GridPoint::new(*x, *y).map(|point| locate(geometry, point));
+        if found != Some(place) {
+            return Some((*x, *y));
+        }
+    }
+    None
+}
+
+#[test]
+fn places(rt: HostRuntime) -> Result<(), Fail> {
+    for case in LOCATED {
+        let geometry = case.geometry.valid(rt.alloc())?;
+        assert_eq!(rt; dimension(geometry.geometry()), case.geometry.dimension());
+        assert_eq!(rt; misplaced(&geometry, case.interior, Place::Interior), None);
+        assert_eq!(rt; misplaced(&geometry, case.boundary, Place::Boundary), None);
+        assert_eq!(rt; misplaced(&geometry, case.exterior, Place::Exterior), None);
+    }
+    Ok(())
+}
+
+#[test]
+fn first_points(rt: HostRuntime) -> Result<(), Fail> {
+    for (first, second, wanted) in FIRST_POINTS {
+        let a = first.valid(rt.alloc())?;
+        let b = second.valid(rt.alloc())?;
+        assert_eq!(rt; shares_first_point(&a, &b), *wanted);
+        assert_eq!(rt; shares_first_point(&b, &a), *wanted);
+    }
+    Ok(())
+}
+
+#[test]
+fn predicates_of_points(rt: HostRuntime) -> Result<(), Fail> {
+    for (predicate, [inside, boundary, outside]) in TOLD {
+        assert_eq!(rt; holds_of_point(predicate, Place::Interior), inside);
+        assert_eq!(rt; holds_of_point(predicate, Place::Boundary), boundary);
+        assert_eq!(rt; holds_of_point(predicate, Place::Exterior), outside);
     }
     Ok(())
 }

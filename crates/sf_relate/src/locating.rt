@@ -1,0 +1,221 @@
+//! Where a point of the grid lies in a geometry, by one pass over its edges.
+
+ghost use Rattle.std.specs.Prelude.{◌≡◌, ◌∷◌, ◌&&◌, [], pos, int_lt, int_le};
+ghost use Rattle.std.specs.List.{flat_map, list_any};
+ghost use Rattle.sf_grid.specs.Edge.{below_rightward, cross as cross_of, edge_above, edge_between};
+ghost use Rattle.sf_grid.specs.Plane.{grid_point, same_point};
+ghost use Rattle.sf_geometry.specs.Lists.{edges_of, ends_of};
+ghost use Rattle.sf_geometry.specs.Parts.{joined};
+ghost use Rattle.sf_geometry.specs.PointSets.{is_among, on_line};
+ghost use Rattle.sf_relate.specs.Locating.{edges_place, line_place, lines_place, place_by_tests, point_place};
+ghost use Rattle.sf_relate.specs.Places.{IsPlaceOf};
+
+use super::place::Place;
+use sf_geometry::{Geometry, Sequence};
+use sf_grid::edges::{on_edge, orientation};
+use sf_grid::{GridPoint, Turn};
+use sf_validity::Valid;
+
+/// Where a point of the grid lies in a geometry. One pass over its edges, with no memory.
+pub fn locate(geometry: &Valid, point: GridPoint) -> Place
+    ensures { IsPlaceOf geometry.now (grid_point point) result }
+{
+    place_in(geometry.geometry(), point)
+}
+
+/// The place in a geometry, by the tests of its kind.
+fn place_in(geometry: &Geometry, point: GridPoint) -> Place
+    ensures { result ≡ place_by_tests geometry.now (grid_point point) }
+{
+    match geometry {
+        Geometry::Point(at) => place_by_presence(is_at(*at, point)),
+        Geometry::MultiPoint(points) => place_by_presence(is_one_of(points.as_slice(), point)),
+        Geometry::LineString(line) => place_on_line(line.as_slice(), point),
+        Geometry::MultiLineString(lines) => place_on_lines(lines.as_slice(), point),
+        Geometry::Polygon(rings) => place_in_rings(rings.as_slice(), point),
+        Geometry::MultiPolygon(polygons) => place_in_polygons(polygons.as_slice(), point),
+    }
+}
+
+/// The place in points, by whether one of them is there.
+fn place_by_presence(is_there: bool) -> Place
+    ensures { result ≡ point_place is_there }
+{
+    if is_there {
+        Place::Interior
+    } else {
+        Place::Exterior
+    }
+}
+
+/// The place in lines: in the boundary of an end of an odd number of those that aren't closed.
+fn place_on_lines(lines: &[Sequence<GridPoint>], point: GridPoint) -> Place
+    ensures { result ≡ lines_place lines.now (grid_point point) }
+{
+    let mut place = Place::Exterior;
+    for line in lines {
+        place = place.together(place_on_line(line.as_slice(), point));
+    }
+    place
+}
+
+/// The place in one line.
+fn place_on_line(line: &[GridPoint], point: GridPoint) -> Place
+    ensures { result ≡ line_place (on_line line.now (grid_point point)) (is_among (ends_of line.now) (grid_point point)) }
+{
+    if is_end(line, point) {
+        Place::Boundary
+    } else if is_on_line(line, point) {
+        Place::Interior
+    } else {
+        Place::Exterior
+    }
+}
+
+/// Whether the point is the first or the last one of a line that isn't closed.
+fn is_end(line: &[GridPoint], point: GridPoint) -> bool
+    ensures { result ≡ is_among (ends_of line.now) (grid_point point) }
+{
+    let Some((first, others)) = line.split_first() else {
+        return false;
+    };
+    let Some((last, _)) = others.split_last() else {
+        return false;
+    };
+    if *first == *last {
+        return false;
+    }
+    is_at(*first, point) || is_at(*last, point)
+}
+
+/// Whether both are one point.
+fn is_at(a: GridPoint, b: GridPoint) -> bool
+    ensures { result ≡ same_point (grid_point a) (grid_point b) }
+{
+    a == b
+}
+
+/// Whether the point is one of several.
+fn is_one_of(points: &[GridPoint], point: GridPoint) -> bool
+    ensures { result ≡ is_among points.now (grid_point point) }
+{
+    points.iter().any(|at| is_at(*at, point))
+}
+
+/// Whether an edge of a line has the point.
+fn is_on_line(line: &[GridPoint], point: GridPoint) -> bool
+    ensures { result ≡ on_line line.now (grid_point point) }
+{
+    let Some((first, others)) = line.split_first() else {
+        return false;
+    };
+    let mut from = *first;
+    for to in others {
+        if is_on_neighbours(from, *to, point) {
+            return true;
+        }
+        from = *to;
+    }
+    false
+}
+
+/// Whether the edge between two neighbours has the point. Equal ones have no edge.
+fn is_on_neighbours(from: GridPoint, to: GridPoint, point: GridPoint) -> bool
+    ensures { result ≡ on_line (from ∷ to ∷ []) (grid_point point) }
+{
+    from != to && on_edge(point, from, to)
+}
+
+/// The place in polygons, by the edges of all their rings.
+fn place_in_polygons(polygons: &[Sequence<Sequence<GridPoint>>], point: GridPoint) -> Place
+    ensures { result ≡ edges_place (flat_map edges_of (joined polygons.now)) (grid_point point) }
+{
+    let mut place = Place::Exterior;
+    for rings in polygons {
+        place = place.in_one_alone(place_in_rings(rings.as_slice(), point));
+        if let Place::Boundary = place {
+            return place;
+        }
+    }
+    place
+}
+
+/// The place in a polygon, by the edges of its rings.
+fn place_in_rings(rings: &[Sequence<GridPoint>], point: GridPoint) -> Place
+    ensures { result ≡ edges_place (flat_map edges_of rings.now) (grid_point point) }
+{
+    let mut place = Place::Exterior;
+    for ring in rings {
+        place = place.in_one_alone(place_in_ring(ring.as_slice(), point));
+        if let Place::Boundary = place {
+            return place;
+        }
+    }
+    place
+}
+
+/// The place in one ring, by its edges.
+fn place_in_ring(ring: &[GridPoint], point: GridPoint) -> Place
+    ensures { result ≡ edges_place (edges_of ring.now) (grid_point point) }
+{
+    let Some((first, others)) = ring.split_first() else {
+        return Place::Exterior;
+    };
+    let mut from = *first;
+    let mut place = Place::Exterior;
+    for to in others {
+        place = place.in_one_alone(place_by_neighbours(from, *to, point));
+        if let Place::Boundary = place {
+            return place;
+        }
+        from = *to;
+    }
+    place
+}
+
+/// What the edge between two neighbours tells of the place: that the point is on it, or below it.
+/// Equal ones have no edge.
+fn place_by_neighbours(from: GridPoint, to: GridPoint, point: GridPoint) -> Place
+    ensures { result ≡ edges_place (edges_of (from ∷ to ∷ [])) (grid_point point) }
+{
+    if is_on_neighbours(from, to, point) {
+        Place::Boundary
+    } else if is_above(from, to, point) {
+        Place::Interior
+    } else {
+        Place::Exterior
+    }
+}
+
+/// Whether the edge between `a` and `b` is strictly above the point. The column of its left end
+/// belongs to it and that of its right end doesn't, so a path that passes the point's column at a
+/// vertex counts there once. An upright edge is above nothing.
+fn is_above(a: GridPoint, b: GridPoint, point: GridPoint) -> bool
+    ensures { result ≡ edge_above (edge_between a b) (grid_point point) }
+{
+    is_above_from_left(a, b, point) || is_above_from_left(b, a, point)
+}
+
+/// Whether `left` is the left end of the edge, and it is above the point.
+fn is_above_from_left(left: GridPoint, right: GridPoint, point: GridPoint) -> bool
+    ensures { result ≡ below_rightward left right (grid_point point) }
+{
+    is_in_columns(left, right, point) && is_to_the_right(left, right, point)
+}
+
+/// Whether the point is in the columns from that of `left` to the one before that of `right`.
+fn is_in_columns(left: GridPoint, right: GridPoint, point: GridPoint) -> bool
+    ensures { result ≡ (int_le left.x point.x && int_lt point.x right.x) }
+{
+    left.x() <= point.x() && point.x() < right.x()
+}
+
+/// Whether the point is to the right of the way from `a` to `b`.
+fn is_to_the_right(a: GridPoint, b: GridPoint, point: GridPoint) -> bool
+    ensures { result ≡ int_lt (cross_of a b (grid_point point)) (pos 0) }
+{
+    match orientation(a, b, point) {
+        Turn::Right => true,
+        Turn::Left | Turn::Straight => false,
+    }
+}
