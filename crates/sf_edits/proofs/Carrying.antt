@@ -77,11 +77,10 @@ Carries-wanting old new edit back may is same = record {
 }
 
 -- its inverse holds as much as it took out or overwrote
-pub Carries-weight : (old new : Content) (edit carried : Edit) (result : Result Inverse (Edit × Refusal)) → edit ≡ carried → Carries old carried result new
+pub Carries-weight : (old new : Content) (edit : Edit) (result : Result Inverse (Edit × Refusal)) → Carries old edit result new
     → IfOk result (λ inverse. weight inverse ≡ touched old edit)
-Carries-weight old new edit carried (Ok inverse) is carries =
-    ap weight carries.inverse ∙ weighs old new carried (answer_of inverse) carries.accepted.led ∙ ap (touched old) (sym is)
-Carries-weight old new edit carried (Err refused) is carries = tt
+Carries-weight old new edit (Ok inverse) carries = ap weight carries.inverse ∙ weighs old new edit (answer_of inverse) carries.accepted.led
+Carries-weight old new edit (Err refused) carries = tt
 
 -- ---- taking it back
 

@@ -90,12 +90,12 @@ pub(crate) fn add_feature(
 }
 
 /// Takes a feature off and its layer's counter back.
-pub(crate) fn undo_add_feature(store: &mut Store, layer: Text, id: u32) -> Edit
+pub(crate) fn undo_add_feature(alloc: Global, store: &mut Store, layer: Text, id: u32) -> Edit
     requires { Fits store.old (Inverse.TakeFeature layer id) }
     ensures { Reverts store.old (Inverse.TakeFeature layer id) result store.new }
 {
     let place = store.place(layer.as_str()).unwrap();
-    let feature = store.pop_feature(place, id);
+    let feature = store.pop_feature(alloc, place, id);
     Edit::AddFeature {
         layer,
         geometry: feature.into_valid().into_geometry(),
@@ -104,6 +104,7 @@ pub(crate) fn undo_add_feature(store: &mut Store, layer: Text, id: u32) -> Edit
 
 /// Takes a feature out. Its identifier is not given again.
 pub(crate) fn delete_feature(
+    alloc: Global,
     store: &mut Store,
     layer: Text,
     id: u32,
@@ -114,7 +115,7 @@ pub(crate) fn delete_feature(
         Ok(place) => place,
         Err(refusal) => return Err((Edit::DeleteFeature { layer, id }, refusal)),
     };
-    let feature = store.take_feature(place, id);
+    let feature = store.take_feature(alloc, place, id);
     Ok(Inverse::PutFeature { layer, id, feature })
 }
 
@@ -182,7 +183,7 @@ pub(crate) fn replace_geometry(
     };
     match validate(alloc, geometry) {
         Ok(valid) => {
-            let old = store.exchange_geometry(place, id, valid);
+            let old = store.exchange_geometry(alloc, place, id, valid);
             Ok(Inverse::PutGeometry { layer, id, old })
         }
         Err(Invalid { refusal, geometry }) => {
@@ -197,12 +198,18 @@ pub(crate) fn replace_geometry(
 }
 
 /// Puts a feature's old geometry back.
-pub(crate) fn undo_replace_geometry(store: &mut Store, layer: Text, id: u32, old: Valid) -> Edit
+pub(crate) fn undo_replace_geometry(
+    alloc: Global,
+    store: &mut Store,
+    layer: Text,
+    id: u32,
+    old: Valid,
+) -> Edit
     requires { Fits store.old (Inverse.PutGeometry layer id old) }
     ensures { Reverts store.old (Inverse.PutGeometry layer id old) result store.new }
 {
     let place = store.place(layer.as_str()).unwrap();
-    let valid = store.exchange_geometry(place, id, old);
+    let valid = store.exchange_geometry(alloc, place, id, old);
     Edit::ReplaceGeometry {
         layer,
         id,

@@ -31,6 +31,82 @@ pub fn apply(alloc: Global, store: &mut Store, edit: Edit) -> Result<Inverse, (E
     ensures carried_out { Carries store.old edit result store.new }
     ensures weight { IfOk result (λ inverse. weight inverse ≡ touched store.old edit) }
 {
+    let inverse = carry_out(alloc, store, edit)?;
+    let place = place_after_edit(store, &inverse);
+    reindex(alloc, store, place);
+    Ok(inverse)
+}
+
+/// Takes an accepted edit back, and gives the edit that leads there again, with the same answer.
+///
+/// # Errors
+///
+/// Where no memory is found, the inverse is given back and nothing is changed. What only takes out
+/// or exchanges is never refused so.
+pub fn revert(alloc: Global, store: &mut Store, inverse: Inverse) -> Result<Edit, Inverse>
+    requires { Fits store.old inverse }
+    ensures reverted { IfOk result (λ edit. Reverts store.old inverse edit store.new) }
+    ensures given_back { IfErr result (λ back. back ≡ inverse) }
+    ensures unchanged { OnErr result (store.new ≡ store.old) }
+    ensures always { IsTrue (frees_only store.old inverse) → IsOk result }
+{
+    let edit = take_back(alloc, store, inverse)?;
+    let place = place_after_undo(store, &edit);
+    reindex(alloc, store, place);
+    Ok(edit)
+}
+
+// Builds the index of the layer at a place anew where it was lost.
+fn reindex(alloc: Global, store: &mut Store, place: Option<usize>)
+    ensures { store.new ≡ store.old }
+{
+    if let Some(place) = place {
+        store.reindex(alloc, place);
+    }
+}
+
+// The place of the layer that an accepted edit named, which may have lost its index. One that is dropped
+// has none, and one that is new has its index.
+fn place_after_edit(store: &Store, inverse: &Inverse) -> Option<usize> {
+    match inverse {
+        Inverse::TakeLayer | Inverse::PutLayer { .. } => None,
+        Inverse::RenameLayer { place, .. } => Some(*place),
+        Inverse::MoveLayer { name, .. } => store.place(name.as_str()),
+        Inverse::TakeColumn { layer }
+        | Inverse::PutColumn { layer, .. }
+        | Inverse::TakeFeature { layer, .. }
+        | Inverse::PutFeature { layer, .. }
+        | Inverse::PutGeometry { layer, .. }
+        | Inverse::TakeVertex { layer, .. }
+        | Inverse::MoveVertex { layer, .. }
+        | Inverse::PutVertex { layer, .. }
+        | Inverse::PutValue { layer, .. } => store.place(layer.as_str()),
+    }
+}
+
+// The same once the edit is taken back.
+fn place_after_undo(store: &Store, edit: &Edit) -> Option<usize> {
+    match edit {
+        Edit::AddLayer { .. } => None,
+        Edit::DropLayer { name } | Edit::RenameLayer { name, .. } | Edit::MoveLayer { name, .. } =>
+            { store.place(name.as_str()) }
+        Edit::AddColumn { layer, .. }
+        | Edit::DropColumn { layer, .. }
+        | Edit::AddFeature { layer, .. }
+        | Edit::DeleteFeature { layer, .. }
+        | Edit::ReplaceGeometry { layer, .. }
+        | Edit::InsertVertex { layer, .. }
+        | Edit::MoveVertex { layer, .. }
+        | Edit::RemoveVertex { layer, .. }
+        | Edit::SetValue { layer, .. }
+        | Edit::ClearValue { layer, .. } => store.place(layer.as_str()),
+    }
+}
+
+/// Carries out an edit, whatever becomes of indexes.
+fn carry_out(alloc: Global, store: &mut Store, edit: Edit) -> Result<Inverse, (Edit, Refusal)>
+    ensures { Carries store.old edit result store.new }
+{
     match edit {
         Edit::AddLayer { name, kind } => add_layer(alloc, store, name, kind),
         Edit::DropLayer { name } => drop_layer(alloc, store, name),
@@ -43,7 +119,7 @@ pub fn apply(alloc: Global, store: &mut Store, edit: Edit) -> Result<Inverse, (E
         } => add_column(alloc, store, layer, name, column_type),
         Edit::DropColumn { layer, name } => drop_column(alloc, store, layer, name),
         Edit::AddFeature { layer, geometry } => add_feature(alloc, store, layer, geometry),
-        Edit::DeleteFeature { layer, id } => delete_feature(store, layer, id),
+        Edit::DeleteFeature { layer, id } => delete_feature(alloc, store, layer, id),
         Edit::ReplaceGeometry {
             layer,
             id,
@@ -82,13 +158,8 @@ pub fn apply(alloc: Global, store: &mut Store, edit: Edit) -> Result<Inverse, (E
     }
 }
 
-/// Takes an accepted edit back, and gives the edit that leads there again, with the same answer.
-///
-/// # Errors
-///
-/// Where no memory is found, the inverse is given back and nothing is changed. What only takes out
-/// or exchanges takes no memory.
-pub fn revert(alloc: Global, store: &mut Store, inverse: Inverse) -> Result<Edit, Inverse>
+/// Takes an accepted edit back, whatever becomes of indexes.
+fn take_back(alloc: Global, store: &mut Store, inverse: Inverse) -> Result<Edit, Inverse>
     requires { Fits store.old inverse }
     ensures reverted { IfOk result (λ edit. Reverts store.old inverse edit store.new) }
     ensures given_back { IfErr result (λ back. back ≡ inverse) }
@@ -117,12 +188,12 @@ pub fn revert(alloc: Global, store: &mut Store, inverse: Inverse) -> Result<Edit
             column,
             values,
         } => undo_drop_column(alloc, store, layer, name, place, column, values),
-        Inverse::TakeFeature { layer, id } => Ok(undo_add_feature(store, layer, id)),
+        Inverse::TakeFeature { layer, id } => Ok(undo_add_feature(alloc, store, layer, id)),
         Inverse::PutFeature { layer, id, feature } => {
             undo_delete_feature(alloc, store, layer, id, feature)
         }
         Inverse::PutGeometry { layer, id, old } => {
-            Ok(undo_replace_geometry(store, layer, id, old))
+            Ok(undo_replace_geometry(alloc, store, layer, id, old))
         }
         Inverse::TakeVertex {
             layer,
@@ -130,7 +201,7 @@ pub fn revert(alloc: Global, store: &mut Store, inverse: Inverse) -> Result<Edit
             part,
             ring,
             index,
-        } => Ok(undo_insert_vertex(store, layer, id, part, ring, index)),
+        } => Ok(undo_insert_vertex(alloc, store, layer, id, part, ring, index)),
         Inverse::MoveVertex {
             layer,
             id,
@@ -138,7 +209,7 @@ pub fn revert(alloc: Global, store: &mut Store, inverse: Inverse) -> Result<Edit
             ring,
             index,
             old,
-        } => Ok(undo_move_vertex(store, layer, id, part, ring, index, old)),
+        } => Ok(undo_move_vertex(alloc, store, layer, id, part, ring, index, old)),
         Inverse::PutVertex {
             layer,
             id,

@@ -49,6 +49,7 @@ pub(crate) fn insert_vertex(
 
 /// Takes a vertex that was put in out again.
 pub(crate) fn undo_insert_vertex(
+    alloc: Global,
     store: &mut Store,
     layer: Text,
     id: u32,
@@ -60,7 +61,7 @@ pub(crate) fn undo_insert_vertex(
     ensures { Reverts store.old (Inverse.TakeVertex layer id part ring index) result store.new }
 {
     let place = store.place(layer.as_str()).unwrap();
-    let point = store.take_vertex_back(place, id, part, ring, index);
+    let point = store.take_vertex_back(alloc, place, id, part, ring, index);
     Edit::InsertVertex {
         layer,
         id,
@@ -113,6 +114,7 @@ pub(crate) fn move_vertex(
 
 /// Moves a vertex back to where it was.
 pub(crate) fn undo_move_vertex(
+    alloc: Global,
     store: &mut Store,
     layer: Text,
     id: u32,
@@ -125,7 +127,7 @@ pub(crate) fn undo_move_vertex(
     ensures { Reverts store.old (Inverse.MoveVertex layer id part ring index old) result store.new }
 {
     let place = store.place(layer.as_str()).unwrap();
-    let point = store.move_vertex_back(place, id, part, ring, index, old);
+    let point = store.move_vertex_back(alloc, place, id, part, ring, index, old);
     Edit::MoveVertex {
         layer,
         id,

@@ -1,21 +1,26 @@
-ghost use Rattle.std.specs.Prelude.{◌≡◌, ◌<◌, ◌≤◌, ◌-◌, ◌^◌, ℕ, false, is_some, length, option_copied, None, Some, IsOkAnd, IsSome, IsSomeAnd, IfErr, IfOk, IfSome, OnErr, OnOk, slice_get};
+ghost use Rattle.std.specs.Prelude.{◌≡◌, ◌<◌, ◌≤◌, ◌-◌, ◌^◌, ℕ, false, is_some, length, option_copied, None, Some, IsOkAnd, IsSome, IsSomeAnd, IfErr, IfOk, IfSome, OnErr, OnOk, nat_eq, slice_get};
 ghost use Rattle.std.specs.List.{AllByRecursion};
-ghost use Rattle.std.specs.Map.{keys_of, values_of};
+ghost use Rattle.std.specs.BTreeMap.{insert_entry};
+ghost use Rattle.std.specs.Map.{keys_of, lookup, values_of};
 ghost use Rattle.std.specs.Map.Iter.{ShowsInOrder, deref_pair};
+ghost use Rattle.std.specs.Ordering.{nat_cmp};
 ghost use Rattle.sf_geometry.specs.Vertices.{insert_vertex, move_vertex, remove_vertex, vertex_of};
 ghost use Rattle.sf_rules.specs.Validity.{IsValid};
 ghost use Rattle.sf_validity.specs.Held.{IsHeld};
 ghost use Rattle.sf_validity.specs.Refusals.{RefusesChange};
 ghost use Rattle.sf_features.specs.Columns.{numbered};
 ghost use Rattle.sf_features.specs.Features.{FeatureContent, change_geometry, value_in, with_geometry, with_value, without_value};
+ghost use Rattle.sf_layers.specs.Boxes.{boxes_of};
 ghost use Rattle.sf_layers.specs.Content.{change_feature, column_named, column_place, column_values, empty_layer, feature_of, with_column, with_feature, with_last_column, with_next_column, with_next_feature, with_next_id, with_values, without_column, without_feature, without_last_column, without_last_feature, without_values};
 ghost use Rattle.sf_layers.specs.WellFormed.{column_end, id_end};
 
 use super::column_moves::{ids_with_value, put_all, take_from};
 use super::column_values::ColumnValues;
+use super::index::{extent_of, index_of, move_box, put_box, take_box};
 use super::layer_kind::LayerKind;
 use sf_features::{AttrValue, Column, ColumnType, Columns, Feature, Text};
 use sf_grid::GridPoint;
+use sf_rtree::{RTree, SpatialIndex};
 use sf_validity::{Refusal, Valid};
 use std::alloc::{AllocError, Global};
 use std::collections::{BTreeMap, btree_map};
@@ -23,16 +28,23 @@ use std::marker::Model;
 
 /// A layer of features by identifier, with its columns in order and the counters of its identifiers
 /// and column numbers.
-#[derive(Debug, Drop)]
+///
+/// It keeps an index of its features' boxes. Want of memory loses the index and refuses no change;
+/// `reindex` builds it anew. Contracts see a layer as its content, to which the index adds nothing.
+#[derive(Drop)]
+#[derive_where(Debug)]
 pub struct Layer {
     kind: LayerKind,
     next_id: u32,
     next_column: u16,
     columns: Columns,
     features: BTreeMap<u32, Feature>,
+    #[derive_where(skip)]
+    index: Option<RTree>,
 }
 
 impl Model for Layer {
+    ghost use Rattle.sf_layers.specs.Boxes.{Agrees};
     ghost use Rattle.sf_layers.specs.Content.{LayerContent};
 
     ghost Value = { LayerContent };
@@ -44,6 +56,8 @@ impl Model for Layer {
       columns = a.columns;
       features = a.features.entries;
     } };
+
+    ghost invariant = { λ a. Agrees a.index a.features.entries };
 }
 
 impl Layer {
@@ -57,6 +71,7 @@ impl Layer {
             next_column: 1,
             columns: Columns::new(alloc),
             features: BTreeMap::new(alloc),
+            index: Some(RTree::new(alloc)),
         }
     }
 
@@ -138,11 +153,20 @@ impl Layer {
         self.columns.place(name)
     }
 
-    /// Whether the layer has an index of its features' boxes. No layer has one.
-    pub fn indexed(&self) -> bool
-        ensures { result ≡ false }
+    /// The index of the features' boxes by identifier, or None where it was lost for want of memory.
+    pub fn index(&self) -> Option<&RTree>
+        ensures { IfSome result (λ index. index.now ≡ boxes_of self.now.features) }
     {
-        false
+        self.index.as_ref()
+    }
+
+    /// Builds the index anew where there is none; where no memory is found, there is none still.
+    pub fn reindex(&mut self, alloc: Global)
+        ensures { self.new ≡ self.old }
+    {
+        if self.index.is_none() {
+            self.index = index_of(alloc, &self.features).ok();
+        }
     }
 
     /// Puts a feature under an identifier that is free.
@@ -156,24 +180,21 @@ impl Layer {
         ensures given_back { IfErr result (λ back. back ≡ feature) }
         ensures unchanged { OnErr result (self.new ≡ self.old) }
     {
-        // The map has its own allocator.
-        let _ = alloc;
-        match self.features.insert(id, feature) {
-            Ok(_) => Ok(()),
-            Err(failed) => {
-                let (_, feature) = failed.value;
-                Err(feature)
-            }
-        }
+        let extent = extent_of(&feature);
+        insert_feature(&mut self.features, id, feature)?;
+        put_box(alloc, &mut self.index, id, extent);
+        Ok(())
     }
 
     /// Takes the feature of an identifier out.
-    pub fn take_feature(&mut self, id: u32) -> Feature
+    pub fn take_feature(&mut self, alloc: Global, id: u32) -> Feature
         requires { IsSome (feature_of self.old id) }
         ensures taken { feature_of self.old id ≡ Some result }
         ensures rest { self.new ≡ without_feature id self.old }
     {
-        self.features.remove(&id).unwrap()
+        let feature = self.features.remove(&id).unwrap();
+        take_box(alloc, &mut self.index, id, extent_of(&feature));
+        feature
     }
 
     /// Puts a feature under the next identifier, which it gives, and raises the counter.
@@ -196,13 +217,13 @@ impl Layer {
     }
 
     /// Takes the feature of an identifier out, which is the next one then.
-    pub fn pop_feature(&mut self, id: u32) -> Feature
+    pub fn pop_feature(&mut self, alloc: Global, id: u32) -> Feature
         requires { IsSome (feature_of self.old id) }
         ensures taken { feature_of self.old id ≡ Some result }
         ensures rest { self.new ≡ without_last_feature id self.old }
     {
         self.next_id = id;
-        self.take_feature(id)
+        self.take_feature(alloc, id)
     }
 
     /// Sets the identifier that the next feature takes.
@@ -376,14 +397,19 @@ impl Layer {
     }
 
     /// Puts another geometry in the place of a feature's, and gives that one.
-    pub(crate) fn exchange_geometry(&mut self, id: u32, valid: Valid) -> Valid
+    pub(crate) fn exchange_geometry(&mut self, alloc: Global, id: u32, valid: Valid) -> Valid
         requires { IsSome (feature_of self.old id) }
         ensures given { IsSomeAnd (feature_of self.old id) (λ feature.
             result ≡ feature.geometry) }
         ensures put { self.new ≡ change_feature id (with_geometry valid) self.old }
     {
         match self.features.get_mut(&id) {
-            Some(feature) => feature.exchange_geometry(valid),
+            Some(feature) => {
+                let before = extent_of(feature);
+                let old = feature.exchange_geometry(valid);
+                move_box(alloc, &mut self.index, id, before, extent_of(feature));
+                old
+            }
             None => unreachable!(),
         }
     }
@@ -409,7 +435,12 @@ impl Layer {
         ensures unchanged { OnErr result (self.new ≡ self.old) }
     {
         match self.features.get_mut(&id) {
-            Some(feature) => feature.insert_vertex(alloc, part, ring, index, point),
+            Some(feature) => {
+                let before = extent_of(feature);
+                let outcome = feature.insert_vertex(alloc, part, ring, index, point);
+                move_box(alloc, &mut self.index, id, before, extent_of(feature));
+                outcome
+            }
             None => unreachable!(),
         }
     }
@@ -437,7 +468,12 @@ impl Layer {
         ensures unchanged { OnErr result (self.new ≡ self.old) }
     {
         match self.features.get_mut(&id) {
-            Some(feature) => feature.move_vertex(alloc, part, ring, index, point),
+            Some(feature) => {
+                let before = extent_of(feature);
+                let outcome = feature.move_vertex(alloc, part, ring, index, point);
+                move_box(alloc, &mut self.index, id, before, extent_of(feature));
+                outcome
+            }
             None => unreachable!(),
         }
     }
@@ -464,7 +500,12 @@ impl Layer {
         ensures unchanged { OnErr result (self.new ≡ self.old) }
     {
         match self.features.get_mut(&id) {
-            Some(feature) => feature.remove_vertex(alloc, part, ring, index),
+            Some(feature) => {
+                let before = extent_of(feature);
+                let outcome = feature.remove_vertex(alloc, part, ring, index);
+                move_box(alloc, &mut self.index, id, before, extent_of(feature));
+                outcome
+            }
             None => unreachable!(),
         }
     }
@@ -486,7 +527,12 @@ impl Layer {
         ensures unchanged { OnErr result (self.new ≡ self.old) }
     {
         match self.features.get_mut(&id) {
-            Some(feature) => feature.put_vertex_back(alloc, part, ring, index, point),
+            Some(feature) => {
+                let before = extent_of(feature);
+                let outcome = feature.put_vertex_back(alloc, part, ring, index, point);
+                move_box(alloc, &mut self.index, id, before, extent_of(feature));
+                outcome
+            }
             None => unreachable!(),
         }
     }
@@ -494,6 +540,7 @@ impl Layer {
     /// Moves a vertex where it is known that the geometry is valid then, and gives the point where it was.
     pub(crate) fn move_vertex_back(
         &mut self,
+        alloc: Global,
         id: u32,
         part: u32,
         ring: u32,
@@ -508,7 +555,12 @@ impl Layer {
             vertex_of feature.geometry part ring index ≡ Some result) }
     {
         match self.features.get_mut(&id) {
-            Some(feature) => feature.move_vertex_back(part, ring, index, point),
+            Some(feature) => {
+                let before = extent_of(feature);
+                let old = feature.move_vertex_back(part, ring, index, point);
+                move_box(alloc, &mut self.index, id, before, extent_of(feature));
+                old
+            }
             None => unreachable!(),
         }
     }
@@ -516,6 +568,7 @@ impl Layer {
     /// Takes a vertex out where it is known that the geometry is valid without it, and gives its point.
     pub(crate) fn take_vertex_back(
         &mut self,
+        alloc: Global,
         id: u32,
         part: u32,
         ring: u32,
@@ -529,8 +582,38 @@ impl Layer {
             vertex_of feature.geometry part ring index ≡ Some result) }
     {
         match self.features.get_mut(&id) {
-            Some(feature) => feature.take_vertex_back(part, ring, index),
+            Some(feature) => {
+                let before = extent_of(feature);
+                let old = feature.take_vertex_back(part, ring, index);
+                move_box(alloc, &mut self.index, id, before, extent_of(feature));
+                old
+            }
             None => unreachable!(),
+        }
+    }
+}
+
+/// Puts a feature into a map under an identifier that is free.
+///
+/// # Errors
+///
+/// Where no memory is found, the feature is given back and nothing is changed.
+fn insert_feature(
+    features: &mut BTreeMap<u32, Feature>,
+    id: u32,
+    feature: Feature,
+) -> Result<(), Feature>
+    requires { lookup (nat_eq id) features.old.entries ≡ None }
+    ensures put { OnOk result (features.new.entries
+        ≡ insert_entry nat_cmp features.old.entries id feature) }
+    ensures given_back { IfErr result (λ back. back ≡ feature) }
+    ensures unchanged { OnErr result (features.new.entries ≡ features.old.entries) }
+{
+    match features.insert(id, feature) {
+        Ok(_) => Ok(()),
+        Err(failed) => {
+            let (_, feature) = failed.value;
+            Err(feature)
         }
     }
 }

@@ -1,7 +1,9 @@
 use super::*;
-use sf_geometry::{Geometry, Kind};
+use sf_geometry::{Extent, Geometry, Kind};
 use sf_grid::GridPoint;
+use sf_rtree::SpatialIndex;
 use sf_validity::validate;
+use std::alloc::Global;
 use std::test::Fail;
 
 // Each changer that takes memory, once where memory is found.
@@ -52,5 +54,39 @@ fn layer_and_feature_are_put(rt: HostRuntime) -> Result<(), Fail> {
     };
     store.move_layer(0, 0);
     assert_eq!(rt; store.place("pits"), Some(0));
+    Ok(())
+}
+
+fn point_feature(alloc: Global, x: i32, y: i32) -> Result<Feature, Fail> {
+    let point = GridPoint::new(x, y).ok_or("off the grid")?;
+    match validate(alloc, Geometry::Point(point)) {
+        Ok(valid) => Ok(Feature::new(alloc, valid)),
+        Err(_) => Err(Fail::from("no memory")),
+    }
+}
+
+// How many features of a layer have boxes that meet a window, by its index.
+fn count_near(alloc: Global, layer: &Layer) -> Result<usize, Fail> {
+    let window = Extent {
+        min_x: 0,
+        min_y: 0,
+        max_x: 9,
+        max_y: 9,
+    };
+    let index = layer.index().ok_or("the layer isn't indexed")?;
+    Ok(index.meeting(alloc, &window)?.len())
+}
+
+// A layer has an index from the first, which follows its features.
+#[test]
+fn layer_is_indexed(rt: HostRuntime) -> Result<(), Fail> {
+    let mut layer = Layer::new(rt.alloc(), LayerKind::Any);
+    let feature = point_feature(rt.alloc(), 4, 5)?;
+    let Ok(()) = layer.put_feature(rt.alloc(), 7, feature) else {
+        return Err(Fail::from("no memory"));
+    };
+    assert_eq!(rt; count_near(rt.alloc(), &layer)?, 1);
+    let _ = layer.take_feature(rt.alloc(), 7);
+    assert_eq!(rt; count_near(rt.alloc(), &layer)?, 0);
     Ok(())
 }

@@ -1,6 +1,8 @@
 use Rattle.sf_features.specs.Features.{with_value}
+use Rattle.std.proofs.Common.{ap}
+use Rattle.sf_layers.proofs.Boxes.{agrees-written}
 use Rattle.sf_layers.proofs.Changed.{feature-changed, feature-kept}
-use Rattle.sf_layers.proofs.Outcomes.{OnErr-map, OnOk-map}
+use Rattle.sf_layers.proofs.Outcomes.{OnErr-map, OnOk-map, by_outcome}
 use Rattle.sf_layers.specs.contracts.layer.Layer.{the_view}
 use Rattle.sf_layers.proofs.layer.Layer.put_value.Goals as goal
 
@@ -15,3 +17,10 @@ returns-clause-unchanged c = OnErr-map c.put_value.result
     (λ is. feature-kept (the_view c.self.inside) c.args.self.now c.args.id c.in-Some.feature.now c.put_value.new.self (c.get_mut.follows.lender c.put_value.new.self).entries
     c.self.view_is c.in-Some.ensures.value (c.get_mut.follows.holds c.put_value.new.self).0 is)
     c.put_value.ensures.unchanged
+
+-- the geometry is the same, whatever comes of the value
+pub invariant_of-self : goal.invariant_of-self
+invariant_of-self c =
+    agrees-written c.self.inside.index c.self.inside.features.entries (c.get_mut.follows.lender c.put_value.new.self).entries c.args.id c.in-Some.feature.now c.put_value.new.self
+    c.self.invariant c.in-Some.ensures.value (c.get_mut.follows.holds c.put_value.new.self).0
+    (by_outcome c.put_value.result c.put_value.ensures.put c.put_value.ensures.unchanged (λ is. ap (λ f. f.geometry) is) (λ is. ap (λ f. f.geometry) is))

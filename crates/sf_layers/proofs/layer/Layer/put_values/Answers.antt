@@ -2,9 +2,11 @@ use Rattle.std.proofs.Common.{◌≡◌, ◌∙◌, IsSome, length, zip, sym, ap
 use Rattle.std.proofs.lemmas.Map.Made.{keys_of-zip}
 use Rattle.std.specs.List.{AllByRecursion}
 use Rattle.std.specs.Map.{keys_of}
+use Rattle.sf_layers.specs.Boxes.{boxes_of}
 use Rattle.sf_layers.specs.Content.{LayerContent, feature_of, with_values}
 use Rattle.sf_layers.specs.Moves.{put_each}
-use Rattle.sf_layers.proofs.Outcomes.{OnOk-is, OnOk-not}
+use Rattle.sf_layers.proofs.Outcomes.{OnOk-is, OnOk-not, by_outcome}
+use Rattle.sf_layers.proofs.Boxes.{agrees-on, boxes_of-put_each}
 use Rattle.sf_layers.proofs.Values.{with_values-put}
 use Rattle.sf_layers.specs.contracts.layer.Layer.{the_view}
 use Rattle.sf_layers.proofs.layer.Layer.put_values.Goals as goal
@@ -27,3 +29,10 @@ returns-clause-put c = elim c.match-put_all.branch [
       ∙ sym (with_values-put c.args.number c.args.values (the_view c.self.inside)) ∙ ap (with_values c.args.number c.args.values) c.self.view_is)
   | in-Err w ↦ OnOk-not _ c.match-put_all.result _ w.result-is
 ]
+
+pub invariant_of-self : goal.invariant_of-self
+invariant_of-self c =
+    let features = c.self.inside.features.entries in
+    by_outcome c.put_all.result c.put_all.ensures.put c.put_all.ensures.kept
+    (λ is. agrees-on c.self.inside.index features c.put_all.new.features.entries c.self.invariant (ap boxes_of is ∙ boxes_of-put_each c.args.number (zip c.as_slice.result.now c.values.inside.values.items) features))
+    (λ is. agrees-on c.self.inside.index features c.put_all.new.features.entries c.self.invariant (ap boxes_of is))

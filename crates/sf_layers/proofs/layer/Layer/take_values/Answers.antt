@@ -4,9 +4,11 @@ use Rattle.std.specs.Map.{keys_of, values_of}
 use Rattle.std.specs.Ordering.{nat_cmp}
 use Rattle.std.specs.Vec.{vec_len}
 use Rattle.indexmap.proofs.ReorderLemmas.{zip_of_parts}
+use Rattle.sf_layers.specs.Boxes.{boxes_of}
 use Rattle.sf_layers.specs.Content.{LayerContent, column_values, without_values}
 use Rattle.sf_layers.specs.Moves.{IsTaking, values_in}
 use Rattle.sf_layers.proofs.ColumnMoves.{IsTaking-all, length-parts, rising-values_in}
+use Rattle.sf_layers.proofs.Boxes.{agrees-on, boxes_of-bare}
 use Rattle.sf_layers.proofs.Values.{bare}
 use Rattle.sf_layers.specs.contracts.layer.Layer.{the_view}
 use Rattle.sf_layers.proofs.layer.Layer.take_values.Goals as goal
@@ -53,3 +55,9 @@ returns-clause-rest c =
     let at = goal.at.returns-clause-rest c in
     let both = taken at.After-take_from (taking at.After-as_slice) in
     ap (λ fs. let l : LayerContent = record (the_view c.self.inside) { features = fs } in l) both.0 ∙ ap (without_values c.args.number) c.self.view_is
+
+pub invariant_of-self : goal.invariant_of-self
+invariant_of-self c =
+    let at = goal.at.invariant_of-self c in
+    let both = taken at.After-take_from (taking at.After-as_slice) in
+    agrees-on c.self.inside.index c.self.inside.features.entries c.take_from.new.features.entries c.self.invariant (ap boxes_of both.0 ∙ boxes_of-bare c.args.number c.self.inside.features.entries)
