@@ -1,0 +1,4 @@
+pub mod FilterLaws
+pub mod QueryLaws
+pub mod Computed
+pub mod ComputedThousand

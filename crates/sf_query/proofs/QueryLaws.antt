@@ -1,0 +1,217 @@
+-- What a query may pass over, and that its answers are those over the plane.
+use Rattle.std.proofs.Common.{◌≡◌, ◌∙◌, ℕ, ◌+◌, ◌<◌, ◌≤◌, ◌++◌, ◌&&◌, Bool, Bor, true, false, List, [], ◌∷◌, filter, length, take, take_all, get_or, option_copied, Option, None, Some, Ok, IfSome, IsSome, IsTrue, IsFalse, refl, ap, sym, subst, arith}
+use Rattle.std.proofs.lemmas.Bool.{false≢true, not-false}
+use Rattle.std.proofs.lemmas.Map.Entries.{length-keys_of}
+use Rattle.std.specs.Prelude.{bytes_eq, cond, not}
+use Rattle.std.specs.List.{AllByRecursion}
+use Rattle.std.specs.Map.{keys_of}
+use Rattle.sf_grid.specs.Plane.{Coordinates, grid_point}
+use Rattle.sf_geometry.specs.declared.extent.Extent.{Extent}
+use Rattle.sf_geometry.specs.declared.geometry.Geometry.{Geometry}
+use Rattle.sf_geometry.specs.declared.geometry.Geometry.TheVariants.{Point}
+use Rattle.sf_geometry.specs.Envelope.{envelope_of, extents_meet}
+use Rattle.sf_rules.specs.Validity.{IsValid}
+use Rattle.sf_plane.specs.declared.dim.Dim.{Dim}
+use Rattle.sf_features.specs.Features.{FeatureContent}
+use Rattle.sf_rtree.specs.Indexes.{Boxes, ids_meeting}
+use Rattle.sf_layers.specs.Boxes.{box_entry, boxes_of}
+use Rattle.sf_layers.specs.Content.{Content, LayerContent, feature_of, layer_of}
+use Rattle.sf_layers.specs.WellFormed.{IsFeature, IsLayer, IsWellFormed}
+use Rattle.sf_relate.specs.declared.matrix.Matrix.{Matrix}
+use Rattle.sf_relate.specs.declared.place.Place.{Place}
+use Rattle.sf_relate.specs.declared.predicate.Predicate.{Predicate}
+use Rattle.sf_relate.specs.declared.predicate.Predicate.TheVariants.{Disjoint, Intersects}
+use Rattle.sf_relate.specs.Matrices.{IsMatrix, matrix_of}
+use Rattle.sf_relate.specs.Patterns.{has_contact}
+use Rattle.sf_relate.specs.Places.{IsPlaceOf}
+use Rattle.sf_relate.specs.PointPredicates.{TellsOfPoint}
+use Rattle.sf_relate.specs.Predicates.{holds}
+use Rattle.sf_relate.proofs.ContactLaws.{patterns_need_contact, predicates_need_contact}
+use Rattle.sf_relate.proofs.EnvelopeLaws.{apart_has_no_contact, valid-closed}
+use Rattle.sf_relate.proofs.SetLaws.{matrices_are_over_the_plane}
+use Rattle.sf_relate.proofs.SharedLaws.{contact_is_shared}
+use Rattle.sf_query.specs.declared.ask.Ask.{Ask}
+use Rattle.sf_query.specs.declared.ask.Ask.TheVariants.{Matching, Named}
+use Rattle.sf_query.specs.declared.found.Found.{Found}
+use Rattle.sf_query.specs.Answers.{IsAnswer, dim_of_geometry, is_answered, is_asked, is_near, needs_contact}
+use Rattle.sf_query.specs.Replies.{AnswersAreOverThePlane, AreFound, IsQueried, IsRelated, IsRelatedTo}
+use Rattle.sf_query.proofs.FilterLaws.{IsFoundIn, each-filter, each-found, each-map, each-value, entry-at, filter-within, found-passes, passes-found, rising-filter, some-at, taken-found, taken-other, value-found, viewed}
+
+-- ---- what tells without a matrix
+
+-- a Point's place tells of the matrix
+pub told-of-point : (answer : Option Bool) (predicate : Predicate) (place : Place) (a b : Geometry) (p : Coordinates) → a ≡ Point p
+    → IfSome answer (TellsOfPoint predicate place) → IsPlaceOf b (grid_point p) place
+    → IfSome answer (λ r. r ≡ holds predicate (dim_of_geometry a) (dim_of_geometry b) (matrix_of a b))
+told-of-point None predicate place a b p is told at = tt
+told-of-point (Some r) predicate place a b p is told at =
+    subst (λ g. r ≡ holds predicate (dim_of_geometry g) (dim_of_geometry b) (matrix_of g b)) (sym is) (told p b (dim_of_geometry b) at)
+
+-- and contact tells whether geometries intersect or are disjoint
+pub intersects-told : (predicate : Predicate) (a b : Geometry) (d e : Dim) → predicate ≡ Intersects → IsTrue (has_contact (matrix_of a b)) → true ≡ holds predicate d e (matrix_of a b)
+intersects-told predicate a b d e is contact =
+    sym (ap (λ p. holds p d e (matrix_of a b)) is ∙ (contact_is_shared a b).intersects d e ∙ contact)
+
+pub disjoint-told : (predicate : Predicate) (a b : Geometry) (d e : Dim) → predicate ≡ Disjoint → IsTrue (has_contact (matrix_of a b)) → false ≡ holds predicate d e (matrix_of a b)
+disjoint-told predicate a b d e is contact =
+    sym (ap (λ p. holds p d e (matrix_of a b)) is ∙ (contact_is_shared a b).disjoint d e ∙ ap not contact)
+
+-- ---- what may be passed over
+
+-- the feature is as asked
+abbrev pub passes : Ask → Geometry → ℕ × FeatureContent → Bool
+passes ask b entry = is_asked ask entry.1.geometry b
+
+fails-without : (ask : Ask) (a b : Geometry) → IsTrue (needs_contact ask) → IsFalse (has_contact (matrix_of a b)) → is_asked ask a b ≡ false
+fails-without (Matching letters) a b needs none = patterns_need_contact letters (matrix_of a b) needs none refl
+fails-without (Named predicate) a b needs none = predicates_need_contact predicate (dim_of_geometry a) (dim_of_geometry b) (matrix_of a b) needs none refl
+
+-- where contact is needed, what isn't near isn't as asked
+pub far-fails : (ask : Ask) (a b : Geometry) → IsTrue (needs_contact ask) → IsValid a → IsValid b → extents_meet (envelope_of a) (envelope_of b) ≡ false → is_asked ask a b ≡ false
+far-fails ask a b needs va vb far = fails-without ask a b needs (apart_has_no_contact a b (valid-closed a va) (valid-closed b vb) far)
+
+-- so the near features have all answers
+pub near-answers : (layer : LayerContent) (ask : Ask) (b : Geometry) → IsLayer layer → IsValid b → IsTrue (needs_contact ask)
+    → filter (passes ask b) (filter (is_near b) layer.features) ≡ filter (passes ask b) layer.features
+near-answers layer ask b is vb needs =
+    filter-within (passes ask b) (is_near b) layer.features
+    (each-map (λ e. IsFeature layer.kind layer.columns e.1) (λ e. is_near b e ≡ false → passes ask b e ≡ false)
+    (λ e f far. far-fails ask e.1.geometry b needs f.valid vb far) layer.features (each-value (IsFeature layer.kind layer.columns) layer.features is.features))
+
+-- what a pass over all features finds is the answer
+pub pass-answers : (layer : LayerContent) (ask : Ask) (b : Geometry) (needed : Bool) (found : Found) → IsLayer layer → IsValid b → needed ≡ needs_contact ask
+    → found.ids.items ≡ keys_of (filter (passes ask b) (viewed needed (is_near b) layer.features)) → found.looked ≡ length (viewed needed (is_near b) layer.features)
+    → IsAnswer layer ask b found
+pass-answers layer ask b true found is vb same ids looked = record {
+  ids = ids ∙ ap keys_of (near-answers layer ask b is vb (sym same));
+  looked = looked ∙ ap (λ n. length (viewed n (is_near b) layer.features)) same;
+}
+pass-answers layer ask b false found is vb same ids looked = record {
+  ids = ids;
+  looked = looked ∙ ap (λ n. length (viewed n (is_near b) layer.features)) same;
+}
+
+-- ---- a pass over all features
+
+near-same : (a b g : Geometry) (extent : Extent) (entry : ℕ × FeatureContent) → a ≡ entry.1.geometry → extent ≡ envelope_of g → g ≡ b
+    → extents_meet (envelope_of a) extent ≡ is_near b entry
+near-same a b g extent entry same is given =
+    ap (λ x. extents_meet (envelope_of x) extent) same ∙ ap (λ x. extents_meet (envelope_of entry.1.geometry) x) (is ∙ ap envelope_of given)
+
+both-not : (needed near : Bool) → (needed && not near) ≡ false → needed ≡ true → near ≡ true
+both-not true near none must = not-false near none
+both-not false near none must = absurd (false≢true must)
+
+-- what the test of boxes tells of a feature that is looked at
+pub looked-on : (over needed : Bool) (a b g : Geometry) (extent : Extent) (entry : ℕ × FeatureContent) → over ≡ (needed && not (extents_meet (envelope_of a) extent))
+    → a ≡ entry.1.geometry → extent ≡ envelope_of g → g ≡ b → over ≡ false → needed ≡ true → is_near b entry ≡ true
+looked-on over needed a b g extent entry test same is given denied must =
+    sym (near-same a b g extent entry same is given) ∙ both-not needed (extents_meet (envelope_of a) extent) (sym test ∙ denied) must
+
+-- what was asked of a feature's geometry tells whether the feature passes
+pub asked-passes : (ask : Ask) (a b : Geometry) (entry : ℕ × FeatureContent) (answer told : Bool) → answer ≡ is_asked ask a b → a ≡ entry.1.geometry → answer ≡ told → passes ask b entry ≡ told
+asked-passes ask a b entry answer told is same said = ap (λ g. is_asked ask g b) (sym same) ∙ sym is ∙ said
+
+-- ---- a pass over the features that an index gives
+
+-- an index gives the identifiers of the near features
+pub ids-near : (b : Geometry) (es : List (ℕ × FeatureContent)) → ids_meeting (envelope_of b) (boxes_of es) ≡ keys_of (filter (is_near b) es)
+ids-near b [] = refl
+ids-near b (e ∷ es) = by (is_near b e) (ids-near b es)
+  where
+    by : (t : Bool) → ids_meeting (envelope_of b) (boxes_of es) ≡ keys_of (filter (is_near b) es)
+        → keys_of (cond t (box_entry e ∷ filter (λ f. extents_meet f.1 (envelope_of b)) (boxes_of es)) (filter (λ f. extents_meet f.1 (envelope_of b)) (boxes_of es)))
+        ≡ keys_of (cond t (e ∷ filter (is_near b) es) (filter (is_near b) es))
+    by true rest = ap (λ ks. e.0 ∷ ks) rest
+    by false rest = rest
+
+-- each of them is found in the layer
+pub near-found : (layer : LayerContent) (b : Geometry) → IsLayer layer → AllByRecursion (IsFoundIn layer.features) (filter (is_near b) layer.features)
+near-found layer b is = each-filter (is_near b) (IsFoundIn layer.features) layer.features (each-found layer.features is.rising)
+
+pub items-near : (items : List ℕ) (index : Boxes) (b : Geometry) (es : List (ℕ × FeatureContent)) → items ≡ ids_meeting (envelope_of b) index → index ≡ boxes_of es → items ≡ keys_of (filter (is_near b) es)
+items-near items index b es met agrees = met ∙ ap (ids_meeting (envelope_of b)) agrees ∙ ids-near b es
+
+-- the identifiers that the index gave, and their features
+pub record AreNear (layer : LayerContent) (b : Geometry) (items : List ℕ) : Type 0 where
+  pub fits : IsLayer layer
+  pub are : items ≡ keys_of (filter (is_near b) layer.features)
+
+below-near : (layer : LayerContent) (b : Geometry) (items : List ℕ) (i : ℕ) → AreNear layer b items → i < length items → i < length (filter (is_near b) layer.features)
+below-near layer b items i near below = omega (arith, ap length near.are, length-keys_of (filter (is_near b) layer.features))
+
+at-near : (layer : LayerContent) (b : Geometry) (items : List ℕ) (i : ℕ) → AreNear layer b items → get_or items i 0 ≡ get_or (keys_of (filter (is_near b) layer.features)) i 0
+at-near layer b items i near = ap (λ ks. get_or ks i 0) near.are
+
+pub near-some : (layer : LayerContent) (b : Geometry) (items : List ℕ) (i : ℕ) → AreNear layer b items → i < length items → IsSome (feature_of layer (get_or items i 0))
+near-some layer b items i near below =
+    some-at layer.features (filter (is_near b) layer.features) i (get_or items i 0) 0 (near-found layer b near.fits) (below-near layer b items i near below) (at-near layer b items i near)
+
+near-entry : (layer : LayerContent) (b : Geometry) (items : List ℕ) (i : ℕ) (f : FeatureContent) → AreNear layer b items → i < length items → feature_of layer (get_or items i 0) ≡ Some f
+    → get_or (filter (is_near b) layer.features) i (get_or items i 0, f) ≡ (get_or items i 0, f)
+near-entry layer b items i f near below found =
+    entry-at layer.features (filter (is_near b) layer.features) i (get_or items i 0) 0 f (near-found layer b near.fits) (below-near layer b items i near below) (at-near layer b items i near) found
+
+-- the identifiers of the near features so far that pass
+abbrev pub AreFoundTo : LayerContent → Ask → Geometry → ℕ → List ℕ → Type 0
+AreFoundTo layer ask b i ids = ids ≡ keys_of (filter (passes ask b) (take i (filter (is_near b) layer.features)))
+
+pub found-more : (layer : LayerContent) (ask : Ask) (a b : Geometry) (items ids new : List ℕ) (i : ℕ) (f : FeatureContent) (answer : Bool) → AreNear layer b items → i < length items
+    → feature_of layer (get_or items i 0) ≡ Some f → answer ≡ is_asked ask a b → a ≡ f.geometry → answer ≡ true → new ≡ ids ++ get_or items i 0 ∷ []
+    → AreFoundTo layer ask b i ids → AreFoundTo layer ask b (i + 1) new
+found-more layer ask a b items ids new i f answer near below found is same said pushed was =
+    taken-found (passes ask b) (filter (is_near b) layer.features) i (get_or items i 0, f) ids new (below-near layer b items i near below) (near-entry layer b items i f near below found)
+    was (asked-passes ask a b (get_or items i 0, f) answer true is same said) pushed
+
+pub found-other : (layer : LayerContent) (ask : Ask) (a b : Geometry) (items ids : List ℕ) (i : ℕ) (f : FeatureContent) (answer : Bool) → AreNear layer b items → i < length items
+    → feature_of layer (get_or items i 0) ≡ Some f → answer ≡ is_asked ask a b → a ≡ f.geometry → answer ≡ false
+    → AreFoundTo layer ask b i ids → AreFoundTo layer ask b (i + 1) ids
+found-other layer ask a b items ids i f answer near below found is same denied was =
+    taken-other (passes ask b) (filter (is_near b) layer.features) i (get_or items i 0, f) ids (below-near layer b items i near below) (near-entry layer b items i f near below found)
+    was (asked-passes ask a b (get_or items i 0, f) answer false is same denied)
+
+pub index-answers : (layer : LayerContent) (ask : Ask) (b : Geometry) (items : List ℕ) (i : ℕ) (found : Found) → AreNear layer b items → IsValid b → IsTrue (needs_contact ask)
+    → length items ≤ i → AreFoundTo layer ask b i found.ids.items → found.looked ≡ length items → IsAnswer layer ask b found
+index-answers layer ask b items i found near vb needs over are looked = record {
+  ids = are ∙ ap (λ es. keys_of (filter (passes ask b) es)) (take_all i (filter (is_near b) layer.features) (omega (arith, ap length near.are, length-keys_of (filter (is_near b) layer.features))))
+      ∙ ap keys_of (near-answers layer ask b near.fits vb needs);
+  looked = looked ∙ ap length near.are ∙ length-keys_of (filter (is_near b) layer.features) ∙ ap (λ n. length (viewed n (is_near b) layer.features)) (sym needs);
+}
+
+-- what a look-up copies is there where it is
+pub some-copied : {X : Type 0} (o : Option (Bor X)) (p : Option X) → option_copied o ≡ p → IsSome p → IsSome o
+some-copied None p is some = subst IsSome (sym is) some
+some-copied (Some x) p is some = refl
+
+-- ---- over the plane
+
+pub answers_are_over_the_plane : AnswersAreOverThePlane
+answers_are_over_the_plane layer ask b rising = record {
+  rising = rising-filter (passes ask b) layer.features rising;
+  just = λ id. (
+    λ h.
+        let f = found-passes (λ feature. is_asked ask feature.geometry b) layer.features id rising h in
+        (f.0, matrix_of f.0.geometry b, f.1, (matrices_are_over_the_plane f.0.geometry b).computed, f.2),
+    λ w.
+        passes-found (λ feature. is_asked ask feature.geometry b) layer.features id w.0 w.2
+        (subst (λ entries. is_answered ask w.0.geometry b entries ≡ true) ((matrices_are_over_the_plane w.0.geometry b).only w.1 w.3) w.4),
+  );
+}
+
+-- ---- what the calls answer
+
+pub layer-fits : (content : Content) (name : List ℕ) (layer : LayerContent) → IsWellFormed content → layer_of content name ≡ Some layer → IsLayer layer
+layer-fits content name layer fits found = value-found IsLayer (bytes_eq name) layer content fits.layers found
+
+pub queried : (o : Option LayerContent) (layer : LayerContent) (ask : Ask) (b : Geometry) (found : Found) → o ≡ Some layer → IsLayer layer
+    → IsAnswer layer ask b found → IsQueried o ask b (Ok found)
+queried o layer ask b found is fits answer =
+    subst (λ p. IsQueried p ask b (Ok found)) (sym is)
+    (answer, subst (AreFound layer ask b) (sym answer.ids) (answers_are_over_the_plane layer ask b fits.rising))
+
+pub related : (o : Option LayerContent) (layer : LayerContent) (id : ℕ) (feature : FeatureContent) (a b : Geometry) (matrix : Matrix) → o ≡ Some layer
+    → feature_of layer id ≡ Some feature → a ≡ feature.geometry → matrix.0 ≡ matrix_of a b → IsMatrix a b matrix.0 → IsRelated o id b (Ok matrix)
+related o layer id feature a b matrix is found same computed plane =
+    subst (λ p. IsRelated p id b (Ok matrix)) (sym is)
+    (subst (λ p. IsRelatedTo p b (Ok matrix)) (sym found)
+    (computed ∙ ap (λ g. matrix_of g b) same, subst (λ g. IsMatrix g b matrix.0) same plane))

@@ -1,0 +1,43 @@
+use Rattle.std.proofs.Common.{◌≡◌, ◌∙◌, ◌+◌, Some, get_or, option_copied, ap, sym, subst, rules}
+use Rattle.sf_layers.specs.Content.{feature_of}
+use Rattle.sf_query.proofs.QueryLaws.{AreFoundTo, AreNear, found-more, found-other, index-answers, items-near, near-some, some-copied}
+use Rattle.sf_query.proofs.queries.found_by_index.Goals as goal
+use Rattle.sf_query.proofs.queries.found_by_index.Goals.{After-as_slice-id-items, After-unwrap-feature, else-branch, then-branch+in_ok-push}
+
+-- what the index gave are the identifiers of the near features
+near : (c : After-as_slice-id-items) → AreNear c.args.layer.now c.args.given.now c.as_slice-id-items.result.now
+near c = record {
+  fits = c.requires.layer;
+  are = c.as_slice-id-items.ensures.value ∙ items-near c.in_ok-near.near.items c.args.index.now c.args.given.now c.args.layer.now.features c.in_ok-near.ensures.ids c.requires.index;
+}
+
+-- the feature of the next of them
+feature : (c : After-unwrap-feature) → feature_of c.args.layer.now (get_or c.as_slice-id-items.result.now c.loop-id.id-index 0) ≡ Some c.unwrap-feature.result.now
+feature c = sym c.feature.ensures ∙ ap option_copied c.unwrap-feature.ensures
+
+pub unwrap-feature-requires : goal.unwrap-feature-requires
+unwrap-feature-requires c =
+    some-copied c.feature.result _ c.feature.ensures
+    (near-some c.args.layer.now c.args.given.now c.as_slice-id-items.result.now c.loop-id.id-index (near (goal.at.unwrap-feature-requires c).After-as_slice-id-items) c.loop-id-test.true)
+
+pub loop-id-preserved : goal.loop-id-preserved
+loop-id-preserved c =
+    let at = goal.at.loop-id-preserved c in
+    let items = c.as_slice-id-items.result.now in
+    let ids = c.loop-id.ids.items in
+    elim c.if-branch.branch [
+      | then-branch+in_ok-push w ↦
+          found-more c.args.layer.now c.args.ask.now c.valid.result.now c.args.given.now items ids c.if-branch.ids.items c.loop-id.id-index c.unwrap-feature.result.now c.in_ok-is_asked.field-0
+          (near at.After-as_slice-id-items) c.loop-id-test.true (feature at.After-unwrap-feature) c.in_ok-is_asked.ensures c.valid.ensures.same w.if-branch.true
+          (ap (λ v. v.items) w.ids-is ∙ w.in_ok-push.ensures.items) c.loop-id.invariant
+      | else-branch w ↦
+          subst (λ v. AreFoundTo c.args.layer.now c.args.ask.now c.args.given.now (c.loop-id.id-index + 1) v.items) (sym w.ids-is)
+          (found-other c.args.layer.now c.args.ask.now c.valid.result.now c.args.given.now items ids c.loop-id.id-index c.unwrap-feature.result.now c.in_ok-is_asked.field-0
+          (near at.After-as_slice-id-items) c.loop-id-test.true (feature at.After-unwrap-feature) c.in_ok-is_asked.ensures c.valid.ensures.same w.if-branch.false c.loop-id.invariant)
+    ]
+
+pub returns : goal.returns
+returns c =
+    index-answers c.args.layer.now c.args.ask.now c.args.given.now c.as_slice-id-items.result.now c.loop-id.id-index (record { ids = c.loop-id.ids; looked = c.len-looked.result })
+    (near (goal.at.returns c).After-as_slice-id-items) c.in_ok-near.ensures.valid c.requires.contact c.loop-id-test.false c.loop-id.invariant
+    (search rules)
