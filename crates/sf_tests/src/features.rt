@@ -1,8 +1,23 @@
-//! Sessions that ask about one feature: `box`, `simple` and `hex`.
+//! Sessions that add features and ask about one: `box`, `simple` and `hex`.
 use super::support::{ByteByByte, answers};
 use std::test::Fail;
 
-const SESSIONS: [(&str, &str); 8] = [
+const SESSIONS: [(&str, &str); 11] = [
+    // Every fault of validity, an island, repeats, and what isn't simple.
+    (
+        "layer add w any\nadd w POLYGON ((0 0, 10 10, 10 0, 0 10, 0 0))\nadd w POLYGON ((0 0, 10 0, 10 10, 0 10))\nadd w POLYGON ((0 0, 0 0, 10 0, 0 0))\nadd w POLYGON ((0 0, 30 0, 30 30, 0 30, 0 0), (0 10, 10 10, 0 20, 0 10))\nadd w POLYGON ((0 0, 10 0, 10 10, 0 10, 0 0), (20 20, 25 20, 25 25, 20 20))\nadd w POLYGON ((0 0, 30 0, 30 30, 0 30, 0 0), (5 5, 25 5, 25 25, 5 25, 5 5), (10 10, 20 10, 20 20, 10 10))\nadd w MULTIPOLYGON (((0 0, 10 0, 10 10, 0 10, 0 0)), ((2 2, 4 2, 4 4, 2 2)))\nadd w MULTIPOLYGON (((0 0, 30 0, 30 30, 0 30, 0 0), (5 5, 25 5, 25 25, 5 25, 5 5)), ((10 10, 20 10, 20 20, 10 20, 10 10)))\nadd w LINESTRING (1 1, 1 1)\nadd w LINESTRING (0 0, 0 0, 5 5)\nsimple w 2\nadd w MULTIPOINT ((1 1), (1 1))\nsimple w 3\nadd w LINESTRING (0 0, 10 0, 10 10, 0 0, -10 0, -10 -10, 0 0)\nsimple w 4\nshow w\n",
+        "ok\nrefused 13 RingNotSimple\nrefused 11 OpenRing\nrefused 12 ShortRing\nrefused 14 RingsMeet\nrefused 15 HoleOutside\nrefused 16 HolesNested\nrefused 17 PolygonsOverlap\nok 1\nrefused 10 ShortLine\nok 2\ntrue\nok 3\nfalse\nok 4\nfalse\nrows 4\n1 MULTIPOLYGON (((0 0, 30 0, 30 30, 0 30, 0 0), (5 5, 25 5, 25 25, 5 25, 5 5)), ((10 10, 20 10, 20 20, 10 20, 10 10)))\n2 LINESTRING (0 0, 0 0, 5 5)\n3 MULTIPOINT ((1 1), (1 1))\n4 LINESTRING (0 0, 10 0, 10 10, 0 0, -10 0, -10 -10, 0 0)\n",
+    ),
+    // Texts and their faults.
+    (
+        "layer add w any\nadd w point(3.000 -4)\nadd w POINT (3.5 4)\nadd w POINT EMPTY\nadd w POINT Z (1 2 3)\nadd w POINT (524288 0)\nadd w POINT (1 2\nadd w MULTIPOINT (1 2, (3 4))\nlayer add p polygon\nadd p POINT (1 1)\nshow w\n",
+        "ok\nok 1\nrefused 3 OffGrid\nrefused 5 Empty\nrefused 6 UnsupportedType\nrefused 4 OutOfRange\nrefused 2 Syntax\nok 2\nok\nrefused 26 WrongKind\nrows 2\n1 POINT (3 -4)\n2 MULTIPOINT ((1 2), (3 4))\n",
+    ),
+    // Rings that touch, and an island that is its hole.
+    (
+        "layer add w any\nadd w MULTIPOLYGON (((0 0, 30 0, 30 30, 0 30, 0 0), (10 10, 20 10, 20 20, 10 20, 10 10)), ((10 10, 20 10, 20 20, 10 20, 10 10)))\nadd w POLYGON ((0 0, 30 0, 30 30, 0 30, 0 0), (0 10, 10 10, 10 20, 0 10))\nadd w MULTIPOLYGON (((0 0, 10 0, 10 10, 0 10, 0 0)), ((10 10, 20 10, 20 20, 10 10)))\n",
+        "ok\nrefused 14 RingsMeet\nok 1\nok 2\n",
+    ),
     // The example of docs/CONSOLE.md.
     (
         "layer add w any\naddhex w 00000000013FF00000000000004000000000000000\nadd w LINESTRING (0 0, 5 7, 10 -3)\nhex w 1\nbox w 2\nsimple w 2\n",

@@ -17,6 +17,8 @@ mod faults;
 #[cfg(test)]
 mod features;
 #[cfg(test)]
+mod limits;
+#[cfg(test)]
 mod sessions;
 #[cfg(test)]
 mod sizes;
@@ -24,3 +26,5 @@ mod sizes;
 mod support;
 #[cfg(test)]
 mod values;
+#[cfg(test)]
+mod weights;

@@ -10,8 +10,17 @@ use std::test::Fail;
 /// What a new editor answers to the bytes of a reader.
 pub fn answers<R: Read>(alloc: Global, reader: &mut R) -> Result<String, Fail> {
     let mut editor = Editor::new(alloc);
+    answers_of(alloc, &mut editor, reader)
+}
+
+/// What an editor answers to the bytes of a reader.
+pub fn answers_of<R: Read>(
+    alloc: Global,
+    editor: &mut Editor,
+    reader: &mut R,
+) -> Result<String, Fail> {
     let mut written: Vec<u8> = Vec::new(alloc);
-    serve(alloc, &mut editor, reader, &mut written)?;
+    serve(alloc, editor, reader, &mut written)?;
     Ok(String::from_utf8(written)?)
 }
 

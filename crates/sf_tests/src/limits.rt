@@ -1,0 +1,162 @@
+//! What is used up: layers, identifiers and column numbers. The longest texts.
+ghost use Rattle.std.specs.Prelude.{◌≡◌};
+ghost use Rattle.sf_layers.specs.Content.{empty_layer, with_next_column, with_next_id};
+
+use super::support::{answers, answers_of};
+use sf_console::Editor;
+use sf_layers::{Layer, LayerKind, Store, Text};
+use std::alloc::{AllocError, Global};
+use std::test::Fail;
+
+/// How many layers a store has at most.
+const LAYERS_MAX: u32 = 65_535;
+
+/// The lines that add so many layers.
+fn layer_lines(alloc: Global, count: u32) -> Result<String, AllocError> {
+    let mut lines = String::new(alloc);
+    for number in 1..=count {
+        writeln!(lines, "layer add l{number} point")?;
+    }
+    Ok(lines)
+}
+
+/// The lines that add one layer more than there is room for, and then ask for room that a dropped layer or an
+/// addition that was taken back left.
+fn most_layers_input(alloc: Global) -> Result<String, AllocError> {
+    let mut input = layer_lines(alloc, LAYERS_MAX + 1)?;
+    input.push_str(
+        "layer drop l7\nlayer add m any\nlayer add n any\nundo\nlayer add n any\nundo\nundo\nlayer add m any\n",
+    )?;
+    Ok(input)
+}
+
+/// The answers to them.
+fn most_layers_output(alloc: Global) -> Result<String, AllocError> {
+    let mut output = "ok\n".repeat(alloc, LAYERS_MAX as usize)?;
+    output.push_str(
+        "refused 27 IdsExhausted\nok\nok\nrefused 27 IdsExhausted\nok\nok\nok\nok\nrefused 27 IdsExhausted\n",
+    )?;
+    Ok(output)
+}
+
+// It takes minutes where it is interpreted.
+#[test]
+fn most_layers(rt: HostRuntime) -> Result<(), Fail> {
+    let input = most_layers_input(rt.alloc())?;
+    let output = most_layers_output(rt.alloc())?;
+    let mut whole = input.as_bytes();
+    let written = answers(rt.alloc(), &mut whole)?;
+    assert!(rt; written == output);
+    Ok(())
+}
+
+/// A layer with room for one more feature and one more column.
+fn layer_near_its_end(alloc: Global) -> Layer
+    ensures { result ≡ with_next_column 65534 (with_next_id 4294967294 (empty_layer LayerKind.Any)) }
+{
+    let mut layer = Layer::new(alloc, LayerKind::Any);
+    layer.set_next_id(4_294_967_294);
+    layer.set_next_column(65_534);
+    layer
+}
+
+/// A store of such a layer, named w, or nothing where no memory is found.
+fn store_near_its_end(alloc: Global) -> Option<Store> {
+    let Ok(name) = String::from_str(alloc, "w") else {
+        return None;
+    };
+    let layer = layer_near_its_end(alloc);
+    let mut store = Store::new(alloc);
+    match store.put_layer(alloc, 0, Text::from_string(name), layer) {
+        Ok(()) => Some(store),
+        Err(_) => None,
+    }
+}
+
+/// Lines to an editor of that store, and the answer to each.
+const LAST_NUMBERS: [(&str, &str); 20] = [
+    // The last identifier and the last column number are given, and there is no further one.
+    ("add w POINT (1 1)", "ok 4294967294\n"),
+    ("add w POINT (2 2)", "refused 27 IdsExhausted\n"),
+    ("column add w a int", "ok\n"),
+    ("column add w b int", "refused 28 ColumnsExhausted\n"),
+    ("set w 4294967294 a 1", "ok\n"),
+    ("show w", "rows 1\n4294967294 POINT (1 1) a=1\n"),
+    // What is deleted or dropped leaves no room.
+    ("delete w 4294967294", "ok\n"),
+    ("add w POINT (3 3)", "refused 27 IdsExhausted\n"),
+    ("column drop w a", "ok\n"),
+    ("column add w b int", "refused 28 ColumnsExhausted\n"),
+    // Additions that are taken back do.
+    ("undo", "ok\n"),
+    ("undo", "ok\n"),
+    ("undo", "ok\n"),
+    ("undo", "ok\n"),
+    ("undo", "ok\n"),
+    ("undo", "refused 29 NothingToUndo\n"),
+    ("add w POINT (4 4)", "ok 4294967294\n"),
+    ("column add w b int", "ok\n"),
+    ("show w", "rows 1\n4294967294 POINT (4 4)\n"),
+    ("columns w", "rows 1\nb int\n"),
+];
+
+#[test]
+fn last_identifier_and_last_column(rt: HostRuntime) -> Result<(), Fail> {
+    let Some(store) = store_near_its_end(rt.alloc()) else {
+        return Err(Fail::from("no memory"));
+    };
+    let mut editor = Editor::from_store(rt.alloc(), store);
+    for (line, answer) in LAST_NUMBERS {
+        let mut bytes = line.as_bytes();
+        let written = answers_of(rt.alloc(), &mut editor, &mut bytes)?;
+        assert_eq!(rt; written.as_str(), answer, "to {line}");
+    }
+    Ok(())
+}
+
+/// Texts of at most 255 bytes and of more: what is repeated how often between the quotes, what stands behind it,
+/// and whether the text is a value. A doubled quote is one byte, and the last letter of the last two has four.
+const TEXTS: [(&str, usize, &str, bool); 6] = [
+    ("a", 255, "", true),
+    ("a", 256, "", false),
+    ("''", 255, "", true),
+    ("''", 256, "", false),
+    ("a", 251, "\u{1f600}", true),
+    ("a", 252, "\u{1f600}", false),
+];
+
+/// The lines that set such a text.
+fn text_lines(alloc: Global, piece: &str, count: usize, back: &str) -> Result<String, AllocError> {
+    let mut lines = String::from_str(
+        alloc,
+        "layer add w point\ncolumn add w t text\nadd w POINT (1 1)\nset w 1 t '",
+    )?;
+    lines.push_str(piece.repeat(alloc, count)?.as_str())?;
+    lines.push_str(back)?;
+    lines.push_str("'\n")?;
+    Ok(lines)
+}
+
+/// The answers to them.
+fn text_answers(is_value: bool) -> &'static str {
+    if is_value {
+        "ok\nok\nok 1\nok\n"
+    } else {
+        "ok\nok\nok 1\nrefused 24 WrongValue\n"
+    }
+}
+
+#[test]
+fn longest_texts(rt: HostRuntime) -> Result<(), Fail> {
+    for (piece, count, back, is_value) in TEXTS {
+        let lines = text_lines(rt.alloc(), piece, count, back)?;
+        let mut bytes = lines.as_bytes();
+        let written = answers(rt.alloc(), &mut bytes)?;
+        assert_eq!(rt;
+            written.as_str(),
+            text_answers(is_value),
+            "{count} times {piece}, then {back}"
+        );
+    }
+    Ok(())
+}
