@@ -75,6 +75,17 @@ impl Layer {
         }
     }
 
+    /// As `new`, but without an index: for a layer of which many features are known, which is given
+    /// its index at once by `reindex` when they are all there.
+    pub fn unindexed(alloc: Global, kind: LayerKind) -> Layer
+        ensures { result ≡ empty_layer kind }
+    {
+        Layer {
+            index: None,
+            ..Layer::new(alloc, kind)
+        }
+    }
+
     /// Which kinds of geometry the layer takes.
     pub fn kind(&self) -> LayerKind
         ensures { result ≡ self.now.kind }

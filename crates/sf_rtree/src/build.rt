@@ -6,6 +6,7 @@ ghost use Rattle.sf_rtree.specs.Levels.{CanPart, IsLevel, IsPart};
 ghost use Rattle.sf_rtree.specs.Nodes.{entries_below};
 
 use crate::entry::Entry;
+use crate::members::MEMBERS_MAX;
 use crate::node::{Branch, Node};
 use std::alloc::{AllocError, Global};
 
@@ -14,11 +15,11 @@ pub fn build(alloc: Global, entries: Vec<Entry>) -> Result<Node, AllocError>
     requires { AreInOrder entries.items }
     ensures { IfOk result (λ node. node.entries ≡ entries.items) }
 {
-    if entries.len() <= 8 {
+    if entries.len() <= MEMBERS_MAX {
         return Ok(Node::leaf(entries));
     }
     let mut branches = leaves(alloc, entries)?;
-    while branches.len() > 8 {
+    while branches.len() > MEMBERS_MAX {
         branches = level_above(alloc, branches)?;
     }
     Ok(Node::inner(branches))
@@ -30,7 +31,7 @@ fn leaves(alloc: Global, mut entries: Vec<Entry>) -> Result<Vec<Branch>, AllocEr
     requires in_order { AreInOrder entries.items }
     ensures { IfOk result (λ leaves. IsLevel entries.items leaves.items) }
 {
-    let mut parts = entries.len().div_ceil(8);
+    let mut parts = entries.len().div_ceil(MEMBERS_MAX);
     let mut leaves = Vec::with_capacity(alloc, parts)?;
     while parts > 0 {
         let part = take_last_part(&mut entries, parts)?;
@@ -49,7 +50,7 @@ fn level_above(alloc: Global, mut branches: Vec<Branch>) -> Result<Vec<Branch>, 
     ensures level { IfOk result (λ above. IsLevel (entries_below branches.items) above.items) }
     ensures fewer { IfOk result (λ above. length above.items < length branches.items) }
 {
-    let mut parts = branches.len().div_ceil(8);
+    let mut parts = branches.len().div_ceil(MEMBERS_MAX);
     let mut above = Vec::with_capacity(alloc, parts)?;
     while parts > 0 {
         let part = take_last_part(&mut branches, parts)?;

@@ -5,6 +5,7 @@ mod build;
 mod entry;
 mod index;
 mod list;
+mod members;
 mod node;
 #[cfg(test)]
 mod tests;

@@ -7,6 +7,7 @@ ghost use Rattle.sf_rtree.specs.Nodes.{AreBranches, AreEntries, Covers, IsBranch
 ghost use Rattle.sf_rtree.specs.Growths.{AreFilled, AreNodes, entries_of, nodes_of};
 
 use crate::entry::{Entry, Key, join};
+use crate::members::{MEMBERS_MAX, put_member, take_half};
 use sf_geometry::Extent;
 use std::alloc::{AllocError, Global};
 use std::marker::Model;
@@ -193,7 +194,7 @@ impl Node {
         match split {
             None => Ok(node),
             Some(second) => {
-                let mut branches = Vec::with_capacity(alloc, 9)?;
+                let mut branches = Vec::with_capacity(alloc, 2)?;
                 branches.push(node.into_branch())?;
                 branches.push(second.into_branch())?;
                 Ok(Node {
@@ -211,7 +212,7 @@ impl Node {
         match self.members {
             Members::Leaf(mut entries) => {
                 let place = entry_place(entries.as_slice(), &entry);
-                entries.insert(place, entry)?;
+                put_member(&mut entries, place, entry)?;
                 split_leaf(entries)
             }
             Members::Inner(mut branches) => {
@@ -420,6 +421,7 @@ fn put_grown(
     grown: Grown,
 ) -> Result<(), AllocError>
     requires within { place < length branches.old.items }
+    requires few { length branches.old.items ≤ 8 }
     requires filled { AreFilled grown.node.levels 3 grown }
     requires covered { Covers extent (entries_of (nodes_of grown)) }
     requires last { IsLast last (entries_of (nodes_of grown)) }
@@ -439,7 +441,7 @@ fn put_grown(
         }
         Some(second) => {
             put_branch(branches, place, node.into_branch());
-            branches.insert(place + 1, second.into_branch())?;
+            put_member(branches, place + 1, second.into_branch())?;
             Ok(())
         }
     }
@@ -518,7 +520,7 @@ fn split_leaf(mut entries: Vec<Entry>) -> Result<Grown, AllocError>
     requires in_order { AreInOrder entries.items }
     ensures { IfOk result (λ grown. AreNodes 1 (length entries.items) entries.items grown) }
 {
-    if entries.len() <= 8 {
+    if entries.len() <= MEMBERS_MAX {
         return Ok(Grown {
             node: Node {
                 members: Members::Leaf(entries),
@@ -526,7 +528,7 @@ fn split_leaf(mut entries: Vec<Entry>) -> Result<Grown, AllocError>
             split: None,
         });
     }
-    let second = entries.split_off(entries.len() / 2)?;
+    let second = take_half(&mut entries)?;
     Ok(Grown {
         node: Node {
             members: Members::Leaf(entries),
@@ -546,7 +548,7 @@ fn split_inner(mut branches: Vec<Branch>) -> Result<Grown, AllocError>
     ensures { IfOk result (λ grown. AreNodes (levels_below branches.items + 1)
         (length branches.items) (entries_below branches.items) grown) }
 {
-    if branches.len() <= 8 {
+    if branches.len() <= MEMBERS_MAX {
         return Ok(Grown {
             node: Node {
                 members: Members::Inner(branches),
@@ -554,7 +556,7 @@ fn split_inner(mut branches: Vec<Branch>) -> Result<Grown, AllocError>
             split: None,
         });
     }
-    let second = branches.split_off(branches.len() / 2)?;
+    let second = take_half(&mut branches)?;
     Ok(Grown {
         node: Node {
             members: Members::Inner(branches),

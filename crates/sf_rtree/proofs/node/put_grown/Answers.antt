@@ -16,9 +16,9 @@ returns-in-None-clause-entries c =
     put_one_node (remove c.args.branches.now.items c.args.place) c.put_branch.new.branches.items c.args.place c.into_branch_within.result
     c.args.grown c.put_branch.ensures.put c.into_branch_within.ensures.node c.in-None.is
 
-pub returns-in_ok-insert-in-Some-clause-entries : goal.returns-in_ok-insert-in-Some-clause-entries
-returns-in_ok-insert-in-Some-clause-entries c =
-    put_two_nodes (remove c.args.branches.now.items c.args.place) c.put_branch-in-Some.new.branches.items c.insert.new.self.items c.args.place
+pub returns-in_ok-put_member-in-Some-clause-entries : goal.returns-in_ok-put_member-in-Some-clause-entries
+returns-in_ok-put_member-in-Some-clause-entries c =
+    put_two_nodes (remove c.args.branches.now.items c.args.place) c.put_branch-in-Some.new.branches.items c.put_member.new.members.items c.args.place
     c.into_branch.result c.into_branch-in-Some.result c.args.grown c.in-Some.second
     (omega (arith, length-removed c.args.branches.now.items c.args.place c.requires.within, c.requires.within)) c.put_branch-in-Some.ensures.put
-    c.into_branch.ensures.node c.in_ok-insert-in-Some.ensures.items c.into_branch-in-Some.ensures.node c.in-Some.is
+    c.into_branch.ensures.node c.in_ok-put_member-in-Some.ensures c.into_branch-in-Some.ensures.node c.in-Some.is

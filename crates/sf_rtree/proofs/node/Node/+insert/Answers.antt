@@ -14,8 +14,8 @@ use Rattle.sf_rtree.proofs.node.Node.+insert.Goals.{In_ok-grown-in-Inner}
 
 pub split_leaf-requires-clause-in_order : goal.split_leaf-requires-clause-in_order
 split_leaf-requires-clause-in_order t c =
-    leaf-put c.args.entry c.in-Leaf.entries.items c.as_slice.result.now c.insert.new.self.items c.entry_place-place.result
-    (subst IsNode c.in-Leaf.is c.self.invariant) (c.as_slice.ensures.value ∙ ap (λ v. v.items) c.in-Leaf.entries-is) c.entry_place-place.ensures.put (c.in_ok-insert-in-Leaf.ensures.items ∙ ap (λ v. insert v.items c.entry_place-place.result c.args.entry) c.in-Leaf.entries-is)
+    leaf-put c.args.entry c.in-Leaf.entries.items c.as_slice.result.now c.put_member.new.members.items c.entry_place-place.result
+    (subst IsNode c.in-Leaf.is c.self.invariant) (c.as_slice.ensures.value ∙ ap (λ v. v.items) c.in-Leaf.entries-is) c.entry_place-place.ensures.put (c.in_ok-put_member-in-Leaf.ensures ∙ ap (λ v. insert v.items c.entry_place-place.result c.args.entry) c.in-Leaf.entries-is)
 
 -- the branches without the one that was taken
 abbrev others : {t : ℕ} → In_ok-grown-in-Inner t → List Branch
