@@ -74,11 +74,11 @@ set_arguments-text line next middle last layer id column text first rest second 
     ∙ ap (λ t. set_arguments (layer ∷ id ∷ column ∷ words last) t) (sym behind)
     ∙ with_column_and_text layer id column text (words last) some
 
-OrMemory-same : {T : Type 0} (expected r : Result T Refusal) → r ≡ expected → OrMemory expected r
+pub OrMemory-same : {T : Type 0} (expected r : Result T Refusal) → r ≡ expected → OrMemory expected r
 OrMemory-same expected (Err Memory) h = tt
 OrMemory-same expected r h = h
 
-OrMemory-memory : {T : Type 0} (expected r : Result T Refusal) → IsErrAnd r (λ e. e ≡ Memory) → OrMemory expected r
+pub OrMemory-memory : {T : Type 0} (expected r : Result T Refusal) → IsErrAnd r (λ e. e ≡ Memory) → OrMemory expected r
 OrMemory-memory expected (Ok x) is = absurd is
 OrMemory-memory expected (Err e) is = subst (λ (refusal : Refusal). OrMemory expected (Err refusal)) (sym is) tt
 
@@ -86,13 +86,13 @@ pub OrMemory-refused : {T : Type 0} (expected r : Result T Refusal) (refusal : R
 OrMemory-refused expected (Ok x) refusal h is = absurd is
 OrMemory-refused expected (Err e) refusal h is = OrMemory-same expected (Err e) (ap Err is ∙ sym h)
 
--- a text that could not be read, or memory that ran out over it
-module _ (make : Geometry → Command) (expected : Result Geometry WktFault) (r : Result Command Refusal) where
-  refused : (fault : WktFault) → Err fault ≡ expected → IsErrAnd r (λ e. e ≡ refusal_of fault) → OrMemory (of_text expected make) r
-  refused fault h is = OrMemory-refused (of_text expected make) r (refusal_of fault) (ap (λ x. of_text x make) (sym h)) is
+-- a text that could not be read, or memory that ran out over it: what is made of a text's fault is its refusal
+module _ {T : Type 0} (make : Result Geometry WktFault → Result T Refusal) (refuses : (fault : WktFault) → make (Err fault) ≡ Err (refusal_of fault)) (expected : Result Geometry WktFault) (r : Result T Refusal) where
+  refused : (fault : WktFault) → Err fault ≡ expected → IsErrAnd r (λ e. e ≡ refusal_of fault) → OrMemory (make expected) r
+  refused fault h is = OrMemory-refused (make expected) r (refusal_of fault) (ap make (sym h) ∙ refuses fault) is
 
-  pub OrMemory-unread : (fault : WktFault) → ReadsOrMemory expected (Err fault) → IsErrAnd r (λ e. e ≡ refusal_of fault) → OrMemory (of_text expected make) r
-  OrMemory-unread faults.Memory h is = OrMemory-memory (of_text expected make) r is
+  pub OrMemory-unread : (fault : WktFault) → ReadsOrMemory expected (Err fault) → IsErrAnd r (λ e. e ≡ refusal_of fault) → OrMemory (make expected) r
+  OrMemory-unread faults.Memory h is = OrMemory-memory (make expected) r is
   OrMemory-unread (faults.Syntax place) h is = refused (faults.Syntax place) h is
   OrMemory-unread faults.OffGrid h is = refused faults.OffGrid h is
   OrMemory-unread faults.OutOfRange h is = refused faults.OutOfRange h is

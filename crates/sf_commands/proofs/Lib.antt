@@ -5,4 +5,6 @@ pub mod IntLemmas
 pub mod QuoteLemmas
 pub mod PointLemmas
 pub mod VertexLemmas
+pub mod QueryLemmas
 pub mod Computed
+pub mod ComputedQueries

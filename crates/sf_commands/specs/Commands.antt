@@ -3,12 +3,19 @@ use Rattle.std.specs.Prelude.{◌≡◌, ℕ, ◌^◌, ◌&&◌, List, [], ◌�
 use Rattle.std.specs.Char.{is_ascii_digit}
 use Rattle.std.specs.List.{list_all}
 use Rattle.std.specs.Map.{lookup}
+use Rattle.std.specs.Option.{ok_or}
 use Rattle.hex.specs.declared.error.FromHexError.{FromHexError}
 use Rattle.hex.specs.Hex.{decode_of}
 use Rattle.sf_refusals.specs.declared.refusal.Refusal.{Refusal}
-use Rattle.sf_refusals.specs.declared.refusal.Refusal.TheVariants.{Memory, Syntax, BadCommand, LineTooLong}
+use Rattle.sf_refusals.specs.declared.refusal.Refusal.TheVariants.{Memory, Syntax, BadCommand, BadPattern, LineTooLong}
 use Rattle.sf_geometry.specs.declared.geometry.Geometry.{Geometry}
 use Rattle.sf_geometry.specs.declared.kind.Kind.TheVariants as kinds
+use Rattle.sf_rules.specs.declared.fault.Fault.{Fault}
+use Rattle.sf_rules.specs.Faults.{refusal_of as refusal_of_fault}
+use Rattle.sf_rules.specs.Verdicts.{first_fault}
+use Rattle.sf_relate.specs.declared.predicate.Predicate.{Predicate}
+use Rattle.sf_relate.specs.declared.predicate.Predicate.TheVariants as predicates
+use Rattle.sf_relate.specs.Patterns.{pattern_of}
 use Rattle.sf_lines.specs.Lines.{line_max}
 use Rattle.sf_wkt.specs.declared.fault.WktFault.{WktFault}
 use Rattle.sf_wkt.specs.Faults.{refusal_of}
@@ -27,18 +34,27 @@ use Rattle.sf_commands.specs.declared.verb.Verb.TheVariants as verbs
 use Rattle.sf_commands.specs.declared.verb.Action.{Action}
 use Rattle.sf_commands.specs.declared.verb.Action.TheVariants as actions
 use Rattle.sf_commands.specs.declared.command.Command.{Command}
-use Rattle.sf_commands.specs.declared.command.Command.TheVariants.{Edit, Undo, Redo, Layers, Columns, Show, Hex, Simple, Extent}
+use Rattle.sf_commands.specs.declared.command.Command.TheVariants.{Edit, Undo, Redo, Layers, Columns, Show, Hex, Simple, Extent, Relate, Match, Query}
 use Rattle.sf_commands.specs.declared.vertex_place.VertexPlace.{VertexPlace}
 use Rattle.sf_commands.specs.Words.{words, skip_blanks, skip_word, trimmed_end}
 use Rattle.sf_commands.specs.Values.{point_of, value_of}
+
+-- the words of the verbs that ask, and change neither the store nor its history
+abbrev pub asking_verbs : List (List ℕ × Verb)
+asking_verbs = (codes "layers", verbs.Layers) ∷ (codes "columns", verbs.Columns) ∷ (codes "show", verbs.Show)
+    ∷ (codes "hex", verbs.Hex) ∷ (codes "box", verbs.Box) ∷ (codes "simple", verbs.Simple)
+    ∷ (codes "relate", verbs.Relate) ∷ (codes "match", verbs.Match) ∷ (codes "query", verbs.Query) ∷ []
+
+-- the asking verb that a word spells
+abbrev pub asking_verb_of : List ℕ → Option Verb
+asking_verb_of word = lookup (bytes_eq word) asking_verbs
 
 -- the verb that a word spells
 abbrev pub verb_of : List ℕ → Option Verb
 verb_of word = lookup (bytes_eq word) ((codes "layer", verbs.Layer) ∷ (codes "column", verbs.Column)
     ∷ (codes "add", verbs.Add) ∷ (codes "addhex", verbs.AddHex) ∷ (codes "delete", verbs.Delete) ∷ (codes "replace", verbs.Replace)
     ∷ (codes "vertex", verbs.Vertex) ∷ (codes "set", verbs.Set) ∷ (codes "unset", verbs.Unset) ∷ (codes "undo", verbs.Undo) ∷ (codes "redo", verbs.Redo)
-    ∷ (codes "layers", verbs.Layers) ∷ (codes "columns", verbs.Columns) ∷ (codes "show", verbs.Show)
-    ∷ (codes "hex", verbs.Hex) ∷ (codes "box", verbs.Box) ∷ (codes "simple", verbs.Simple) ∷ [])
+    ∷ asking_verbs)
 
 -- what is done with a layer, a column or a vertex
 abbrev pub action_of : List ℕ → Option Action
@@ -54,6 +70,12 @@ layer_kind_of word = lookup (bytes_eq word) ((codes "any", Any) ∷ (codes "poin
 -- the type of a column that a word spells
 abbrev pub column_type_of : List ℕ → Option ColumnType
 column_type_of word = lookup (bytes_eq word) ((codes "int", types.Int) ∷ (codes "text", types.Text) ∷ [])
+
+-- the predicate that a word spells
+abbrev pub predicate_of : List ℕ → Option Predicate
+predicate_of word = lookup (bytes_eq word) ((codes "equals", predicates.Equals) ∷ (codes "disjoint", predicates.Disjoint)
+    ∷ (codes "touches", predicates.Touches) ∷ (codes "crosses", predicates.Crosses) ∷ (codes "within", predicates.Within)
+    ∷ (codes "contains", predicates.Contains) ∷ (codes "overlaps", predicates.Overlaps) ∷ (codes "intersects", predicates.Intersects) ∷ [])
 
 -- how many digits an identifier has at most
 abbrev pub id_digits_max : ℕ
@@ -78,6 +100,16 @@ made (Err refusal) make = Err refusal
 abbrev pub of_text : Result Geometry WktFault → (Geometry → Command) → Result Command Refusal
 of_text (Ok geometry) make = Ok (make geometry)
 of_text (Err fault) make = Err (refusal_of fault)
+
+-- a geometry, or the refusal of its first fault where it has one
+abbrev pub faultless : Geometry → Option Fault → Result Geometry Refusal
+faultless geometry None = Ok geometry
+faultless geometry (Some fault) = Err (refusal_of_fault fault)
+
+-- the valid geometry that a text was read as: the faults of the text come first
+abbrev pub valid_of : Result Geometry WktFault → Result Geometry Refusal
+valid_of (Ok geometry) = faultless geometry (first_fault geometry)
+valid_of (Err fault) = Err (refusal_of fault)
 
 -- the words after `layer add`: a name and a kind
 abbrev pub add_layer : List (List ℕ) → Result Command Refusal
@@ -230,6 +262,30 @@ abbrev pub unset_arguments : List (List ℕ) → Result Command Refusal
 unset_arguments (layer ∷ id ∷ column ∷ []) = given (id_of id) (λ id. Ok (Edit (edits.ClearValue layer id column)))
 unset_arguments arguments = Err BadCommand
 
+-- what is made of a layer, the word after it, and the text, the rest of the line from the third word on
+abbrev pub after_two_words : (List ℕ → List ℕ → List ℕ → Result Command Refusal) → List (List ℕ) → List ℕ → Result Command Refusal
+after_two_words make (layer ∷ word ∷ first ∷ more) text = make layer word text
+after_two_words make arguments text = Err BadCommand
+
+-- a command of a layer, of what the next word spells and of a given geometry, in this order where one of them can't be had
+abbrev pub with_geometry : {X : Type 0} → (List ℕ → X → Geometry → Command) → List ℕ → Result X Refusal → Result Geometry Refusal → Result Command Refusal
+with_geometry command layer spelled geometry = made spelled (λ x. made geometry (λ given. Ok (command layer x given)))
+
+-- the command of the words after `relate`: a layer, an identifier and a text
+abbrev pub relate_arguments : List (List ℕ) → List ℕ → Result Command Refusal
+relate_arguments arguments text =
+    after_two_words (λ layer id text. with_geometry Relate layer (ok_or (id_of id) BadCommand) (valid_of (read text))) arguments text
+
+-- the command of the words after `match`: a layer, a pattern and a text
+abbrev pub match_arguments : List (List ℕ) → List ℕ → Result Command Refusal
+match_arguments arguments text =
+    after_two_words (λ layer pattern text. with_geometry Match layer (ok_or (pattern_of pattern) BadPattern) (valid_of (read text))) arguments text
+
+-- the command of the words after `query`: a layer, a predicate and a text
+abbrev pub query_arguments : List (List ℕ) → List ℕ → Result Command Refusal
+query_arguments arguments text =
+    after_two_words (λ layer predicate text. with_geometry Query layer (ok_or (predicate_of predicate) BadCommand) (valid_of (read text))) arguments text
+
 -- a command with a layer's name alone after its verb
 abbrev pub of_layer : (List ℕ → Command) → List (List ℕ) → Result Command Refusal
 of_layer command (layer ∷ []) = Ok (command layer)
@@ -259,6 +315,9 @@ by_verb (Some verbs.Show) rest = of_layer Show (words rest)
 by_verb (Some verbs.Hex) rest = feature_arguments Hex (words rest)
 by_verb (Some verbs.Box) rest = feature_arguments Extent (words rest)
 by_verb (Some verbs.Simple) rest = feature_arguments Simple (words rest)
+by_verb (Some verbs.Relate) rest = relate_arguments (words rest) (skip_blanks (skip_word (skip_word rest)))
+by_verb (Some verbs.Match) rest = match_arguments (words rest) (skip_blanks (skip_word (skip_word rest)))
+by_verb (Some verbs.Query) rest = query_arguments (words rest) (skip_blanks (skip_word (skip_word rest)))
 by_verb None rest = Err BadCommand
 
 -- the command of the words of a line, and the line after the first of them

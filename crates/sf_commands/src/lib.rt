@@ -7,6 +7,7 @@ mod feature_commands;
 mod layer_commands;
 mod parsing;
 mod point;
+mod query_commands;
 mod spelling;
 mod value;
 mod verb;

@@ -11,6 +11,7 @@ use super::feature_commands::{
     replace_arguments, set_arguments, show_arguments, simple_arguments, unset_arguments,
 };
 use super::layer_commands::{layer_arguments, layers_arguments};
+use super::query_commands::{match_arguments, query_arguments, relate_arguments};
 use super::verb::{Verb, verb_of};
 use super::vertex_commands::vertex_arguments;
 use super::words::Words;
@@ -19,8 +20,10 @@ use sf_refusals::Refusal;
 use std::alloc::Global;
 
 /// The command of a line, or the refusal that the line alone decides: `LineTooLong` above 131,072 bytes,
-/// `BadCommand` for wrong words or a wrong number of them, then `Syntax` for a text that is no hexadecimal,
-/// the faults of a well-known text or binary, and those of a coordinate, x before y. `Memory` may come in place of any of them.
+/// `BadCommand` for wrong words or a wrong number of them, then `BadPattern` for a pattern that is none, then
+/// `Syntax` for a text that is no hexadecimal, the faults of a well-known text or binary, and those of a coordinate,
+/// x before y; last, of a geometry that features are compared with, its first fault. `Memory` may come in place of
+/// any of them.
 pub fn parse(alloc: Global, line: &str) -> Result<Command, Refusal>
     ensures { OrMemory (command_of line.now) result }
 {
@@ -54,6 +57,9 @@ fn arguments_of(alloc: Global, verb: Option<Verb>, words: Words<'_>) -> Result<C
         Some(Verb::Hex) => hex_arguments(alloc, words),
         Some(Verb::Box) => box_arguments(alloc, words),
         Some(Verb::Simple) => simple_arguments(alloc, words),
+        Some(Verb::Relate) => relate_arguments(alloc, words),
+        Some(Verb::Match) => match_arguments(alloc, words),
+        Some(Verb::Query) => query_arguments(alloc, words),
         None => Err(Refusal::BadCommand),
     }
 }

@@ -1,14 +1,15 @@
-//! What single words spell: kinds of layers, identifiers, bytes and names.
+//! What single words spell: kinds of layers, types of columns, predicates, identifiers, bytes and names.
 ghost use Rattle.std.specs.Prelude.{◌≡◌, ◌⊎◌, ◌&&◌, nat_le, length, Ok, IsErr, IfOk, MatchResult};
 ghost use Rattle.std.specs.Char.{is_ascii_digit};
 ghost use Rattle.std.specs.List.{list_all};
 ghost use Rattle.hex.specs.Hex.{decode_of};
-ghost use Rattle.sf_commands.specs.Commands.{id_digits_max, id_of as id_spelled, layer_kind_of as layer_kind_named, column_type_of as column_type_named};
+ghost use Rattle.sf_commands.specs.Commands.{id_digits_max, id_of as id_spelled, layer_kind_of as layer_kind_named, column_type_of as column_type_named, predicate_of as predicate_named};
 
 use hex::FromHexError;
 use sf_geometry::Kind;
 use sf_layers::{ColumnType, LayerKind, Text};
 use sf_refusals::Refusal;
+use sf_relate::Predicate;
 use std::alloc::{AllocError, Global};
 
 /// How many digits an identifier has at most.
@@ -45,6 +46,31 @@ pub(crate) fn column_type_of(word: &str) -> Option<ColumnType>
         Some(ColumnType::Int)
     } else if word == "text" {
         Some(ColumnType::Text)
+    } else {
+        None
+    }
+}
+
+/// The predicate that a word spells, in small letters.
+pub(crate) fn predicate_of(word: &str) -> Option<Predicate>
+    ensures { result ≡ predicate_named word.now }
+{
+    if word == "equals" {
+        Some(Predicate::Equals)
+    } else if word == "disjoint" {
+        Some(Predicate::Disjoint)
+    } else if word == "touches" {
+        Some(Predicate::Touches)
+    } else if word == "crosses" {
+        Some(Predicate::Crosses)
+    } else if word == "within" {
+        Some(Predicate::Within)
+    } else if word == "contains" {
+        Some(Predicate::Contains)
+    } else if word == "overlaps" {
+        Some(Predicate::Overlaps)
+    } else if word == "intersects" {
+        Some(Predicate::Intersects)
     } else {
         None
     }

@@ -1,5 +1,5 @@
 ghost use Rattle.std.specs.Prelude.{◌≡◌};
-ghost use Rattle.sf_commands.specs.Commands.{action_of as action_named, verb_of as verb_named};
+ghost use Rattle.sf_commands.specs.Commands.{action_of as action_named, asking_verb_of as asking_verb_named, verb_of as verb_named};
 
 /// The first word of a command.
 #[derive(Clone, Copy, Debug, PartialEq, Eq)]
@@ -21,6 +21,9 @@ pub(crate) enum Verb {
     Hex,
     Box,
     Simple,
+    Relate,
+    Match,
+    Query,
 }
 
 /// What is done with a layer, a column or a vertex.
@@ -60,7 +63,16 @@ pub(crate) fn verb_of(word: &str) -> Option<Verb>
         Some(Verb::Undo)
     } else if word == "redo" {
         Some(Verb::Redo)
-    } else if word == "layers" {
+    } else {
+        asking_verb_of(word)
+    }
+}
+
+/// The verb of a question that a word spells: it changes neither the store nor its history.
+fn asking_verb_of(word: &str) -> Option<Verb>
+    ensures { result ≡ asking_verb_named word.now }
+{
+    if word == "layers" {
         Some(Verb::Layers)
     } else if word == "columns" {
         Some(Verb::Columns)
@@ -72,6 +84,12 @@ pub(crate) fn verb_of(word: &str) -> Option<Verb>
         Some(Verb::Box)
     } else if word == "simple" {
         Some(Verb::Simple)
+    } else if word == "relate" {
+        Some(Verb::Relate)
+    } else if word == "match" {
+        Some(Verb::Match)
+    } else if word == "query" {
+        Some(Verb::Query)
     } else {
         None
     }

@@ -34,7 +34,7 @@ IsAnswered-asked old new text expected (Err Memory) or (inr e) = inr e
 IsAnswered-asked old new text expected r or gives = subst (λ x. IsAnswered old (Asked x) text new) or gives
 
 -- the text of a refusal that was passed on
-refused_text : (r : Result Reply Refusal) (refusal : Refusal) → IsErrAnd r (λ e. e ≡ refusal) → reply_text r ≡ refusal_line refusal
+pub refused_text : (r : Result Reply Refusal) (refusal : Refusal) → IsErrAnd r (λ e. e ≡ refusal) → reply_text r ≡ refusal_line refusal
 refused_text (Ok reply) refusal is = absurd is
 refused_text (Err e) refusal is = ap refusal_line is
 

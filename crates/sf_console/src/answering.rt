@@ -2,16 +2,17 @@
 ghost use Rattle.std.specs.Prelude.{◌≡◌, ◌⊎◌, ℕ, List, Ok, Err, true, map, MatchResult};
 ghost use Rattle.sf_layers.specs.Content.{layer_of};
 ghost use Rattle.sf_lines.specs.Buffers.{IsBufferOf};
-ghost use Rattle.sf_console.specs.Answers.{reply_text, refusal_line, rows, rows_of, layer_row, column_rows as column_rows_of, feature_rows as feature_rows_of, found, told, hex_text, simple_text, box_text};
+ghost use Rattle.sf_console.specs.Answers.{reply_text, refusal_line, rows, rows_of, layer_row, column_rows as column_rows_of, feature_rows as feature_rows_of, found, told, hex_text, simple_text, box_text, related_text, found_rows};
 ghost use Rattle.sf_console.specs.Readings.{Asked, reading, text_reading};
 ghost use Rattle.sf_console.specs.Session.{IsAnswered, IsLastAnswered};
 
 use super::reply::{Reply, hex_line};
-use super::rows::{column_rows, feature_rows, layer_rows};
+use super::rows::{column_rows, feature_rows, id_rows, layer_rows};
 use sf_commands::{Command, is_blank_text, parse};
 use sf_history::Editor;
 use sf_layers::{Store, Text};
 use sf_lines::{LineBuffer, without_return};
+use sf_query::{Ask, query, relate_one};
 use sf_refusals::Refusal;
 use sf_steps::Answer;
 use sf_validity::{Valid, is_simple};
@@ -88,6 +89,15 @@ fn execute(alloc: Global, editor: &mut Editor, command: Command) -> Result<Reply
         Command::Hex(layer, id) => hex(alloc, editor.store(), &layer, id),
         Command::Simple(layer, id) => simple(alloc, editor.store(), &layer, id),
         Command::Extent(layer, id) => extent(editor.store(), &layer, id),
+        Command::Relate(layer, id, given) => relate(alloc, editor.store(), &layer, id, &given),
+        Command::Match(layer, pattern, given) => {
+            let ask = Ask::Matching(pattern);
+            features(alloc, editor.store(), &layer, &ask, &given)
+        }
+        Command::Query(layer, predicate, given) => {
+            let ask = Ask::Named(predicate);
+            features(alloc, editor.store(), &layer, &ask, &given)
+        }
     }
 }
 
@@ -136,6 +146,34 @@ fn extent(store: &Store, layer: &Text, id: u32) -> Result<Reply, Refusal>
 {
     let valid = valid_of(store, layer, id)?;
     Ok(Reply::Extent(valid.geometry().envelope()))
+}
+
+/// The matrix of a feature's geometry with the given one.
+fn relate(
+    alloc: Global,
+    store: &Store,
+    layer: &Text,
+    id: u32,
+    given: &Valid,
+) -> Result<Reply, Refusal>
+    ensures { (reply_text result ≡ told (related_text given.now) (layer_of store.now layer.now) id) ⊎ (reply_text result ≡ refusal_line Refusal.Memory) }
+{
+    let matrix = relate_one(alloc, store, layer.as_str(), id, given)?;
+    Ok(Reply::Matrix(matrix))
+}
+
+/// The identifiers of the features of a layer whose matrix with the given geometry is as asked.
+fn features(
+    alloc: Global,
+    store: &Store,
+    layer: &Text,
+    ask: &Ask,
+    given: &Valid,
+) -> Result<Reply, Refusal>
+    ensures { (reply_text result ≡ rows_of (found_rows ask.now given.now) (layer_of store.now layer.now)) ⊎ (reply_text result ≡ refusal_line Refusal.Memory) }
+{
+    let found = query(alloc, store, layer.as_str(), ask, given)?;
+    Ok(Reply::Lines(id_rows(alloc, found.ids.as_slice())?))
 }
 
 /// The geometry of a feature. `NoLayer` where no layer has the name, `NoFeature` where the layer has none

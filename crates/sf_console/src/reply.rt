@@ -1,7 +1,8 @@
 ghost use Rattle.std.specs.Prelude.{◌≡◌, string_bytes, IfOk};
-ghost use Rattle.sf_console.specs.Answers.{line as line_of, hex_text};
+ghost use Rattle.sf_console.specs.Answers.{line as line_of, hex_text, matrix_text};
 
 use sf_geometry::Extent;
+use sf_relate::Matrix;
 use sf_steps::Answer;
 use sf_validity::Valid;
 use std::alloc::{AllocError, Global};
@@ -19,6 +20,8 @@ pub(crate) enum Reply {
     Truth(bool),
     /// The corners of a box.
     Extent(Extent),
+    /// The DE-9IM matrix of two geometries.
+    Matrix(Matrix),
 }
 
 /// The canonical bytes of a geometry in small hexadecimal, and a line feed.
@@ -29,4 +32,12 @@ pub(crate) fn hex_line(alloc: Global, valid: &Valid) -> Result<String, AllocErro
     let mut line = hex::encode(alloc, bytes.as_slice())?;
     line.push('\n')?;
     Ok(line)
+}
+
+/// The nine letters of a matrix, and a line feed. They stand on the stack, so they take no memory.
+pub(crate) fn matrix_line(matrix: &Matrix) -> [u8; 10]
+    ensures { result ≡ line_of (matrix_text matrix.now.0) }
+{
+    let [ii, ib, ie, bi, bb, be, ei, eb, ee] = matrix.text();
+    [ii, ib, ie, bi, bb, be, ei, eb, ee, b'\n']
 }

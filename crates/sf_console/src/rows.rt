@@ -1,5 +1,5 @@
 //! Answers of rows: their number, and a line for each.
-ghost use Rattle.std.specs.Prelude.{◌≡◌, ◌++◌, flat_map, map, string_bytes, IfOk, OnOk};
+ghost use Rattle.std.specs.Prelude.{◌≡◌, ◌++◌, decimal, flat_map, map, string_bytes, IfOk, OnOk};
 ghost use Rattle.std.specs.List.{prefix_len};
 ghost use Rattle.sf_commands.specs.Values.{is_plain, quoted};
 ghost use Rattle.sf_console.specs.Answers.{column_rows as column_rows_of, column_type_word as column_type_word_of, feature_rows as feature_rows_of, layer_kind_word as layer_kind_word_of, layer_row, rows, shown_value, value_text};
@@ -79,6 +79,18 @@ pub(crate) fn feature_rows(alloc: Global, layer: &Layer) -> Result<String, Alloc
         sf_wkt::append(alloc, &mut text, feature.valid().geometry())?;
         push_values(&mut text, layer, feature)?;
         text.push('\n')?;
+    }
+    Ok(text)
+}
+
+/// A row for each identifier, in their order.
+pub(crate) fn id_rows(alloc: Global, ids: &[u32]) -> Result<String, AllocError>
+    ensures { IfOk result (λ text. string_bytes text ≡ rows (map decimal ids.now)) }
+{
+    let mut text = String::new(alloc);
+    writeln!(text, "rows {}", ids.len())?;
+    for id in ids {
+        writeln!(text, "{id}")?;
     }
     Ok(text)
 }

@@ -1,4 +1,4 @@
-use Rattle.std.proofs.Common.{◌∙◌, Ok, Result, ap, subst, sym}
+use Rattle.std.proofs.Common.{◌∙◌, Ok, Result, ap, refl, subst, sym}
 use Rattle.sf_refusals.specs.declared.refusal.Refusal.{Refusal}
 use Rattle.sf_wkt.specs.Grammar.{read}
 use Rattle.sf_steps.specs.declared.edit.Edit.TheVariants as edits
@@ -13,7 +13,7 @@ returns-in_err-geometry c =
     let layer = c.in_ok-layer.layer.now in
     let P : Result Command Refusal → Type 0 = λ expected. OrMemory expected c.from_residual-in_err-geometry.result in
     subst P (sym (add_arguments-text c.args.words c.next.new.self layer c.in_ok-rest.field-0.now c.in_ok-layer.ensures.0 c.in_ok-layer.ensures.1 c.in_ok-rest.ensures.0 c.in_ok-rest.ensures.1))
-    (OrMemory-unread (λ geometry. Edit (edits.AddFeature layer geometry)) (read c.in_ok-rest.field-0.now) c.from_residual-in_err-geometry.result _ c.in_err-geometry.ensures.exact c.from_residual-in_err-geometry.ensures.1)
+    (OrMemory-unread (λ x. of_text x (λ geometry. Edit (edits.AddFeature layer geometry))) (λ fault. refl) (read c.in_ok-rest.field-0.now) c.from_residual-in_err-geometry.result _ c.in_err-geometry.ensures.exact c.from_residual-in_err-geometry.ensures.1)
 
 pub returns : goal.returns
 returns c =

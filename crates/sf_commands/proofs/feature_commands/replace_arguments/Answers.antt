@@ -1,4 +1,4 @@
-use Rattle.std.proofs.Common.{◌≡◌, ◌∙◌, Ok, Some, Result, ap, subst, sym, rules}
+use Rattle.std.proofs.Common.{◌≡◌, ◌∙◌, Ok, Some, Result, ap, refl, subst, sym, rules}
 use Rattle.sf_refusals.specs.declared.refusal.Refusal.{Refusal}
 use Rattle.sf_wkt.specs.Grammar.{read}
 use Rattle.sf_steps.specs.declared.edit.Edit.TheVariants as edits
@@ -18,7 +18,7 @@ returns-in_err-geometry c =
     (sym (replace_arguments-text c.args.words c.next.new.self c.next-2.new.self layer c.in_ok-id.id.now text
     c.in_ok-layer.ensures.0 c.in_ok-layer.ensures.1 c.in_ok-id.ensures.0 c.in_ok-id.ensures.1 c.in_ok-text.ensures.0 c.in_ok-text.ensures.1
     ∙ ap (λ i. replaced_by layer i (read text)) id))
-    (OrMemory-unread (λ geometry. Edit (edits.ReplaceGeometry layer c.in_ok-id-2.id geometry)) (read text) c.from_residual-in_err-geometry.result _
+    (OrMemory-unread (λ x. of_text x (λ geometry. Edit (edits.ReplaceGeometry layer c.in_ok-id-2.id geometry))) (λ fault. refl) (read text) c.from_residual-in_err-geometry.result _
     c.in_err-geometry.ensures.exact c.from_residual-in_err-geometry.ensures.1)
 
 pub returns : goal.returns

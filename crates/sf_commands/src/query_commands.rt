@@ -1,0 +1,63 @@
+//! Commands that compare features with a given geometry.
+ghost use Rattle.std.specs.Prelude.{◌≡◌};
+ghost use Rattle.sf_wkt.specs.Grammar.{read};
+ghost use Rattle.sf_commands.specs.Commands.{match_arguments as match_command_of, query_arguments as query_command_of, relate_arguments as relate_command_of, valid_of as valid_read, OrMemory};
+ghost use Rattle.sf_commands.specs.Words.{words as words_of, skip_blanks, skip_word};
+
+use super::command::Command;
+use super::spelling::{id_of, predicate_of, text_of};
+use super::words::Words;
+use sf_refusals::Refusal;
+use sf_relate::Pattern;
+use sf_validity::{Valid, validate};
+use std::alloc::Global;
+
+/// The given geometry is the rest of the line from the third word after `relate` on.
+pub(crate) fn relate_arguments(alloc: Global, mut words: Words<'_>) -> Result<Command, Refusal>
+    ensures { OrMemory (relate_command_of (words_of words.entry) (skip_blanks (skip_word (skip_word words.entry)))) result }
+{
+    let layer = words.next()?;
+    let id = words.next()?;
+    let text = words.rest()?;
+    let id = id_of(id).ok_or(Refusal::BadCommand)?;
+    let given = valid_of(alloc, text)?;
+    let layer = text_of(alloc, layer)?;
+    Ok(Command::Relate(layer, id, given))
+}
+
+/// The given geometry is the rest of the line from the third word after `match` on.
+pub(crate) fn match_arguments(alloc: Global, mut words: Words<'_>) -> Result<Command, Refusal>
+    ensures { OrMemory (match_command_of (words_of words.entry) (skip_blanks (skip_word (skip_word words.entry)))) result }
+{
+    let layer = words.next()?;
+    let pattern = words.next()?;
+    let text = words.rest()?;
+    let pattern = Pattern::parse(pattern)?;
+    let given = valid_of(alloc, text)?;
+    let layer = text_of(alloc, layer)?;
+    Ok(Command::Match(layer, pattern, given))
+}
+
+/// The given geometry is the rest of the line from the third word after `query` on.
+pub(crate) fn query_arguments(alloc: Global, mut words: Words<'_>) -> Result<Command, Refusal>
+    ensures { OrMemory (query_command_of (words_of words.entry) (skip_blanks (skip_word (skip_word words.entry)))) result }
+{
+    let layer = words.next()?;
+    let predicate = words.next()?;
+    let text = words.rest()?;
+    let predicate = predicate_of(predicate).ok_or(Refusal::BadCommand)?;
+    let given = valid_of(alloc, text)?;
+    let layer = text_of(alloc, layer)?;
+    Ok(Command::Query(layer, predicate, given))
+}
+
+/// The valid geometry of a well-known text. A fault of the text comes before one of the geometry.
+fn valid_of(alloc: Global, text: &str) -> Result<Valid, Refusal>
+    ensures { OrMemory (valid_read (read text.now)) result }
+{
+    let geometry = sf_wkt::read(alloc, text)?;
+    match validate(alloc, geometry) {
+        Ok(valid) => Ok(valid),
+        Err(invalid) => Err(invalid.refusal.into()),
+    }
+}
