@@ -1,12 +1,13 @@
 //! Times of the calls of `sf_grid`, of walks over the cells of large rings and combs, of the checks of
-//! validity and simplicity, and of reading and writing text and binary. The first argument chooses:
-//! `grid`, `cells`, `validity` or `texts`. The second one is the number of rounds.
+//! validity and simplicity, of matrices, and of reading and writing text and binary. The first argument
+//! chooses: `grid`, `cells`, `validity`, `matrices` or `texts`. The second one is the number of rounds.
 #![tactic(auto)]
 
 mod cells;
 mod grid;
 mod outlines;
 mod polygons;
+mod relating;
 mod shape;
 mod sinks;
 mod sized;
@@ -22,6 +23,7 @@ enum Choice {
     Grid,
     Cells,
     Validity,
+    Matrices,
     Texts,
 }
 
@@ -33,6 +35,7 @@ fn main(rt: HostRuntime) -> io::Result<()> {
             "grid" => choice = Choice::Grid,
             "cells" => choice = Choice::Cells,
             "validity" => choice = Choice::Validity,
+            "matrices" => choice = Choice::Matrices,
             "texts" => choice = Choice::Texts,
             word => {
                 if let Ok(n) = word.parse::<u32>() {
@@ -45,6 +48,7 @@ fn main(rt: HostRuntime) -> io::Result<()> {
         Choice::Grid => grid::run(&rt, rounds),
         Choice::Cells => cells::run(&rt, rounds),
         Choice::Validity => validity::run(&rt, rounds),
+        Choice::Matrices => relating::run(&rt, rounds),
         Choice::Texts => texts::run(&rt, rounds),
     }
 }

@@ -46,11 +46,25 @@ impl Shape {
     /// The edges of a geometry, all in one group.
     pub(crate) fn of(alloc: Global, geometry: &Geometry) -> Result<Shape, AllocError> {
         let mut shape = Shape::new(alloc);
-        for (a, b) in geometry.edges(alloc)? {
-            shape.pieces.push(Piece::Edge(a, b))?;
-            shape.groups.push(0)?;
-        }
+        shape.add(alloc, 0, geometry)?;
         Ok(shape)
+    }
+
+    /// The edges of two geometries, in a group each.
+    pub(crate) fn of_both(alloc: Global, a: &Geometry, b: &Geometry) -> Result<Shape, AllocError> {
+        let mut shape = Shape::new(alloc);
+        shape.add(alloc, 0, a)?;
+        shape.add(alloc, 1, b)?;
+        Ok(shape)
+    }
+
+    /// Adds the edges of a geometry.
+    fn add(&mut self, alloc: Global, group: u32, geometry: &Geometry) -> Result<(), AllocError> {
+        for (a, b) in geometry.edges(alloc)? {
+            self.pieces.push(Piece::Edge(a, b))?;
+            self.groups.push(group)?;
+        }
+        Ok(())
     }
 
     /// Adds an edge, unless an end is off the grid or both are one.

@@ -5,6 +5,7 @@ use crate::shape::Shape;
 use crate::sized::SizedGeometry;
 use sf_geometry::Geometry;
 use sf_refusals::Refusal;
+use sf_relate::relate;
 use sf_validity::{Valid, check, is_simple, validate};
 use std::alloc::{AllocError, Global};
 use std::fmt::{self, Display, Formatter, Write};
@@ -18,6 +19,8 @@ pub(crate) enum Work {
     Check(Geometry),
     /// Simplicity.
     IsSimple(Valid),
+    /// The matrix of two geometries.
+    Relate(Valid, Valid),
     /// A walk with a sink that folds the cells.
     Walk(Shape),
     /// Reading well-known text.
@@ -38,6 +41,8 @@ enum Answer {
     Valid,
     Simple,
     NotSimple,
+    /// The entries of a matrix, folded into a word.
+    Related(u64),
     Folded(u64),
     /// The x of the first point, without its sign.
     Read(u32),
@@ -52,6 +57,7 @@ impl Answer {
             Answer::Valid => "valid",
             Answer::Simple => "simple",
             Answer::NotSimple => "not simple",
+            Answer::Related(_) => "related",
             Answer::Folded(_) => "walked",
             Answer::Read(_) => "read",
             Answer::Written(_) => "written",
@@ -65,7 +71,7 @@ impl Answer {
             Answer::Valid => 100,
             Answer::Simple => 101,
             Answer::NotSimple => 102,
-            Answer::Folded(word) => *word,
+            Answer::Related(word) | Answer::Folded(word) => *word,
             Answer::Read(x) => u64::from(*x),
             Answer::Written(length) => *length as u64,
             Answer::Refused(refusal) => u64::from(refusal.number()),
@@ -76,12 +82,17 @@ impl Answer {
 impl Work {
     /// Whether a geometry is simple, which is asked of a valid one.
     pub(crate) fn simplicity(alloc: Global, geometry: Geometry) -> Work {
-        if let Err(refusal) = geometry.check_size() {
-            return Work::Refused(refusal.into());
-        }
-        match validate(alloc, geometry) {
+        match valid(alloc, geometry) {
             Ok(valid) => Work::IsSimple(valid),
-            Err(invalid) => Work::Refused(invalid.refusal.into()),
+            Err(refusal) => Work::Refused(refusal),
+        }
+    }
+
+    /// The matrix of two geometries, which is asked of valid ones.
+    pub(crate) fn relating(alloc: Global, first: Geometry, second: Geometry) -> Work {
+        match (valid(alloc, first), valid(alloc, second)) {
+            (Ok(first), Ok(second)) => Work::Relate(first, second),
+            (Err(refusal), _) | (_, Err(refusal)) => Work::Refused(refusal),
         }
     }
 
@@ -111,6 +122,7 @@ impl Work {
         match self {
             Work::Check(geometry) => checked(alloc, geometry),
             Work::IsSimple(valid) => asked(alloc, valid),
+            Work::Relate(first, second) => related(alloc, first, second),
             Work::Walk(shape) => walked(alloc, shape),
             Work::ReadText(text) => answer_of(sf_wkt::read(alloc, text.as_str())),
             Work::WriteText(geometry) => text_written(alloc, geometry),
@@ -226,6 +238,27 @@ fn asked(alloc: Global, valid: &Valid) -> Answer {
     match is_simple(alloc, valid) {
         Ok(true) => Answer::Simple,
         Ok(false) => Answer::NotSimple,
+        Err(_) => Answer::Refused(Refusal::Memory),
+    }
+}
+
+/// The geometry as a valid one.
+fn valid(alloc: Global, geometry: Geometry) -> Result<Valid, Refusal> {
+    if let Err(refusal) = geometry.check_size() {
+        return Err(refusal.into());
+    }
+    validate(alloc, geometry).map_err(|invalid| invalid.refusal.into())
+}
+
+fn related(alloc: Global, first: &Valid, second: &Valid) -> Answer {
+    match relate(alloc, first, second) {
+        Ok(matrix) => {
+            let entries = matrix.text();
+            let word = entries.iter().fold(0u64, |word, entry| {
+                word.wrapping_mul(31).wrapping_add(u64::from(*entry))
+            });
+            Answer::Related(word)
+        }
         Err(_) => Answer::Refused(Refusal::Memory),
     }
 }

@@ -1,20 +1,41 @@
 //! Public calls that take memory, each with ample memory.
 use sf_console::{Command, Editor, parse};
 use sf_edits::Answer;
+use std::alloc::Global;
 use std::test::Fail;
+
+/// What lines are read as: a verb, and the identifier of a feature or 0.
+const READ: [(&str, &str, u32); 8] = [
+    (" undo ", "undo", 0),
+    ("show w", "show", 0),
+    ("hex w 4294967295", "hex", 4_294_967_295),
+    ("simple w 007", "simple", 7),
+    ("box w 1", "box", 1),
+    ("relate w 2 POINT (0 0)", "relate", 2),
+    ("match w t******** POINT (0 0)", "match", 0),
+    ("query w within POINT (0 0)", "query", 0),
+];
+
+/// What a line is read as, or None where it is refused or is another command.
+fn read(alloc: Global, line: &str) -> Option<(&'static str, u32)> {
+    match parse(alloc, line) {
+        Ok(Command::Undo) => Some(("undo", 0)),
+        Ok(Command::Show(_)) => Some(("show", 0)),
+        Ok(Command::Hex(_, id)) => Some(("hex", id)),
+        Ok(Command::Simple(_, id)) => Some(("simple", id)),
+        Ok(Command::Extent(_, id)) => Some(("box", id)),
+        Ok(Command::Relate(_, id, _)) => Some(("relate", id)),
+        Ok(Command::Match(_, _, _)) => Some(("match", 0)),
+        Ok(Command::Query(_, _, _)) => Some(("query", 0)),
+        _ => None,
+    }
+}
 
 #[test]
 fn parse_reads_commands(rt: HostRuntime) {
-    assert!(rt; matches!(parse(rt.alloc(), " undo "), Ok(Command::Undo)));
-    assert!(rt; matches!(parse(rt.alloc(), "show w"), Ok(Command::Show(_))));
-    assert!(rt;
-        matches!(
-            parse(rt.alloc(), "hex w 4294967295"),
-            Ok(Command::Hex(_, 4_294_967_295))
-        )
-    );
-    assert!(rt; matches!(parse(rt.alloc(), "simple w 007"), Ok(Command::Simple(_, 7))));
-    assert!(rt; matches!(parse(rt.alloc(), "box w 1"), Ok(Command::Extent(_, 1))));
+    for (line, verb, id) in READ {
+        assert_eq!(rt; read(rt.alloc(), line), Some((verb, id)));
+    }
 }
 
 #[test]

@@ -19,6 +19,10 @@ mod features;
 #[cfg(test)]
 mod limits;
 #[cfg(test)]
+mod matrices;
+#[cfg(test)]
+mod queries;
+#[cfg(test)]
 mod sessions;
 #[cfg(test)]
 mod sizes;

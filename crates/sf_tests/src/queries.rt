@@ -1,0 +1,165 @@
+//! Sessions that ask for matrices and for features by pattern or predicate.
+use super::support::{ByteByByte, answers};
+use std::alloc::Global;
+use std::test::Fail;
+
+const SESSIONS: [(&str, &str); 12] = [
+    // Squares that overlap and touch, a line across one.
+    (
+        "layer add p any\nadd p POLYGON ((0 0, 10 0, 10 10, 0 10, 0 0))\nadd p LINESTRING (-5 5, 15 5)\nrelate p 1 POLYGON ((5 5, 15 5, 15 15, 5 15, 5 5))\nquery p overlaps POLYGON ((5 5, 15 5, 15 15, 5 15, 5 5))\nrelate p 1 POLYGON ((10 0, 20 0, 20 10, 10 10, 10 0))\nquery p touches POLYGON ((10 0, 20 0, 20 10, 10 10, 10 0))\nrelate p 2 POLYGON ((0 0, 10 0, 10 10, 0 10, 0 0))\nquery p crosses POLYGON ((0 0, 10 0, 10 10, 0 10, 0 0))\n",
+        "ok\nok 1\nok 2\n212101212\nrows 1\n1\nFF2F11212\nrows 1\n1\n101FF0212\nrows 1\n2\n",
+    ),
+    // Lines that cross off the grid, at 2/3, 1/3 and in a middle, and the same line the other way round.
+    (
+        "layer add l linestring\nadd l LINESTRING (0 0, 2 1)\nadd l LINESTRING (0 0, 4 4)\nrelate l 1 LINESTRING (0 1, 1 0)\nquery l crosses LINESTRING (0 1, 1 0)\nrelate l 2 LINESTRING (4 4, 2 2, 0 0)\nquery l equals LINESTRING (4 4, 2 2, 0 0)\n",
+        "ok\nok 1\nok 2\n0F1FF0102\nrows 2\n1\n2\n1FFF0FFF2\nrows 1\n2\n",
+    ),
+    // The ends of two lines that meet are no boundary, those of three are.
+    (
+        "layer add w point\nadd w POINT (5 5)\nrelate w 1 MULTILINESTRING ((0 0, 5 5), (5 5, 10 0))\nquery w within MULTILINESTRING ((0 0, 5 5), (5 5, 10 0))\nrelate w 1 MULTILINESTRING ((0 0, 5 5), (5 5, 10 0), (5 5, 5 10))\nquery w touches MULTILINESTRING ((0 0, 5 5), (5 5, 10 0), (5 5, 5 10))\nquery w within MULTILINESTRING ((0 0, 5 5), (5 5, 10 0), (5 5, 5 10))\n",
+        "ok\nok 1\n0FFFFF102\nrows 1\n1\nF0FFFF102\nrows 1\n1\nrows 0\n",
+    ),
+    // A closed line has no boundary.
+    (
+        "layer add w point\nadd w POINT (0 0)\nrelate w 1 LINESTRING (0 0, 10 0, 10 10, 0 0)\nquery w within LINESTRING (0 0, 10 0, 10 10, 0 0)\n",
+        "ok\nok 1\n0FFFFF1F2\nrows 1\n1\n",
+    ),
+    // A polygon that fills another one's hole.
+    (
+        "layer add p polygon\nadd p POLYGON ((0 0, 30 0, 30 30, 0 30, 0 0), (10 10, 20 10, 20 20, 10 20, 10 10))\nrelate p 1 POLYGON ((10 10, 20 10, 20 20, 10 20, 10 10))\nquery p touches POLYGON ((10 10, 20 10, 20 20, 10 20, 10 10))\n",
+        "ok\nok 1\nFF2F112F2\nrows 1\n1\n",
+    ),
+    // Two features whose boxes don't tell: one is apart from the query though its box meets it.
+    (
+        "layer add p any\nadd p POLYGON ((0 0, 10 0, 10 10, 0 10, 0 0))\nadd p POLYGON ((0 0, 30 0, 30 2, 2 2, 2 30, 0 30, 0 0))\nadd p POINT (22 22)\nquery p disjoint POLYGON ((20 20, 25 20, 25 25, 20 25, 20 20))\nquery p intersects POLYGON ((20 20, 25 20, 25 25, 20 25, 20 20))\nrelate p 3 POLYGON ((20 20, 25 20, 25 25, 20 25, 20 20))\nmatch p T*F**F*** POLYGON ((20 20, 25 20, 25 25, 20 25, 20 20))\nmatch p TT POLYGON ((20 20, 25 20, 25 25, 20 25, 20 20))\n",
+        "ok\nok 1\nok 2\nok 3\nrows 2\n1\n2\nrows 1\n3\n0FFFFF212\nrows 1\n3\nrefused 32 BadPattern\n",
+    ),
+    // A line from corner to corner of the grid, but for one step, passes a point nearby.
+    (
+        "layer add w point\nadd w POINT (0 0)\nrelate w 1 LINESTRING (-524288 -524288, 524287 524286)\nquery w disjoint LINESTRING (-524288 -524288, 524287 524286)\nquery w intersects LINESTRING (-524288 -524288, 524287 524286)\n",
+        "ok\nok 1\nFF0FFF102\nrows 1\n1\nrows 0\n",
+    ),
+    // Letters of patterns, small ones too; each letter at a place where it tells.
+    (
+        "layer add p polygon\nadd p POLYGON ((0 0, 10 0, 10 10, 0 10, 0 0))\nmatch p ********* POINT (0 0)\nmatch p FF20F1FF2 POINT (0 0)\nmatch p ffT0f1fft POINT (0 0)\nmatch p t******** POINT (5 5)\nmatch p 0******** POINT (5 5)\nmatch p 1******** POINT (5 5)\nmatch p 2******** POINT (5 5)\nmatch p F******** POINT (5 5)\nmatch p *****1*** POINT (0 0)\nmatch p *****2*** POINT (0 0)\nmatch p ***T***** POINT (0 0)\nmatch p ***F***** POINT (0 0)\nmatch p ***f***** POINT (5 5)\n",
+        "ok\nok 1\nrows 1\n1\nrows 1\n1\nrows 1\n1\nrows 1\n1\nrows 1\n1\nrows 0\nrows 0\nrows 0\nrows 1\n1\nrows 0\nrows 1\n1\nrows 0\nrows 1\n1\n",
+    ),
+    // Patterns of eight and ten letters, and with letters that are none.
+    (
+        "layer add p any\nmatch p ******** POINT (0 0)\nmatch p ********** POINT (0 0)\nmatch p ********3 POINT (0 0)\nmatch p ********x POINT (0 0)\nmatch p ********* POINT (0 0)\nmatch p * POINT (0 0)\n",
+        "ok\nrefused 32 BadPattern\nrefused 32 BadPattern\nrefused 32 BadPattern\nrefused 32 BadPattern\nrows 0\nrefused 32 BadPattern\n",
+    ),
+    // Which fault comes first: words, pattern, text, validity, layer, feature.
+    (
+        "relate\nrelate w\nrelate w 1\nrelate w x POINT (0 0\nrelate w 1 POINT (0 0\nrelate w 1 POINT (0 0.5)\nrelate w 1 LINESTRING (0 0, 0 0)\nrelate w 1 POINT (0 0)\nquery\nquery w\nquery w near POINT (0 0)\nquery w Within POINT (0 0\nquery w within\nquery w within POINT (0 0\nquery w within POINT (524288 0)\nquery w within POLYGON ((0 0, 10 10, 10 0, 0 10, 0 0))\nquery w within POINT (0 0)\nmatch w T\nmatch w T POINT (0 0\nmatch w ********* POINT EMPTY\nmatch w ********* POLYGON ((0 0, 10 0, 10 10, 0 10))\nmatch w ********* POINT (0 0)\nlayer add w point\nrelate w 1 POINT (0 0)\nquery w within POINT (0 0)\nmatch w T******** POINT (0 0)\n",
+        "refused 31 BadCommand\nrefused 31 BadCommand\nrefused 31 BadCommand\nrefused 31 BadCommand\nrefused 2 Syntax\nrefused 3 OffGrid\nrefused 10 ShortLine\nrefused 18 NoLayer\nrefused 31 BadCommand\nrefused 31 BadCommand\nrefused 31 BadCommand\nrefused 31 BadCommand\nrefused 31 BadCommand\nrefused 2 Syntax\nrefused 4 OutOfRange\nrefused 13 RingNotSimple\nrefused 18 NoLayer\nrefused 31 BadCommand\nrefused 32 BadPattern\nrefused 5 Empty\nrefused 11 OpenRing\nrefused 18 NoLayer\nok\nrefused 21 NoFeature\nrows 0\nrows 0\n",
+    ),
+    // What edits, undo and redo change is found as it is then; a question is no edit.
+    (
+        "layer add w any\nadd w POINT (1 1)\nadd w POINT (5 5)\nadd w LINESTRING (4 4, 9 9)\nquery w intersects POLYGON ((0 0, 6 0, 6 6, 0 6, 0 0))\ndelete w 2\nquery w intersects POLYGON ((0 0, 6 0, 6 6, 0 6, 0 0))\nvertex move w 3 0 0 0 8 8\nquery w intersects POLYGON ((0 0, 6 0, 6 6, 0 6, 0 0))\nundo\nundo\nquery w intersects POLYGON ((0 0, 6 0, 6 6, 0 6, 0 0))\nredo\nredo\nquery w intersects POLYGON ((0 0, 6 0, 6 6, 0 6, 0 0))\nreplace w 1 POINT (7 0)\nquery w intersects POLYGON ((0 0, 6 0, 6 6, 0 6, 0 0))\nquery w disjoint POLYGON ((0 0, 6 0, 6 6, 0 6, 0 0))\nlayer drop w\nquery w disjoint POINT (0 0)\nundo\nquery w disjoint POINT (0 0)\nlayer rename w v\nquery v disjoint POINT (0 0)\nquery w disjoint POINT (0 0)\n",
+        "ok\nok 1\nok 2\nok 3\nrows 3\n1\n2\n3\nok\nrows 2\n1\n3\nok\nrows 1\n1\nok\nok\nrows 3\n1\n2\n3\nok\nok\nrows 1\n1\nok\nrows 0\nrows 2\n1\n3\nok\nrefused 18 NoLayer\nok\nrows 2\n1\n3\nok\nrows 2\n1\n3\nrefused 18 NoLayer\n",
+    ),
+    // The example of docs/CONSOLE.md.
+    (
+        "layer add parcels polygon\nadd parcels POLYGON ((0 0, 10 0, 10 10, 0 10, 0 0))\nadd parcels POLYGON ((10 0, 20 0, 20 10, 10 10, 10 0))\nadd parcels POLYGON ((30 0, 40 0, 40 10, 30 10, 30 0))\nquery parcels intersects LINESTRING (5 5, 15 5)\nquery parcels touches POLYGON ((20 0, 30 0, 30 10, 20 10, 20 0))\nquery parcels contains POINT (35 5)\nmatch parcels T******** POLYGON ((5 5, 35 5, 35 8, 5 8, 5 5))\nmatch parcels ****1**** POLYGON ((20 0, 30 0, 30 10, 20 10, 20 0))\nrelate parcels 1 POLYGON ((5 5, 35 5, 35 8, 5 8, 5 5))\n",
+        "ok\nok 1\nok 2\nok 3\nrows 2\n1\n2\nrows 2\n2\n3\nrows 1\n3\nrows 3\n1\n2\n3\nrows 2\n2\n3\n212101212\n",
+    ),
+];
+
+#[test]
+fn queries_in_one_piece_and_byte_by_byte(rt: HostRuntime) -> Result<(), Fail> {
+    for (input, output) in SESSIONS {
+        let mut whole = input.as_bytes();
+        assert_eq!(rt; answers(rt.alloc(), &mut whole)?.as_str(), output);
+        let mut bytes = ByteByByte {
+            bytes: input.as_bytes(),
+        };
+        assert_eq!(rt; answers(rt.alloc(), &mut bytes)?.as_str(), output);
+    }
+    Ok(())
+}
+
+/// How many points the long session adds, in rows of 40.
+const POINTS: u32 = 1000;
+
+/// Whether a point, by its number from 0 on, is in the square of the long session's questions.
+fn is_in_square(number: u32) -> bool {
+    let x = number % 40;
+    let y = number / 40;
+    5 <= x && x <= 9 && 5 <= y && y <= 9
+}
+
+/// Adds the questions for what meets the square and for what is apart from it.
+fn push_questions(input: &mut String) -> Result<(), Fail> {
+    input.push_str("query w intersects POLYGON ((5 5, 9 5, 9 9, 5 9, 5 5))\n")?;
+    input.push_str("query w disjoint POLYGON ((5 5, 9 5, 9 9, 5 9, 5 5))\n")?;
+    Ok(())
+}
+
+/// Adds the identifiers of the points in the square, or of the others.
+fn push_ids(output: &mut String, alloc: Global, in_square: bool) -> Result<(), Fail> {
+    for number in 0..POINTS {
+        if is_in_square(number) == in_square {
+            let id = number + 1;
+            output.push_str(format!(in alloc; "{id}\n")?.as_str())?;
+        }
+    }
+    Ok(())
+}
+
+/// Adds the answers to the questions where all points are there.
+fn push_found(output: &mut String, alloc: Global) -> Result<(), Fail> {
+    output.push_str("rows 25\n")?;
+    push_ids(output, alloc, true)?;
+    output.push_str("rows 975\n")?;
+    push_ids(output, alloc, false)
+}
+
+/// Adds the line that adds each point, and its answer.
+fn push_additions(input: &mut String, output: &mut String, alloc: Global) -> Result<(), Fail> {
+    for number in 0..POINTS {
+        let x = number % 40;
+        let y = number / 40;
+        let id = number + 1;
+        input.push_str(format!(in alloc; "add w POINT ({x} {y})\n")?.as_str())?;
+        output.push_str(format!(in alloc; "ok {id}\n")?.as_str())?;
+    }
+    Ok(())
+}
+
+/// Adds the line that deletes each point, and its answer.
+fn push_deletions(input: &mut String, output: &mut String, alloc: Global) -> Result<(), Fail> {
+    for number in 0..POINTS {
+        let id = number + 1;
+        input.push_str(format!(in alloc; "delete w {id}\n")?.as_str())?;
+        output.push_str("ok\n")?;
+    }
+    Ok(())
+}
+
+/// Adds as many undos, and their answers.
+fn push_undos(input: &mut String, output: &mut String) -> Result<(), Fail> {
+    for _ in 0..POINTS {
+        input.push_str("undo\n")?;
+        output.push_str("ok\n")?;
+    }
+    Ok(())
+}
+
+#[test]
+fn points_are_found_added_deleted_and_back(rt: HostRuntime) -> Result<(), Fail> {
+    let mut input = String::from_str(rt.alloc(), "layer add w point\n")?;
+    let mut output = String::from_str(rt.alloc(), "ok\n")?;
+    push_additions(&mut input, &mut output, rt.alloc())?;
+    push_questions(&mut input)?;
+    push_found(&mut output, rt.alloc())?;
+    push_deletions(&mut input, &mut output, rt.alloc())?;
+    push_questions(&mut input)?;
+    output.push_str("rows 0\nrows 0\n")?;
+    push_undos(&mut input, &mut output)?;
+    push_questions(&mut input)?;
+    push_found(&mut output, rt.alloc())?;
+    let mut whole = input.as_bytes();
+    assert_eq!(rt; answers(rt.alloc(), &mut whole)?.as_str(), output.as_str());
+    Ok(())
+}
