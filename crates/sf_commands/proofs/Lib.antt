@@ -8,3 +8,4 @@ pub mod VertexLemmas
 pub mod QueryLemmas
 pub mod Computed
 pub mod ComputedQueries
+pub mod LawProofs

@@ -31,7 +31,7 @@ unsigned_on_grid negative unsigned m h =
     on_grid n m whole (if_some (is_number unsigned) (coordinate n whole) (Ok m) h)
 
 -- a coordinate that a word spells is on the grid
-spelled_on_grid : (word : List ℕ) (m : ℤ) → coordinate_of word ≡ Some (Ok m) → IsCoordinate m
+pub spelled_on_grid : (word : List ℕ) (m : ℤ) → coordinate_of word ≡ Some (Ok m) → IsCoordinate m
 spelled_on_grid word m h = unsigned_on_grid (is_negative word) (drop (sign_len word) word) m h
 
 point_is : (a b : List ℕ) (x y : ℤ) → coordinate_of a ≡ Some (Ok x) → coordinate_of b ≡ Some (Ok y) → point_of a b ≡ Ok (record { x = x; y = y })

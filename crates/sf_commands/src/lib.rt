@@ -4,6 +4,7 @@
 mod column_commands;
 mod command;
 mod feature_commands;
+pub mod laws;
 mod layer_commands;
 mod parsing;
 mod point;

@@ -1,0 +1,254 @@
+-- The points that the edit of a line brings are on the grid.
+use Rattle.std.proofs.Common.{◌≡◌, ℕ, ℤ, Bool, true, false, nat_lt, List, [], ◌∷◌, length, Option, None, Some, ok_or, Result, Ok, Err, IfOk, if◌then◌else◌, refl, subst}
+use Rattle.std.specs.List.{AllByRecursion}
+use Rattle.hex.specs.declared.error.FromHexError.{FromHexError}
+use Rattle.hex.specs.Hex.{decode_of}
+use Rattle.sf_refusals.specs.declared.refusal.Refusal.{Refusal}
+use Rattle.sf_refusals.specs.declared.refusal.Refusal.TheVariants.{BadCommand, BadPattern, LineTooLong}
+use Rattle.sf_grid.specs.Bounds.{IsCoordinate}
+use Rattle.sf_grid.specs.Plane.{Coordinates, IsOnGrid}
+use Rattle.sf_geometry.specs.declared.geometry.Geometry.{Geometry}
+use Rattle.sf_geometry.specs.Parts.{LiesOnGrid, points_of}
+use Rattle.sf_geometry.specs.Size.{IsSized}
+use Rattle.sf_relate.specs.Patterns.{pattern_of}
+use Rattle.sf_lines.specs.Lines.{line_max}
+use Rattle.sf_wkt.specs.declared.fault.WktFault.{WktFault}
+use Rattle.sf_wkt.specs.Grammar.{read}
+use Rattle.sf_wkt.specs.Tokens.{coordinate_of}
+use Rattle.sf_wkt.proofs.Sized.{read_is_sized}
+use Rattle.sf_wkb.specs.declared.fault.WkbFault.{WkbFault}
+use Rattle.sf_wkb.specs.Grammar.{read as read_bytes}
+use Rattle.sf_wkb.proofs.Sized.{read_is_sized as bytes_are_sized}
+use Rattle.sf_steps.specs.declared.edit.Edit.TheVariants as edits
+use Rattle.sf_steps.specs.Laws.{BringsGridPoints}
+use Rattle.sf_commands.specs.declared.command.Command.{Command}
+use Rattle.sf_commands.specs.declared.command.Command.TheVariants.{Edit, Undo, Redo, Layers, Columns, Show, Hex, Simple, Extent, Relate, Match, Query}
+use Rattle.sf_commands.specs.declared.verb.Verb.{Verb}
+use Rattle.sf_commands.specs.declared.verb.Verb.TheVariants as verbs
+use Rattle.sf_commands.specs.declared.verb.Action.{Action}
+use Rattle.sf_commands.specs.declared.verb.Action.TheVariants as actions
+use Rattle.sf_commands.specs.Words.{words, skip_blanks, skip_word, trimmed_end}
+use Rattle.sf_commands.specs.Values.{point_by, point_of, value_of}
+use Rattle.sf_commands.specs.Commands.{action_of, add_arguments, add_column, add_layer, addhex_arguments, after_two_words, alone, by_verb, by_words, bytes_command, column_arguments, column_command, column_type_of, command_of, delete_arguments, drop_column, drop_layer, feature_arguments, feature_command, feature_named, given, hex_command, id_of, insert_vertex, layer_arguments, layer_command, layer_kind_of, made, match_arguments, move_layer, move_vertex, of_layer, of_text, predicate_of, query_arguments, relate_arguments, remove_vertex, rename_layer, replace_arguments, set_arguments, unset_arguments, valid_of, verb_of, vertex_arguments, vertex_command, vertex_place, with_geometry}
+use Rattle.sf_commands.specs.Laws.{CommandsBringGridPoints}
+use Rattle.sf_commands.proofs.PointLemmas.{spelled_on_grid}
+
+-- the points that a command brings into the store are on the grid
+abbrev BringsOnGrid : Command → Type 0
+BringsOnGrid (Edit edit) = BringsGridPoints edit
+BringsOnGrid command = Unit {0}
+
+-- the same of a command that was read
+abbrev Brings : Result Command Refusal → Type 0
+Brings result = IfOk result BringsOnGrid
+
+-- ---- what is made of parts
+
+given_brings : {X : Type 0} (o : Option X) (make : X → Result Command Refusal) → ((x : X) → Brings (make x)) → Brings (given o make)
+given_brings None make brings = tt
+given_brings (Some x) make brings = brings x
+
+made_brings : {X : Type 0} (r : Result X Refusal) (make : X → Result Command Refusal) → ((x : X) → Brings (make x)) → Brings (made r make)
+made_brings (Ok x) make brings = brings x
+made_brings (Err refusal) make brings = tt
+
+point_brings : (r : Result Coordinates Refusal) (make : Coordinates → Command) → IfOk r IsOnGrid
+    → ((point : Coordinates) → IsOnGrid point → BringsOnGrid (make point)) → Brings (made r (λ point. Ok (make point)))
+point_brings (Ok point) make on_grid brings = brings point on_grid
+point_brings (Err refusal) make on_grid brings = tt
+
+text_brings : (r : Result Geometry WktFault) (make : Geometry → Command) → IfOk r (λ g. IsSized g × AllByRecursion IsOnGrid (points_of g))
+    → ((geometry : Geometry) → LiesOnGrid geometry → BringsOnGrid (make geometry)) → Brings (of_text r make)
+text_brings (Ok geometry) make good brings = brings geometry good.1
+text_brings (Err fault) make good brings = tt
+
+bytes_bring : (layer : List ℕ) (r : Result Geometry WkbFault) → IfOk r (λ g. IsSized g × AllByRecursion IsOnGrid (points_of g)) → Brings (bytes_command layer r)
+bytes_bring layer (Ok geometry) good = good.1
+bytes_bring layer (Err fault) good = tt
+
+hex_brings : (layer : List ℕ) (r : Result (List ℕ) FromHexError) → Brings (hex_command layer r)
+hex_brings layer (Ok bytes) = bytes_bring layer (read_bytes bytes) (bytes_are_sized bytes)
+hex_brings layer (Err fault) = tt
+
+by_on_grid : (x y : Option (Result ℤ WktFault)) → ((n : ℤ) → x ≡ Some (Ok n) → IsCoordinate n) → ((n : ℤ) → y ≡ Some (Ok n) → IsCoordinate n) → IfOk (point_by x y) IsOnGrid
+by_on_grid (Some (Ok x)) (Some (Ok y)) first second = (first x refl, second y refl)
+by_on_grid (Some (Ok x)) (Some (Err fault)) first second = tt
+by_on_grid (Some (Err fault)) (Some y) first second = tt
+by_on_grid (Some x) None first second = tt
+by_on_grid None y first second = tt
+
+-- the point that two words spell is on the grid
+point_on_grid : (x y : List ℕ) → IfOk (point_of x y) IsOnGrid
+point_on_grid x y = by_on_grid (coordinate_of x) (coordinate_of y) (spelled_on_grid x) (spelled_on_grid y)
+
+-- ---- the words after each verb
+
+add_layer_brings : (arguments : List (List ℕ)) → Brings (add_layer arguments)
+add_layer_brings (name ∷ kind ∷ []) = given_brings (layer_kind_of kind) _ (λ kind. tt)
+add_layer_brings arguments = tt
+
+drop_layer_brings : (arguments : List (List ℕ)) → Brings (drop_layer arguments)
+drop_layer_brings (name ∷ []) = tt
+drop_layer_brings arguments = tt
+
+rename_layer_brings : (arguments : List (List ℕ)) → Brings (rename_layer arguments)
+rename_layer_brings (name ∷ new_name ∷ []) = tt
+rename_layer_brings arguments = tt
+
+move_layer_brings : (arguments : List (List ℕ)) → Brings (move_layer arguments)
+move_layer_brings (name ∷ place ∷ []) = given_brings (id_of place) _ (λ place. tt)
+move_layer_brings arguments = tt
+
+layer_command_brings : (action : Option Action) (arguments : List (List ℕ)) → Brings (layer_command action arguments)
+layer_command_brings (Some actions.Add) arguments = add_layer_brings arguments
+layer_command_brings (Some actions.Drop) arguments = drop_layer_brings arguments
+layer_command_brings (Some actions.Rename) arguments = rename_layer_brings arguments
+layer_command_brings (Some actions.Move) arguments = move_layer_brings arguments
+layer_command_brings action arguments = tt
+
+layer_brings : (arguments : List (List ℕ)) → Brings (layer_arguments arguments)
+layer_brings [] = tt
+layer_brings (action ∷ arguments) = layer_command_brings (action_of action) arguments
+
+add_column_brings : (arguments : List (List ℕ)) → Brings (add_column arguments)
+add_column_brings (layer ∷ name ∷ column_type ∷ []) = given_brings (column_type_of column_type) _ (λ column_type. tt)
+add_column_brings arguments = tt
+
+drop_column_brings : (arguments : List (List ℕ)) → Brings (drop_column arguments)
+drop_column_brings (layer ∷ name ∷ []) = tt
+drop_column_brings arguments = tt
+
+column_command_brings : (action : Option Action) (arguments : List (List ℕ)) → Brings (column_command action arguments)
+column_command_brings (Some actions.Add) arguments = add_column_brings arguments
+column_command_brings (Some actions.Drop) arguments = drop_column_brings arguments
+column_command_brings action arguments = tt
+
+column_brings : (arguments : List (List ℕ)) → Brings (column_arguments arguments)
+column_brings [] = tt
+column_brings (action ∷ arguments) = column_command_brings (action_of action) arguments
+
+insert_vertex_brings : (arguments : List (List ℕ)) → Brings (insert_vertex arguments)
+insert_vertex_brings (layer ∷ id ∷ part ∷ ring ∷ index ∷ x ∷ y ∷ []) =
+    made_brings (vertex_place id part ring index) _ (λ v. point_brings (point_of x y) _ (point_on_grid x y) (λ point on_grid. on_grid))
+insert_vertex_brings arguments = tt
+
+move_vertex_brings : (arguments : List (List ℕ)) → Brings (move_vertex arguments)
+move_vertex_brings (layer ∷ id ∷ part ∷ ring ∷ index ∷ x ∷ y ∷ []) =
+    made_brings (vertex_place id part ring index) _ (λ v. point_brings (point_of x y) _ (point_on_grid x y) (λ point on_grid. on_grid))
+move_vertex_brings arguments = tt
+
+remove_vertex_brings : (arguments : List (List ℕ)) → Brings (remove_vertex arguments)
+remove_vertex_brings (layer ∷ id ∷ part ∷ ring ∷ index ∷ []) = made_brings (vertex_place id part ring index) _ (λ v. tt)
+remove_vertex_brings arguments = tt
+
+vertex_command_brings : (action : Option Action) (arguments : List (List ℕ)) → Brings (vertex_command action arguments)
+vertex_command_brings (Some actions.Insert) arguments = insert_vertex_brings arguments
+vertex_command_brings (Some actions.Move) arguments = move_vertex_brings arguments
+vertex_command_brings (Some actions.Remove) arguments = remove_vertex_brings arguments
+vertex_command_brings action arguments = tt
+
+vertex_brings : (arguments : List (List ℕ)) → Brings (vertex_arguments arguments)
+vertex_brings [] = tt
+vertex_brings (action ∷ arguments) = vertex_command_brings (action_of action) arguments
+
+add_brings : (arguments : List (List ℕ)) (text : List ℕ) → Brings (add_arguments arguments text)
+add_brings (layer ∷ first ∷ more) text = text_brings (read text) _ (read_is_sized text) (λ geometry on_grid. on_grid)
+add_brings arguments text = tt
+
+addhex_brings : (arguments : List (List ℕ)) → Brings (addhex_arguments arguments)
+addhex_brings (layer ∷ hex ∷ []) = hex_brings layer (decode_of hex)
+addhex_brings arguments = tt
+
+-- of commands about a feature that bring no points
+about_brings : (command : List ℕ → ℕ → Command) (r : Result (List ℕ × ℕ) Refusal) → ((layer : List ℕ) (id : ℕ) → BringsOnGrid (command layer id)) → Brings (feature_command command r)
+about_brings command (Ok feature) brings = brings feature.0 feature.1
+about_brings command (Err refusal) brings = tt
+
+feature_brings : (command : List ℕ → ℕ → Command) (arguments : List (List ℕ)) → ((layer : List ℕ) (id : ℕ) → BringsOnGrid (command layer id)) → Brings (feature_arguments command arguments)
+feature_brings command arguments brings = about_brings command (feature_named arguments) brings
+
+delete_brings : (arguments : List (List ℕ)) → Brings (delete_arguments arguments)
+delete_brings arguments = feature_brings (λ layer id. Edit (edits.DeleteFeature layer id)) arguments (λ layer id. tt)
+
+replace_brings : (arguments : List (List ℕ)) (text : List ℕ) → Brings (replace_arguments arguments text)
+replace_brings (layer ∷ id ∷ first ∷ more) text =
+    given_brings (id_of id) _ (λ id. text_brings (read text) _ (read_is_sized text) (λ geometry on_grid. on_grid))
+replace_brings arguments text = tt
+
+set_brings : (arguments : List (List ℕ)) (text : List ℕ) → Brings (set_arguments arguments text)
+set_brings (layer ∷ id ∷ column ∷ first ∷ more) text =
+    given_brings (id_of id) _ (λ id. given_brings (value_of (trimmed_end text)) _ (λ value. tt))
+set_brings arguments text = tt
+
+unset_brings : (arguments : List (List ℕ)) → Brings (unset_arguments arguments)
+unset_brings (layer ∷ id ∷ column ∷ []) = given_brings (id_of id) _ (λ id. tt)
+unset_brings arguments = tt
+
+-- of questions with a geometry of their own
+with_geometry_brings : {X : Type 0} (command : List ℕ → X → Geometry → Command) (layer : List ℕ) (spelled : Result X Refusal) (geometry : Result Geometry Refusal)
+    → ((x : X) (given : Geometry) → BringsOnGrid (command layer x given)) → Brings (with_geometry command layer spelled geometry)
+with_geometry_brings command layer spelled geometry brings = made_brings spelled _ (λ x. made_brings geometry _ (λ given. brings x given))
+
+after_two_words_brings : (make : List ℕ → List ℕ → List ℕ → Result Command Refusal) (arguments : List (List ℕ)) (text : List ℕ)
+    → ((layer word text : List ℕ) → Brings (make layer word text)) → Brings (after_two_words make arguments text)
+after_two_words_brings make (layer ∷ word ∷ first ∷ more) text brings = brings layer word text
+after_two_words_brings make arguments text brings = tt
+
+relate_brings : (arguments : List (List ℕ)) (text : List ℕ) → Brings (relate_arguments arguments text)
+relate_brings arguments text =
+    after_two_words_brings _ arguments text (λ layer id text. with_geometry_brings Relate layer (ok_or (id_of id) BadCommand) (valid_of (read text)) (λ id given. tt))
+
+match_brings : (arguments : List (List ℕ)) (text : List ℕ) → Brings (match_arguments arguments text)
+match_brings arguments text =
+    after_two_words_brings _ arguments text (λ layer pattern text. with_geometry_brings Match layer (ok_or (pattern_of pattern) BadPattern) (valid_of (read text)) (λ pattern given. tt))
+
+query_brings : (arguments : List (List ℕ)) (text : List ℕ) → Brings (query_arguments arguments text)
+query_brings arguments text =
+    after_two_words_brings _ arguments text (λ layer predicate text. with_geometry_brings Query layer (ok_or (predicate_of predicate) BadCommand) (valid_of (read text)) (λ predicate given. tt))
+
+of_layer_brings : (command : List ℕ → Command) (arguments : List (List ℕ)) → ((layer : List ℕ) → BringsOnGrid (command layer)) → Brings (of_layer command arguments)
+of_layer_brings command (layer ∷ []) brings = brings layer
+of_layer_brings command arguments brings = tt
+
+alone_brings : (command : Command) (arguments : List (List ℕ)) → BringsOnGrid command → Brings (alone command arguments)
+alone_brings command [] brings = brings
+alone_brings command arguments brings = tt
+
+-- ---- the line
+
+by_verb_brings : (verb : Option Verb) (rest : List ℕ) → Brings (by_verb verb rest)
+by_verb_brings (Some verbs.Layer) rest = layer_brings (words rest)
+by_verb_brings (Some verbs.Column) rest = column_brings (words rest)
+by_verb_brings (Some verbs.Add) rest = add_brings (words rest) (skip_blanks (skip_word rest))
+by_verb_brings (Some verbs.AddHex) rest = addhex_brings (words rest)
+by_verb_brings (Some verbs.Delete) rest = delete_brings (words rest)
+by_verb_brings (Some verbs.Replace) rest = replace_brings (words rest) (skip_blanks (skip_word (skip_word rest)))
+by_verb_brings (Some verbs.Vertex) rest = vertex_brings (words rest)
+by_verb_brings (Some verbs.Set) rest = set_brings (words rest) (skip_blanks (skip_word (skip_word (skip_word rest))))
+by_verb_brings (Some verbs.Unset) rest = unset_brings (words rest)
+by_verb_brings (Some verbs.Undo) rest = alone_brings Undo (words rest) tt
+by_verb_brings (Some verbs.Redo) rest = alone_brings Redo (words rest) tt
+by_verb_brings (Some verbs.Layers) rest = alone_brings Layers (words rest) tt
+by_verb_brings (Some verbs.Columns) rest = of_layer_brings Columns (words rest) (λ layer. tt)
+by_verb_brings (Some verbs.Show) rest = of_layer_brings Show (words rest) (λ layer. tt)
+by_verb_brings (Some verbs.Hex) rest = feature_brings Hex (words rest) (λ layer id. tt)
+by_verb_brings (Some verbs.Box) rest = feature_brings Extent (words rest) (λ layer id. tt)
+by_verb_brings (Some verbs.Simple) rest = feature_brings Simple (words rest) (λ layer id. tt)
+by_verb_brings (Some verbs.Relate) rest = relate_brings (words rest) (skip_blanks (skip_word (skip_word rest)))
+by_verb_brings (Some verbs.Match) rest = match_brings (words rest) (skip_blanks (skip_word (skip_word rest)))
+by_verb_brings (Some verbs.Query) rest = query_brings (words rest) (skip_blanks (skip_word (skip_word rest)))
+by_verb_brings None rest = tt
+
+by_words_brings : (all : List (List ℕ)) (rest : List ℕ) → Brings (by_words all rest)
+by_words_brings [] rest = tt
+by_words_brings (verb ∷ arguments) rest = by_verb_brings (verb_of verb) rest
+
+by_length : (long : Bool) (r : Result Command Refusal) → Brings r → Brings (if long then Err LineTooLong else r)
+by_length true r brings = tt
+by_length false r brings = brings
+
+command_brings : (line : List ℕ) → Brings (command_of line)
+command_brings line = by_length (nat_lt line_max (length line)) (by_words (words line) (skip_word line)) (by_words_brings (words line) (skip_word line))
+
+pub commands_bring_grid_points : CommandsBringGridPoints
+commands_bring_grid_points line edit is = subst Brings is (command_brings line)

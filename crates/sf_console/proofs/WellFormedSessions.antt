@@ -1,0 +1,132 @@
+-- Sessions lead from well-formed contents to well-formed ones.
+use Rattle.std.proofs.Common.{◌≡◌, ℕ, Bool, true, false, not, nat_lt, inl, inr, List, [], ◌∷◌, ◌++◌, length, map, Option, Result, Ok, Err, if◌then◌else◌, refl, sym, ap, subst, arith}
+use Rattle.std.specs.List.{AllByRecursion, IsDistinct, list_all}
+use Rattle.std.specs.Str.{is_utf8}
+use Rattle.sf_refusals.specs.declared.refusal.Refusal.{Refusal}
+use Rattle.sf_refusals.specs.declared.refusal.Refusal.TheVariants.{BadCommand, LineTooLong}
+use Rattle.sf_lines.specs.Lines.{Line, ended_lines, line_max, lines_of, text_of}
+use Rattle.sf_wkt.specs.Tokens.{is_blank}
+use Rattle.sf_layers.specs.Content.{Content}
+use Rattle.sf_layers.specs.WellFormed.{IsWellFormed}
+use Rattle.sf_steps.specs.declared.answer.Answer.{Answer}
+use Rattle.sf_steps.specs.declared.edit.Edit.{Edit}
+use Rattle.sf_steps.specs.declared.refusal.Refusal.{Refusal as EditRefusal}
+use Rattle.sf_steps.specs.Laws.{BringsGridPoints}
+use Rattle.sf_steps.specs.Steps.{step}
+use Rattle.sf_steps.proofs.StepsFine.{IsWellFormed-step}
+use Rattle.sf_history.specs.History.{Kept, Machine, after_step, back_to, forth_to, fresh}
+use Rattle.sf_commands.specs.declared.command.Command.{Command}
+use Rattle.sf_commands.specs.declared.command.Command.TheVariants as commands
+use Rattle.sf_commands.specs.Commands.{command_of}
+use Rattle.sf_commands.proofs.LawProofs.{commands_bring_grid_points}
+use Rattle.sf_console.specs.Answers.{edit_reply, history_reply, reply}
+use Rattle.sf_console.specs.Readings.{Reading, Blank, Unreadable, Asked, reading, readings_of, text_reading, whole_readings_of}
+use Rattle.sf_console.specs.Session.{IsAnswered, Run}
+use Rattle.sf_console.specs.Serving.{AreFirst, BreaksOff}
+use Rattle.sf_console.specs.Laws.{AreWellFormed, FreshMachinesAreWellFormed, ServingKeepsContentsWellFormed, SessionsKeepContentsWellFormed}
+
+-- ---- a command
+
+after_edit : (machine : Machine) (edit : Edit) (stepped : Result (Content × Answer) EditRefusal) → step machine.now edit ≡ stepped
+    → BringsGridPoints edit → AreWellFormed machine → AreWellFormed (edit_reply machine (after_step machine stepped)).0
+after_edit machine edit (Ok done) is brings fine = record {
+  now = IsWellFormed-step machine.now done.0 edit done.1 brings fine.now is;
+  past = (fine.now, fine.past);
+  future = tt;
+}
+after_edit machine edit (Err refusal) is brings fine = fine
+
+after_undo : (machine : Machine) (past : List Kept) → AllByRecursion (λ kept. IsWellFormed kept.content) past
+    → AreWellFormed machine → AreWellFormed (history_reply machine (back_to machine past)).0
+after_undo machine [] all fine = fine
+after_undo machine (before ∷ earlier) all fine = record { now = all.0; past = all.1; future = (fine.now, fine.future) }
+
+after_redo : (machine : Machine) (future : List Kept) → AllByRecursion (λ kept. IsWellFormed kept.content) future
+    → AreWellFormed machine → AreWellFormed (history_reply machine (forth_to machine future)).0
+after_redo machine [] all fine = fine
+after_redo machine (after ∷ later) all fine = record { now = all.0; past = (fine.now, fine.past); future = all.1 }
+
+-- the points that the edit of a command brings are on the grid
+abbrev Brings : Result Command Refusal → Type 0
+Brings command = (edit : Edit) → command ≡ Ok (commands.Edit edit) → BringsGridPoints edit
+
+after_command : (machine : Machine) (command : Result Command Refusal) → Brings command → AreWellFormed machine → AreWellFormed (reply machine command).0
+after_command machine (Ok (commands.Edit edit)) brings fine = after_edit machine edit (step machine.now edit) refl (brings edit refl) fine
+after_command machine (Ok commands.Undo) brings fine = after_undo machine machine.past fine.past fine
+after_command machine (Ok commands.Redo) brings fine = after_redo machine machine.future fine.future fine
+after_command machine command brings fine = fine
+
+-- ---- a line
+
+-- the same of a line
+abbrev LineBrings : Reading → Type 0
+LineBrings (Asked command) = Brings command
+LineBrings other = Unit {0}
+
+by_test : (b : Bool) (one other : Reading) → LineBrings one → LineBrings other → LineBrings (if b then one else other)
+by_test true one other first second = first
+by_test false one other first second = second
+
+text_brings : (text : List ℕ) → LineBrings (text_reading text)
+text_brings text =
+    by_test (not (is_utf8 text)) (Unreadable BadCommand) _ tt
+    (by_test (list_all is_blank text) Blank (Asked (command_of text)) tt (commands_bring_grid_points text))
+
+line_brings : (line : Line) → LineBrings (reading line)
+line_brings line = by_test (nat_lt line_max (length line.bytes)) (Unreadable LineTooLong) _ tt (text_brings (text_of line))
+
+lines_bring : (lines : List Line) → AllByRecursion LineBrings (map reading lines)
+lines_bring [] = tt
+lines_bring (line ∷ lines) = (line_brings line, lines_bring lines)
+
+after_line : (old new : Machine) (line : Reading) (text : List ℕ) → LineBrings line → AreWellFormed old → IsAnswered old line text new → AreWellFormed new
+after_line old new Blank text brings fine answered = subst AreWellFormed (sym answered.1) fine
+after_line old new (Unreadable refusal) text brings fine answered = subst AreWellFormed (sym answered.1) fine
+after_line old new (Asked command) text brings fine (inl replied) = subst AreWellFormed (ap (λ p. p.0) replied) (after_command old command brings fine)
+after_line old new (Asked command) text brings fine (inr refused) = subst AreWellFormed (sym refused.1) fine
+
+-- ---- lines
+
+after_lines : (old new : Machine) (lines : List Reading) (output : List ℕ) → AllByRecursion LineBrings lines → AreWellFormed old → Run old lines output new → AreWellFormed new
+after_lines old new [] output bring fine ran = subst AreWellFormed (sym ran.1) fine
+after_lines old new (line ∷ lines) output bring fine (mid, text, rest, answered, ran, parts) =
+    after_lines mid new lines rest bring.1 (after_line old mid line text bring.0 fine answered) ran
+
+parts_bring : (lines more : List Reading) → AllByRecursion LineBrings (lines ++ more) → AllByRecursion LineBrings lines × AllByRecursion LineBrings more
+parts_bring [] more bring = (tt, bring)
+parts_bring (line ∷ lines) more bring = let parts = parts_bring lines more bring.1 in ((bring.0, parts.0), parts.1)
+
+first_bring : (lines : List Reading) (taken : List ℕ) (left : Option (List ℕ)) → AreFirst lines taken left → AllByRecursion LineBrings lines
+first_bring lines taken left (inl (later, parts)) =
+    (parts_bring lines later (subst (λ all. AllByRecursion LineBrings all) parts (lines_bring (ended_lines (lines_of taken))))).0
+first_bring lines taken left (inr (at_end, later, parts)) =
+    (parts_bring lines later (subst (λ all. AllByRecursion LineBrings all) parts (lines_bring (lines_of taken)))).0
+
+after_break : (unread left written_before written : Option (List ℕ)) (old new : Machine) → AreWellFormed old → BreaksOff unread left written_before written old new → AreWellFormed new
+after_break unread left written_before written old new fine broken =
+    let bring = parts_bring broken.earlier (broken.last ∷ []) (first_bring _ broken.taken left broken.first_lines) in
+    let before = after_lines old broken.mid broken.earlier broken.output bring.0 fine broken.ran in
+    after_line broken.mid new broken.last (broken.sent ++ broken.unsent) bring.1.0 before broken.answered
+
+-- ---- the laws
+
+new_store : IsWellFormed []
+unfolding IsDistinct
+new_store = record { few = omega arith; named = tt; distinct = tt; layers = tt }
+
+of_content : (content : Content) → IsWellFormed content → AreWellFormed (fresh content)
+of_content content fine = record { now = fine; past = tt; future = tt }
+
+pub fresh_machines_are_well_formed : FreshMachinesAreWellFormed
+fresh_machines_are_well_formed = (of_content, of_content [] new_store)
+
+pub sessions_keep_contents_well_formed : SessionsKeepContentsWellFormed
+sessions_keep_contents_well_formed old new input output fine ran =
+    after_lines old new (readings_of input) output (lines_bring (lines_of input)) fine ran
+
+pub serving_keeps_contents_well_formed : ServingKeepsContentsWellFormed
+serving_keeps_contents_well_formed unread left written_before written old new fine = record {
+  all = λ serves. after_lines old new (readings_of serves.taken) serves.output (lines_bring (lines_of serves.taken)) fine serves.ran;
+  whole_lines = λ serves. after_lines old new (whole_readings_of serves.taken) serves.output (lines_bring (ended_lines (lines_of serves.taken))) fine serves.ran;
+  broken_off = after_break unread left written_before written old new fine;
+}
