@@ -17,6 +17,8 @@ mod faults;
 #[cfg(test)]
 mod features;
 #[cfg(test)]
+mod files;
+#[cfg(test)]
 mod limits;
 #[cfg(test)]
 mod matrices;

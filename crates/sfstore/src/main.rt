@@ -1,24 +1,83 @@
-//! The program: answers the command lines of its standard input on its standard output.
+//! The program: loads the store of a file where one is named, answers the command lines of its standard
+//! input on its standard output, and saves the store where a file is named.
 #![tactic(auto)]
 
-use sf_console::{Editor, serve};
-use std::io;
-use std::process::ExitCode;
+mod ending;
 
-/// The exit status after a fault of serving.
-const SERVE_FAULT: u8 = 1;
+use ending::Ending;
+use sf_console::{Editor, serve};
+use sf_file::{load, save};
+use sf_layers::Store;
+use sf_words::{Words, WordsFault, options};
+use std::process::ExitCode;
+use std::rt::{Env, Files};
+use std::{env, fs, io};
+
+/// What the words of the command line ask for.
+fn asked(rt: &(impl Env + AllocGlobal)) -> Result<Words, Ending> {
+    let alloc = rt.alloc();
+    let Ok(arguments) = env::args(rt) else {
+        return Err(Ending::Arguments);
+    };
+    let Ok(arguments) = arguments.collect::<Vec<String>>(alloc) else {
+        return Err(Ending::Words(WordsFault::Memory));
+    };
+    let Ok(words) = arguments
+        .iter()
+        .map(|word| word.as_str())
+        .collect::<Vec<&str>>(alloc)
+    else {
+        return Err(Ending::Words(WordsFault::Memory));
+    };
+    options::words(alloc, words.as_slice()).map_err(Ending::Words)
+}
+
+/// The store of a file, or a new one where none is named.
+fn loaded(rt: &(impl Files + AllocGlobal), path: &Option<String>) -> Result<Store, Ending> {
+    let Some(path) = path else {
+        return Ok(Store::new(rt.alloc()));
+    };
+    let Ok(mut file) = fs::open(rt, path.as_str()) else {
+        return Err(Ending::LoadOpen);
+    };
+    load(rt.alloc(), &mut file).map_err(Ending::Load)
+}
+
+/// Saves the store to a file, where one is named.
+fn saved(
+    rt: &(impl Files + AllocGlobal),
+    path: &Option<String>,
+    store: &Store,
+) -> Result<(), Ending> {
+    let Some(path) = path else {
+        return Ok(());
+    };
+    let Ok(mut file) = fs::create(rt, path.as_str()) else {
+        return Err(Ending::SaveOpen);
+    };
+    save(rt.alloc(), store, &mut file).map_err(Ending::Save)
+}
+
+/// The whole run.
+fn run(rt: &(impl Files + Env + Input + Print + AllocGlobal)) -> Result<(), Ending> {
+    let asked = asked(rt)?;
+    let store = loaded(rt, &asked.load)?;
+    let mut editor = Editor::from_store(rt.alloc(), store);
+    let mut input = rt.reader();
+    let mut output = io::writer(rt);
+    match serve(rt.alloc(), &mut editor, &mut input, &mut output) {
+        Ok(()) => saved(rt, &asked.save, editor.store()),
+        Err(fault) => Err(Ending::Serve(fault)),
+    }
+}
 
 fn main(rt: HostRuntime) -> ExitCode {
-    let alloc = rt.alloc();
-    let mut editor = Editor::new(alloc);
-    let mut input = rt.reader();
-    let mut output = io::writer(&rt);
-    match serve(alloc, &mut editor, &mut input, &mut output) {
+    match run(&rt) {
         Ok(()) => ExitCode::SUCCESS,
-        Err(fault) => {
+        Err(ending) => {
             // The output may be what failed: then the status alone tells.
-            let _ = println!(rt; "fault serve {}", fault.name());
-            ExitCode::from(SERVE_FAULT)
+            let _ = rt.print(&ending);
+            ExitCode::from(ending.status())
         }
     }
 }

@@ -1,0 +1,6 @@
+//! Files: a store from the bytes of a file, and a store's bytes to one.
+#![tactic(auto)]
+
+pub use sf_format::laws;
+pub use sf_loading::{LoadFault, load};
+pub use sf_saving::{SaveFault, save};

@@ -1,0 +1,100 @@
+-- What follows each field in the definition of its record, under a name that lemmas use.
+use Rattle.std.specs.Prelude.{ℕ, List, [], length, nat_lt, nat_le}
+use Rattle.sf_geometry.specs.declared.geometry.Geometry.{Geometry}
+use Rattle.sf_features.specs.declared.column.Column.{Column}
+use Rattle.sf_features.specs.declared.column_type.ColumnType.{ColumnType}
+use Rattle.sf_features.specs.declared.attr_value.AttrValue.{AttrValue}
+use Rattle.sf_features.specs.Features.{FeatureContent}
+use Rattle.sf_layers.specs.declared.layer_kind.LayerKind.{LayerKind}
+use Rattle.sf_layers.specs.Content.{Content, LayerContent}
+use Rattle.sf_format.specs.declared.defect.Defect.TheVariants.{NoColumn, WrongValue, WrongKind, IdsExhausted, ColumnsExhausted}
+use Rattle.sf_format.specs.Readings.{Reading, ◌>>=◌, done, bytes, field, number, items, end}
+use Rattle.sf_format.specs.Format.{RowReading, allowed, present, name, type_of_byte, kind_of_byte, fresh_column_name, column, admitted, typed_value, value, geometry, feature, layers}
+
+-- ---- a column
+
+abbrev pub column_after_type : List Column → ℕ → ColumnType → Reading Column
+column_after_type earlier n column_type = do
+  text ← field name (fresh_column_name earlier)
+  done (record { number = n; name = text; column_type = column_type })
+
+abbrev pub column_after_number : List Column → ℕ → Reading Column
+column_after_number earlier n = do
+  column_type ← field (number 1) (λ byte. present (type_of_byte byte) WrongValue)
+  column_after_type earlier n column_type
+
+-- ---- a value
+
+abbrev pub value_after_column : Column → Reading (ℕ × AttrValue)
+value_after_column column = do
+  content ← typed_value column.column_type
+  done (column.number, content)
+
+-- ---- a feature
+
+abbrev pub geometry_after_size : RowReading → LayerKind → ℕ → Reading Geometry
+geometry_after_size row kind size = field (bytes size) (λ text. admitted kind (row text))
+
+abbrev pub feature_after_count : List Column → ℕ → Geometry → ℕ → Reading (ℕ × FeatureContent)
+feature_after_count columns id shape count = do
+  values ← items (value columns) count []
+  done (id, record { geometry = shape; values = values })
+
+abbrev pub feature_after_geometry : List Column → ℕ → Geometry → Reading (ℕ × FeatureContent)
+feature_after_geometry columns id shape = do
+  count ← field (number 2) (λ n. allowed (nat_le n (length columns)) NoColumn n)
+  feature_after_count columns id shape count
+
+abbrev pub feature_after_id : RowReading → LayerKind → List Column → ℕ → Reading (ℕ × FeatureContent)
+feature_after_id row kind columns id = do
+  shape ← geometry row kind
+  feature_after_geometry columns id shape
+
+-- ---- a layer
+
+abbrev pub layer_after_feature_count : RowReading → List ℕ → LayerKind → ℕ → ℕ → List Column → ℕ → Reading (List ℕ × LayerContent)
+layer_after_feature_count row title kind next_id next_column columns count = do
+  features ← items (feature row kind next_id columns) count []
+  done (title, record { kind = kind; next_id = next_id; next_column = next_column; columns = columns; features = features })
+
+abbrev pub layer_after_columns : RowReading → List ℕ → LayerKind → ℕ → ℕ → List Column → Reading (List ℕ × LayerContent)
+layer_after_columns row title kind next_id next_column columns = do
+  count ← field (number 4) (λ n. allowed (nat_lt n next_id) IdsExhausted n)
+  layer_after_feature_count row title kind next_id next_column columns count
+
+abbrev pub layer_after_column_count : RowReading → List ℕ → LayerKind → ℕ → ℕ → ℕ → Reading (List ℕ × LayerContent)
+layer_after_column_count row title kind next_id next_column count = do
+  columns ← items (column next_column) count []
+  layer_after_columns row title kind next_id next_column columns
+
+abbrev pub layer_after_next_column : RowReading → List ℕ → LayerKind → ℕ → ℕ → Reading (List ℕ × LayerContent)
+layer_after_next_column row title kind next_id next_column = do
+  count ← field (number 2) (λ n. allowed (nat_lt n next_column) ColumnsExhausted n)
+  layer_after_column_count row title kind next_id next_column count
+
+abbrev pub layer_after_next_id : RowReading → List ℕ → LayerKind → ℕ → Reading (List ℕ × LayerContent)
+layer_after_next_id row title kind next_id = do
+  next_column ← field (number 2) (λ n. allowed (nat_lt 0 n) ColumnsExhausted n)
+  layer_after_next_column row title kind next_id next_column
+
+abbrev pub layer_after_kind : RowReading → List ℕ → LayerKind → Reading (List ℕ × LayerContent)
+layer_after_kind row title kind = do
+  next_id ← field (number 4) (λ n. allowed (nat_lt 0 n) IdsExhausted n)
+  layer_after_next_id row title kind next_id
+
+abbrev pub layer_after_name : RowReading → List ℕ → Reading (List ℕ × LayerContent)
+layer_after_name row title = do
+  kind ← field (number 1) (λ byte. present (kind_of_byte byte) WrongKind)
+  layer_after_kind row title kind
+
+-- ---- a file
+
+abbrev pub file_after_layers : Content → Reading Content
+file_after_layers content = do
+  ended ← end
+  done content
+
+abbrev pub file_after_head : RowReading → Reading Content
+file_after_head row = do
+  content ← layers row
+  file_after_layers content

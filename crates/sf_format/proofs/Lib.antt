@@ -1,0 +1,10 @@
+pub mod Computed
+pub mod Versions
+pub mod Continuations
+pub mod Again
+pub mod Counts
+pub mod Rules
+pub mod Rows
+pub mod RoundTrip
+pub mod Promises
+pub mod Loaded

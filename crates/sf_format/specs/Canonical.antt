@@ -1,0 +1,62 @@
+-- The canonical bytes of a content: the one file that is written for it.
+use Rattle.std.specs.Prelude.{ℕ, List, ◌++◌, length, flat_map, codes}
+use Rattle.std.specs.Int.{w64, cast_unsigned}
+use Rattle.byteorder.specs.Endian.{big_bytes}
+use Rattle.sf_wkb.specs.Grammar.{code_of, canonical as canonical_wkb}
+use Rattle.sf_features.specs.Features.{FeatureContent}
+use Rattle.sf_layers.specs.Content.{Content, LayerContent}
+use Rattle.sf_layers.specs.declared.layer_kind.LayerKind.{LayerKind}
+use Rattle.sf_layers.specs.declared.layer_kind.LayerKind.TheVariants.{Any, Only}
+use Rattle.sf_features.specs.declared.column.Column.{Column}
+use Rattle.sf_features.specs.declared.column_type.ColumnType.{ColumnType}
+use Rattle.sf_features.specs.declared.column_type.ColumnType.TheVariants as types
+use Rattle.sf_features.specs.declared.attr_value.AttrValue.{AttrValue}
+use Rattle.sf_features.specs.declared.attr_value.AttrValue.TheVariants as values
+
+-- a text behind its length, which takes so many bytes
+abbrev pub behind_length : ℕ → List ℕ → List ℕ
+behind_length count text = big_bytes count (length text) ++ text
+
+-- the byte of a layer's kind: 0 for any, else the code of well-known binary
+abbrev pub kind_byte : LayerKind → ℕ
+kind_byte Any = 0
+kind_byte (Only kind) = code_of kind
+
+-- the byte of a column's type
+abbrev pub type_byte : ColumnType → ℕ
+type_byte types.Int = 1
+type_byte types.Text = 2
+
+-- the bytes of a column
+abbrev pub column_bytes : Column → List ℕ
+column_bytes column = big_bytes 2 column.number ++ (big_bytes 1 (type_byte column.column_type) ++ behind_length 1 column.name)
+
+-- the bytes of a value
+abbrev pub typed_bytes : AttrValue → List ℕ
+typed_bytes (values.Int n) = big_bytes 8 (cast_unsigned w64 n)
+typed_bytes (values.Text text) = behind_length 2 text
+
+-- the bytes of a value, behind the number of its column
+abbrev pub value_bytes : ℕ × AttrValue → List ℕ
+value_bytes entry = big_bytes 2 entry.0 ++ typed_bytes entry.1
+
+-- the bytes of a feature, behind its identifier
+abbrev pub feature_bytes : ℕ × FeatureContent → List ℕ
+feature_bytes entry =
+    big_bytes 4 entry.0 ++ (behind_length 4 (canonical_wkb entry.1.geometry)
+    ++ (big_bytes 2 (length entry.1.values) ++ flat_map value_bytes entry.1.values))
+
+-- the bytes of a layer, behind its name
+abbrev pub layer_bytes : List ℕ × LayerContent → List ℕ
+layer_bytes entry =
+    behind_length 1 entry.0 ++ (big_bytes 1 (kind_byte entry.1.kind) ++ (big_bytes 4 entry.1.next_id ++ (big_bytes 2 entry.1.next_column
+    ++ (big_bytes 2 (length entry.1.columns) ++ (flat_map column_bytes entry.1.columns
+    ++ (big_bytes 4 (length entry.1.features) ++ flat_map feature_bytes entry.1.features))))))
+
+-- the bytes of the layers
+abbrev pub layers_bytes : Content → List ℕ
+layers_bytes content = big_bytes 4 (length content) ++ flat_map layer_bytes content
+
+-- the canonical bytes of a content
+abbrev pub canonical : Content → List ℕ
+canonical content = codes "SFSTORE1" ++ layers_bytes content

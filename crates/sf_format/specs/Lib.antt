@@ -1,0 +1,5 @@
+pub mod Defects
+pub mod Readings
+pub mod Format
+pub mod Canonical
+pub mod Laws

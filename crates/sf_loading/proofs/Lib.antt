@@ -1,0 +1,9 @@
+pub mod FieldLaws
+pub mod GeometryLaws
+pub mod LayerLaws
+pub mod LoadLaws
+pub mod LookupLaws
+pub mod RisingLaws
+pub mod StreamLaws
+pub mod TextLaws
+pub mod TypeLaws

@@ -1,0 +1,4 @@
+pub mod Streaming
+pub mod Loading
+pub mod Types
+pub mod Layers

@@ -1,0 +1,20 @@
+//! A store from the bytes of its file.
+#![tactic(auto)]
+
+mod columns;
+mod features;
+mod geometries;
+mod halt;
+mod layers;
+mod load_fault;
+mod loading;
+mod numbers;
+mod rules;
+mod texts;
+mod values;
+
+pub use load_fault::LoadFault;
+pub use loading::load;
+
+#[cfg(test)]
+mod tests;

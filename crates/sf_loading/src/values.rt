@@ -1,0 +1,174 @@
+//! The values of features.
+ghost use Rattle.std.specs.Prelude.{◌≡◌, ◌≤◌, ◌<◌, ℕ, List, None, [], length, nat_eq, nat_le, nat_lt, IfOk, IsTrue, OnOk, if◌then◌else◌};
+ghost use Rattle.std.specs.List.{AllByRecursion};
+ghost use Rattle.std.specs.List.Sorted.{IsStrictlySortedBy};
+ghost use Rattle.std.specs.Map.{keys_of, lookup};
+ghost use Rattle.std.specs.Ordering.{nat_cmp};
+ghost use Rattle.sf_features.specs.declared.column.Column.{Column as Kept};
+ghost use Rattle.sf_features.specs.declared.attr_value.AttrValue.TheVariants as kept;
+ghost use Rattle.sf_features.specs.Values.{is_attr_text, is_of_type, text_max};
+ghost use Rattle.sf_layers.specs.WellFormed.{IsValue};
+ghost use Rattle.sf_format.specs.declared.defect.Defect.TheVariants.{NoColumn, WrongValue};
+ghost use Rattle.sf_format.specs.Readings.{field, items, number};
+ghost use Rattle.sf_format.specs.Format.{allowed as allowed_of, typed_value as typed_value_of, value as value_of};
+ghost use Rattle.sf_loading.specs.Streaming.{Gives, IsTextOf, Judges};
+ghost use Rattle.sf_loading.specs.Types.{AreTypesOf, GivesColumn, value_above};
+
+use super::columns::ColumnTypes;
+use super::halt::Halt;
+use super::numbers::{number_i64, number_u16};
+use super::rules::allowed;
+use super::texts::text;
+use sf_features::{AttrValue, ColumnType, Feature, Text};
+use sf_format::Defect;
+use sf_streams::Window;
+use std::alloc::Global;
+use std::io::Read;
+
+/// How many bytes a text has at most.
+const TEXT_MAX: u16 = 255;
+
+/// The length of a text.
+fn text_size<R: Read>(window: &mut Window, reader: &mut R) -> Result<u16, Halt>
+    ensures { Gives (λ n. n) (field (number 2) (λ size. allowed_of (nat_le size text_max) WrongValue size))
+        (R.remaining reader.old) (R.remaining reader.new) window.old window.new result }
+{
+    let place = window.place();
+    let size = number_u16(window, reader)?;
+    allowed(size <= TEXT_MAX, place, Defect::WrongValue, size)
+}
+
+/// The value that a text at a place is.
+fn attr_text(place: u64, text: Option<Text>) -> Result<AttrValue, Halt>
+    ensures judged { (found : List ℕ) → IsTextOf found text →
+        Judges (λ v. v) place (allowed_of (is_attr_text found) WrongValue (kept.Text found)) result }
+    ensures typed { IfOk result (λ v. IsTrue (is_of_type ColumnType.Text v)) }
+{
+    let Some(text) = text else {
+        return Err(Halt::Found(place, Defect::WrongValue));
+    };
+    let value = AttrValue::Text(text);
+    if value.is_of_type(ColumnType::Text) {
+        Ok(value)
+    } else {
+        Err(Halt::Found(place, Defect::WrongValue))
+    }
+}
+
+/// A text, behind its length.
+fn text_value<R: Read>(
+    alloc: Global,
+    window: &mut Window,
+    reader: &mut R,
+) -> Result<AttrValue, Halt>
+    ensures gives { Gives (λ v. v) (typed_value_of ColumnType.Text) (R.remaining reader.old)
+        (R.remaining reader.new) window.old window.new result }
+    ensures typed { IfOk result (λ v. IsTrue (is_of_type ColumnType.Text v)) }
+{
+    let place = window.place();
+    let size = text_size(window, reader)? as usize;
+    let text = text(alloc, window, reader, size)?;
+    attr_text(place, text)
+}
+
+/// A number of 64 bits.
+fn int_value<R: Read>(window: &mut Window, reader: &mut R) -> Result<AttrValue, Halt>
+    ensures gives { Gives (λ v. v) (typed_value_of ColumnType.Int) (R.remaining reader.old)
+        (R.remaining reader.new) window.old window.new result }
+    ensures typed { IfOk result (λ v. IsTrue (is_of_type ColumnType.Int v)) }
+{
+    let number = number_i64(window, reader)?;
+    Ok(AttrValue::Int(number))
+}
+
+/// A value of a column of the type.
+fn typed_value<R: Read>(
+    alloc: Global,
+    window: &mut Window,
+    reader: &mut R,
+    column_type: ColumnType,
+) -> Result<AttrValue, Halt>
+    ensures gives { Gives (λ v. v) (typed_value_of column_type) (R.remaining reader.old)
+        (R.remaining reader.new) window.old window.new result }
+    ensures typed { IfOk result (λ v. IsTrue (is_of_type column_type v)) }
+{
+    match column_type {
+        ColumnType::Int => int_value(window, reader),
+        ColumnType::Text => text_value(alloc, window, reader),
+    }
+}
+
+/// The type of the column of a number, where that is above the one before.
+fn next_type(types: &ColumnTypes, previous: u16, number: u16) -> Option<ColumnType>
+    ensures { result ≡ (if nat_lt previous number then lookup (nat_eq number) types.now else None) }
+{
+    if previous < number {
+        types.get(number)
+    } else {
+        None
+    }
+}
+
+/// The column of the next value: its number, which is above the one before, and its type.
+fn value_column<R: Read>(
+    window: &mut Window,
+    reader: &mut R,
+    types: &ColumnTypes,
+    previous: u16,
+) -> Result<(u16, ColumnType), Halt>
+    ensures gives { (columns : List Kept) → AreTypesOf types.now columns → GivesColumn columns previous
+        (R.remaining reader.old) (R.remaining reader.new) window.old window.new result }
+    ensures above { IfOk result (λ found. previous < found.0) }
+{
+    let place = window.place();
+    let number = number_u16(window, reader)?;
+    match next_type(types, previous, number) {
+        Some(column_type) => Ok((number, column_type)),
+        None => Err(Halt::Found(place, Defect::NoColumn)),
+    }
+}
+
+/// A value of a feature, behind the number of its column, which is above the one before.
+fn value<R: Read>(
+    alloc: Global,
+    window: &mut Window,
+    reader: &mut R,
+    types: &ColumnTypes,
+    previous: u16,
+) -> Result<(u16, AttrValue), Halt>
+    ensures gives { (columns : List Kept) → AreTypesOf types.now columns → Gives (λ v. v) (value_above columns previous)
+        (R.remaining reader.old) (R.remaining reader.new) window.old window.new result }
+    ensures fits { (columns : List Kept) → AreTypesOf types.now columns → IfOk result (IsValue columns) }
+    ensures above { IfOk result (λ v. previous < v.0) }
+{
+    let (number, column_type) = value_column(window, reader, types, previous)?;
+    let value = typed_value(alloc, window, reader, column_type)?;
+    Ok((number, value))
+}
+
+/// The values of a feature that has none yet. How many there are was read before.
+pub(crate) fn values<R: Read>(
+    alloc: Global,
+    window: &mut Window,
+    reader: &mut R,
+    types: &ColumnTypes,
+    count: u16,
+    feature: &mut Feature,
+) -> Result<(), Halt>
+    requires { feature.old.values ≡ [] }
+    ensures gives { (columns : List Kept) → AreTypesOf types.now columns → Gives (λ _. feature.new.values)
+        (items (value_of columns) count []) (R.remaining reader.old) (R.remaining reader.new) window.old window.new result }
+    ensures fit { (columns : List Kept) → AreTypesOf types.now columns → AllByRecursion (IsValue columns) feature.new.values }
+    ensures rising { IsStrictlySortedBy nat_cmp (keys_of feature.new.values) }
+    ensures geometry { feature.new.geometry ≡ feature.old.geometry }
+{
+    let mut previous = 0;
+    for _ in 0..count {
+        let (number, value) = value(alloc, window, reader, types, previous)?;
+        if feature.put_value(number, value).is_err() {
+            return Err(Halt::Memory);
+        }
+        previous = number;
+    }
+    Ok(())
+}

@@ -1,0 +1,28 @@
+-- Lengths and counts of a store's parts fit the fields that they are written to.
+use Rattle.std.specs.Prelude.{ℕ, ◌<◌, List, length}
+use Rattle.std.specs.List.{AllByRecursion}
+use Rattle.std.specs.Map.{values_of}
+use Rattle.sf_geometry.specs.Size.{IsSized}
+use Rattle.sf_features.specs.declared.attr_value.AttrValue.{AttrValue}
+use Rattle.sf_features.specs.declared.attr_value.AttrValue.TheVariants.{Int, Text}
+use Rattle.sf_features.specs.Features.{FeatureContent}
+use Rattle.sf_layers.specs.Content.{LayerContent}
+
+-- a text has a length of two bytes
+abbrev pub ValueFits : AttrValue → Type 0
+ValueFits (Int n) = Unit {0}
+ValueFits (Text text) = length text < 65536
+
+-- a geometry is sized, so that its length has four bytes; the values have a count of two bytes
+pub record FeatureFits (feature : FeatureContent) : Type 0 where
+  pub sized : IsSized feature.geometry
+  pub few : length feature.values < 65536
+  pub values : AllByRecursion (λ entry. ValueFits entry.1) feature.values
+
+-- names have lengths of one byte, columns a count of two bytes, features one of four
+pub record EntryFits (entry : List ℕ × LayerContent) : Type 0 where
+  pub named : length entry.0 < 256
+  pub few_columns : length entry.1.columns < 65536
+  pub columns : AllByRecursion (λ column. length column.name < 256) entry.1.columns
+  pub few_features : length entry.1.features < 4294967296
+  pub features : AllByRecursion FeatureFits (values_of entry.1.features)

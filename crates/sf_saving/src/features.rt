@@ -1,0 +1,119 @@
+//! The features of a layer.
+ghost use Rattle.std.specs.Prelude.{◌<◌, ◌++◌, flat_map, length, OnErr, OnOk};
+ghost use Rattle.std.specs.List.{AllByRecursion};
+ghost use Rattle.std.specs.Map.{values_of};
+ghost use Rattle.sf_geometry.specs.Size.{IsSized};
+ghost use Rattle.sf_wkb.specs.Grammar.{canonical as canonical_wkb};
+ghost use Rattle.sf_format.specs.Canonical.{behind_length, feature_bytes, value_bytes};
+ghost use Rattle.sf_saving.specs.Fits.{FeatureFits, ValueFits};
+ghost use Rattle.sf_streams.specs.Streams.{Puts, WritesFront};
+
+use super::fields::put_text;
+use super::save_fault::SaveFault;
+use sf_geometry::Geometry;
+use sf_layers::{AttrValue, Feature, Layer};
+use sf_streams::{Output, WriteFault};
+use std::alloc::Global;
+use std::io::Write;
+
+/// Puts a value behind the number of its column.
+fn put_value<W: Write>(
+    output: &mut Output,
+    writer: &mut W,
+    entry: &(u16, AttrValue),
+) -> Result<(), WriteFault>
+    requires { ValueFits entry.now.1 }
+    ensures ok { OnOk result (Puts (W.contents writer.old) (W.contents writer.new) output.old output.new
+        (value_bytes entry.now)) }
+    ensures broken { OnErr result (WritesFront (W.contents writer.old) (W.contents writer.new)
+        (output.old ++ value_bytes entry.now)) }
+{
+    output.put_u16(writer, entry.0)?;
+    match &entry.1 {
+        AttrValue::Int(n) => output.put_i64(writer, *n),
+        AttrValue::Text(text) => put_text(output, writer, text.as_str()),
+    }
+}
+
+/// Puts the values of a feature, by rising column number.
+fn put_values<W: Write>(
+    output: &mut Output,
+    writer: &mut W,
+    values: &[(u16, AttrValue)],
+) -> Result<(), WriteFault>
+    requires { AllByRecursion (λ entry. ValueFits entry.1) values.now }
+    ensures ok { OnOk result (Puts (W.contents writer.old) (W.contents writer.new) output.old output.new
+        (flat_map value_bytes values.now)) }
+    ensures broken { OnErr result (WritesFront (W.contents writer.old) (W.contents writer.new)
+        (output.old ++ flat_map value_bytes values.now)) }
+{
+    for entry in values {
+        put_value(output, writer, entry)?;
+    }
+    Ok(())
+}
+
+/// Puts the canonical binary form of a geometry behind its length. It is written to `row` first,
+/// whatever stands there.
+fn put_geometry<W: Write>(
+    alloc: Global,
+    output: &mut Output,
+    row: &mut Vec<u8>,
+    writer: &mut W,
+    geometry: &Geometry,
+) -> Result<(), SaveFault>
+    requires { IsSized geometry.now }
+    ensures ok { OnOk result (Puts (W.contents writer.old) (W.contents writer.new) output.old output.new
+        (behind_length 4 (canonical_wkb geometry.now))) }
+    ensures broken { OnErr result (WritesFront (W.contents writer.old) (W.contents writer.new)
+        (output.old ++ behind_length 4 (canonical_wkb geometry.now))) }
+{
+    row.clear();
+    sf_wkb::append(alloc, row, geometry)?;
+    let bytes = row.as_slice();
+    output.put_u32(writer, bytes.len() as u32)?;
+    output.put(writer, bytes)?;
+    Ok(())
+}
+
+/// Puts a feature behind its identifier.
+fn put_feature<W: Write>(
+    alloc: Global,
+    output: &mut Output,
+    row: &mut Vec<u8>,
+    writer: &mut W,
+    id: u32,
+    feature: &Feature,
+) -> Result<(), SaveFault>
+    requires { FeatureFits feature.now }
+    ensures ok { OnOk result (Puts (W.contents writer.old) (W.contents writer.new) output.old output.new
+        (feature_bytes (id, feature.now))) }
+    ensures broken { OnErr result (WritesFront (W.contents writer.old) (W.contents writer.new)
+        (output.old ++ feature_bytes (id, feature.now))) }
+{
+    output.put_u32(writer, id)?;
+    put_geometry(alloc, output, row, writer, feature.valid().geometry())?;
+    output.put_u16(writer, feature.value_count() as u16)?;
+    put_values(output, writer, feature.values())?;
+    Ok(())
+}
+
+/// Puts the features of a layer, by rising identifier.
+pub(crate) fn put_features<W: Write>(
+    alloc: Global,
+    output: &mut Output,
+    row: &mut Vec<u8>,
+    writer: &mut W,
+    layer: &Layer,
+) -> Result<(), SaveFault>
+    requires { AllByRecursion FeatureFits (values_of layer.now.features) }
+    ensures ok { OnOk result (Puts (W.contents writer.old) (W.contents writer.new) output.old output.new
+        (flat_map feature_bytes layer.now.features)) }
+    ensures broken { OnErr result (WritesFront (W.contents writer.old) (W.contents writer.new)
+        (output.old ++ flat_map feature_bytes layer.now.features)) }
+{
+    for (id, feature) in layer.features() {
+        put_feature(alloc, output, row, writer, *id, feature)?;
+    }
+    Ok(())
+}

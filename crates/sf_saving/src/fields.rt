@@ -1,0 +1,39 @@
+//! Texts behind their lengths.
+ghost use Rattle.std.specs.Prelude.{◌<◌, ◌++◌, length, OnErr, OnOk};
+ghost use Rattle.sf_format.specs.Canonical.{behind_length};
+ghost use Rattle.sf_streams.specs.Streams.{Puts, WritesFront};
+
+use sf_streams::{Output, WriteFault};
+use std::io::Write;
+
+/// Puts a name of a layer or a column behind the byte of its length.
+pub(crate) fn put_name<W: Write>(
+    output: &mut Output,
+    writer: &mut W,
+    name: &str,
+) -> Result<(), WriteFault>
+    requires { length name.now < 256 }
+    ensures ok { OnOk result (Puts (W.contents writer.old) (W.contents writer.new) output.old output.new
+        (behind_length 1 name.now)) }
+    ensures broken { OnErr result (WritesFront (W.contents writer.old) (W.contents writer.new)
+        (output.old ++ behind_length 1 name.now)) }
+{
+    output.put_u8(writer, name.len() as u8)?;
+    output.put(writer, name.as_bytes())
+}
+
+/// Puts the text of a value behind the two bytes of its length.
+pub(crate) fn put_text<W: Write>(
+    output: &mut Output,
+    writer: &mut W,
+    text: &str,
+) -> Result<(), WriteFault>
+    requires { length text.now < 65536 }
+    ensures ok { OnOk result (Puts (W.contents writer.old) (W.contents writer.new) output.old output.new
+        (behind_length 2 text.now)) }
+    ensures broken { OnErr result (WritesFront (W.contents writer.old) (W.contents writer.new)
+        (output.old ++ behind_length 2 text.now)) }
+{
+    output.put_u16(writer, text.len() as u16)?;
+    output.put(writer, text.as_bytes())
+}
