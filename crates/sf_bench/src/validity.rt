@@ -51,15 +51,18 @@ struct Checked {
     walk: Figure,
 }
 
+/// Times work that is not needed any more.
+fn time_work(rt: &HostRuntime, work: Work, repeated: &Repeated) -> io::Result<Figure> {
+    work.time(rt, repeated)
+}
+
 fn time_check(rt: &HostRuntime, geometry: Geometry, rounds: u32) -> io::Result<Checked> {
     let shape = Shape::of(rt.alloc(), &geometry)?;
     let edges = shape.pieces.len();
     let repeated = repeated(edges, rounds);
-    Ok(Checked {
-        edges,
-        check: Work::Check(geometry).time(rt, &repeated)?,
-        walk: Work::Walk(shape).time(rt, &repeated)?,
-    })
+    let walk = time_work(rt, Work::Walk(shape), &repeated)?;
+    let check = time_work(rt, Work::Check(geometry), &repeated)?;
+    Ok(Checked { edges, check, walk })
 }
 
 fn time_simple(rt: &HostRuntime, line: Geometry, edges: usize, rounds: u32) -> io::Result<Figure> {
