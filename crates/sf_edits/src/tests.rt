@@ -5,7 +5,7 @@ ghost use Rattle.std.specs.Prelude.{◌≡◌, OnOk};
 use super::*;
 use sf_geometry::{Geometry, Sequence};
 use sf_grid::GridPoint;
-use sf_layers::{AttrValue, ColumnType, LayerKind, Store, Text};
+use sf_layers::{AttrValue, ColumnType, Layer, LayerKind, Store, Text};
 use std::alloc::Global;
 use std::test::Fail;
 
@@ -250,5 +250,61 @@ fn edits_in_a_row_are_taken_back_last_first(rt: HostRuntime) -> Result<(), Fail>
     let mut store = Store::new(rt.alloc());
     there_and_back(rt.alloc(), &mut store, 0, SHOWN)?;
     assert_eq!(rt; store.layer_count(), 0);
+    Ok(())
+}
+
+/// A store of an empty layer, `wells`, which has no index, as after want of memory.
+fn unindexed_store(alloc: Global) -> Result<Store, Fail> {
+    let name = Text::from_string(String::from_str(alloc, "wells")?);
+    let layer = Layer::unindexed(alloc, LayerKind::Any);
+    let mut store = Store::new(alloc);
+    match store.put_layer(alloc, 0, name, layer) {
+        Ok(()) => Ok(store),
+        Err(_) => Err(Fail::from("no memory")),
+    }
+}
+
+/// Whether the layer `wells` has an index.
+fn is_indexed(store: &Store) -> bool {
+    store
+        .layer("wells")
+        .is_some_and(|layer| layer.index().is_some())
+}
+
+/// Whether the next edit that names the layer builds a lost index anew.
+fn edit_builds_index(alloc: Global) -> Result<bool, Fail> {
+    let mut store = unindexed_store(alloc)?;
+    let column = Edit::AddColumn {
+        layer: text(alloc, "wells"),
+        name: text(alloc, "depth"),
+        column_type: ColumnType::Int,
+    };
+    match apply(alloc, &mut store, column) {
+        Ok(_) => Ok(is_indexed(&store)),
+        Err(_) => Err(Fail::from("an edit was refused")),
+    }
+}
+
+/// Whether the undo of an edit that names the layer does.
+fn undo_builds_index(alloc: Global) -> Result<bool, Fail> {
+    let mut store = unindexed_store(alloc)?;
+    let dropped = Edit::DropLayer {
+        name: text(alloc, "wells"),
+    };
+    let Ok(inverse) = apply(alloc, &mut store, dropped) else {
+        return Err(Fail::from("an edit was refused"));
+    };
+    match revert(alloc, &mut store, inverse) {
+        Ok(_) => Ok(is_indexed(&store)),
+        Err(_) => Err(Fail::from("no memory")),
+    }
+}
+
+#[test]
+fn lost_index_is_built_anew(rt: HostRuntime) -> Result<(), Fail> {
+    let alloc = rt.alloc();
+    assert!(rt; !is_indexed(&unindexed_store(alloc)?));
+    assert!(rt; edit_builds_index(alloc)?);
+    assert!(rt; undo_builds_index(alloc)?);
     Ok(())
 }

@@ -100,42 +100,157 @@ fn used_up_identifiers_load(rt: HostRuntime) -> Result<(), Fail> {
     let layer = store.layer("w").ok_or("no layer")?;
     assert_eq!(rt; layer.next_id(), u32::MAX);
     assert_eq!(rt; layer.feature_count(), 0);
-    assert!(rt; is_refused(rt.alloc(), &USED_UP[..26], 26, 7));
+    for len in 0..USED_UP.len() {
+        assert!(rt;
+            is_refused(rt.alloc(), &USED_UP[..len], len as u64, 7),
+            "at {len}"
+        );
+    }
+    let mut longer = Vec::new(rt.alloc());
+    longer.extend_from_slice(USED_UP.as_slice())?;
+    longer.push(0)?;
+    assert!(rt; is_refused(rt.alloc(), longer.as_slice(), 27, 8));
     Ok(())
 }
 
-// A changed byte of the saved file is refused at the first byte of its field.
+/// Whether a file is refused so where one of its bytes is another one.
+fn is_refused_changed(alloc: Global, file: &[u8], change: (usize, u8, u64, u8)) -> bool {
+    let (changed, to, place, inner) = change;
+    let mut bytes = Vec::new(alloc);
+    if bytes.extend_from_slice(file).is_err() || changed >= bytes.len() {
+        return false;
+    }
+    bytes[changed] = to;
+    is_refused(alloc, bytes.as_slice(), place, inner)
+}
+
+/// For the saved wells: the place of a byte and what is put there; the place and the number that it is
+/// refused by, which are those of its field.
+const WELLS_CHANGED: [(usize, u8, u64, u8); 17] = [
+    (0, 0x54, 0, 34),
+    (12, 0, 12, 20),
+    (12, 33, 12, 20),
+    (13, 0x39, 12, 20),
+    (18, 7, 18, 26),
+    (18, 2, 39, 26),
+    (22, 0, 19, 27),
+    (24, 0, 23, 28),
+    (26, 1, 25, 28),
+    (30, 2, 27, 27),
+    (34, 2, 31, 27),
+    (38, 20, 39, 7),
+    (38, 22, 39, 8),
+    (36, 2, 35, 9),
+    (40, 7, 39, 6),
+    (49, 1, 39, 3),
+    (61, 1, 60, 22),
+];
+
 #[test]
-fn changed_bytes_are_refused(rt: HostRuntime) {
-    for (changed, to, place, inner) in [
-        (0, 0x54, 0, 34),
-        (12, 0, 12, 20),
-        (12, 33, 12, 20),
-        (13, 0x39, 12, 20),
-        (18, 7, 18, 26),
-        (18, 2, 39, 26),
-        (22, 0, 19, 27),
-        (24, 0, 23, 28),
-        (26, 1, 25, 28),
-        (30, 2, 27, 27),
-        (34, 2, 31, 27),
-        (38, 20, 39, 7),
-        (38, 22, 39, 8),
-        (36, 2, 35, 9),
-        (40, 7, 39, 6),
-        (49, 1, 39, 3),
-        (61, 1, 60, 22),
-    ] {
-        let mut bytes = WELLS;
-        let at: usize = changed;
-        if at < bytes.len() {
-            bytes[at] = to;
-        }
+fn changed_wells_are_refused(rt: HostRuntime) {
+    for change in WELLS_CHANGED {
         assert!(rt;
-            is_refused(rt.alloc(), bytes.as_slice(), place, inner),
-            "at {changed}"
+            is_refused_changed(rt.alloc(), WELLS.as_slice(), change),
+            "at {}",
+            change.0
         );
     }
+}
+
+/// The same for the layer without features.
+const USED_UP_CHANGED: [(usize, u8, u64, u8); 5] = [
+    (9, 1, 8, 27),
+    (11, 0, 12, 8),
+    (11, 2, 27, 7),
+    (14, 7, 14, 26),
+    (26, 1, 27, 7),
+];
+
+#[test]
+fn changed_counters_are_refused(rt: HostRuntime) {
+    let alloc = rt.alloc();
+    for change in USED_UP_CHANGED {
+        assert!(rt;
+            is_refused_changed(alloc, USED_UP.as_slice(), change),
+            "at {}",
+            change.0
+        );
+    }
+    // As many features as identifiers were given, and one more.
+    let mut crowded = USED_UP;
+    crowded[15] = 0;
+    crowded[16] = 0;
+    crowded[17] = 0;
+    crowded[18] = 1;
+    crowded[26] = 1;
+    assert!(rt; is_refused(alloc, crowded.as_slice(), 23, 27));
+}
+
+/// A layer `w` with the columns `a` of numbers and `b` of texts, and the point (0 0) with the values 12 and
+/// `x`: 83 bytes.
+const SURVEYED: [u8; 83] = [
+    0x53, 0x46, 0x53, 0x54, 0x4f, 0x52, 0x45, 0x31, 0, 0, 0, 1, 1, 0x77, 0, 0, 0, 0, 2, 0, 3, 0, 2,
+    0, 1, 1, 1, 0x61, 0, 2, 2, 1, 0x62, 0, 0, 0, 1, 0, 0, 0, 1, 0, 0, 0, 0x15, 1, 1, 0, 0, 0, 0, 0,
+    0, 0, 0, 0, 0, 0, 0, 0, 0, 0, 0, 0, 0, 0, 0, 2, 0, 1, 0, 0, 0, 0, 0, 0, 0, 12, 0, 2, 0, 1,
+    0x78,
+];
+
+/// The same for it.
+const SURVEYED_CHANGED: [(usize, u8, u64, u8); 30] = [
+    (18, 0, 15, 27),
+    (18, 1, 33, 27),
+    // The columns: the counter, how many there are, their numbers, types and names.
+    (20, 0, 19, 28),
+    (20, 2, 21, 28),
+    (22, 3, 21, 28),
+    (24, 0, 23, 28),
+    (24, 3, 23, 28),
+    (24, 2, 28, 28),
+    (25, 3, 25, 24),
+    (26, 0, 26, 20),
+    (26, 33, 26, 20),
+    (27, 0x39, 26, 20),
+    (29, 1, 28, 28),
+    (29, 3, 28, 28),
+    (32, 0x61, 31, 23),
+    // The feature: how many there are, its identifier and its binary form.
+    (36, 2, 33, 27),
+    (40, 0, 37, 27),
+    (40, 2, 37, 27),
+    (44, 20, 45, 7),
+    // Its values: how many there are, the numbers of their columns, a number and a text.
+    (67, 3, 66, 22),
+    (67, 1, 78, 8),
+    (69, 0, 68, 22),
+    (69, 3, 68, 22),
+    (69, 2, 72, 22),
+    (79, 1, 78, 22),
+    (80, 1, 80, 24),
+    (81, 2, 83, 7),
+    (81, 0, 82, 8),
+    (82, 0x7f, 80, 24),
+    (82, 0xff, 80, 24),
+];
+
+#[test]
+fn changed_columns_and_values_are_refused(rt: HostRuntime) -> Result<(), Fail> {
+    let alloc = rt.alloc();
+    let store = load(alloc, &mut SURVEYED.as_slice())?;
+    assert_eq!(rt; store.layer_count(), 1);
+    for change in SURVEYED_CHANGED {
+        assert!(rt;
+            is_refused_changed(alloc, SURVEYED.as_slice(), change),
+            "at {}",
+            change.0
+        );
+    }
+    for len in 0..SURVEYED.len() {
+        assert!(rt;
+            is_refused(alloc, &SURVEYED[..len], len as u64, 7),
+            "at {len}"
+        );
+    }
+    Ok(())
 }
 
 // The pieces that a reader gives make no difference, and its fault is told.
