@@ -1,16 +1,17 @@
 -- How serving goes on from line to line and from chunk to chunk.
-use Rattle.std.proofs.Common.{◌≡◌, ◌≢◌, true, false, ℕ, ◌+◌, inl, inr, Result, Ok, Err, OnOk, OnErr, List, [], ◌∷◌, ◌++◌, length, Option, take, drop, refl, sym, ap, ◌∙◌, subst, append_assoc, append-nil, arith}
-use Rattle.std.proofs.KnownBytes.{Consumes-nil, Consumes-trans, Consumes-kept, Appends-nil, Appends-trans}
+use Rattle.std.proofs.Common.{◌≡◌, ◌≢◌, true, false, ℕ, ◌+◌, inl, inr, Result, Ok, Err, OnErr, List, [], ◌∷◌, ◌++◌, Option, take, drop, refl, sym, ap, ◌∙◌, subst, append_assoc, append-nil}
+use Rattle.std.proofs.KnownBytes.{Consumes-trans, Consumes-kept, Appends-nil, Appends-trans}
 use Rattle.std.specs.Io.KnownBytes.{Consumes, Appends, Keeps, IsAtEnd}
 use Rattle.sf_lines.specs.Lines.{IsWhole, HasNoFeed}
 use Rattle.sf_lines.specs.Buffers.{Buffered, nothing_buffered, buffered_with, IsBufferOf}
 use Rattle.sf_lines.proofs.LineLemmas.{IsWhole-append, IsWhole-fed, HasNoFeed-append}
 use Rattle.sf_lines.proofs.FeedLemmas.{IsFirstFeed}
 use Rattle.sf_lines.proofs.BufferLemmas.{IsBufferOf-extend, IsBufferOf-nothing}
+use Rattle.sf_streams.specs.Streams.{WritesFront}
 use Rattle.sf_history.specs.History.{Machine}
 use Rattle.sf_console.specs.Readings.{Reading, reading, readings_of, whole_readings_of}
 use Rattle.sf_console.specs.Session.{IsAnswered, IsLastAnswered, Run}
-use Rattle.sf_console.specs.Chunks.{Sends, Takes, Breaks, EndsInput, BreaksAtEnd}
+use Rattle.sf_console.specs.Chunks.{Takes, Breaks, EndsInput, BreaksAtEnd}
 use Rattle.sf_console.specs.Serving.{ServesAll, ServesWholeLines, BreaksOff}
 use Rattle.sf_console.proofs.Runs.{Run-append}
 use Rattle.sf_console.proofs.ReadingLemmas.{readings_of-whole, whole_readings_of-whole, whole_readings_of-append, readings_of-fed, readings_of-unfed}
@@ -27,13 +28,10 @@ pub record Progress (unread left : Option (List ℕ)) (buffered : Buffered) (wri
   pub appended : Appends written_before written output
   pub ran : Run old (readings_of finished) output new
 
-pub OnOk-map : {T E P Q : Type 0} (r : Result T E) → (P → Q) → OnOk r P → OnOk r Q
-OnOk-map (Ok x) f p = f p
-OnOk-map (Err e) f p = p
-
-pub OnErr-map : {T E P Q : Type 0} (r : Result T E) → (P → Q) → OnErr r P → OnErr r Q
-OnErr-map (Ok x) f p = p
-OnErr-map (Err e) f p = f p
+-- what follows from two facts of an Err
+pub OnErr-both : {T E P Q R : Type 0} (r : Result T E) → (P → Q → R) → OnErr r P → OnErr r Q → OnErr r R
+OnErr-both (Ok x) f p q = tt
+OnErr-both (Err e) f p q = f p q
 
 -- the run of one line
 pub Run-one : (old new : Machine) (line : Reading) (text : List ℕ) → IsAnswered old line text new → Run old (line ∷ []) text new
@@ -53,17 +51,17 @@ EndsInput-answered (b ∷ bytes) text written_before written old new unfed answe
 
 -- the last line, whose answer was begun
 pub BreaksAtEnd-answered : (before text : List ℕ) (written_before written : Option (List ℕ)) (old new : Machine)
-    → HasNoFeed before → IsLastAnswered old before text new → Sends written_before written text → BreaksAtEnd before written_before written old new
-BreaksAtEnd-answered [] text written_before written old new unfed answered sends = absurd (sends.something answered.0)
-BreaksAtEnd-answered (b ∷ bytes) text written_before written old new unfed answered sends =
+    → HasNoFeed before → IsLastAnswered old before text new → WritesFront written_before written text → text ≢ [] → BreaksAtEnd before written_before written old new
+BreaksAtEnd-answered [] text written_before written old new unfed answered front something = absurd (something answered.0)
+BreaksAtEnd-answered (b ∷ bytes) text written_before written old new unfed answered front something =
     record {
-      sent = sends.sent;
-      unsent = sends.unsent;
+      sent = front.sent;
+      unsent = front.unsent;
       last = reading (record { bytes = b ∷ bytes; ended = false });
       is_last = readings_of-unfed b bytes unfed;
-      answered = subst (λ t. IsAnswered old (reading (record { bytes = b ∷ bytes; ended = false })) t new) sends.parts answered;
-      something = subst (λ t. t ≢ []) sends.parts sends.something;
-      appended = sends.appended;
+      answered = subst (λ t. IsAnswered old (reading (record { bytes = b ∷ bytes; ended = false })) t new) front.parts answered;
+      something = subst (λ t. t ≢ []) front.parts something;
+      appended = front.appended;
     }
 
 -- before a chunk nothing of it was taken
@@ -115,9 +113,9 @@ Takes-line before chunk rest at buffered text written_before written written' ol
 -- the answer to a line of the chunk was begun
 pub Takes-break : (before chunk rest : List ℕ) (at : ℕ) (buffered : Buffered) (text : List ℕ) (written_before written written' : Option (List ℕ)) (old mid new : Machine)
     → (t : Takes before chunk rest buffered written_before written old mid) → IsFirstFeed rest at
-    → IsAnswered mid (reading (record { bytes = t.after ++ take at rest; ended = true })) text new → Sends written written' text
+    → IsAnswered mid (reading (record { bytes = t.after ++ take at rest; ended = true })) text new → WritesFront written written' text → text ≢ []
     → Breaks before chunk written_before written' old new
-Takes-break before chunk rest at buffered text written_before written written' old mid new t feed answered sends =
+Takes-break before chunk rest at buffered text written_before written written' old mid new t feed answered front something =
     let line = t.after ++ take at rest in
     record {
       finished = t.finished;
@@ -127,13 +125,13 @@ Takes-break before chunk rest at buffered text written_before written written' o
       whole = t.whole;
       unfed = HasNoFeed-append t.after (take at rest) t.unfed feed.unfed;
       output = t.output;
-      sent = sends.sent;
-      unsent = sends.unsent;
+      sent = front.sent;
+      unsent = front.unsent;
       mid = mid;
       ran = t.ran;
-      answered = subst (λ text. IsAnswered mid (reading (record { bytes = line; ended = true })) text new) sends.parts answered;
-      something = subst (λ text. text ≢ []) sends.parts sends.something;
-      appended = Appends-trans written_before written written' t.output sends.sent t.appended sends.appended;
+      answered = subst (λ text. IsAnswered mid (reading (record { bytes = line; ended = true })) text new) front.parts answered;
+      something = subst (λ text. text ≢ []) front.parts something;
+      appended = Appends-trans written_before written written' t.output front.sent t.appended front.appended;
     }
 
 -- the rest of the chunk has no line feed, and is buffered
@@ -151,20 +149,6 @@ Takes-rest before chunk rest buffered written_before written old new t unfed =
       is_buffer = IsBufferOf-extend t.after rest buffered t.is_buffer;
       appended = t.appended;
       ran = t.ran;
-    }
-
-pub Progress-start : (unread written : Option (List ℕ)) (machine : Machine) → Progress unread unread nothing_buffered written written machine machine
-Progress-start unread written machine =
-    record {
-      finished = [];
-      after = [];
-      output = [];
-      consumed = Consumes-nil unread;
-      whole = inl refl;
-      unfed = refl;
-      is_buffer = IsBufferOf-nothing;
-      appended = Appends-nil written;
-      ran = (refl, refl);
     }
 
 -- one more chunk was read and taken
@@ -275,20 +259,7 @@ Progress-break_at_end unread left left' buffered written_before written written'
       appended = Appends-trans written_before written written' p.output b.sent p.appended b.appended;
     }
 
-pub OnErr-from : {T E P : Type 0} (r : Result T E) → P → OnErr r P
-OnErr-from (Ok x) p = tt
-OnErr-from (Err e) p = p
-
-pub OnOk-from : {T E P : Type 0} (r : Result T E) → P → OnOk r P
-OnOk-from (Ok x) p = p
-OnOk-from (Err e) p = tt
-
 -- what an Err has, where the result is one
 pub OnErr-at : {T E P : Type 0} (r : Result T E) (e : E) → r ≡ Err e → OnErr r P → P
 OnErr-at (Ok x) e is p = absurd (cc)
 OnErr-at (Err d) e is p = p
-
--- a text of no length is none
-pub no_bytes : (bytes : List ℕ) → length bytes ≡ 0 → bytes ≡ []
-no_bytes [] h = refl
-no_bytes (b ∷ bytes) h = absurd (omega arith)

@@ -8,9 +8,6 @@ use Rattle.std.proofs.lemmas.List.Sums.{prefix_len-le-length, prefix_len_stops}
 use Rattle.std.proofs.lemmas.Grind.{common_steps}
 use Rattle.sf_commands.specs.Values.{is_plain, quoted_byte}
 
-quote-is : (b : ℕ) → (b == 39) ≡ true → b ≡ 39
-quote-is b h = grind (arith, common_steps)
-
 not-plain : (b : ℕ) → is_plain b ≡ false → b ≡ 39
 not-plain b h = grind (arith, common_steps)
 

@@ -7,14 +7,6 @@ use Rattle.sf_history.specs.History.{Machine}
 use Rattle.sf_console.specs.Readings.{Reading, reading, readings_of}
 use Rattle.sf_console.specs.Session.{IsAnswered, Run}
 
--- a prefix of the text was written, and not all of it was sent
-pub record Sends (written_before written : Option (List ℕ)) (text : List ℕ) : Type 0 where
-  pub sent : List ℕ
-  pub unsent : List ℕ
-  pub parts : text ≡ sent ++ unsent
-  pub something : text ≢ []
-  pub appended : Appends written_before written sent
-
 -- of the bytes in the line buffer and a chunk, but for the rest of it, the whole lines were answered, and
 -- what came after them is in the buffer
 pub record Takes (before chunk rest : List ℕ) (buffered : Buffered) (written_before written : Option (List ℕ)) (old new : Machine) : Type 0 where

@@ -2,7 +2,7 @@
 ghost use Rattle.std.specs.Prelude.{◌≡◌, ◌++◌, decimal, flat_map, map, string_bytes, IfOk, OnOk};
 ghost use Rattle.std.specs.List.{prefix_len};
 ghost use Rattle.sf_commands.specs.Values.{is_plain, quoted};
-ghost use Rattle.sf_console.specs.Answers.{column_rows as column_rows_of, column_type_word as column_type_word_of, feature_rows as feature_rows_of, layer_kind_word as layer_kind_word_of, layer_row, rows, shown_value, value_text};
+ghost use Rattle.sf_console.specs.Answers.{column_rows as column_rows_of, column_type_word as column_type_word_of, feature_rows as feature_rows_of, layer_kind_word as layer_kind_word_of, layer_row, rows, shown_value};
 
 use sf_geometry::Kind;
 use sf_layers::{AttrValue, Column, ColumnType, Feature, Layer, LayerKind, Store};
