@@ -13,7 +13,6 @@ use super::save_fault::SaveFault;
 use sf_geometry::Geometry;
 use sf_layers::{AttrValue, Feature, Layer};
 use sf_streams::{Output, WriteFault};
-use std::alloc::Global;
 use std::io::Write;
 
 /// Puts a value behind the number of its column.
@@ -56,7 +55,6 @@ fn put_values<W: Write>(
 /// Puts the canonical binary form of a geometry behind its length. It is written to `row` first,
 /// whatever stands there.
 fn put_geometry<W: Write>(
-    alloc: Global,
     output: &mut Output,
     row: &mut Vec<u8>,
     writer: &mut W,
@@ -69,7 +67,7 @@ fn put_geometry<W: Write>(
         (output.old ++ behind_length 4 (canonical_wkb geometry.now))) }
 {
     row.clear();
-    sf_wkb::append(alloc, row, geometry)?;
+    sf_wkb::append(row, geometry)?;
     let bytes = row.as_slice();
     output.put_u32(writer, bytes.len() as u32)?;
     output.put(writer, bytes)?;
@@ -78,7 +76,6 @@ fn put_geometry<W: Write>(
 
 /// Puts a feature behind its identifier.
 fn put_feature<W: Write>(
-    alloc: Global,
     output: &mut Output,
     row: &mut Vec<u8>,
     writer: &mut W,
@@ -92,7 +89,7 @@ fn put_feature<W: Write>(
         (output.old ++ feature_bytes (id, feature.now))) }
 {
     output.put_u32(writer, id)?;
-    put_geometry(alloc, output, row, writer, feature.valid().geometry())?;
+    put_geometry(output, row, writer, feature.valid().geometry())?;
     output.put_u16(writer, feature.value_count() as u16)?;
     put_values(output, writer, feature.values())?;
     Ok(())
@@ -100,7 +97,6 @@ fn put_feature<W: Write>(
 
 /// Puts the features of a layer, by rising identifier.
 pub(crate) fn put_features<W: Write>(
-    alloc: Global,
     output: &mut Output,
     row: &mut Vec<u8>,
     writer: &mut W,
@@ -113,7 +109,7 @@ pub(crate) fn put_features<W: Write>(
         (output.old ++ flat_map feature_bytes layer.now.features)) }
 {
     for (id, feature) in layer.features() {
-        put_feature(alloc, output, row, writer, *id, feature)?;
+        put_feature(output, row, writer, *id, feature)?;
     }
     Ok(())
 }

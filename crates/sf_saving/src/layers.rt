@@ -12,7 +12,6 @@ use super::save_fault::SaveFault;
 use sf_geometry::Kind;
 use sf_layers::{Layer, LayerKind, Store};
 use sf_streams::Output;
-use std::alloc::Global;
 use std::io::Write;
 
 /// The byte of a layer's kind.
@@ -32,7 +31,6 @@ fn kind_byte(kind: LayerKind) -> u8
 
 /// Puts a layer behind its name: its kind and counters, its columns and its features.
 fn put_layer<W: Write>(
-    alloc: Global,
     output: &mut Output,
     row: &mut Vec<u8>,
     writer: &mut W,
@@ -52,12 +50,11 @@ fn put_layer<W: Write>(
     output.put_u16(writer, layer.column_count() as u16)?;
     put_columns(output, writer, layer)?;
     output.put_u32(writer, layer.feature_count() as u32)?;
-    put_features(alloc, output, row, writer, layer)
+    put_features(output, row, writer, layer)
 }
 
 /// Puts the layers of a store behind their number.
 pub(crate) fn put_layers<W: Write>(
-    alloc: Global,
     output: &mut Output,
     row: &mut Vec<u8>,
     writer: &mut W,
@@ -72,7 +69,7 @@ pub(crate) fn put_layers<W: Write>(
     output.put_u32(writer, count as u32)?;
     for place in 0..count {
         let (name, layer) = store.layer_at(place).unwrap();
-        put_layer(alloc, output, row, writer, name, layer)?;
+        put_layer(output, row, writer, name, layer)?;
     }
     Ok(())
 }

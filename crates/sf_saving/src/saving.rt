@@ -30,7 +30,7 @@ pub fn save<W: Write>(alloc: Global, store: &Store, writer: &mut W) -> Result<()
     let mut output = Output::new(alloc)?;
     let mut row = Vec::with_capacity(alloc, ROW_MAX)?;
     output.put(writer, FRONT.as_bytes())?;
-    put_layers(alloc, &mut output, &mut row, writer, store)?;
+    put_layers(&mut output, &mut row, writer, store)?;
     output.finish(writer)?;
     Ok(())
 }

@@ -1,5 +1,5 @@
 -- Bytes that are put one after another, and counts of what is put.
-use Rattle.std.proofs.Common.{◌≡◌, ℕ, ◌+◌, ◌<◌, ◌≤◌, ◌^◌, false, List, [], ◌∷◌, ◌++◌, length, take, get_or, Result, Ok, Err, OnOk, sym, ap, ◌∙◌, arith, length-append}
+use Rattle.std.proofs.Common.{◌≡◌, ℕ, ◌+◌, ◌<◌, ◌≤◌, ◌^◌, false, List, [], ◌∷◌, ◌++◌, length, take, get_or, sym, ap, ◌∙◌, arith, length-append}
 use Rattle.std.proofs.lemmas.Grind.{flat_map-append}
 use Rattle.std.proofs.lemmas.List.{append-nil, append_assoc, take_more}
 use Rattle.std.specs.List.{AllByRecursion, flat_map, list_any}
@@ -8,11 +8,6 @@ use Rattle.sf_geometry.specs.declared.geometry.Geometry.TheVariants.{Polygon, Mu
 use Rattle.sf_geometry.specs.Parts.{joined}
 use Rattle.sf_geometry.specs.Size.{points_max, is_empty, has_empty, IsSized}
 use Rattle.sf_geometry.proofs.Filled.{or_false, joined_append}
-
--- two pieces, of which the second may fail
-pub put_two : {T E : Type 0} (r : Result T E) (a b c x y : List ℕ) → b ≡ a ++ x → OnOk r (c ≡ b ++ y) → OnOk r (c ≡ a ++ (x ++ y))
-put_two (Ok t) a b c x y first second = second ∙ ap (λ z. z ++ y) first ∙ append_assoc a x y
-put_two (Err e) a b c x y first second = tt
 
 -- one more item behind a count and the items before it
 pub put_item : {T : Type 0} (bytes : T → List ℕ) (xs : List T) (i : ℕ) (x : T) (old count before after : List ℕ) → i < length xs → x ≡ get_or xs i x

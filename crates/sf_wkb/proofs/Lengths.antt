@@ -1,5 +1,5 @@
 -- How many bytes canonical bytes are.
-use Rattle.std.proofs.Common.{◌≡◌, ℕ, ◌+◌, ◌*◌, ◌≤◌, false, List, [], ◌∷◌, ◌++◌, length, ap, ◌∙◌, arith, length-append}
+use Rattle.std.proofs.Common.{◌≡◌, ℕ, ◌+◌, ◌*◌, ◌≤◌, false, List, [], ◌∷◌, ◌++◌, length, ap, ◌∙◌, subst, arith, length-append}
 use Rattle.std.proofs.lemmas.List.{append-nil}
 use Rattle.std.specs.List.{flat_map, list_any}
 use Rattle.byteorder.specs.Endian.{little_bytes}
@@ -10,7 +10,7 @@ use Rattle.sf_geometry.specs.declared.geometry.Geometry.TheVariants.{Point, Line
 use Rattle.sf_geometry.specs.declared.kind.Kind.{Kind}
 use Rattle.sf_geometry.specs.declared.kind.Kind.TheVariants as kinds
 use Rattle.sf_geometry.specs.Parts.{joined}
-use Rattle.sf_geometry.specs.Size.{is_empty, has_empty, IsSized}
+use Rattle.sf_geometry.specs.Size.{is_empty, has_empty, point_count, points_max, IsSized}
 use Rattle.sf_geometry.proofs.Filled.{total, or_false, joined_append}
 use Rattle.sf_wkb.specs.Words.{word_of}
 use Rattle.sf_wkb.specs.Grammar.{code_of, header, point_bytes, list_bytes, line_bytes, rings_bytes, canonical}
@@ -156,3 +156,51 @@ len_is_few (MultiPolygon polygons) sized =
 
 pub canonical_bytes_are_few : (g : Geometry) → IsSized g → length (canonical g) ≤ canonical_len_max
 canonical_bytes_are_few g sized = let exact = canonical_lengths g in let few = len_is_few g sized in omega (arith, exact, few)
+
+-- ---- counted beforehand, from the points and the lists
+
+pub line_counted : (g : Geometry) (ps : List Coordinates) (points : ℕ) → g ≡ LineString ps → points ≡ point_count g → 9 + 16 * points ≡ length (canonical g)
+line_counted g ps points is counted =
+    let exact = ap (λ h. length (canonical h)) is ∙ canonical_lengths (LineString ps) in
+    let all = counted ∙ ap point_count is ∙ ap length (append-nil ps) in
+    omega (arith, exact, all)
+
+pub polygon_counted : (g : Geometry) (rings found : List (List Coordinates)) (points : ℕ) → g ≡ Polygon rings → found ≡ rings → points ≡ point_count g
+    → 9 + 4 * length found + 16 * points ≡ length (canonical g)
+polygon_counted g rings found points is same counted =
+    let exact = ap (λ h. length (canonical h)) is ∙ canonical_lengths (Polygon rings) in
+    let all = counted ∙ ap point_count is in
+    let lists = ap length same in
+    omega (arith, exact, all, lists)
+
+pub points_counted : (g : Geometry) (ps : List Coordinates) (points : ℕ) → g ≡ MultiPoint ps → points ≡ point_count g → 9 + 21 * points ≡ length (canonical g)
+points_counted g ps points is counted =
+    let exact = ap (λ h. length (canonical h)) is ∙ canonical_lengths (MultiPoint ps) in
+    let all = counted ∙ ap point_count is ∙ ap length (append-nil ps) in
+    omega (arith, exact, all)
+
+pub lines_counted : (g : Geometry) (lines found : List (List Coordinates)) (points : ℕ) → g ≡ MultiLineString lines → found ≡ lines → points ≡ point_count g
+    → 9 + 9 * length found + 16 * points ≡ length (canonical g)
+lines_counted g lines found points is same counted =
+    let exact = ap (λ h. length (canonical h)) is ∙ canonical_lengths (MultiLineString lines) in
+    let all = counted ∙ ap point_count is in
+    let lists = ap length same in
+    omega (arith, exact, all, lists)
+
+pub polygons_counted : (g : Geometry) (polygons found : List (List (List Coordinates))) (points rings : ℕ) → g ≡ MultiPolygon polygons → found ≡ polygons
+    → points ≡ point_count g → rings ≡ length (joined found) → 9 + 9 * length found + 4 * rings + 16 * points ≡ length (canonical g)
+polygons_counted g polygons found points rings is same counted all_rings =
+    let exact = ap (λ h. length (canonical h)) is ∙ canonical_lengths (MultiPolygon polygons) in
+    let all = counted ∙ ap point_count is in
+    let lists = ap length same in
+    let inner = all_rings ∙ ap (λ xs. length (joined xs)) same in
+    omega (arith, exact, all, lists, inner)
+
+-- the rings of a sized MultiPolygon are few
+pub rings_are_few : (g : Geometry) (polygons found : List (List (List Coordinates))) → IsSized g → g ≡ MultiPolygon polygons → found ≡ polygons → length (joined found) ≤ points_max
+rings_are_few g polygons found sized is same =
+    let here = subst IsSized is sized in
+    let both = or_false (is_empty polygons) (list_any has_empty polygons) here.filled in
+    let fewer = rings_no_more polygons both.1 in
+    let lists = ap (λ xs. length (joined xs)) same in
+    omega (arith, fewer, lists, here.few)

@@ -4,6 +4,7 @@ pub mod Computed
 pub mod Lengths
 pub mod Loops
 pub mod OtherWords
+pub mod Rooms
 pub mod RoundTrip
 pub mod Sized
 pub mod WordLaws

@@ -101,13 +101,15 @@ fn geometries_are_read_and_written(rt: HostRuntime) -> Result<(), Fail> {
 fn bytes_are_put_behind_others(rt: HostRuntime) -> Result<(), Fail> {
     let point = hex(rt.alloc(), "00 00000001 3ff0000000000000 c120000000000000")?;
     let geometry = read(rt.alloc(), point.as_slice())?;
-    let mut bytes = hex(rt.alloc(), "07 ff")?;
-    append(rt.alloc(), &mut bytes, &geometry)?;
     let expected = hex(
         rt.alloc(),
         "07 ff 01 01000000 000000000000f03f 00000000000020c1",
     )?;
+    let mut bytes = Vec::with_capacity(rt.alloc(), 23)?;
+    bytes.extend_from_slice(b"\x07\xff")?;
+    append(&mut bytes, &geometry)?;
     assert_eq!(rt; bytes.as_slice(), expected.as_slice());
+    assert_eq!(rt; bytes.capacity(), 23);
     Ok(())
 }
 
