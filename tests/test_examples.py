@@ -1,0 +1,69 @@
+"""Tests of the examples: each is run as its text says, and gives what stands beside it."""
+
+from __future__ import annotations
+
+import os
+import subprocess
+import sys
+import tempfile
+import unittest
+from pathlib import Path
+
+TOP = Path(__file__).resolve().parent.parent
+EXAMPLES = TOP / "examples"
+PROGRAM = TOP / "crates" / "sfstore" / "out" / "sfstore"
+
+AFTERNOON = """\
+16 parcels along First Street went to the town
+well 5 stands on parcel 27
+5 wells are left
+no parcel: RingNotSimple
+"""
+
+
+class Examples(unittest.TestCase):
+    def setUp(self):
+        folder = tempfile.TemporaryDirectory()
+        self.addCleanup(folder.cleanup)
+        self.folder = Path(folder.name)
+
+    def answers(self, lines, *words):
+        return subprocess.run([PROGRAM, *words], input=lines, check=True, capture_output=True).stdout
+
+    def town(self):
+        """The file of the town, as its lines make it."""
+        file = self.folder / "town.sfs"
+        answers = self.answers((EXAMPLES / "town.txt").read_bytes(), "--save", file)
+        self.assertNotIn(b"refused", answers)
+        return file
+
+    def test_the_town(self):
+        rows = self.answers(b"show parcels\nshow streets\nshow wells\n", "--load", self.town())
+        for count in (b"rows 200\n", b"rows 7\n", b"rows 4\n"):
+            self.assertIn(count, rows)
+
+    def test_the_morning_at_the_console(self):
+        answers = self.answers((EXAMPLES / "day.txt").read_bytes(), "--load", self.town())
+        self.assertEqual(answers, (EXAMPLES / "day.answers").read_bytes())
+
+    def test_the_afternoon_from_python(self):
+        morning, evening = self.folder / "morning.sfs", self.folder / "evening.sfs"
+        self.answers((EXAMPLES / "day.txt").read_bytes(), "--load", self.town(), "--save", morning)
+        (self.folder / "sfstore").symlink_to(PROGRAM)
+        said = subprocess.run(
+            [sys.executable, EXAMPLES / "day.py", morning, evening],
+            env={
+                **os.environ,
+                "PATH": f"{self.folder}{os.pathsep}{os.environ['PATH']}",
+                "PYTHONPATH": str(TOP / "python"),
+            },
+            check=True,
+            capture_output=True,
+            text=True,
+        )
+        self.assertEqual(said.stdout, AFTERNOON)
+        self.assertTrue(self.answers(b"show wells\n", "--load", evening).startswith(b"rows 5\n"))
+
+
+if __name__ == "__main__":
+    unittest.main()

@@ -1,0 +1,84 @@
+"""Tests of the package: it is made, taken apart, and used as a user of it would."""
+
+from __future__ import annotations
+
+import hashlib
+import os
+import shutil
+import subprocess
+import sys
+import tempfile
+import unittest
+from pathlib import Path
+
+TOP = Path(__file__).resolve().parent.parent
+
+
+def built() -> Path:
+    """Makes the package, and gives its path."""
+    said = subprocess.run([TOP / "package" / "build"], check=True, capture_output=True, text=True).stdout
+    return TOP / said.split(" ")[0]
+
+
+@unittest.skipUnless(shutil.which("dpkg-deb") and (TOP / ".git").exists(), "no dpkg-deb, or no checkout")
+class Package(unittest.TestCase):
+    @classmethod
+    def setUpClass(cls):
+        cls.package = built()
+        folder = tempfile.TemporaryDirectory()
+        cls.addClassCleanup(folder.cleanup)
+        cls.root = Path(folder.name)
+        subprocess.run(["dpkg-deb", "--extract", cls.package, cls.root], check=True)
+        cls.program = cls.root / "usr/bin/sfstore"
+        cls.documents = cls.root / "usr/share/doc/sfstore"
+
+    def answers(self, lines, *words):
+        return subprocess.run([self.program, *words], input=lines, check=True, capture_output=True).stdout
+
+    def test_the_program_runs(self):
+        self.assertEqual(self.answers(b"layer add w any\nlayers\n"), b"ok\nrows 1\nw any\n")
+
+    def test_help_names_the_options(self):
+        self.assertIn(b"--load <FILE>", self.answers(b"", "--help"))
+
+    def test_the_module_finds_the_program_on_the_path(self):
+        lines = "import sfstore\nwith sfstore.Store() as store: print(store.layers())"
+        module = str(self.root / "usr/lib/python3/dist-packages")
+        path = f"{self.program.parent}{os.pathsep}{os.environ['PATH']}"
+        said = subprocess.run(
+            [sys.executable, "-c", lines],
+            env={**os.environ, "PATH": path, "PYTHONPATH": module},
+            check=True,
+            capture_output=True,
+            text=True,
+        )
+        self.assertEqual(said.stdout, "[]\n")
+
+    def test_built_tells_what_the_package_is(self):
+        digest = hashlib.sha256(self.program.read_bytes()).hexdigest()
+        commit = subprocess.run(["git", "rev-parse", "HEAD"], cwd=TOP, check=True, capture_output=True, text=True)
+        said = (self.documents / "BUILT").read_text()
+        self.assertIn(f"sha256 of the program: {digest}\n", said)
+        self.assertIn(f"commit: {commit.stdout.strip()}", said)
+        self.assertRegex(said, "gate: [0-9]+ passed, [0-9]+ failed\n")
+        self.assertIn("toolchain: rattle-kit", said)
+
+    def test_the_links_of_the_readme_lead_to_its_documents(self):
+        for name in ("docs/CONSOLE.md", "docs/FORMAT.md"):
+            self.assertIn(f"({name})", (self.documents / "README.md").read_text())
+            self.assertTrue((self.documents / name).is_file())
+
+    def test_the_version_stands_in_one_place(self):
+        version = (TOP / "package" / "VERSION").read_text().strip()
+        field = subprocess.run(
+            ["dpkg-deb", "--field", self.package, "Version"], check=True, capture_output=True, text=True
+        )
+        self.assertEqual(field.stdout.strip(), version)
+
+    def test_the_same_program_makes_the_same_package(self):
+        first = self.package.read_bytes()
+        self.assertEqual(built().read_bytes(), first)
+
+
+if __name__ == "__main__":
+    unittest.main()
