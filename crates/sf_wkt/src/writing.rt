@@ -50,6 +50,20 @@ pub fn append(alloc: Global, text: &mut String, geometry: &Geometry) -> Result<(
     }
 }
 
+/// Puts x and y behind a text, with a space between them.
+///
+/// # Errors
+///
+/// Where no memory was found for them. The text is then as it was.
+pub fn append_point(text: &mut String, point: &GridPoint) -> Result<(), AllocError>
+    ensures appended { OnOk result
+        (string_bytes text.new ≡ string_bytes text.old ++ point_text_of point.now) }
+    ensures unchanged { OnErr result (string_bytes text.new ≡ string_bytes text.old) }
+{
+    let piece = point_text(point).map_err(|_| AllocError)?;
+    text.push_str(piece.as_str())
+}
+
 /// The canonical text of a point, which has room: an Err never comes.
 fn whole_point_text(point: &GridPoint) -> Result<InlineText<POINT_LEN>, fmt::Error>
     ensures { IfOk result (λ text. inline_text text ≡ canonical (Geometry.Point point.now)) }
@@ -93,14 +107,6 @@ fn push_geometry(text: &mut String, geometry: &Geometry) -> Result<(), AllocErro
     }
 }
 
-/// Puts x and y behind a text.
-fn push_point(text: &mut String, point: &GridPoint) -> Result<(), AllocError>
-    ensures { OnOk result (string_bytes text.new ≡ string_bytes text.old ++ point_text_of point.now) }
-{
-    let piece = point_text(point).map_err(|_| AllocError)?;
-    text.push_str(piece.as_str())
-}
-
 /// The text of x and y, which has room: an Err never comes.
 fn point_text(point: &GridPoint) -> Result<InlineText<POINT_LEN>, fmt::Error>
     ensures { IfOk result (λ text. inline_text text ≡ point_text_of point.now) }
@@ -117,7 +123,7 @@ fn push_item(text: &mut String, point: &GridPoint) -> Result<(), AllocError>
     ensures { OnOk result (string_bytes text.new ≡ string_bytes text.old ++ in_brackets (point_text_of point.now)) }
 {
     text.push_str("(")?;
-    push_point(text, point)?;
+    append_point(text, point)?;
     text.push_str(")")
 }
 
@@ -130,7 +136,7 @@ fn push_line(text: &mut String, points: &[GridPoint]) -> Result<(), AllocError>
         return text.push_str("()");
     };
     text.push_str("(")?;
-    push_point(text, first)?;
+    append_point(text, first)?;
     push_more_points(text, others)?;
     text.push_str(")")
 }
@@ -142,7 +148,7 @@ fn push_more_points(text: &mut String, points: &[GridPoint]) -> Result<(), Alloc
 {
     for point in points {
         text.push_str(", ")?;
-        push_point(text, point)?;
+        append_point(text, point)?;
     }
     Ok(())
 }

@@ -1,7 +1,7 @@
 use Rattle.std.proofs.Common.{◌≡◌, ◌∙◌, ◌+◌, ◌++◌, [], Some, ap, arith, drop, flat_map, refl, slice_get, sym}
 use Rattle.std.specs.Option.{option_copied}
 use Rattle.sf_format.specs.Canonical.{column_bytes}
-use Rattle.sf_saving.proofs.Putting.{Putting-done, Putting-left, Putting-more, Putting-start, breaks, left-at, left-none}
+use Rattle.sf_streams.proofs.Putting.{Putting-done, Putting-left, Putting-more, Putting-start, breaks, left-at, left-none}
 use Rattle.sf_saving.proofs.columns.put_columns.Goals as goal
 
 pub loop-place-init : goal.loop-place-init

@@ -1,6 +1,6 @@
 use Rattle.std.proofs.Common.{drop, flat_map}
 use Rattle.sf_format.specs.Canonical.{column_bytes}
-use Rattle.sf_saving.proofs.Putting.{Putting}
+use Rattle.sf_streams.proofs.Putting.{Putting}
 use Rattle.sf_saving.proofs.columns.put_columns.Given as goal
 
 -- the columns from the place on are left

@@ -3,7 +3,7 @@ use Rattle.byteorder.specs.Endian.{big_bytes}
 use Rattle.sf_wkb.specs.Grammar.{canonical as canonical_wkb}
 use Rattle.sf_features.specs.Features.{FeatureContent}
 use Rattle.sf_format.specs.Canonical.{behind_length, feature_bytes, value_bytes}
-use Rattle.sf_saving.proofs.Putting.{Putting, Putting-last, Putting-more, Putting-start, breaks, breaks-last}
+use Rattle.sf_streams.proofs.Putting.{Putting, Putting-last, Putting-more, Putting-start, breaks, breaks-last}
 use Rattle.sf_saving.proofs.features.put_feature.Goals as goal
 use Rattle.sf_saving.proofs.features.put_feature.Goals.{In_ok-put_u32, In_ok-put_geometry, In_ok-put_u16}
 

@@ -7,7 +7,7 @@ use Rattle.std.specs.Map.Iter.{deref_pair}
 use Rattle.sf_features.specs.Features.{FeatureContent}
 use Rattle.sf_format.specs.Canonical.{feature_bytes}
 use Rattle.sf_saving.specs.Fits.{FeatureFits}
-use Rattle.sf_saving.proofs.Putting.{Putting, Putting-done, Putting-left, Putting-more, Putting-start, breaks}
+use Rattle.sf_streams.proofs.Putting.{Putting, Putting-done, Putting-left, Putting-more, Putting-start, breaks}
 use Rattle.sf_saving.proofs.features.put_features.Goals as goal
 use Rattle.sf_saving.proofs.features.put_features.Goals.{In-Some}
 

@@ -3,7 +3,7 @@ use Rattle.std.specs.List.{AllByRecursion}
 use Rattle.std.specs.Map.{values_of}
 use Rattle.sf_format.specs.Canonical.{feature_bytes}
 use Rattle.sf_saving.specs.Fits.{FeatureFits}
-use Rattle.sf_saving.proofs.Putting.{Putting}
+use Rattle.sf_streams.proofs.Putting.{Putting}
 use Rattle.sf_saving.proofs.features.put_features.Given as goal
 
 -- the features that the iterator has are left, and they fit

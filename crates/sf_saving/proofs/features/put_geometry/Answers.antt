@@ -3,7 +3,7 @@ use Rattle.byteorder.specs.Endian.{big_bytes}
 use Rattle.sf_wkb.specs.Grammar.{canonical as canonical_wkb}
 use Rattle.sf_wkb.proofs.Lengths.{canonical_bytes_are_few}
 use Rattle.sf_format.specs.Canonical.{behind_length}
-use Rattle.sf_saving.proofs.Putting.{Putting, Putting-last, Putting-more, Putting-start, breaks, breaks-last}
+use Rattle.sf_streams.proofs.Putting.{Putting, Putting-last, Putting-more, Putting-start, breaks, breaks-last}
 use Rattle.sf_saving.proofs.features.put_geometry.Goals as goal
 use Rattle.sf_saving.proofs.features.put_geometry.Goals.{After-as_slice-bytes, In_ok-put_u32}
 

@@ -3,7 +3,7 @@ use Rattle.std.proofs.lemmas.Int.{to_z-of_z}
 use Rattle.byteorder.specs.Endian.{big_bytes}
 use Rattle.sf_features.specs.declared.attr_value.AttrValue.TheVariants.{Int}
 use Rattle.sf_format.specs.Canonical.{behind_length, typed_bytes, value_bytes}
-use Rattle.sf_saving.proofs.Putting.{Putting, Putting-more, Putting-start, breaks, ends-broken, ends-put}
+use Rattle.sf_streams.proofs.Putting.{Putting, Putting-more, Putting-start, breaks, ends-broken, ends-put}
 use Rattle.sf_saving.proofs.features.put_value.Goals as goal
 use Rattle.sf_saving.proofs.features.put_value.Goals.{In_ok-put_u16}
 

@@ -1,6 +1,6 @@
 use Rattle.std.proofs.Common.{◌+◌, ◌++◌, [], arith, drop, flat_map, refl}
 use Rattle.sf_format.specs.Canonical.{value_bytes}
-use Rattle.sf_saving.proofs.Putting.{Putting-done, Putting-left, Putting-more, Putting-start, breaks, left-item, left-none}
+use Rattle.sf_streams.proofs.Putting.{Putting-done, Putting-left, Putting-more, Putting-start, breaks, left-item, left-none}
 use Rattle.sf_saving.proofs.features.put_values.Goals as goal
 
 pub loop-entry-init : goal.loop-entry-init

@@ -1,6 +1,6 @@
 use Rattle.std.proofs.Common.{drop, flat_map}
 use Rattle.sf_format.specs.Canonical.{value_bytes}
-use Rattle.sf_saving.proofs.Putting.{Putting}
+use Rattle.sf_streams.proofs.Putting.{Putting}
 use Rattle.sf_saving.proofs.features.put_values.Given as goal
 
 -- the values from the index on are left

@@ -1,7 +1,7 @@
 use Rattle.std.proofs.Common.{length, refl}
 use Rattle.byteorder.specs.Endian.{big_bytes}
 use Rattle.sf_format.specs.Canonical.{behind_length}
-use Rattle.sf_saving.proofs.Putting.{Putting-start, Putting-more, breaks, ends-put, ends-broken}
+use Rattle.sf_streams.proofs.Putting.{Putting-start, Putting-more, breaks, ends-put, ends-broken}
 use Rattle.sf_saving.proofs.fields.put_text.Goals as goal
 
 pub returns-in_err-put_u16-clause-broken : goal.returns-in_err-put_u16-clause-broken

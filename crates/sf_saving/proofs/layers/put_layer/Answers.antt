@@ -2,7 +2,7 @@ use Rattle.std.proofs.Common.{◌++◌, ◌∙◌, ℕ, List, ap, flat_map, leng
 use Rattle.byteorder.specs.Endian.{big_bytes}
 use Rattle.sf_layers.specs.Content.{LayerContent}
 use Rattle.sf_format.specs.Canonical.{behind_length, column_bytes, feature_bytes, kind_byte, layer_bytes}
-use Rattle.sf_saving.proofs.Putting.{Putting, Putting-more, Putting-start, breaks, ends-broken, ends-put}
+use Rattle.sf_streams.proofs.Putting.{Putting, Putting-more, Putting-start, breaks, ends-broken, ends-put}
 use Rattle.sf_saving.proofs.layers.put_layer.Goals as goal
 use Rattle.sf_saving.proofs.layers.put_layer.Goals.{In_ok-put_name, In_ok-put_u8, In_ok-put_u32, In_ok-put_u16, In_ok-put_u16-2, In_ok-put_columns, In_ok-put_u32-2}
 

@@ -3,7 +3,7 @@ use Rattle.byteorder.specs.Endian.{big_bytes}
 use Rattle.sf_layers.specs.Content.{LayerContent}
 use Rattle.sf_format.specs.Canonical.{layer_bytes, layers_bytes}
 use Rattle.sf_saving.proofs.FitLaws.{fits-at}
-use Rattle.sf_saving.proofs.Putting.{Putting, Putting-done, Putting-left, Putting-more, Putting-start, breaks, left-at, left-none}
+use Rattle.sf_streams.proofs.Putting.{Putting, Putting-done, Putting-left, Putting-more, Putting-start, breaks, left-at, left-none}
 use Rattle.sf_saving.proofs.layers.put_layers.Goals as goal
 use Rattle.sf_saving.proofs.layers.put_layers.Goals.{After-unwrap}
 

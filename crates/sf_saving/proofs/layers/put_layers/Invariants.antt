@@ -1,6 +1,6 @@
 use Rattle.std.proofs.Common.{◌≡◌, drop, flat_map, length}
 use Rattle.sf_format.specs.Canonical.{layer_bytes, layers_bytes}
-use Rattle.sf_saving.proofs.Putting.{Putting}
+use Rattle.sf_streams.proofs.Putting.{Putting}
 use Rattle.sf_saving.proofs.layers.put_layers.Given as goal
 
 -- the layers from the place on are left

@@ -1,6 +1,6 @@
 use Rattle.std.proofs.Common.{codes, refl}
 use Rattle.sf_format.specs.Canonical.{canonical, layers_bytes}
-use Rattle.sf_saving.proofs.Putting.{Putting, Putting-last, Putting-more, Putting-start, all-sent, breaks, breaks-last, broken-whole, some-sent}
+use Rattle.sf_streams.proofs.Putting.{Putting, Putting-last, Putting-more, Putting-start, all-sent, breaks, breaks-last, broken-whole, some-sent}
 use Rattle.sf_saving.proofs.saving.save.Goals as goal
 use Rattle.sf_saving.proofs.saving.save.Goals.{In_ok-put}
 
