@@ -38,6 +38,13 @@ class Package(unittest.TestCase):
     def test_the_program_runs(self):
         self.assertEqual(self.answers(b"layer add w any\nlayers\n"), b"ok\nrows 1\nw any\n")
 
+    def test_the_picture_of_a_saved_store(self):
+        with tempfile.TemporaryDirectory() as folder:
+            file = Path(folder) / "wells.sfs"
+            self.answers(b"layer add wells point\nadd wells POINT (3 4)\n", "--save", file)
+            drawn = subprocess.run([self.root / "usr/bin/sfmap"], input=file.read_bytes(), check=True, capture_output=True)
+        self.assertIn(b"<path id='wells-1' class='feature point' d='M3 4h0'/>", drawn.stdout)
+
     def test_help_names_the_options(self):
         self.assertIn(b"--load <FILE>", self.answers(b"", "--help"))
 
@@ -55,16 +62,17 @@ class Package(unittest.TestCase):
         self.assertEqual(said.stdout, "[]\n")
 
     def test_built_tells_what_the_package_is(self):
-        digest = hashlib.sha256(self.program.read_bytes()).hexdigest()
         commit = subprocess.run(["git", "rev-parse", "HEAD"], cwd=TOP, check=True, capture_output=True, text=True)
         said = (self.documents / "BUILT").read_text()
-        self.assertIn(f"sha256 of the program: {digest}\n", said)
+        for name in ("sfstore", "sfmap"):
+            digest = hashlib.sha256((self.root / "usr/bin" / name).read_bytes()).hexdigest()
+            self.assertIn(f"sha256 of {name}: {digest}\n", said)
         self.assertIn(f"commit: {commit.stdout.strip()}", said)
         self.assertRegex(said, "gate: [0-9]+ passed, [0-9]+ failed\n")
         self.assertIn("toolchain: rattle-kit", said)
 
     def test_the_links_of_the_readme_lead_to_its_documents(self):
-        for name in ("docs/CONSOLE.md", "docs/FORMAT.md"):
+        for name in ("docs/CONSOLE.md", "docs/FORMAT.md", "docs/PICTURE.md", "examples/town.svg"):
             self.assertIn(f"({name})", (self.documents / "README.md").read_text())
             self.assertTrue((self.documents / name).is_file())
 

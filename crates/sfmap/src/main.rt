@@ -1,0 +1,59 @@
+//! The program: reads the file of a store from its standard input, and draws a map of it on its standard
+//! output.
+#![tactic(auto)]
+
+mod ending;
+
+use ending::Ending;
+use sf_file::load;
+use sf_map::{Asked, AskedFault, View, draw, options};
+use std::process::ExitCode;
+use std::rt::Env;
+use std::{env, io};
+
+/// What the words of the command line ask for.
+fn asked(rt: &(impl Env + AllocGlobal)) -> Result<Asked, Ending> {
+    let alloc = rt.alloc();
+    let Ok(arguments) = env::args(rt) else {
+        return Err(Ending::Arguments);
+    };
+    let Ok(arguments) = arguments.collect::<Vec<String>>(alloc) else {
+        return Err(Ending::Words(AskedFault::Memory));
+    };
+    let Ok(words) = arguments
+        .iter()
+        .map(|word| word.as_str())
+        .collect::<Vec<&str>>(alloc)
+    else {
+        return Err(Ending::Words(AskedFault::Memory));
+    };
+    options::asked(alloc, words.as_slice()).map_err(Ending::Words)
+}
+
+/// The whole run.
+fn run(rt: &(impl Env + Input + Print + AllocGlobal)) -> Result<(), Ending> {
+    let alloc = rt.alloc();
+    let Asked { choice, width } = asked(rt)?;
+    let mut input = rt.reader();
+    let store = load(alloc, &mut input).map_err(Ending::Load)?;
+    if let Some(name) = choice.missing_layer(&store) {
+        return Err(match String::from_str(alloc, name) {
+            Ok(name) => Ending::MissingLayer(name),
+            Err(_) => Ending::Words(AskedFault::Memory),
+        });
+    }
+    let view = View::of(&store, &choice, width);
+    let mut output = io::writer(rt);
+    draw(alloc, &store, &choice, &view, &mut output).map_err(Ending::Draw)
+}
+
+fn main(rt: HostRuntime) -> ExitCode {
+    match run(&rt) {
+        Ok(()) => ExitCode::SUCCESS,
+        Err(ending) => {
+            // Where nothing can be told, the status alone tells.
+            let _ = ending.tell(&rt);
+            ExitCode::from(ending.status())
+        }
+    }
+}

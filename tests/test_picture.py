@@ -1,0 +1,167 @@
+"""Tests of pictures: maps of stores of all kinds, read as XML, and the refusals of `sfmap`."""
+
+from __future__ import annotations
+
+import subprocess
+import tempfile
+import unittest
+from pathlib import Path
+from xml.etree import ElementTree
+
+TOP = Path(__file__).resolve().parent.parent
+STORE = TOP / "crates" / "sfstore" / "out" / "sfstore"
+PROGRAM = TOP / "crates" / "sfmap" / "out" / "sfmap"
+SVG = "{http://www.w3.org/2000/svg}"
+
+# A layer of all kinds: a square with a hole, a line, a point, and their Multi forms.
+SHAPES = b"""\
+layer add shapes any
+add shapes POLYGON ((0 0, 10 0, 10 10, 0 10, 0 0), (2 2, 2 4, 4 4, 4 2, 2 2))
+add shapes LINESTRING (-5 0, 5 5, 15 0)
+add shapes POINT (3 12)
+add shapes MULTIPOINT ((1 1), (20 1))
+add shapes MULTILINESTRING ((0 20, 5 20), (0 22, 5 22, 5 25))
+add shapes MULTIPOLYGON (((30 0, 34 0, 34 4, 30 0)), ((40 0, 44 0, 44 4, 40 0)))
+layer add wells point
+add wells POINT (100 100)
+"""
+
+PATHS = {
+    "shapes-1": ("polygon", "M0 0L10 0L10 10L0 10L0 0ZM2 2L2 4L4 4L4 2L2 2Z"),
+    "shapes-2": ("linestring", "M-5 0L5 5L15 0"),
+    "shapes-3": ("point", "M3 12h0"),
+    "shapes-4": ("multipoint", "M1 1h0M20 1h0"),
+    "shapes-5": ("multilinestring", "M0 20L5 20M0 22L5 22L5 25"),
+    "shapes-6": ("multipolygon", "M30 0L34 0L34 4L30 0ZM40 0L44 0L44 4L40 0Z"),
+    "wells-1": ("point", "M100 100h0"),
+}
+
+
+def file_of(lines: bytes) -> bytes:
+    """The file of the store that these lines make."""
+    with tempfile.TemporaryDirectory() as folder:
+        file = Path(folder) / "store.sfs"
+        subprocess.run([STORE, "--save", file], input=lines, check=True, capture_output=True)
+        return file.read_bytes()
+
+
+def picture(file: bytes, *words: str) -> ElementTree.Element:
+    """The picture of a file, read as XML."""
+    return ElementTree.fromstring(subprocess.run([PROGRAM, *words], input=file, check=True, capture_output=True).stdout)
+
+
+def paths(root: ElementTree.Element) -> dict[str, tuple[str, str]]:
+    """The features of a picture in their order, with kinds and paths."""
+    found = {}
+    for path in root.iter(f"{SVG}path"):
+        if "id" in path.attrib:
+            word, kind = path.get("class").split(" ")
+            assert word == "feature"
+            found[path.get("id")] = (kind, path.get("d"))
+    return found
+
+
+class Pictures(unittest.TestCase):
+    @classmethod
+    def setUpClass(cls):
+        cls.file = file_of(SHAPES)
+
+    def box(self, *words):
+        """The rectangle of the map, and its size in pixels."""
+        [shown] = [part for part in picture(self.file, *words).iter(f"{SVG}svg") if part.get("class") == "map"]
+        return [int(n) for n in shown.get("viewBox").split(" ")], int(shown.get("width")), int(shown.get("height"))
+
+    def test_each_kind_is_drawn_with_its_points_in_order(self):
+        self.assertEqual(list(paths(picture(self.file)).items()), list(PATHS.items()))
+
+    def test_layers_stand_in_drawing_order(self):
+        for lines, names in ((b"", ["shapes", "wells"]), (b"layer move wells 0\n", ["wells", "shapes"])):
+            root = picture(file_of(SHAPES + lines))
+            layers = [part for part in root.iter(f"{SVG}g") if part.get("class", "").startswith("layer ")]
+            self.assertEqual([layer.get("id") for layer in layers], names)
+            self.assertEqual([text.text for text in root.iter(f"{SVG}text")][1:], names)
+
+    def test_identifiers_are_unique(self):
+        found = [part.get("id") for part in picture(self.file).iter() if part.get("id")]
+        self.assertEqual(len(found), len(set(found)))
+
+    def test_y_is_upwards(self):
+        [turned] = [part for part in picture(self.file).iter(f"{SVG}g") if part.get("transform") == "scale(1 -1)"]
+        self.assertEqual([layer.get("id") for layer in turned], ["shapes", "wells"])
+
+    def test_the_map_has_all_and_a_margin(self):
+        # From -5 0 to 100 100: a twentieth of 105 is 5.
+        self.assertEqual(self.box(), ([-10, -105, 115, 110], 800, 765))
+
+    def test_a_layer_alone(self):
+        self.assertEqual(list(paths(picture(self.file, "--layer", "wells"))), ["wells-1"])
+        self.assertEqual(self.box("--layer", "wells"), ([99, -101, 2, 2], 800, 800))
+        both = picture(self.file, "--layer", "wells", "--layer", "shapes")
+        self.assertEqual(list(paths(both)), list(PATHS))
+
+    def test_a_layer_keeps_its_colour(self):
+        tints = {}
+        for words in ((), ("--layer", "wells")):
+            for part in picture(self.file, *words).iter(f"{SVG}g"):
+                if part.get("id") == "wells":
+                    tints[words] = part.get("class")
+        self.assertEqual(list(tints.values()), ["layer tint-1"] * 2)
+
+    def test_a_window_shows_what_has_a_part_in_it(self):
+        words = ("--window", "9", "-1", "31", "3", "--width", "440")
+        self.assertEqual(list(paths(picture(self.file, *words))), ["shapes-1", "shapes-2", "shapes-4", "shapes-6"])
+        self.assertEqual(self.box(*words), ([9, -3, 22, 4], 440, 80))
+
+    def test_a_window_with_nothing_in_it(self):
+        self.assertEqual(paths(picture(self.file, "--window", "-9", "-9", "-8", "-8")), {})
+
+    def test_the_bar_is_at_most_a_quarter_of_the_map(self):
+        texts = [text.text for text in picture(self.file).iter(f"{SVG}text")]
+        self.assertEqual(texts[0], "20 grid steps")
+
+    def test_an_empty_store(self):
+        root = picture(b"SFSTORE1\0\0\0\0")
+        self.assertEqual(paths(root), {})
+        self.assertEqual(int(root.get("height")), 840)
+
+    def test_the_farthest_coordinates(self):
+        lines = b"layer add a point\nadd a POINT (-524288 -524288)\nadd a POINT (524287 524287)\n"
+        found = paths(picture(file_of(lines)))
+        self.assertEqual([path for _, path in found.values()], ["M-524288 -524288h0", "M524287 524287h0"])
+
+    def test_faults_are_told_on_standard_error(self):
+        cases = (
+            (b"SFSTORE2\0\0\0\0", (), 3, b"fault load BadFile 0 "),
+            (b"", (), 3, b"fault load BadFile 0 "),
+            (self.file, ("--layer", "streets"), 2, b"fault words NoLayer streets\n"),
+            (self.file, ("--window", "5", "0", "4", "0"), 2, b"fault words EmptyWindow\n"),
+            (self.file, ("--window", "5", "0", "4"), 2, b"error: "),
+            (self.file, ("--width", "0"), 2, b"error: "),
+            (self.file, ("map.sfs",), 2, b"error: "),
+        )
+        for file, words, status, front in cases:
+            with self.subTest(words=words, front=front):
+                ended = subprocess.run([PROGRAM, *words], input=file, capture_output=True)
+                self.assertEqual(ended.returncode, status)
+                self.assertEqual(ended.stdout, b"")
+                self.assertTrue(ended.stderr.startswith(front), ended.stderr)
+
+    def test_help_names_the_options(self):
+        said = subprocess.run([PROGRAM, "--help"], check=True, capture_output=True).stdout
+        for option in (b"--layer <NAME>", b"--window <MINX> <MINY> <MAXX> <MAXY>", b"--width <PIXELS>"):
+            self.assertIn(option, said)
+
+    def test_a_writer_that_is_closed(self):
+        with open("/dev/full", "wb") as full:
+            ended = subprocess.run([PROGRAM], input=self.file, stdout=full, stderr=subprocess.PIPE)
+        self.assertEqual((ended.returncode, ended.stderr), (1, b"fault draw Write\n"))
+
+    def test_the_picture_of_the_example(self):
+        drawn = subprocess.run(
+            [PROGRAM], input=file_of((TOP / "examples" / "town.txt").read_bytes()), check=True, capture_output=True
+        ).stdout
+        self.assertEqual(drawn, (TOP / "examples" / "town.svg").read_bytes())
+
+
+if __name__ == "__main__":
+    unittest.main()
