@@ -1,7 +1,7 @@
 -- Names among others, and texts that are shown or not.
-use Rattle.std.proofs.Common.{◌≡◌, ℕ, Bool, false, ◌||◌, ◌==◌, List, [], ◌∷◌, map, length, Option, sym, ap, subst, refl, ◌∙◌}
-use Rattle.std.specs.Prelude.{if◌then◌else◌}
-use Rattle.std.specs.List.{list_any}
+use Rattle.std.proofs.Common.{◌≡◌, ℕ, Bool, true, false, cond, ◌||◌, ◌==◌, List, [], ◌∷◌, map, length, Option, Some, None, Bor, String, Global, string_bytes, option_map, sym, ap, subst, refl, ◌∙◌}
+use Rattle.std.specs.Prelude.{if◌then◌else◌, IsSomeAnd, MatchOption}
+use Rattle.std.specs.List.{find, list_any}
 use lib.ListN.{length-map}
 use Rattle.sf_streams.specs.Streams.{Puts}
 use Rattle.sf_streams.proofs.SendingLaws.{Puts-nothing}
@@ -23,3 +23,29 @@ none-or-any test f xs = ap (λ b. b || list_any test (map f xs)) (none-map f xs)
 -- what is not shown is put with nothing
 pub Puts-hidden : (written : Option (List ℕ)) (held text : List ℕ) (shown : Bool) → shown ≡ false → Puts written written held held (if shown then text else [])
 Puts-hidden written held text shown hidden = subst (λ b. Puts written written held held (if b then text else [])) (sym hidden) (Puts-nothing written held)
+
+-- the first of a mapped list that passes
+pub find-map : {X Y : Type 0} (test : Y → Bool) (f : X → Y) (xs : List X) → option_map f (find (λ x. test (f x)) xs) ≡ find test (map f xs)
+find-map test f [] = refl
+find-map test f (x ∷ xs) = first (test (f x)) (find-map test f xs)
+  where
+    first : (b : Bool) → option_map f (find (λ y. test (f y)) xs) ≡ find test (map f xs)
+        → option_map f (cond b (Some x) (find (λ y. test (f y)) xs)) ≡ cond b (Some (f x)) (find test (map f xs))
+    first true e = refl
+    first false e = e
+
+-- the bytes of a name that was found, given on as a text
+given-bytes : (found : Option (Bor (String Global))) (given : Option (Bor (List ℕ)))
+    → MatchOption found (given ≡ None) (λ name. IsSomeAnd given (λ text. text.now ≡ string_bytes name.now))
+    → option_map (λ text. text.now) given ≡ option_map string_bytes (option_map (λ name. name.now) found)
+given-bytes None given none = ap (option_map (λ text. text.now)) none
+given-bytes (Some name) None said = absurd said
+given-bytes (Some name) (Some text) same = ap Some same
+
+-- the first of some names that passes, given on as a text
+pub found-given : (test : List ℕ → Bool) (found : Option (Bor (String Global))) (given : Option (Bor (List ℕ))) (names : List (String Global)) (bytes : List (List ℕ))
+    → option_map (λ name. name.now) found ≡ find (λ name. test (string_bytes name)) names → map string_bytes names ≡ bytes
+    → MatchOption found (given ≡ None) (λ name. IsSomeAnd given (λ text. text.now ≡ string_bytes name.now))
+    → option_map (λ text. text.now) given ≡ find test bytes
+found-given test found given names bytes is are said =
+    given-bytes found given said ∙ ap (option_map string_bytes) is ∙ find-map test string_bytes names ∙ ap (find test) are

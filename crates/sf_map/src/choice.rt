@@ -1,5 +1,5 @@
-ghost use Rattle.std.specs.Prelude.{◌≡◌, IfSome, bytes_eq, false, map, string_bytes};
-ghost use Rattle.std.specs.List.{list_any};
+ghost use Rattle.std.specs.Prelude.{◌≡◌, bytes_eq, map, not, option_map, string_bytes};
+ghost use Rattle.std.specs.List.{find, list_any};
 ghost use Rattle.sf_geometry.specs.Size.{IsSized};
 ghost use Rattle.sf_layers.specs.Content.{has_layer};
 ghost use Rattle.sf_map.specs.Pictures.{shows_geometry, shows_layer};
@@ -69,15 +69,25 @@ impl Choice {
 
     /// The first of the names that no layer of the store has, if there is one.
     pub fn missing_layer(&self, store: &Store) -> Option<&str>
-        ensures { IfSome result (λ name. has_layer store.now name.now ≡ false) }
+        ensures { option_map (λ name. name.now) result ≡ find (λ name. not (has_layer store.now name)) self.now.layers }
     {
-        for name in &self.layers {
-            if store.place(name.as_str()).is_none() {
-                return Some(name.as_str());
-            }
-        }
-        None
+        first_missing(self.layers.as_slice(), store).map(|name| name.as_str())
     }
+}
+
+/// The first of some names that no layer of the store has, if there is one.
+fn first_missing<'a>(names: &'a [String], store: &Store) -> Option<&'a String>
+    ensures { option_map (λ name. name.now) result
+        ≡ find (λ name. not (has_layer store.now (string_bytes name))) names.now }
+{
+    names.iter().find(|name| is_missing(store, name.as_str()))
+}
+
+/// Whether no layer of the store has a name.
+fn is_missing(store: &Store, name: &str) -> bool
+    ensures { result ≡ not (has_layer store.now name.now) }
+{
+    store.place(name).is_none()
 }
 
 /// Whether a name is among some.
