@@ -13,6 +13,16 @@ from pathlib import Path
 
 TOP = Path(__file__).resolve().parent.parent
 
+# Stands in for `rt` where programs are built: gives those of the checkout, and another one in the place of one of them.
+STAND_IN = """\
+#!/bin/sh
+[ "$1" = run ] || exec {rt} "$@"
+name=$(basename "$PWD")
+mkdir -p out
+cp {top}/crates/$name/out/$name out/$name
+[ "$name" != "{spoilt}" ] || echo other >> out/$name
+"""
+
 
 def built() -> Path:
     """Makes the package, and gives its path."""
@@ -86,6 +96,25 @@ class Package(unittest.TestCase):
     def test_the_same_program_makes_the_same_package(self):
         first = self.package.read_bytes()
         self.assertEqual(built().read_bytes(), first)
+
+    def built_twice(self, spoilt=""):
+        with tempfile.TemporaryDirectory() as folder:
+            rt = Path(folder) / "rt"
+            rt.write_text(STAND_IN.format(rt=shutil.which("rt"), top=TOP, spoilt=spoilt))
+            rt.chmod(0o755)
+            path = f"{folder}{os.pathsep}{os.environ['PATH']}"
+            words = [TOP / "package" / "build", "--twice"]
+            return subprocess.run(words, env={**os.environ, "PATH": path}, capture_output=True, text=True)
+
+    def test_two_clones_with_the_same_programs(self):
+        said = self.built_twice()
+        self.assertEqual((said.returncode, said.stderr), (0, ""))
+        self.assertIn("two fresh clones give the same programs, byte for byte\n", said.stdout)
+
+    def test_a_clone_with_another_program(self):
+        said = self.built_twice("sfmap")
+        self.assertEqual((said.returncode, said.stdout), (1, ""))
+        self.assertEqual(said.stderr, "package/build: the first fresh clone gives another sfmap\n")
 
 
 if __name__ == "__main__":
