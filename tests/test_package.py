@@ -30,7 +30,14 @@ def built() -> Path:
     return TOP / said.split(" ")[0]
 
 
-@unittest.skipUnless(shutil.which("dpkg-deb") and (TOP / ".git").exists(), "no dpkg-deb, or no checkout")
+def can_be_made() -> bool:
+    """Whether Debian's tools are here, and a checkout that git reads."""
+    if not all(map(shutil.which, ("dpkg-deb", "git", "rt"))):
+        return False
+    return subprocess.run(["git", "rev-parse", "HEAD"], cwd=TOP, capture_output=True).returncode == 0
+
+
+@unittest.skipUnless(can_be_made(), "no Debian tools, or no checkout that git reads")
 class Package(unittest.TestCase):
     @classmethod
     def setUpClass(cls):
