@@ -19,6 +19,7 @@ import threading
 import time
 import unittest
 import warnings
+from importlib.util import find_spec
 from pathlib import Path
 from unittest import mock
 
@@ -1022,6 +1023,37 @@ class GeoInterfaces(TestCase):
                     "properties": {"n": feature.id * 10, "t": "it's (1 2), 'x'"},
                 },
             )
+
+    @unittest.skipUnless(find_spec("shapely"), "no shapely")
+    def test_shapely_takes_all_kinds_and_tells_the_same_matrices(self):
+        from shapely import wkt
+        from shapely.geometry import shape
+
+        with Store() as store:
+            store.add_layer("w")
+            for text in self.GEOMETRIES:
+                store.add("w", text)
+            for feature in store.show("w"):
+                theirs = wkt.loads(feature.wkt)
+                taken = shape(feature.__geo_interface__["geometry"])
+                self.assertTrue(taken.equals_exact(theirs, 0), feature.wkt)
+                for other in self.GEOMETRIES:
+                    matrix = store.relate("w", feature.id, other)
+                    self.assertEqual(matrix, theirs.relate(wkt.loads(other)), (feature.wkt, other))
+
+    @unittest.skipUnless(find_spec("geopandas"), "no geopandas")
+    def test_geopandas_takes_a_layer(self):
+        import geopandas
+
+        with Store() as store:
+            store.add_layer("w")
+            store.add_column("w", "n", "int")
+            for text in self.GEOMETRIES:
+                store.set("w", store.add("w", text), "n", 7)
+            frame = geopandas.GeoDataFrame.from_features(store.show("w"))
+        kinds = [name for name, _ in self.GEOMETRIES.values()]
+        self.assertEqual(list(frame.geom_type), kinds)
+        self.assertEqual(list(frame["n"]), [7] * len(kinds))
 
     def test_texts_that_are_not_canonical(self):
         texts = [
