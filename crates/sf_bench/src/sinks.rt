@@ -40,6 +40,10 @@ impl CellSink for Census {
         }
         self.before = [self.before[1], dim];
     }
+
+    fn is_full(&self) -> bool {
+        false
+    }
 }
 
 /// All cells folded into one word. The word of a cell doesn't wait for that of the cell before it.
@@ -64,5 +68,9 @@ impl CellSink for Folded {
             cell = cell.wrapping_mul(31).wrapping_add(u64::from(*count));
         }
         self.word = self.word.wrapping_mul(0x9e37_79b9).wrapping_add(cell);
+    }
+
+    fn is_full(&self) -> bool {
+        false
     }
 }

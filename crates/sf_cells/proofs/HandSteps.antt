@@ -17,18 +17,16 @@ use Rattle.sf_columns.specs.Vertices.{enters, leaves, pieces_with}
 use Rattle.sf_cells.proofs.TallyLaws.{HasRoom, add_both, add_none, counts-append, length-added, length-counts, length-taken, members, room_added, room_fewer, room_taken}
 use Rattle.sf_cells.proofs.TallySteps.{length-pieces_of, length-pieces_with}
 
--- ---- what a sink gathers from a whole column
-unfoldable pub gathered : {C : Type 0} → (C → Item → C) → C → List ℕ → Bool → List Active → List Vertex → List Active → List Level → C
-gathered after content groups event es vs os ls = fold after content (stop_items groups event (counts groups []) (counts groups []) (stops es vs os ls))
+-- ---- what a sink gathers from a part below so many edges
+unfoldable pub gathered : {C : Type 0} → (C → Item → C) → C → List ℕ → Bool → List ℕ → List Active → List Vertex → List Active → List Level → C
+gathered after content groups event above es vs os ls = fold after content (stop_items groups event (counts groups []) above (stops es vs os ls))
 
--- that is what it gathers before the first level, where nothing is counted
+-- that is what it gathers before the first level, where nothing is on the gap
 pub gathered-start : {C : Type 0} (after : C → Item → C) (content : C) (groups : List ℕ) (event : Bool)
-    (es : List Active) (vs : List Vertex) (os : List Active) (ls : List Level) (on above : List ℕ) → on ≡ counts groups [] → above ≡ counts groups [] →
-    fold after content (stop_items groups event on above (stops es vs os ls)) ≡ gathered after content groups event es vs os ls
+    (es : List Active) (vs : List Vertex) (os : List Active) (ls : List Level) (on above : List ℕ) → on ≡ counts groups [] →
+    fold after content (stop_items groups event on above (stops es vs os ls)) ≡ gathered after content groups event above es vs os ls
 unfolding gathered
-gathered-start after content groups event es vs os ls on above n a =
-    ap (λ z. fold after content (stop_items groups event z above (stops es vs os ls))) n
-    ∙ ap (λ z. fold after content (stop_items groups event (counts groups []) z (stops es vs os ls))) a
+gathered-start after content groups event es vs os ls on above n = ap (λ z. fold after content (stop_items groups event z above (stops es vs os ls))) n
 
 -- ---- what is left of a column: levels `ls` of edges `es`, vertices `vs` and onward edges `os`, below a gap with these tallies;
 -- with the onward edges `above` grows to `total`
@@ -54,30 +52,29 @@ zeros_room limit more f (k ∷ ks) z h = All-cons (λ n. n + more < limit) (f k)
     fits n e = omega arith
 
 -- the counts of no pieces have room for as many as are fewer than the limit
-room_none : (limit more : ℕ) (groups : List ℕ) → more < limit → HasRoom limit more (counts groups [])
+pub room_none : (limit more : ℕ) (groups : List ℕ) → more < limit → HasRoom limit more (counts groups [])
 room_none limit more groups h = zeros_room limit more (members groups []) (numbers 0 (group_count groups)) (λ k. refl) h
 
 -- before the first level
 pub Left-start : (groups on above : List ℕ) (es : List Active) (vs : List Vertex) (os : List Active) (ls : List Level) →
     All (λ e. e.piece < length groups) es → All (λ v. v.piece < length groups) vs → All (λ e. e.piece < length groups) os →
     length es + length vs + length os < 2 ^ 32 → TakeAll (length es) (length vs) (length os) ls →
-    Balanced groups (counts groups []) (stops es vs os ls) → on ≡ counts groups [] → above ≡ counts groups [] →
-    Left groups (counts groups (pieces_of os)) es vs os ls on above
-Left-start groups on above es vs os ls e v o few t b n a =
-    let P : List ℕ → Type 0 = λ z. Left groups (counts groups (pieces_of os)) es vs os ls z above in
-    let Q : List ℕ → Type 0 = λ z. Left groups (counts groups (pieces_of os)) es vs os ls (counts groups []) z in
-    subst P (sym n) (subst Q (sym a) (record {
+    Balanced groups (counts groups []) (stops es vs os ls) → on ≡ counts groups [] → length above ≡ group_count groups → All (λ n. n + length os < 2 ^ 32) above →
+    Left groups (plus above (counts groups (pieces_of os))) es vs os ls on above
+Left-start groups on above es vs os ls e v o few t b n a room =
+    subst (λ z. Left groups (plus above (counts groups (pieces_of os))) es vs os ls z above) (sym n)
+    (record {
       edges = e;
       vertices = v;
       onward = o;
       takes = t;
       balanced = b;
       counted_on = length-counts groups [];
-      counted_above = length-counts groups [];
+      counted_above = a;
       room_on = room_none (2 ^ 32) (length es + length vs) groups (omega arith);
-      room_above = room_none (2 ^ 32) (length os) groups (omega arith);
-      sum = sym (counts-append groups [] (pieces_of os));
-    }))
+      room_above = room;
+      sum = refl;
+    })
 
 -- ---- what a level takes up
 -- the onward edges of a level and those of the levels below it

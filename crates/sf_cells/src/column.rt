@@ -16,7 +16,7 @@ ghost use Rattle.sf_columns.specs.Vertices.{enters, leaves, pieces_with};
 
 use crate::sink::CellSink;
 use crate::tally::{
-    add_edges, add_piece, clear_edges, count_of, enter_level, leave_level, put_back,
+    add_edges, add_piece, clear_edges, count_of, enter_level, leave_level, put_back, take_edges,
 };
 use sf_columns::{Active, Part, Strip, Vertex};
 
@@ -64,6 +64,68 @@ pub fn hand_out<S: CellSink>(
     ensures none_on { tallies.new.on.items ≡ counts groups.now [] }
     ensures none_above { tallies.new.above.items ≡ counts groups.now [] }
 {
+    hand_parts(sink, strip, groups, tallies, column);
+    clear_edges(&mut tallies.above, groups, column.onward);
+}
+
+/// Hands out the cells of a part of a column or slab, with so many edges of each group above it: from
+/// the top, the gap above each level and the level, and in the end the gap below the last one.
+pub fn hand_part<S: CellSink>(
+    sink: &mut S,
+    strip: &Strip,
+    groups: &[u32],
+    tallies: &mut Tallies,
+    column: &Column,
+)
+    requires edges { All (λ e. e.piece < length groups.now) column.now.edges.now }
+    requires vertices { All (λ v. v.piece < length groups.now) column.now.vertices.now }
+    requires onward { All (λ e. e.piece < length groups.now) column.now.onward.now }
+    requires few { length column.now.edges.now + length column.now.vertices.now
+        + length column.now.onward.now < 2 ^ 32 }
+    requires levels { TakeAll (length column.now.edges.now) (length column.now.vertices.now)
+        (length column.now.onward.now) (levels_of column.now.parts.now) }
+    requires balanced { Balanced groups.now (counts groups.now [])
+        (stops column.now.edges.now column.now.vertices.now column.now.onward.now (levels_of column.now.parts.now)) }
+    requires none_on { tallies.old.on.items ≡ counts groups.now [] }
+    requires counted_above { length tallies.old.above.items ≡ group_count groups.now }
+    requires room_above { All (λ n. n + length column.now.onward.now < 2 ^ 32) tallies.old.above.items }
+    ensures handed { S.content sink.new ≡ fold S.after (S.content sink.old)
+        (stop_items groups.now (is_column strip.now) (counts groups.now []) tallies.old.above.items
+        (stops column.now.edges.now column.now.vertices.now column.now.onward.now (levels_of column.now.parts.now))) }
+    ensures none_on { tallies.new.on.items ≡ counts groups.now [] }
+    ensures above { tallies.new.above.items ≡ tallies.old.above.items }
+{
+    hand_parts(sink, strip, groups, tallies, column);
+    take_edges(&mut tallies.above, groups, column.onward);
+}
+
+/// Hands out the cells of the parts of a column or slab, and leaves the edges that go on from it counted
+/// as above.
+fn hand_parts<S: CellSink>(
+    sink: &mut S,
+    strip: &Strip,
+    groups: &[u32],
+    tallies: &mut Tallies,
+    column: &Column,
+)
+    requires edges { All (λ e. e.piece < length groups.now) column.now.edges.now }
+    requires vertices { All (λ v. v.piece < length groups.now) column.now.vertices.now }
+    requires onward { All (λ e. e.piece < length groups.now) column.now.onward.now }
+    requires few { length column.now.edges.now + length column.now.vertices.now
+        + length column.now.onward.now < 2 ^ 32 }
+    requires levels { TakeAll (length column.now.edges.now) (length column.now.vertices.now)
+        (length column.now.onward.now) (levels_of column.now.parts.now) }
+    requires balanced { Balanced groups.now (counts groups.now [])
+        (stops column.now.edges.now column.now.vertices.now column.now.onward.now (levels_of column.now.parts.now)) }
+    requires none_on { tallies.old.on.items ≡ counts groups.now [] }
+    requires counted_above { length tallies.old.above.items ≡ group_count groups.now }
+    requires room_above { All (λ n. n + length column.now.onward.now < 2 ^ 32) tallies.old.above.items }
+    ensures handed { S.content sink.new ≡ fold S.after (S.content sink.old)
+        (stop_items groups.now (is_column strip.now) (counts groups.now []) tallies.old.above.items
+        (stops column.now.edges.now column.now.vertices.now column.now.onward.now (levels_of column.now.parts.now))) }
+    ensures none_on { tallies.new.on.items ≡ counts groups.now [] }
+    ensures above { tallies.new.above.items ≡ plus tallies.old.above.items (counts groups.now (pieces_of column.now.onward.now)) }
+{
     let mut edges = column.edges;
     let mut vertices = column.vertices;
     let mut onward = column.onward;
@@ -96,7 +158,6 @@ pub fn hand_out<S: CellSink>(
         }
     }
     hand_gap(sink, strip, tallies);
-    clear_edges(&mut tallies.above, groups, column.onward);
 }
 
 /// Hands out edges that go on and stand alone at their heights: from the top, the gap above each

@@ -8,6 +8,7 @@ mod sink;
 mod tally;
 
 pub use cell::{Cell, Numbers};
-pub use column::{Column, Tallies, hand_out};
+pub use column::{Column, Tallies, hand_out, hand_part};
 pub use listing::{Head, Measure, Recorder, recorded};
 pub use sink::CellSink;
+pub use tally::{add_edges, take_edges};

@@ -30,6 +30,10 @@ impl CellSink for Measure {
             .saturating_add(counted_len(on))
             .saturating_add(counted_len(above));
     }
+
+    fn is_full(&self) -> bool {
+        false
+    }
 }
 
 /// How many groups have a count.
@@ -115,6 +119,10 @@ impl CellSink for Recorder {
             on: counted_len(on),
             above: counted_len(above),
         });
+    }
+
+    fn is_full(&self) -> bool {
+        false
     }
 }
 

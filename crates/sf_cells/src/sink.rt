@@ -2,7 +2,7 @@ use std::marker::Model;
 
 /// What takes the cells of a set of pieces, one by one.
 pub trait CellSink {
-    ghost use Rattle.std.specs.Prelude.{◌≡◌};
+    ghost use Rattle.std.specs.Prelude.{◌≡◌, true};
     ghost use Rattle.sf_cells.specs.Groups.{Item};
 
     /// What it has gathered.
@@ -19,4 +19,8 @@ pub trait CellSink {
     fn cell(&mut self, dim: u8, on: &[u32], above: &[u32])
         ensures { content self.new ≡ after (content self.old)
             (record { dim = dim; on = on.now; above = above.now }) };
+
+    /// Whether no further cell changes what it has gathered, so that nobody need hand it any.
+    fn is_full(&self) -> bool
+        ensures { result ≡ true → (i : Item) → after (content self.now) i ≡ content self.now };
 }

@@ -37,7 +37,7 @@ pub(crate) fn leave_level(tally: &mut [u32], groups: &[u32], edges: &[Active], v
 }
 
 /// Adds the edges' pieces.
-pub(crate) fn add_edges(tally: &mut [u32], groups: &[u32], edges: &[Active])
+pub fn add_edges(tally: &mut [u32], groups: &[u32], edges: &[Active])
     requires edges { All (λ e. e.piece < length groups.now) edges.now }
     requires counted { length tally.old ≡ group_count groups.now }
     requires room { All (λ n. n + length edges.now < 2 ^ 32) tally.old }
@@ -49,7 +49,7 @@ pub(crate) fn add_edges(tally: &mut [u32], groups: &[u32], edges: &[Active])
 }
 
 /// Takes off the edges' pieces.
-pub(crate) fn take_edges(tally: &mut [u32], groups: &[u32], edges: &[Active])
+pub fn take_edges(tally: &mut [u32], groups: &[u32], edges: &[Active])
     requires edges { All (λ e. e.piece < length groups.now) edges.now }
     requires counted { length tally.old ≡ group_count groups.now }
     requires there { AtMost (counts groups.now (pieces_of edges.now)) tally.old }

@@ -24,7 +24,7 @@ pub enum Contact {
 
 impl Contact {
     /// What two edges do with one another right of the column `x`.
-    pub(crate) fn between(e: &Slanted, f: &Slanted, x: &Frac) -> Contact
+    pub fn between(e: &Slanted, f: &Slanted, x: &Frac) -> Contact
         ensures { IsContact
             (edge_between e.now.left e.now.right)
             (edge_between f.now.left f.now.right) x.now result }
@@ -40,7 +40,7 @@ impl Contact {
     }
 
     /// Whether the two edges are level: everywhere, or in the given column.
-    pub(crate) fn touches(&self, strip: &Strip) -> bool
+    pub fn touches(&self, strip: &Strip) -> bool
         ensures { result ≡ touches_of (column_of strip.now) self.now }
     {
         match (self, strip) {

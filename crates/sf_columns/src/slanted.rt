@@ -60,7 +60,7 @@ impl Slanted {
     }
 
     /// Where `p` lies in its column: below the line of this edge, on it, or above it.
-    pub(crate) fn side(&self, p: GridPoint) -> Ordering
+    pub fn side(&self, p: GridPoint) -> Ordering
         ensures { result ≡ side_of self.now.left self.now.right (grid_point p) }
     {
         match orientation(self.left, self.right, p) {

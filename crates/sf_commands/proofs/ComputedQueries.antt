@@ -16,24 +16,24 @@ point = geometries.Point (record { x = pos 1; y = negsuc 1 })
 abbrev IsRefused : List ℕ → Refusal → Type 0
 IsRefused line refusal = command_of line ≡ Err refusal
 
-related : (command_of (codes "relate p 3 POINT (1 -2)") ≡ Ok (Relate (codes "p") 3 point)) × (command_of (codes " relate  p 0000000003\tpoint(1 -2) ") ≡ Ok (Relate (codes "p") 3 point))
+related : (command_of (codes "relate p 3 POINT (1 -2)") ≡ Ok (0, Relate (codes "p") 3 point)) × (command_of (codes " relate  p 0000000003\tpoint(1 -2) ") ≡ Ok (0, Relate (codes "p") 3 point))
 related = (refl, refl)
 
-matched : command_of (codes "match p T*F**F*** POINT (1 -2)") ≡ Ok (Match (codes "p") (Filled ∷ Any ∷ Unfilled ∷ Any ∷ Any ∷ Unfilled ∷ Any ∷ Any ∷ Any ∷ []) point)
+matched : command_of (codes "match p T*F**F*** POINT (1 -2)") ≡ Ok (0, Match (codes "p") (Filled ∷ Any ∷ Unfilled ∷ Any ∷ Any ∷ Unfilled ∷ Any ∷ Any ∷ Any ∷ []) point)
 matched = refl
 
 -- small letters are read as capital ones
-matched_small : command_of (codes "match p tf012*TF0 POINT (1 -2)") ≡ Ok (Match (codes "p") (Filled ∷ Unfilled ∷ Zero ∷ One ∷ Two ∷ Any ∷ Filled ∷ Unfilled ∷ Zero ∷ []) point)
+matched_small : command_of (codes "match p tf012*TF0 POINT (1 -2)") ≡ Ok (0, Match (codes "p") (Filled ∷ Unfilled ∷ Zero ∷ One ∷ Two ∷ Any ∷ Filled ∷ Unfilled ∷ Zero ∷ []) point)
 matched_small = refl
 
-queried : (command_of (codes "query p equals POINT (1 -2)") ≡ Ok (Query (codes "p") predicates.Equals point))
-    × (command_of (codes "query p disjoint POINT (1 -2)") ≡ Ok (Query (codes "p") predicates.Disjoint point))
-    × (command_of (codes "query p touches POINT (1 -2)") ≡ Ok (Query (codes "p") predicates.Touches point))
-    × (command_of (codes "query p crosses POINT (1 -2)") ≡ Ok (Query (codes "p") predicates.Crosses point))
-    × (command_of (codes "query p within POINT (1 -2)") ≡ Ok (Query (codes "p") predicates.Within point))
-    × (command_of (codes "query p contains POINT (1 -2)") ≡ Ok (Query (codes "p") predicates.Contains point))
-    × (command_of (codes "query p overlaps POINT (1 -2)") ≡ Ok (Query (codes "p") predicates.Overlaps point))
-    × (command_of (codes "query p intersects POINT (1 -2)") ≡ Ok (Query (codes "p") predicates.Intersects point))
+queried : (command_of (codes "query p equals POINT (1 -2)") ≡ Ok (0, Query (codes "p") predicates.Equals point))
+    × (command_of (codes "query p disjoint POINT (1 -2)") ≡ Ok (0, Query (codes "p") predicates.Disjoint point))
+    × (command_of (codes "query p touches POINT (1 -2)") ≡ Ok (0, Query (codes "p") predicates.Touches point))
+    × (command_of (codes "query p crosses POINT (1 -2)") ≡ Ok (0, Query (codes "p") predicates.Crosses point))
+    × (command_of (codes "query p within POINT (1 -2)") ≡ Ok (0, Query (codes "p") predicates.Within point))
+    × (command_of (codes "query p contains POINT (1 -2)") ≡ Ok (0, Query (codes "p") predicates.Contains point))
+    × (command_of (codes "query p overlaps POINT (1 -2)") ≡ Ok (0, Query (codes "p") predicates.Overlaps point))
+    × (command_of (codes "query p intersects POINT (1 -2)") ≡ Ok (0, Query (codes "p") predicates.Intersects point))
 queried = (refl, refl, refl, refl, refl, refl, refl, refl)
 
 -- wrong words, or too few of them
@@ -57,7 +57,7 @@ words_before_texts = (refl, refl, refl, refl, refl)
 
 -- the faults of a text come before those of a geometry
 faults_of_texts : IsRefused (codes "relate p 3 POINT (1") Syntax × IsRefused (codes "match p ********* POINT (1.5 0)") OffGrid
-    × IsRefused (codes "query p equals POINT (524288 0)") OutOfRange × IsRefused (codes "query p equals POINT EMPTY") Empty
+    × IsRefused (codes "query p equals POINT (8388608 0)") OutOfRange × IsRefused (codes "query p equals POINT EMPTY") Empty
     × IsRefused (codes "query p equals POINT Z (1 2 3)") UnsupportedType × IsRefused (codes "query p equals LINESTRING (1 1, 1 1") Syntax
     × IsRefused (codes "query p equals LINESTRING (1 1, 1 1.5)") OffGrid
 faults_of_texts = (refl, refl, refl, refl, refl, refl, refl)

@@ -17,6 +17,7 @@ use Rattle.sf_wkt.specs.Grammar.{read}
 use Rattle.sf_wkt.specs.Tokens.{coordinate_of}
 use Rattle.sf_wkt.proofs.Sized.{read_is_sized}
 use Rattle.sf_wkb.specs.declared.fault.WkbFault.{WkbFault}
+use Rattle.sf_wkb.specs.declared.grid.Grid.TheVariants.{Bits24}
 use Rattle.sf_wkb.specs.Grammar.{read as read_bytes}
 use Rattle.sf_wkb.proofs.Sized.{read_is_sized as bytes_are_sized}
 use Rattle.sf_steps.specs.declared.edit.Edit.TheVariants as edits
@@ -29,7 +30,7 @@ use Rattle.sf_commands.specs.declared.verb.Action.{Action}
 use Rattle.sf_commands.specs.declared.verb.Action.TheVariants as actions
 use Rattle.sf_commands.specs.Words.{words, skip_blanks, skip_word, trimmed_end}
 use Rattle.sf_commands.specs.Values.{point_by, point_of, value_of}
-use Rattle.sf_commands.specs.Commands.{action_of, add_arguments, add_column, add_layer, addhex_arguments, after_two_words, alone, by_verb, by_words, bytes_command, column_arguments, column_command, column_type_of, command_of, delete_arguments, drop_column, drop_layer, feature_arguments, feature_command, feature_named, given, hex_command, id_of, insert_vertex, layer_arguments, layer_command, layer_kind_of, made, match_arguments, move_layer, move_vertex, of_layer, of_text, predicate_of, query_arguments, relate_arguments, remove_vertex, rename_layer, replace_arguments, set_arguments, unset_arguments, valid_of, verb_of, vertex_arguments, vertex_command, vertex_place, with_geometry}
+use Rattle.sf_commands.specs.Commands.{action_of, add_arguments, add_column, add_layer, addhex_arguments, addressed, addressed_command, after_two_words, alone, by_editor, by_verb, by_words, bytes_command, column_arguments, column_command, column_type_of, command_of, delete_arguments, drop_column, drop_layer, feature_arguments, feature_command, feature_named, given, hex_command, id_of, insert_vertex, layer_arguments, layer_command, layer_kind_of, made, match_arguments, move_layer, move_vertex, of_layer, of_text, predicate_of, query_arguments, relate_arguments, remove_vertex, rename_layer, replace_arguments, set_arguments, unset_arguments, valid_of, verb_of, vertex_arguments, vertex_command, vertex_place, with_geometry}
 use Rattle.sf_commands.specs.Laws.{CommandsBringGridPoints}
 use Rattle.sf_commands.proofs.PointLemmas.{spelled_on_grid}
 
@@ -67,7 +68,7 @@ bytes_bring layer (Ok geometry) good = good.1
 bytes_bring layer (Err fault) good = tt
 
 hex_brings : (layer : List ℕ) (r : Result (List ℕ) FromHexError) → Brings (hex_command layer r)
-hex_brings layer (Ok bytes) = bytes_bring layer (read_bytes bytes) (bytes_are_sized bytes)
+hex_brings layer (Ok bytes) = bytes_bring layer (read_bytes bytes) (bytes_are_sized Bits24 bytes)
 hex_brings layer (Err fault) = tt
 
 by_on_grid : (x y : Option (Result ℤ WktFault)) → ((n : ℤ) → x ≡ Some (Ok n) → IsCoordinate n) → ((n : ℤ) → y ≡ Some (Ok n) → IsCoordinate n) → IfOk (point_by x y) IsOnGrid
@@ -243,12 +244,24 @@ by_words_brings : (all : List (List ℕ)) (rest : List ℕ) → Brings (by_words
 by_words_brings [] rest = tt
 by_words_brings (verb ∷ arguments) rest = by_verb_brings (verb_of verb) rest
 
-by_length : (long : Bool) (r : Result Command Refusal) → Brings r → Brings (if long then Err LineTooLong else r)
+-- the same of a command with its editor
+abbrev BringsByEditor : Result (ℕ × Command) Refusal → Type 0
+BringsByEditor result = IfOk result (λ asked. BringsOnGrid asked.1)
+
+by_editor_brings : (editor : ℕ) (r : Result Command Refusal) → Brings r → BringsByEditor (by_editor editor r)
+by_editor_brings editor (Ok command) brings = brings
+by_editor_brings editor (Err refusal) brings = tt
+
+addressed_brings : (r : Result (ℕ × List ℕ) Refusal) → BringsByEditor (made r (λ at. by_editor at.0 (by_words (words at.1) (skip_word at.1))))
+addressed_brings (Ok at) = by_editor_brings at.0 (by_words (words at.1) (skip_word at.1)) (by_words_brings (words at.1) (skip_word at.1))
+addressed_brings (Err refusal) = tt
+
+by_length : (long : Bool) (r : Result (ℕ × Command) Refusal) → BringsByEditor r → BringsByEditor (if long then Err LineTooLong else r)
 by_length true r brings = tt
 by_length false r brings = brings
 
-command_brings : (line : List ℕ) → Brings (command_of line)
-command_brings line = by_length (nat_lt line_max (length line)) (by_words (words line) (skip_word line)) (by_words_brings (words line) (skip_word line))
+command_brings : (line : List ℕ) → BringsByEditor (command_of line)
+command_brings line = by_length (nat_lt line_max (length line)) (addressed_command line) (addressed_brings (addressed line))
 
 pub commands_bring_grid_points : CommandsBringGridPoints
-commands_bring_grid_points line edit is = subst Brings is (command_brings line)
+commands_bring_grid_points line editor edit is = subst BringsByEditor is (command_brings line)

@@ -9,3 +9,4 @@ pub mod QueryLemmas
 pub mod Computed
 pub mod ComputedQueries
 pub mod LawProofs
+pub mod AddressLemmas

@@ -1,5 +1,5 @@
 -- The command of a line.
-use Rattle.std.specs.Prelude.{◌≡◌, ℕ, ◌^◌, ◌&&◌, List, [], ◌∷◌, length, Option, None, Some, Result, Ok, Err, nat_lt, nat_le, bytes_eq, codes, if◌then◌else◌}
+use Rattle.std.specs.Prelude.{◌≡◌, ℕ, ◌^◌, ◌&&◌, List, [], ◌∷◌, length, Option, None, Some, Result, Ok, Err, nat_eq, nat_lt, nat_le, bytes_eq, codes, if◌then◌else◌}
 use Rattle.std.specs.Char.{is_ascii_digit}
 use Rattle.std.specs.List.{list_all}
 use Rattle.std.specs.Map.{lookup}
@@ -325,9 +325,46 @@ abbrev pub by_words : List (List ℕ) → List ℕ → Result Command Refusal
 by_words [] rest = Err BadCommand
 by_words (verb ∷ arguments) rest = by_verb (verb_of verb) rest
 
--- the command of a line, or the refusal that the line alone decides
-abbrev pub command_of : List ℕ → Result Command Refusal
-command_of line = if nat_lt line_max (length line) then Err LineTooLong else by_words (words line) (skip_word line)
+-- what stands behind the `@` at the front of a word, if one stands there
+abbrev pub behind_at : List ℕ → Option (List ℕ)
+behind_at [] = None
+behind_at (b ∷ bytes) = if nat_eq b 64 then Some bytes else None
+
+-- how many digits the number of an editor has at most
+abbrev pub editor_digits_max : ℕ
+editor_digits_max = 3
+
+-- the number of an editor that one to three digits spell: from 1 to 255
+abbrev pub editor_of : List ℕ → Option ℕ
+editor_of digits = let editor = digits_value digits in
+    if (nat_le (length digits) editor_digits_max && list_all is_ascii_digit digits) && (nat_lt 0 editor && nat_lt editor (2 ^ 8)) then Some editor else None
+
+-- the editor whose digits stand behind an `@`, and the line behind them; editor 0 and the whole line where no `@` stands
+abbrev pub by_digits : Option (List ℕ) → List ℕ → List ℕ → Result (ℕ × List ℕ) Refusal
+by_digits None rest line = Ok (0, line)
+by_digits (Some digits) rest line = given (editor_of digits) (λ editor. Ok (editor, rest))
+
+-- the editor of a line of these words, and the line behind the word that names it
+abbrev pub by_first_word : List (List ℕ) → List ℕ → Result (ℕ × List ℕ) Refusal
+by_first_word [] line = Err BadCommand
+by_first_word (word ∷ more) line = by_digits (behind_at word) (skip_word line) line
+
+-- the editor of a line, and the line behind the word that names it
+abbrev pub addressed : List ℕ → Result (ℕ × List ℕ) Refusal
+addressed line = by_first_word (words line) line
+
+-- a command with the editor who gives it
+abbrev pub by_editor : ℕ → Result Command Refusal → Result (ℕ × Command) Refusal
+by_editor editor (Ok command) = Ok (editor, command)
+by_editor editor (Err refusal) = Err refusal
+
+-- the command of a line that isn't too long, with its editor
+abbrev pub addressed_command : List ℕ → Result (ℕ × Command) Refusal
+addressed_command line = made (addressed line) (λ at. by_editor at.0 (by_words (words at.1) (skip_word at.1)))
+
+-- the command of a line with its editor, or the refusal that the line alone decides
+abbrev pub command_of : List ℕ → Result (ℕ × Command) Refusal
+command_of line = if nat_lt line_max (length line) then Err LineTooLong else addressed_command line
 
 -- this result, or want of memory in its place
 abbrev pub OrMemory : {T : Type 0} → Result T Refusal → Result T Refusal → Type 0

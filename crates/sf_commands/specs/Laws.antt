@@ -7,4 +7,4 @@ use Rattle.sf_commands.specs.Commands.{command_of}
 
 -- the points that the edit of a line brings are on the grid
 abbrev pub CommandsBringGridPoints : Type 0
-CommandsBringGridPoints = (line : List ℕ) (edit : Edit) → command_of line ≡ Ok (commands.Edit edit) → BringsGridPoints edit
+CommandsBringGridPoints = (line : List ℕ) (editor : ℕ) (edit : Edit) → command_of line ≡ Ok (editor, commands.Edit edit) → BringsGridPoints edit

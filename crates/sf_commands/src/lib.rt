@@ -1,6 +1,7 @@
 //! What a line of text asks for: its words, and the command that they spell.
 #![tactic(auto)]
 
+mod addressing;
 mod column_commands;
 mod command;
 mod feature_commands;

@@ -1,9 +1,10 @@
 //! Lines as commands: the verb of each, and whatever reads the words after it.
 ghost use Rattle.std.specs.Prelude.{◌≡◌};
-ghost use Rattle.sf_commands.specs.Commands.{command_of, by_verb, alone, OrMemory};
+ghost use Rattle.sf_commands.specs.Commands.{command_of, by_words, by_verb, alone, OrMemory};
 ghost use Rattle.sf_commands.specs.declared.command.Command.TheVariants.{Undo, Redo};
-ghost use Rattle.sf_commands.specs.Words.{words as words_of};
+ghost use Rattle.sf_commands.specs.Words.{words as words_of, skip_word};
 
+use super::addressing::addressed;
 use super::column_commands::{column_arguments, columns_arguments};
 use super::command::Command;
 use super::feature_commands::{
@@ -19,18 +20,28 @@ use sf_lines::LINE_MAX;
 use sf_refusals::Refusal;
 use std::alloc::Global;
 
-/// The command of a line, or the refusal that the line alone decides: `LineTooLong` above 131,072 bytes,
-/// `BadCommand` for wrong words or a wrong number of them, then `BadPattern` for a pattern that is none, then
-/// `Syntax` for a text that is no hexadecimal, the faults of a well-known text or binary, and those of a coordinate,
-/// x before y; last, of a geometry that features are compared with, its first fault. `Memory` may come in place of
-/// any of them.
-pub fn parse(alloc: Global, line: &str) -> Result<Command, Refusal>
+/// The command of a line with the number of the editor who gives it, 0 where its first word names none; or the
+/// refusal that the line alone decides: `LineTooLong` above 131,072 bytes, `BadCommand` for wrong words or a wrong
+/// number of them, an editor's word that names none before all others, then `BadPattern` for a pattern that is none,
+/// then `Syntax` for a text that is no hexadecimal, the faults of a well-known text or binary, and those of a
+/// coordinate, x before y; last, of a geometry that features are compared with, its first fault. `Memory` may come in
+/// place of any of them.
+pub fn parse(alloc: Global, line: &str) -> Result<(u8, Command), Refusal>
     ensures { OrMemory (command_of line.now) result }
 {
     if line.len() > LINE_MAX {
         return Err(Refusal::LineTooLong);
     }
-    let mut words = Words::new(line);
+    let (editor, words) = addressed(line)?;
+    let command = command_of_words(alloc, words)?;
+    Ok((editor, command))
+}
+
+/// The command of the words of a line, the editor's not among them.
+fn command_of_words(alloc: Global, words: Words<'_>) -> Result<Command, Refusal>
+    ensures { OrMemory (by_words (words_of words.entry) (skip_word words.entry)) result }
+{
+    let mut words = words;
     let verb = verb_of(words.next()?);
     arguments_of(alloc, verb, words)
 }

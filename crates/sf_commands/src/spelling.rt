@@ -3,7 +3,7 @@ ghost use Rattle.std.specs.Prelude.{◌≡◌, ◌⊎◌, ◌&&◌, nat_le, leng
 ghost use Rattle.std.specs.Char.{is_ascii_digit};
 ghost use Rattle.std.specs.List.{list_all};
 ghost use Rattle.hex.specs.Hex.{decode_of};
-ghost use Rattle.sf_commands.specs.Commands.{id_digits_max, id_of as id_spelled, layer_kind_of as layer_kind_named, column_type_of as column_type_named, predicate_of as predicate_named};
+ghost use Rattle.sf_commands.specs.Commands.{id_of as id_spelled, layer_kind_of as layer_kind_named, column_type_of as column_type_named, predicate_of as predicate_named};
 
 use hex::FromHexError;
 use sf_geometry::Kind;
@@ -80,17 +80,17 @@ pub(crate) fn predicate_of(word: &str) -> Option<Predicate>
 pub(crate) fn id_of(word: &str) -> Option<u32>
     ensures { result ≡ id_spelled word.now }
 {
-    if !is_short_numeral(word) {
+    if !is_short_numeral(word, ID_DIGITS_MAX) {
         return None;
     }
     word.parse().ok()
 }
 
-/// Whether a word has ASCII digits alone, at most ten of them.
-fn is_short_numeral(word: &str) -> bool
-    ensures { result ≡ (nat_le (length word.now) id_digits_max && list_all is_ascii_digit word.now) }
+/// Whether a word has ASCII digits alone, at most so many of them.
+pub(crate) fn is_short_numeral(word: &str, digits_max: usize) -> bool
+    ensures { result ≡ (nat_le (length word.now) digits_max && list_all is_ascii_digit word.now) }
 {
-    word.len() <= ID_DIGITS_MAX && is_numeral(word.as_bytes())
+    word.len() <= digits_max && is_numeral(word.as_bytes())
 }
 
 /// Whether all bytes are ASCII digits.

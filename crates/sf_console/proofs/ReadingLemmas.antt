@@ -27,7 +27,7 @@ pub text_reading-by : (text : List ℕ) (utf8 blank : Bool) → is_utf8 text ≡
 text_reading-by text utf8 blank u b = ap (λ x. reading_by x (list_all is_blank text) text) u ∙ ap (λ x. reading_by utf8 x text) b
 
 -- a command that is read, or refused for want of memory, is carried out as the line's own
-pub IsAnswered-asked : (old new : Machine) (text : List ℕ) (expected r : Result Command Refusal)
+pub IsAnswered-asked : (old new : Machine) (text : List ℕ) (expected r : Result (ℕ × Command) Refusal)
     → OrMemory expected r → IsAnswered old (Asked r) text new → IsAnswered old (Asked expected) text new
 IsAnswered-asked old new text expected (Err Memory) or (inl e) = inr (sym (ap (λ p. p.1) e), sym (ap (λ p. p.0) e))
 IsAnswered-asked old new text expected (Err Memory) or (inr e) = inr e
@@ -39,7 +39,7 @@ refused_text (Ok reply) refusal is = absurd is
 refused_text (Err e) refusal is = ap refusal_line is
 
 -- a command that was refused as it was read
-pub IsAnswered-refused : (old : Machine) (expected : Result Command Refusal) (refusal : Refusal) (r : Result Reply Refusal)
+pub IsAnswered-refused : (old : Machine) (expected : Result (ℕ × Command) Refusal) (refusal : Refusal) (r : Result Reply Refusal)
     → OrMemory expected (Err refusal) → IsErrAnd r (λ e. e ≡ refusal) → IsAnswered old (Asked expected) (reply_text r) old
 IsAnswered-refused old expected refusal r or is =
     subst (λ text. IsAnswered old (Asked expected) text old) (sym (refused_text r refusal is))

@@ -1,9 +1,9 @@
 -- Sessions lead from well-formed contents to well-formed ones.
-use Rattle.std.proofs.Common.{◌≡◌, ℕ, Bool, true, false, not, nat_lt, inl, inr, List, [], ◌∷◌, ◌++◌, length, map, Option, Result, Ok, Err, if◌then◌else◌, refl, sym, ap, subst, arith}
+use Rattle.std.proofs.Common.{◌≡◌, ℕ, Bool, true, false, not, nat_eq, nat_lt, inl, inr, List, [], ◌∷◌, ◌++◌, length, map, Option, Result, Ok, Err, if◌then◌else◌, refl, sym, ap, subst, arith}
 use Rattle.std.specs.List.{AllByRecursion, IsDistinct, list_all}
 use Rattle.std.specs.Str.{is_utf8}
 use Rattle.sf_refusals.specs.declared.refusal.Refusal.{Refusal}
-use Rattle.sf_refusals.specs.declared.refusal.Refusal.TheVariants.{BadCommand, LineTooLong}
+use Rattle.sf_refusals.specs.declared.refusal.Refusal.TheVariants.{BadCommand, LineTooLong, NotYours}
 use Rattle.sf_lines.specs.Lines.{Line, ended_lines, line_max, lines_of, text_of}
 use Rattle.sf_wkt.specs.Tokens.{is_blank}
 use Rattle.sf_layers.specs.Content.{Content}
@@ -27,33 +27,41 @@ use Rattle.sf_console.specs.Laws.{AreWellFormed, FreshMachinesAreWellFormed, Ser
 
 -- ---- a command
 
-after_edit : (machine : Machine) (edit : Edit) (stepped : Result (Content × Answer) EditRefusal) → step machine.now edit ≡ stepped
-    → BringsGridPoints edit → AreWellFormed machine → AreWellFormed (edit_reply machine (after_step machine stepped)).0
-after_edit machine edit (Ok done) is brings fine = record {
+after_edit : (machine : Machine) (editor : ℕ) (edit : Edit) (stepped : Result (Content × Answer) EditRefusal) → step machine.now edit ≡ stepped
+    → BringsGridPoints edit → AreWellFormed machine → AreWellFormed (edit_reply machine (after_step editor machine stepped)).0
+after_edit machine editor edit (Ok done) is brings fine = record {
   now = IsWellFormed-step machine.now done.0 edit done.1 brings fine.now is;
   past = (fine.now, fine.past);
   future = tt;
 }
-after_edit machine edit (Err refusal) is brings fine = fine
+after_edit machine editor edit (Err refusal) is brings fine = fine
 
-after_undo : (machine : Machine) (past : List Kept) → AllByRecursion (λ kept. IsWellFormed kept.content) past
-    → AreWellFormed machine → AreWellFormed (history_reply machine (back_to machine past)).0
-after_undo machine [] all fine = fine
-after_undo machine (before ∷ earlier) all fine = record { now = all.0; past = all.1; future = (fine.now, fine.future) }
+-- a machine that a move leads to, where the editor who asks may make it
+if_own_fine : (is : Bool) (machine next : Machine) (refusal : Refusal) → AreWellFormed machine → AreWellFormed next
+    → AreWellFormed (history_reply machine (if is then Ok next else Err refusal)).0
+if_own_fine true machine next refusal fine led = led
+if_own_fine false machine next refusal fine led = fine
 
-after_redo : (machine : Machine) (future : List Kept) → AllByRecursion (λ kept. IsWellFormed kept.content) future
-    → AreWellFormed machine → AreWellFormed (history_reply machine (forth_to machine future)).0
-after_redo machine [] all fine = fine
-after_redo machine (after ∷ later) all fine = record { now = all.0; past = (fine.now, fine.past); future = all.1 }
+after_undo : (machine : Machine) (editor : ℕ) (past : List Kept) → AllByRecursion (λ kept. IsWellFormed kept.content) past
+    → AreWellFormed machine → AreWellFormed (history_reply machine (back_to editor machine past)).0
+after_undo machine editor [] all fine = fine
+after_undo machine editor (before ∷ earlier) all fine =
+    if_own_fine (nat_eq before.editor editor) machine _ (NotYours before.editor) fine (record { now = all.0; past = all.1; future = (fine.now, fine.future) })
+
+after_redo : (machine : Machine) (editor : ℕ) (future : List Kept) → AllByRecursion (λ kept. IsWellFormed kept.content) future
+    → AreWellFormed machine → AreWellFormed (history_reply machine (forth_to editor machine future)).0
+after_redo machine editor [] all fine = fine
+after_redo machine editor (after ∷ later) all fine =
+    if_own_fine (nat_eq after.editor editor) machine _ (NotYours after.editor) fine (record { now = all.0; past = (fine.now, fine.past); future = all.1 })
 
 -- the points that the edit of a command brings are on the grid
-abbrev Brings : Result Command Refusal → Type 0
-Brings command = (edit : Edit) → command ≡ Ok (commands.Edit edit) → BringsGridPoints edit
+abbrev Brings : Result (ℕ × Command) Refusal → Type 0
+Brings command = (editor : ℕ) (edit : Edit) → command ≡ Ok (editor, commands.Edit edit) → BringsGridPoints edit
 
-after_command : (machine : Machine) (command : Result Command Refusal) → Brings command → AreWellFormed machine → AreWellFormed (reply machine command).0
-after_command machine (Ok (commands.Edit edit)) brings fine = after_edit machine edit (step machine.now edit) refl (brings edit refl) fine
-after_command machine (Ok commands.Undo) brings fine = after_undo machine machine.past fine.past fine
-after_command machine (Ok commands.Redo) brings fine = after_redo machine machine.future fine.future fine
+after_command : (machine : Machine) (command : Result (ℕ × Command) Refusal) → Brings command → AreWellFormed machine → AreWellFormed (reply machine command).0
+after_command machine (Ok (editor, commands.Edit edit)) brings fine = after_edit machine editor edit (step machine.now edit) refl (brings editor edit refl) fine
+after_command machine (Ok (editor, commands.Undo)) brings fine = after_undo machine editor machine.past fine.past fine
+after_command machine (Ok (editor, commands.Redo)) brings fine = after_redo machine editor machine.future fine.future fine
 after_command machine command brings fine = fine
 
 -- ---- a line

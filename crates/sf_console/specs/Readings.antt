@@ -9,11 +9,11 @@ use Rattle.sf_wkt.specs.Tokens.{is_blank}
 use Rattle.sf_commands.specs.declared.command.Command.{Command}
 use Rattle.sf_commands.specs.Commands.{command_of}
 
--- what a line is: without an answer, refused whatever memory there is, or a command or its refusal
+-- what a line is: without an answer, refused whatever memory there is, or a command with its editor or its refusal
 pub data Reading : Type 0 where
   Blank : Reading
   Unreadable : Refusal → Reading
-  Asked : Result Command Refusal → Reading
+  Asked : Result (ℕ × Command) Refusal → Reading
 
 -- what a text is that is not too long
 abbrev pub text_reading : List ℕ → Reading

@@ -62,25 +62,30 @@ fn answer_text(alloc: Global, editor: &mut Editor, bytes: &[u8]) -> Result<Reply
     if is_blank_text(text) {
         return Ok(Reply::Nothing);
     }
-    let command = parse(alloc, text)?;
-    execute(alloc, editor, command)
+    let (asker, command) = parse(alloc, text)?;
+    execute(alloc, editor, asker, command)
 }
 
-/// Carries a command out.
-fn execute(alloc: Global, editor: &mut Editor, command: Command) -> Result<Reply, Refusal>
-    ensures { IsAnswered editor.old (Asked (Ok command)) (reply_text result) editor.new }
+/// Carries a command out, of the editor of that number.
+fn execute(
+    alloc: Global,
+    editor: &mut Editor,
+    asker: u8,
+    command: Command,
+) -> Result<Reply, Refusal>
+    ensures { IsAnswered editor.old (Asked (Ok (asker, command))) (reply_text result) editor.new }
 {
     match command {
-        Command::Edit(edit) => match editor.edit(alloc, edit) {
+        Command::Edit(edit) => match editor.edit_as(alloc, asker, edit) {
             Ok(answer) => Ok(Reply::Accepted(answer)),
             Err((_, refusal)) => Err(refusal),
         },
         Command::Undo => {
-            editor.undo(alloc)?;
+            editor.undo_as(alloc, asker)?;
             Ok(Reply::Accepted(Answer::Done))
         }
         Command::Redo => {
-            editor.redo(alloc)?;
+            editor.redo_as(alloc, asker)?;
             Ok(Reply::Accepted(Answer::Done))
         }
         Command::Layers => layers(alloc, editor.store()),

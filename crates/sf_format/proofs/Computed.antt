@@ -14,7 +14,7 @@ use Rattle.sf_layers.specs.declared.layer_kind.LayerKind.TheVariants.{Any, Only}
 use Rattle.sf_format.specs.Defects.{number_of}
 use Rattle.sf_format.specs.Readings.{Fault}
 use Rattle.sf_format.specs.Format.{content_of}
-use Rattle.sf_format.specs.Canonical.{canonical}
+use Rattle.sf_format.specs.Canonical.{canonical, first_canonical}
 
 -- a content, or the place and the number of the first fault
 abbrev answer : Result Content Fault → Result Content (ℕ × ℕ)
@@ -52,7 +52,7 @@ more_features_than_identifiers = refl
 abbrev wells : Content
 wells = (codes "wells", record { kind = Only kinds.Point; next_id = 2; next_column = 1; columns = []; features = (1, plain_feature (Point (record { x = pos 3; y = pos 4 }))) ∷ [] }) ∷ []
 
--- its bytes, but for the identifier, the length of the geometry and the code in it
+-- its bytes in the first version, but for the identifier, the length of the geometry and the code in it
 abbrev wells_bytes : ℕ → ℕ → ℕ → ℕ → List ℕ
 wells_bytes front id size code = front ∷ codes "FSTORE1" ++ 0 ∷ 0 ∷ 0 ∷ 1 ∷ 5 ∷ codes "wells" ++ 1 ∷ 0 ∷ 0 ∷ 0 ∷ 2 ∷ 0 ∷ 1 ∷ 0 ∷ 0 ∷ 0 ∷ 0 ∷ 0 ∷ 1
     ∷ 0 ∷ 0 ∷ 0 ∷ id ∷ 0 ∷ 0 ∷ 0 ∷ size ∷ 1 ∷ code ∷ 0 ∷ 0 ∷ 0 ∷ 0 ∷ 0 ∷ 0 ∷ 0 ∷ 0 ∷ 0 ∷ 8 ∷ 64 ∷ 0 ∷ 0 ∷ 0 ∷ 0 ∷ 0 ∷ 0 ∷ 16 ∷ 64 ∷ 0 ∷ 0 ∷ []
@@ -63,14 +63,58 @@ saved = wells_bytes 83 1 21 1
 pub saved_length : length saved ≡ 62
 saved_length = refl
 
-pub saved_bytes : canonical wells ≡ saved
+-- the same bytes behind the front of the second version
+abbrev second_of : List ℕ → List ℕ
+second_of text = codes "SFSTORE2" ++ 24 ∷ drop 8 text
+
+pub first_bytes : first_canonical wells ≡ saved
+first_bytes = refl
+
+pub saved_bytes : canonical wells ≡ second_of saved
 saved_bytes = refl
+
+pub second_length : length (canonical wells) ≡ 63
+second_length = refl
+
+pub second_loads : load (second_of saved) ≡ Ok wells
+second_loads = refl
 
 pub saved_bytes_load : load saved ≡ Ok wells
 saved_bytes_load = refl
 
-pub new_store : canonical [] ≡ codes "SFSTORE1" ++ 0 ∷ 0 ∷ 0 ∷ 0 ∷ []
+pub new_store : canonical [] ≡ codes "SFSTORE2" ++ 24 ∷ 0 ∷ 0 ∷ 0 ∷ 0 ∷ []
 new_store = refl
+
+-- ---- the two versions
+
+pub second_exhausted_length : length (second_of (full_layer 1 1 0)) ≡ 28
+second_exhausted_length = refl
+
+pub second_exhausted_layer : load (second_of (full_layer 1 1 0)) ≡ load (full_layer 1 1 0)
+second_exhausted_layer = refl
+
+pub second_exhausted_layer_cut : load (take 27 (second_of (full_layer 1 1 0))) ≡ Err (27, 7)
+second_exhausted_layer_cut = refl
+
+pub other_grid : load (codes "SFSTORE2" ++ 20 ∷ drop 8 saved) ≡ Err (8, 34)
+other_grid = refl
+
+pub grid_missing : load (codes "SFSTORE2") ≡ Err (8, 7)
+grid_missing = refl
+
+pub neither_version : load (codes "SFSTORE3" ++ 24 ∷ drop 8 saved) ≡ Err (0, 34)
+neither_version = refl
+
+-- the file with the x 524288
+abbrev far_saved : List ℕ
+far_saved = take 44 saved ++ 0 ∷ 0 ∷ 0 ∷ 0 ∷ 0 ∷ 0 ∷ 32 ∷ 65 ∷ drop 52 saved
+
+pub far_in_first : load far_saved ≡ Err (39, 4)
+far_in_first = refl
+
+pub far_in_second : load (second_of far_saved)
+    ≡ Ok ((codes "wells", record { kind = Only kinds.Point; next_id = 2; next_column = 1; columns = []; features = (1, plain_feature (Point (record { x = pos 524288; y = pos 4 }))) ∷ [] }) ∷ [])
+far_in_second = refl
 
 -- each front of the bytes ends within a field
 abbrev is_cut_at : ℕ → Result Content Fault → Bool
@@ -83,6 +127,9 @@ fronts_are_cut (suc n) text = is_cut_at n (content_of (take n text)) && fronts_a
 
 pub every_front_is_cut : fronts_are_cut 62 saved ≡ true
 every_front_is_cut = refl
+
+pub every_front_of_second_is_cut : fronts_are_cut 63 (second_of saved) ≡ true
+every_front_of_second_is_cut = refl
 
 pub other_first_byte : load (wells_bytes 84 1 21 1) ≡ Err (0, 34)
 other_first_byte = refl

@@ -8,6 +8,8 @@ use Rattle.sf_features.specs.Features.{FeatureContent}
 use Rattle.sf_layers.specs.declared.layer_kind.LayerKind.{LayerKind}
 use Rattle.sf_layers.specs.Content.{Content, LayerContent}
 use Rattle.sf_format.specs.declared.defect.Defect.TheVariants.{NoColumn, WrongValue, WrongKind, IdsExhausted, ColumnsExhausted}
+use Rattle.sf_wkb.specs.declared.grid.Grid.{Grid}
+use Rattle.sf_wkb.specs.Grammar.{read_in}
 use Rattle.sf_format.specs.Readings.{Reading, ◌>>=◌, done, bytes, field, number, items, end}
 use Rattle.sf_format.specs.Format.{RowReading, allowed, present, name, type_of_byte, kind_of_byte, fresh_column_name, column, admitted, typed_value, value, geometry, feature, layers}
 
@@ -94,7 +96,7 @@ file_after_layers content = do
   ended ← end
   done content
 
-abbrev pub file_after_head : RowReading → Reading Content
-file_after_head row = do
-  content ← layers row
+abbrev pub file_after_head : Grid → Reading Content
+file_after_head grid = do
+  content ← layers (read_in grid)
   file_after_layers content

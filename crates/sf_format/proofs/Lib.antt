@@ -1,5 +1,5 @@
 pub mod Computed
-pub mod Versions
+pub mod First
 pub mod Continuations
 pub mod Again
 pub mod Counts

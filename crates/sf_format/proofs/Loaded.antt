@@ -20,7 +20,9 @@ use Rattle.sf_rules.specs.Validity.{IsVerdict, IsValid}
 use Rattle.sf_rules.specs.Verdicts.{first_fault}
 use Rattle.sf_rules.proofs.FirstLaws.{first_fault-over_plane}
 use Rattle.sf_wkb.specs.declared.fault.WkbFault.{WkbFault}
-use Rattle.sf_wkb.specs.Grammar.{read as read_wkb}
+use Rattle.sf_wkb.specs.declared.grid.Grid.{Grid}
+use Rattle.sf_wkb.specs.declared.grid.Grid.TheVariants.{Bits20}
+use Rattle.sf_wkb.specs.Grammar.{read_in}
 use Rattle.sf_wkb.proofs.Sized.{read_is_sized}
 use Rattle.sf_features.specs.declared.column.Column.{Column}
 use Rattle.sf_features.specs.declared.column_type.ColumnType.{ColumnType}
@@ -41,7 +43,7 @@ use Rattle.sf_format.specs.declared.defect.Defect.{Defect}
 use Rattle.sf_format.specs.declared.defect.Defect.TheVariants.{TooManyVertices, LayerExists, BadName, NoColumn, ColumnExists, WrongValue, WrongKind, IdsExhausted, ColumnsExhausted, BadFile}
 use Rattle.sf_format.specs.Readings.{Reads, Reading, done, bytes, field, number, sized, items, end}
 use Rattle.sf_format.specs.Laws.{AreBytes, FilesAreWellFormed}
-use Rattle.sf_format.specs.Format.{RowReading, row_max, allowed, present, last_number, name, kind_of_byte, type_of_byte, fresh_number, fresh_column_name, column, without_fault, admitted, geometry, typed_value, next_column_of, value, next_of, feature, fresh_layer_name, layer, layers, head, file, value_of}
+use Rattle.sf_format.specs.Format.{RowReading, row_max, allowed, present, last_number, name, kind_of_byte, type_of_byte, fresh_number, fresh_column_name, column, without_fault, admitted, geometry, typed_value, next_column_of, value, next_of, feature, fresh_layer_name, layer, layers, head, is_second, grid_of, grid_of_byte, file, value_of}
 use Rattle.sf_format.proofs.Again.{at}
 use Rattle.sf_format.proofs.Continuations.{column_after_type, column_after_number, value_after_column, geometry_after_size, feature_after_count, feature_after_geometry, feature_after_id, layer_after_feature_count, layer_after_columns, layer_after_column_count, layer_after_next_column, layer_after_next_id, layer_after_kind, layer_after_name, file_after_head, file_after_layers}
 use Rattle.sf_format.proofs.Counts.{below_from_cmp}
@@ -351,12 +353,23 @@ value_of_ok (Err fault) x e = absurd cc
 done_of : (a b : Content) (mid rest : Left) → done a mid ≡ Ok (b, rest) → a ≡ b
 done_of a b mid rest e = let pair : ◌≡◌ {A = Content × Left} (a, mid) (b, rest) = cc in ap (λ p. p.0) pair
 
+-- what stands behind the head are bytes
+head-promises : Promises head (λ grid. Unit {0})
+head-promises left grid rest fits e =
+    let s = and_then_ok (field (bytes 8) is_second left) grid_of grid rest e in
+    let front = Promises-field (bytes 8) is_second AreBytes (λ second. Unit {0}) (Promises-bytes 8) (λ x y fits e. tt) left s.0 s.1 fits s.2 in
+    by_version s.0 s.1 front.1 s.3
+  where
+    by_version : (second : Bool) (mid : Left) → AreBytes mid.bytes → grid_of second mid ≡ Ok (grid, rest) → Unit {0} × AreBytes rest.bytes
+    by_version false mid fits e = let pair : ◌≡◌ {A = Grid × Left} (Bits20, mid) (grid, rest) = cc in (tt, subst (λ (l : Left). AreBytes l.bytes) (ap (λ p. p.1) pair) fits)
+    by_version true mid fits e = (tt, (Promises-rule 1 grid_of_byte (λ g. Unit {0}) (λ x y fits e. tt) mid grid rest fits e).1)
+
 pub files-are-well-formed : FilesAreWellFormed
 files-are-well-formed text content fits e =
     let whole = value_of_ok (file (at 0 text)) content e in
     let first = and_then_ok (head (at 0 text)) file_after_head content whole.0 whole.1 in
-    let kept = Promises-field (bytes 8) (λ front. allowed (bytes_eq front (codes "SFSTORE1")) BadFile read_wkb) AreBytes (λ row. row ≡ read_wkb) (Promises-bytes 8) (λ x y fits e. sym (allowed_of _ BadFile read_wkb y e).1) (at 0 text) first.0 first.1 fits first.2 in
-    let second = and_then_ok (layers first.0 first.1) file_after_layers content whole.0 first.3 in
-    let good = content-promises first.0 (subst GivesSized (sym kept.0) read_is_sized) first.1 second.0 second.1 kept.1 second.2 in
+    let kept = head-promises (at 0 text) first.0 first.1 fits first.2 in
+    let second = and_then_ok (layers (read_in first.0) first.1) file_after_layers content whole.0 first.3 in
+    let good = content-promises (read_in first.0) (read_is_sized first.0) first.1 second.0 second.1 kept.1 second.2 in
     let third = and_then_ok (end second.1) (λ ended. done second.0) content whole.0 second.3 in
     subst IsWellFormed (done_of second.0 content third.1 whole.0 third.3) good.0

@@ -17,7 +17,9 @@ use Rattle.sf_geometry.specs.declared.geometry.Geometry.{Geometry}
 use Rattle.sf_geometry.specs.declared.kind.Kind.TheVariants as kinds
 use Rattle.sf_geometry.specs.Kinds.{kind_of}
 use Rattle.sf_rules.specs.Verdicts.{first_fault}
-use Rattle.sf_wkb.specs.Grammar.{read as read_wkb, canonical as canonical_wkb}
+use Rattle.sf_wkb.specs.declared.grid.Grid.{Grid}
+use Rattle.sf_wkb.specs.declared.grid.Grid.TheVariants.{Bits20, Bits24}
+use Rattle.sf_wkb.specs.Grammar.{read_in, canonical as canonical_wkb}
 use Rattle.sf_features.specs.declared.column.Column.{Column}
 use Rattle.sf_features.specs.declared.column_type.ColumnType.{ColumnType}
 use Rattle.sf_features.specs.declared.column_type.ColumnType.TheVariants as types
@@ -34,14 +36,14 @@ use Rattle.sf_layers.specs.WellFormed.{IsIssued, IsColumn, IsValue, IsFeature, I
 use Rattle.sf_layers.proofs.Kept.{none_or, none-from}
 use Rattle.sf_format.specs.declared.defect.Defect.TheVariants.{TooManyVertices, LayerExists, BadName, NoColumn, ColumnExists, WrongValue, WrongKind, IdsExhausted, ColumnsExhausted, BadFile}
 use Rattle.sf_format.specs.Readings.{Fault, and_then, bytes, field, number, sized, items}
-use Rattle.sf_format.specs.Format.{RowReading, row_max, allowed, present, last_number, name, kind_of_byte, type_of_byte, fresh_number, fresh_column_name, column, without_fault, admitted, geometry, typed_value, next_column_of, value, next_of, feature, fresh_layer_name, layer, layers, content_of, value_of}
-use Rattle.sf_format.specs.Canonical.{behind_length, kind_byte, type_byte, column_bytes, typed_bytes, value_bytes, feature_bytes, layer_bytes, layers_bytes}
-use Rattle.sf_format.specs.Laws.{CanonicalBytesLoad, CanonicalBytesDiffer}
+use Rattle.sf_format.specs.Format.{RowReading, row_max, allowed, present, last_number, name, kind_of_byte, type_of_byte, fresh_number, fresh_column_name, column, without_fault, admitted, geometry, typed_value, next_column_of, value, next_of, feature, fresh_layer_name, layer, layers, content_of, head, is_second, grid_of, grid_of_byte, value_of}
+use Rattle.sf_format.specs.Canonical.{behind_length, kind_byte, type_byte, column_bytes, typed_bytes, value_bytes, feature_bytes, layer_bytes, layers_bytes, front}
+use Rattle.sf_format.specs.Laws.{CanonicalBytesLoad, CanonicalBytesDiffer, FirstCanonicalBytesLoad}
 use Rattle.sf_format.proofs.Again.{at, Again, Again-then, Again-made, Again-value, Again-bytes, Again-field, Again-number, Again-number_field, Again-sized, EachAgain, Again-items}
 use Rattle.sf_format.proofs.Continuations.{column_after_type, column_after_number, value_after_column, geometry_after_size, feature_after_count, feature_after_geometry, feature_after_id, layer_after_feature_count, layer_after_columns, layer_after_column_count, layer_after_next_column, layer_after_next_id, layer_after_kind, layer_after_name, file_after_head, file_after_layers}
 use Rattle.sf_format.proofs.Counts.{below_from_cmp, column-count, feature-count, value-count}
 use Rattle.sf_format.proofs.Rules.{allowed-ok, both, both_of}
-use Rattle.sf_format.proofs.Rows.{IsRow, TakesStored, read_wkb-takes_stored}
+use Rattle.sf_format.proofs.Rows.{HasRows, IsRow, narrow-rows, wide-rows}
 
 -- ---- what stands before
 
@@ -214,27 +216,27 @@ geometry-again row kind g is fits =
     (Again-field (bytes (length (canonical_wkb g))) (λ text. admitted kind (row text)) (canonical_wkb g) (canonical_wkb g) g (Again-bytes (length (canonical_wkb g)) (canonical_wkb g) refl)
     (ap (admitted kind) is.read ∙ ap (λ b. cond b (without_fault g (first_fault g)) (Err WrongKind)) fits ∙ ap (without_fault g) is.valid))
 
-feature-again : (row : RowReading) → TakesStored row → (l : LayerContent) (earlier : List (ℕ × FeatureContent)) (f : ℕ × FeatureContent) → IsLayer l → IsIssued l.next_id f.0 → IsFeature l.kind l.columns f.1
+feature-again : (row : RowReading) (l : LayerContent) (earlier : List (ℕ × FeatureContent)) (f : ℕ × FeatureContent) → IsRow row f.1.geometry → IsLayer l → IsIssued l.next_id f.0 → IsFeature l.kind l.columns f.1
     → last_number earlier < f.0 → Again (feature row l.kind l.next_id l.columns earlier) (feature_bytes f) f
-feature-again row stored l earlier f is issued fits above =
+feature-again row l earlier f stored is issued fits above =
     let few = value-count l.columns f.1.values fits.rising fits.values in
     let columns = column-count l is in
     Again-then (field (number 4) (next_of l.next_id (last_number earlier))) (feature_after_id row l.kind l.columns) (big_bytes 4 f.0) (behind_length 4 (canonical_wkb f.1.geometry) ++ (big_bytes 2 (length f.1.values) ++ flat_map value_bytes f.1.values)) f.0 f
     (Again-number_field 4 f.0 (next_of l.next_id (last_number earlier)) f.0 (omega (arith, issued.1, is.next_id.1)) (allowed-ok _ IdsExhausted f.0 (both _ _ (lt-ltb _ f.0 above) (lt-ltb f.0 l.next_id issued.1))))
     (Again-then (geometry row l.kind) (feature_after_geometry l.columns f.0) (behind_length 4 (canonical_wkb f.1.geometry)) (big_bytes 2 (length f.1.values) ++ flat_map value_bytes f.1.values) f.1.geometry f
-    (geometry-again row l.kind f.1.geometry (stored f.1.geometry fits.valid fits.on_grid) fits.admitted)
+    (geometry-again row l.kind f.1.geometry stored fits.admitted)
     (Again-then (field (number 2) (λ n. allowed (nat_le n (length l.columns)) NoColumn n)) (feature_after_count l.columns f.0 f.1.geometry) (big_bytes 2 (length f.1.values)) (flat_map value_bytes f.1.values) (length f.1.values) f
     (Again-number_field 2 (length f.1.values) _ (length f.1.values) (omega (arith, few, columns, is.next_column.1)) (allowed-ok _ NoColumn (length f.1.values) (le-leb _ _ few)))
     (Again-made (items (value l.columns) (length f.1.values) []) (λ values. (f.0, record { geometry = f.1.geometry; values = values })) (flat_map value_bytes f.1.values) f.1.values
     (Again-items (value l.columns) value_bytes [] f.1.values (values-again l.next_column l.columns [] f.1.values is.next_column.1 is.columns fits.values fits.rising)))))
 
-features-again : (row : RowReading) → TakesStored row → (l : LayerContent) (earlier fs : List (ℕ × FeatureContent)) → IsLayer l → AllByRecursion (IsIssued l.next_id) (keys_of fs) → AllByRecursion (IsFeature l.kind l.columns) (values_of fs)
+features-again : (row : RowReading) (l : LayerContent) (earlier fs : List (ℕ × FeatureContent)) → AllByRecursion (λ f. IsRow row f.geometry) (values_of fs) → IsLayer l → AllByRecursion (IsIssued l.next_id) (keys_of fs) → AllByRecursion (IsFeature l.kind l.columns) (values_of fs)
     → IsStrictlySortedBy nat_cmp (keys_of (earlier ++ fs)) → EachAgain (feature row l.kind l.next_id l.columns) feature_bytes earlier fs
-features-again row stored l earlier [] is issued all rising = tt
-features-again row stored l earlier (f ∷ fs) is issued all rising =
+features-again row l earlier [] stored is issued all rising = tt
+features-again row l earlier (f ∷ fs) stored is issued all rising =
     let regrouped : earlier ++ f ∷ fs ≡ (earlier ++ f ∷ []) ++ fs = sym (append_assoc earlier (f ∷ []) fs) in (
-      feature-again row stored l earlier f is issued.0 all.0 (last-below earlier f fs issued.0.0 rising),
-      features-again row stored l (earlier ++ f ∷ []) fs is issued.1 all.1 (subst (λ (all : List (ℕ × FeatureContent)). IsStrictlySortedBy nat_cmp (keys_of all)) regrouped rising),
+      feature-again row l earlier f stored.0 is issued.0 all.0 (last-below earlier f fs issued.0.0 rising),
+      features-again row l (earlier ++ f ∷ []) fs stored.1 is issued.1 all.1 (subst (λ (all : List (ℕ × FeatureContent)). IsStrictlySortedBy nat_cmp (keys_of all)) regrouped rising),
     )
 
 -- ---- layers
@@ -257,9 +259,9 @@ kind-again (Only kinds.MultiPoint) = refl
 kind-again (Only kinds.MultiLineString) = refl
 kind-again (Only kinds.MultiPolygon) = refl
 
-layer-again : (row : RowReading) → TakesStored row → (earlier : Content) (entry : List ℕ × LayerContent) → IsTrue (is_name entry.0) → layer_of earlier entry.0 ≡ None → IsLayer entry.1
+layer-again : (row : RowReading) (earlier : Content) (entry : List ℕ × LayerContent) → HasRows row entry.1 → IsTrue (is_name entry.0) → layer_of earlier entry.0 ≡ None → IsLayer entry.1
     → Again (layer row earlier) (layer_bytes entry) entry
-layer-again row stored earlier entry named free is =
+layer-again row earlier entry stored named free is =
     let title = entry.0 in
     let l = entry.1 in
     let t7 = flat_map feature_bytes l.features in
@@ -284,33 +286,48 @@ layer-again row stored earlier entry named free is =
     (Again-then (field (number 4) (λ n. allowed (nat_lt n l.next_id) IdsExhausted n)) (layer_after_feature_count row title l.kind l.next_id l.next_column l.columns) (big_bytes 4 (length l.features)) t7 (length l.features) entry
     (Again-number_field 4 (length l.features) (λ n. allowed (nat_lt n l.next_id) IdsExhausted n) (length l.features) (omega (arith, feature-count l is, is.next_id.1)) (allowed-ok _ IdsExhausted (length l.features) (lt-ltb _ _ (feature-count l is))))
     (Again-made (items (feature row l.kind l.next_id l.columns) (length l.features) []) (λ features. (title, record { kind = l.kind; next_id = l.next_id; next_column = l.next_column; columns = l.columns; features = features })) t7 l.features
-    (Again-items (feature row l.kind l.next_id l.columns) feature_bytes [] l.features (features-again row stored l [] l.features is is.ids is.features is.rising)))))))))
+    (Again-items (feature row l.kind l.next_id l.columns) feature_bytes [] l.features (features-again row l [] l.features stored is is.ids is.features is.rising)))))))))
 
-layers-again : (row : RowReading) → TakesStored row → (earlier entries : Content) → AllByRecursion (λ name. IsTrue (is_name name)) (keys_of entries) → IsDistinct bytes_eq (keys_of (earlier ++ entries))
+layers-again : (row : RowReading) (earlier entries : Content) → AllByRecursion (HasRows row) (values_of entries) → AllByRecursion (λ name. IsTrue (is_name name)) (keys_of entries) → IsDistinct bytes_eq (keys_of (earlier ++ entries))
     → AllByRecursion IsLayer (values_of entries) → EachAgain (layer row) layer_bytes earlier entries
-layers-again row stored earlier [] named distinct all = tt
-layers-again row stored earlier (entry ∷ entries) named distinct all =
+layers-again row earlier [] stored named distinct all = tt
+layers-again row earlier (entry ∷ entries) stored named distinct all =
     let regrouped : earlier ++ entry ∷ entries ≡ (earlier ++ entry ∷ []) ++ entries = sym (append_assoc earlier (entry ∷ []) entries) in (
-      layer-again row stored earlier entry named.0 (lookup-none entry.0 earlier (distinct-fresh bytes_eq (λ e. e.0) earlier entry entries distinct)) all.0,
-      layers-again row stored (earlier ++ entry ∷ []) entries named.1 (subst (λ (all : Content). IsDistinct bytes_eq (keys_of all)) regrouped distinct) all.1,
+      layer-again row earlier entry stored.0 named.0 (lookup-none entry.0 earlier (distinct-fresh bytes_eq (λ e. e.0) earlier entry entries distinct)) all.0,
+      layers-again row (earlier ++ entry ∷ []) entries stored.1 named.1 (subst (λ (all : Content). IsDistinct bytes_eq (keys_of all)) regrouped distinct) all.1,
     )
 
-pub content-again : (row : RowReading) → TakesStored row → (content : Content) → IsWellFormed content → Again (layers row) (layers_bytes content) content
-content-again row stored content is =
+pub content-again : (row : RowReading) (content : Content) → AllByRecursion (HasRows row) (values_of content) → IsWellFormed content → Again (layers row) (layers_bytes content) content
+content-again row content stored is =
     Again-then (field (number 4) (λ n. allowed (nat_le n layers_max) IdsExhausted n)) (λ count. items (layer row) count []) (big_bytes 4 (length content)) (flat_map layer_bytes content) (length content) content
     (Again-number_field 4 (length content) _ (length content) (omega (arith, is.few)) (allowed-ok _ IdsExhausted (length content) (le-leb _ _ is.few)))
-    (Again-items (layer row) layer_bytes [] content (layers-again row stored [] content is.named is.distinct is.layers))
+    (Again-items (layer row) layer_bytes [] content (layers-again row [] content stored is.named is.distinct is.layers))
 
 -- ---- the whole file
 
-pub canonical-loads : CanonicalBytesLoad
-canonical-loads content is =
+-- what follows the first bytes is read again, where those are read
+behind-front : (grid : Grid) (front : List ℕ) (content : Content) → IsWellFormed content → AllByRecursion (HasRows (read_in grid)) (values_of content) → Again head front grid
+    → content_of (front ++ layers_bytes content) ≡ Ok content
+behind-front grid front content is stored first =
     let text = layers_bytes content in
-    let front = Again-field (bytes 8) (λ text. allowed (bytes_eq text (codes "SFSTORE1")) BadFile read_wkb) (codes "SFSTORE1") (codes "SFSTORE1") read_wkb (Again-bytes 8 (codes "SFSTORE1") refl) refl in
-    let place : ℕ = 0 + length (codes "SFSTORE1") in
-    ap value_of (ap (λ r. and_then r file_after_head) (front 0 text)
-    ∙ ap (λ (t : List ℕ). file_after_head read_wkb (at place t)) (sym (append-nil text))
-    ∙ ap (λ r. and_then r file_after_layers) (content-again read_wkb read_wkb-takes_stored content is place []))
+    let place : ℕ = 0 + length front in
+    ap value_of (ap (λ r. and_then r file_after_head) (first 0 text)
+    ∙ ap (λ (t : List ℕ). file_after_head grid (at place t)) (sym (append-nil text))
+    ∙ ap (λ r. and_then r file_after_layers) (content-again (read_in grid) content stored is place []))
+
+second-head : Again head front Bits24
+second-head = Again-then (field (bytes 8) is_second) grid_of (codes "SFSTORE2") (24 ∷ []) true Bits24
+    (Again-field (bytes 8) is_second (codes "SFSTORE2") (codes "SFSTORE2") true (Again-bytes 8 (codes "SFSTORE2") refl) refl)
+    (Again-number_field 1 24 grid_of_byte Bits24 (omega arith) refl)
+
+first-head : Again head (codes "SFSTORE1") Bits20
+first-head place rest = ap (λ r. and_then r grid_of) (Again-field (bytes 8) is_second (codes "SFSTORE1") (codes "SFSTORE1") false (Again-bytes 8 (codes "SFSTORE1") refl) refl place rest)
+
+pub canonical-loads : CanonicalBytesLoad
+canonical-loads content is = behind-front Bits24 front content is (wide-rows content is) second-head
+
+pub first-canonical-loads : FirstCanonicalBytesLoad
+first-canonical-loads content is narrow = behind-front Bits20 (codes "SFSTORE1") content is (narrow-rows content is narrow) first-head
 
 done_is : (a b : Content) → ◌≡◌ {A = Result Content Fault} (Ok a) (Ok b) → a ≡ b
 done_is a b same = cc

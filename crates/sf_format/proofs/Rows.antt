@@ -1,15 +1,25 @@
 -- Binary geometries of stored features can be written and read.
-use Rattle.std.proofs.Common.{◌≡◌, ◌≤◌, None, Ok, length, arith}
+use Rattle.std.proofs.Common.{◌≡◌, ◌≤◌, List, [], ◌∷◌, None, Ok, length, arith}
+use Rattle.std.specs.List.{AllByRecursion}
+use Rattle.std.specs.Map.{values_of}
+use Rattle.sf_grid.specs.Plane.{Coordinates}
 use Rattle.sf_geometry.specs.declared.geometry.Geometry.{Geometry}
 use Rattle.sf_rules.specs.Verdicts.{first_fault}
 use Rattle.sf_rules.specs.Validity.{IsValid}
 use Rattle.sf_rules.proofs.FirstLaws.{first_fault-over_plane}
 use Rattle.sf_rules.proofs.VerdictLaws.{verdict-one}
-use Rattle.sf_geometry.specs.Parts.{LiesOnGrid}
-use Rattle.sf_wkb.specs.Grammar.{read as read_wkb, canonical as canonical_wkb}
+use Rattle.sf_geometry.specs.Parts.{LiesOnGrid, points_of}
+use Rattle.sf_wkb.specs.declared.grid.Grid.{Grid}
+use Rattle.sf_wkb.specs.declared.grid.Grid.TheVariants.{Bits20, Bits24}
+use Rattle.sf_wkb.specs.Words.{IsIn}
+use Rattle.sf_wkb.specs.Grammar.{read_in, canonical as canonical_wkb}
 use Rattle.sf_wkb.proofs.Lengths.{canonical_bytes_are_few}
-use Rattle.sf_wkb.proofs.RoundTrip.{round_trip}
+use Rattle.sf_wkb.proofs.RoundTrip.{on_wide, round_trip_in}
+use Rattle.sf_features.specs.Features.{FeatureContent}
+use Rattle.sf_layers.specs.Content.{Content, LayerContent}
+use Rattle.sf_layers.specs.WellFormed.{IsFeature, IsLayer, IsWellFormed}
 use Rattle.sf_format.specs.Format.{RowReading, row_max}
+use Rattle.sf_format.specs.Laws.{IsNarrow}
 
 -- the canonical bytes of a geometry may stand in a file and are read as it, and it has no fault
 pub record IsRow (row : RowReading) (g : Geometry) : Type 0 where
@@ -17,15 +27,36 @@ pub record IsRow (row : RowReading) (g : Geometry) : Type 0 where
   pub valid : first_fault g ≡ None
   pub short : length (canonical_wkb g) ≤ row_max
 
--- the geometries that a well-formed content may have can be written and read
-abbrev pub TakesStored : RowReading → Type 0
-TakesStored row = (g : Geometry) → IsValid g → LiesOnGrid g → IsRow row g
-
-pub read_wkb-takes_stored : TakesStored read_wkb
-read_wkb-takes_stored g valid on_grid =
+-- a valid geometry whose points are on a grid can be written and read on it
+row-in : (grid : Grid) (g : Geometry) → IsValid g → AllByRecursion (IsIn grid) (points_of g) → IsRow (read_in grid) g
+row-in grid g valid on =
     let few = canonical_bytes_are_few g valid.sized in
     record {
-      read = round_trip g valid.sized on_grid;
+      read = round_trip_in grid g valid.sized on;
       valid = verdict-one g (first_fault g) None (first_fault-over_plane g valid.sized) valid;
       short = omega (arith, few);
     }
+
+-- the geometries of a layer's features can be written and read
+abbrev pub HasRows : RowReading → LayerContent → Type 0
+HasRows row l = AllByRecursion (λ f. IsRow row f.geometry) (values_of l.features)
+
+all_two : {X : Type 0} (P Q R : X → Type 0) → ((x : X) → P x → Q x → R x) → (xs : List X) → AllByRecursion P xs → AllByRecursion Q xs → AllByRecursion R xs
+all_two P Q R so [] first second = tt
+all_two P Q R so (x ∷ xs) first second = (so x first.0 second.0, all_two P Q R so xs first.1 second.1)
+
+-- those of a well-formed content can
+pub wide-rows : (content : Content) → IsWellFormed content → AllByRecursion (HasRows (read_in Bits24)) (values_of content)
+wide-rows content is =
+    all_two IsLayer IsLayer (HasRows (read_in Bits24))
+    (λ l fits same. all_two (IsFeature l.kind l.columns) (IsFeature l.kind l.columns) (λ f. IsRow (read_in Bits24) f.geometry)
+    (λ f good same. row-in Bits24 f.geometry good.valid (on_wide (points_of f.geometry) good.on_grid)) (values_of l.features) fits.features fits.features)
+    (values_of content) is.layers is.layers
+
+-- on the grid of 20 bits those of a content of such points can
+pub narrow-rows : (content : Content) → IsWellFormed content → IsNarrow content → AllByRecursion (HasRows (read_in Bits20)) (values_of content)
+narrow-rows content is narrow =
+    all_two IsLayer (λ l. AllByRecursion (λ f. AllByRecursion (IsIn Bits20) (points_of f.geometry)) (values_of l.features)) (HasRows (read_in Bits20))
+    (λ l fits few. all_two (IsFeature l.kind l.columns) (λ f. AllByRecursion (IsIn Bits20) (points_of f.geometry)) (λ f. IsRow (read_in Bits20) f.geometry)
+    (λ f good on. row-in Bits20 f.geometry good.valid on) (values_of l.features) fits.features few)
+    (values_of content) is.layers narrow

@@ -1,5 +1,5 @@
 -- The canonical bytes of a content: the one file that is written for it.
-use Rattle.std.specs.Prelude.{ℕ, List, ◌++◌, length, flat_map, codes}
+use Rattle.std.specs.Prelude.{ℕ, List, [], ◌∷◌, ◌++◌, length, flat_map, codes}
 use Rattle.std.specs.Int.{w64, cast_unsigned}
 use Rattle.byteorder.specs.Endian.{big_bytes}
 use Rattle.sf_wkb.specs.Grammar.{code_of, canonical as canonical_wkb}
@@ -57,6 +57,14 @@ layer_bytes entry =
 abbrev pub layers_bytes : Content → List ℕ
 layers_bytes content = big_bytes 4 (length content) ++ flat_map layer_bytes content
 
+-- the bytes at the front of a file that is written: those of the second version, and the byte of the grid
+abbrev pub front : List ℕ
+front = codes "SFSTORE2" ++ 24 ∷ []
+
 -- the canonical bytes of a content
 abbrev pub canonical : Content → List ℕ
-canonical content = codes "SFSTORE1" ++ layers_bytes content
+canonical content = front ++ layers_bytes content
+
+-- the bytes that the first version has for a content
+abbrev pub first_canonical : Content → List ℕ
+first_canonical content = codes "SFSTORE1" ++ layers_bytes content

@@ -8,7 +8,9 @@ use Rattle.sf_geometry.specs.Kinds.{kind_of}
 use Rattle.sf_rules.specs.declared.fault.Fault.{Fault as ShapeFault}
 use Rattle.sf_rules.specs.Verdicts.{first_fault}
 use Rattle.sf_wkb.specs.declared.fault.WkbFault.{WkbFault}
-use Rattle.sf_wkb.specs.Grammar.{read as read_wkb}
+use Rattle.sf_wkb.specs.declared.grid.Grid.{Grid}
+use Rattle.sf_wkb.specs.declared.grid.Grid.TheVariants.{Bits20, Bits24}
+use Rattle.sf_wkb.specs.Grammar.{read_in}
 use Rattle.sf_features.specs.Names.{is_name}
 use Rattle.sf_features.specs.Columns.{named, numbered}
 use Rattle.sf_features.specs.Features.{FeatureContent}
@@ -150,15 +152,30 @@ layers row = do
   count ← field (number 4) (λ n. allowed (nat_le n layers_max) IdsExhausted n)
   items (layer row) count []
 
--- the bytes at the front that tell which format follows: how its binary geometries are read
-abbrev pub head : Reading RowReading
-head = field (bytes 8) (λ text. allowed (bytes_eq text (codes "SFSTORE1")) BadFile read_wkb)
+-- whether the first bytes are those of the second version, where they are those of a version
+abbrev pub is_second : List ℕ → Result Bool Defect
+is_second text = if bytes_eq text (codes "SFSTORE1") then Ok false else allowed (bytes_eq text (codes "SFSTORE2")) BadFile true
+
+-- the grid that a byte stands for
+abbrev pub grid_of_byte : ℕ → Result Grid Defect
+grid_of_byte byte = allowed (nat_eq byte 24) BadFile Bits24
+
+-- the grid of the binary geometries: the first version has 20 bits, in the second one a byte tells
+abbrev pub grid_of : Bool → Reading Grid
+grid_of false = done Bits20
+grid_of true = field (number 1) grid_of_byte
+
+-- the bytes at the front that tell which version follows: the grid on which its binary geometries are read
+abbrev pub head : Reading Grid
+head = do
+  second ← field (bytes 8) is_second
+  grid_of second
 
 -- a whole file
 abbrev pub file : Reading Content
 file = do
-  row ← head
-  content ← layers row
+  grid ← head
+  content ← layers (read_in grid)
   ended ← end
   done content
 
@@ -166,6 +183,22 @@ file = do
 abbrev pub value_of : {T : Type 0} → Reads T → Result T Fault
 value_of (Ok x) = Ok x.0
 value_of (Err fault) = Err fault
+
+-- what the first version asks of the first bytes
+abbrev pub is_first : List ℕ → Result (Unit {0}) Defect
+is_first text = allowed (bytes_eq text (codes "SFSTORE1")) BadFile tt
+
+-- a whole file of the first version
+abbrev pub first_file : Reading Content
+first_file = do
+  front ← field (bytes 8) is_first
+  content ← layers (read_in Bits20)
+  ended ← end
+  done content
+
+-- the content of the bytes of a file of the first version, or the first fault in them
+abbrev pub first_content_of : List ℕ → Result Content Fault
+first_content_of text = value_of (first_file (record { place = 0; bytes = text }))
 
 -- the content of the bytes of a file, or the first fault in them
 abbrev pub content_of : List ℕ → Result Content Fault

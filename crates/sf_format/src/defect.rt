@@ -38,7 +38,7 @@ pub enum Defect {
     /// A column number is 0, used before or not below the layer's next one, or these are too few for
     /// the columns.
     ColumnsExhausted,
-    /// The first eight bytes aren't those of a file of a store.
+    /// The first eight bytes aren't those of a file of a store, or the byte of the grid isn't 24.
     BadFile,
 }
 

@@ -1,5 +1,5 @@
 //! Laws of the definitions, each proved as the contract of a function that does nothing.
-ghost use Rattle.sf_format.specs.Laws.{CanonicalBytesLoad, CanonicalBytesDiffer, FilesAreWellFormed};
+ghost use Rattle.sf_format.specs.Laws.{CanonicalBytesLoad, CanonicalBytesDiffer, FirstVersionLoads, FirstVersionIsKept, FirstCanonicalBytesLoad, FilesAreWellFormed};
 
 /// The canonical bytes of a well-formed content load as it.
 pub fn canonical_bytes_load()
@@ -9,6 +9,21 @@ pub fn canonical_bytes_load()
 /// The canonical bytes of a well-formed content are those of no other.
 pub fn canonical_bytes_differ()
     ensures { CanonicalBytesDiffer }
+{}
+
+/// A file of the first version loads as the content that it has there.
+pub fn first_version_loads()
+    ensures { FirstVersionLoads }
+{}
+
+/// Behind the first bytes of the first version nothing has changed: the same content, or the same first fault.
+pub fn first_version_is_kept()
+    ensures { FirstVersionIsKept }
+{}
+
+/// The bytes that the first version has for a content whose points are of 20 bits load as it.
+pub fn first_canonical_bytes_load()
+    ensures { FirstCanonicalBytesLoad }
 {}
 
 /// Only well-formed contents have files.

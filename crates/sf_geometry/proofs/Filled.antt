@@ -11,13 +11,20 @@ use mathlib.Core.List.{append_assoc}
 abbrev pub GoodList : {T : Type 0} → (T → Type 0) → List T → Type 0
 GoodList good xs = (0 < length xs) × AllByRecursion good xs
 
--- a line or a ring on the grid
-abbrev pub GoodLine : List Coordinates → Type 0
-GoodLine = GoodList IsOnGrid
+-- a line or a ring of good points
+abbrev pub GoodLineOf : (Coordinates → Type 0) → List Coordinates → Type 0
+GoodLineOf good = GoodList good
 
--- the rings of a polygon, or the lines of a MultiLineString
+-- the rings of a polygon, or the lines of a MultiLineString, of good points
+abbrev pub GoodLinesOf : (Coordinates → Type 0) → List (List Coordinates) → Type 0
+GoodLinesOf good = GoodList (GoodLineOf good)
+
+-- the same on the grid
+abbrev pub GoodLine : List Coordinates → Type 0
+GoodLine = GoodLineOf IsOnGrid
+
 abbrev pub GoodLines : List (List Coordinates) → Type 0
-GoodLines = GoodList GoodLine
+GoodLines = GoodLinesOf IsOnGrid
 
 -- the points of a list
 abbrev pub total : {T : Type 0} → (T → ℕ) → List T → ℕ
@@ -40,21 +47,28 @@ pub or_false : (a b : Bool) → (a || b) ≡ false → (a ≡ false) × (b ≡ f
 or_false true b e = absurd cc
 or_false false b e = (refl, e)
 
-each_good : {T : Type 0} (good : T → Type 0) (empty : T → Bool) (parts : T → List Coordinates) → ((x : T) → empty x ≡ false → AllByRecursion IsOnGrid (parts x) → good x)
-    → (xs : List T) → list_any empty xs ≡ false → AllByRecursion IsOnGrid (flat_map parts xs) → AllByRecursion good xs
-each_good good empty parts to_good [] filled on = tt
-each_good good empty parts to_good (x ∷ xs) filled on =
+each_good : {T : Type 0} (point : Coordinates → Type 0) (good : T → Type 0) (empty : T → Bool) (parts : T → List Coordinates)
+    → ((x : T) → empty x ≡ false → AllByRecursion point (parts x) → good x)
+    → (xs : List T) → list_any empty xs ≡ false → AllByRecursion point (flat_map parts xs) → AllByRecursion good xs
+each_good point good empty parts to_good [] filled on = tt
+each_good point good empty parts to_good (x ∷ xs) filled on =
     let both = or_false (empty x) (list_any empty xs) filled in
-    let split = all_append IsOnGrid (parts x) (flat_map parts xs) on in
-    (to_good x both.0 split.0, each_good good empty parts to_good xs both.1 split.1)
+    let split = all_append point (parts x) (flat_map parts xs) on in
+    (to_good x both.0 split.0, each_good point good empty parts to_good xs both.1 split.1)
+
+pub good_line_of : (point : Coordinates → Type 0) (ps : List Coordinates) → is_empty ps ≡ false → AllByRecursion point ps → GoodLineOf point ps
+good_line_of point ps filled on = (some_by ps filled, on)
+
+pub good_lines_of : (point : Coordinates → Type 0) (lines : List (List Coordinates)) → has_empty lines ≡ false → AllByRecursion point (joined lines) → GoodLinesOf point lines
+good_lines_of point lines filled on =
+    let both = or_false (is_empty lines) (list_any is_empty lines) filled in
+    (some_by lines both.0, each_good point (GoodLineOf point) is_empty (λ ps. ps) (good_line_of point) lines both.1 on)
 
 pub good_line : (ps : List Coordinates) → is_empty ps ≡ false → AllByRecursion IsOnGrid ps → GoodLine ps
-good_line ps filled on = (some_by ps filled, on)
+good_line = good_line_of IsOnGrid
 
 pub good_lines : (lines : List (List Coordinates)) → has_empty lines ≡ false → AllByRecursion IsOnGrid (joined lines) → GoodLines lines
-good_lines lines filled on =
-    let both = or_false (is_empty lines) (list_any is_empty lines) filled in
-    (some_by lines both.0, each_good GoodLine is_empty (λ ps. ps) good_line lines both.1 on)
+good_lines = good_lines_of IsOnGrid
 
 pub joined_append : (a b : List (List Coordinates)) → joined (a ++ b) ≡ joined a ++ joined b
 joined_append [] b = refl
@@ -64,10 +78,14 @@ pub joined_twice : (polygons : List (List (List Coordinates))) → joined (joine
 joined_twice [] = refl
 joined_twice (p ∷ ps) = joined_append p (joined ps) ∙ ap (λ r. joined p ++ r) (joined_twice ps)
 
-pub good_polygons : (polygons : List (List (List Coordinates))) → (is_empty polygons || list_any has_empty polygons) ≡ false → AllByRecursion IsOnGrid (joined (joined polygons)) → GoodList GoodLines polygons
-good_polygons polygons filled on =
+pub good_polygons_of : (point : Coordinates → Type 0) (polygons : List (List (List Coordinates))) → (is_empty polygons || list_any has_empty polygons) ≡ false
+    → AllByRecursion point (joined (joined polygons)) → GoodList (GoodLinesOf point) polygons
+good_polygons_of point polygons filled on =
     let both = or_false (is_empty polygons) (list_any has_empty polygons) filled in
-    (some_by polygons both.0, each_good GoodLines has_empty joined good_lines polygons both.1 (subst (AllByRecursion IsOnGrid) (joined_twice polygons) on))
+    (some_by polygons both.0, each_good point (GoodLinesOf point) has_empty joined (good_lines_of point) polygons both.1 (subst (AllByRecursion point) (joined_twice polygons) on))
+
+pub good_polygons : (polygons : List (List (List Coordinates))) → (is_empty polygons || list_any has_empty polygons) ≡ false → AllByRecursion IsOnGrid (joined (joined polygons)) → GoodList GoodLines polygons
+good_polygons = good_polygons_of IsOnGrid
 
 total_parts : {T : Type 0} (size : T → ℕ) (parts : T → List Coordinates) → ((x : T) → size x ≡ length (parts x)) → (xs : List T) → total size xs ≡ length (flat_map parts xs)
 total_parts size parts each [] = refl

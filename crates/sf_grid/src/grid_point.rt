@@ -4,7 +4,7 @@ ghost use Rattle.sf_grid.specs.Plane.{IsOnGrid};
 use crate::bounds::{GRID_MAX, GRID_MIN};
 use std::marker::Model;
 
-/// A point of the grid: whole coordinates from -524288 to 524287, in grid steps.
+/// A point of the grid: whole coordinates from -8388608 to 8388607, in grid steps.
 #[derive(Clone, Copy, Debug, PartialEq, Eq)]
 pub struct GridPoint {
     x: i32,

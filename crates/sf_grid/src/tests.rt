@@ -6,9 +6,9 @@ use std::cmp::Ordering;
 use std::process::Abort;
 use std::test::Fail;
 
-const LOW: i32 = -524_288;
+const LOW: i32 = -8_388_608;
 
-const HIGH: i32 = 524_287;
+const HIGH: i32 = 8_388_607;
 
 fn point(x: i32, y: i32) -> Result<GridPoint, Fail>
     ensures { IfOk result (λ p. p ≡ record { x = x; y = y }) }

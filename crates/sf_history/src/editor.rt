@@ -7,7 +7,8 @@ use sf_refusals::Refusal;
 use std::alloc::Global;
 use std::marker::Model;
 
-/// A store with the history of its edits. Contracts see the content now with the past and future contents.
+/// A store with the history of its edits, which several editors make in turn, each known by a number. Contracts
+/// see the content now with the past and future contents, and whose step stands beside each.
 #[derive(Drop)]
 pub struct Editor {
     store: Store,
@@ -15,22 +16,26 @@ pub struct Editor {
     done: Vec<Inverse>,
     // The last one is the next to be done again.
     undone: Vec<Edit>,
+    // Whose steps these are: of those done the first one first, then of those undone the next one first. So
+    // undo and redo leave them as they are.
+    editors: Vec<u8>,
 }
 
 impl Model for Editor {
-    ghost use Rattle.std.specs.Prelude.{reverse};
+    ghost use Rattle.std.specs.Prelude.{◌≡◌, ◌+◌, length, reverse, take, drop};
     ghost use Rattle.sf_history.specs.History.{Machine, past_of, future_of, FitInTurn, AcceptedInTurn};
 
     ghost Value = { Machine };
 
     ghost view = { λ a. record {
-      past = past_of a.store (reverse a.done.items);
+      past = past_of a.store (reverse a.done.items) (reverse (take (length a.done.items) a.editors.items));
       now = a.store;
-      future = future_of a.store (reverse a.undone.items);
+      future = future_of a.store (reverse a.undone.items) (drop (length a.done.items) a.editors.items);
     } };
 
     ghost invariant = { λ a.
-        FitInTurn a.store (reverse a.done.items) × AcceptedInTurn a.store (reverse a.undone.items) };
+        FitInTurn a.store (reverse a.done.items) × AcceptedInTurn a.store (reverse a.undone.items)
+        × (length a.editors.items ≡ length a.done.items + length a.undone.items) };
 }
 
 impl Editor {
@@ -49,23 +54,43 @@ impl Editor {
             store,
             done: Vec::new(alloc),
             undone: Vec::new(alloc),
+            editors: Vec::new(alloc),
         }
     }
 
-    /// Carries out an edit and empties the future. A refused edit is given back and changes nothing.
+    /// Carries out an edit of editor 0.
     pub fn edit(&mut self, alloc: Global, edit: Edit) -> Result<Answer, (Edit, Refusal)>
-        ensures accepted { IfOk result (λ answer. edited self.old edit ≡ Ok (self.new, answer)) }
+        ensures accepted { IfOk result (λ answer. edited 0 self.old edit ≡ Ok (self.new, answer)) }
         ensures refused { IfErr result (λ e.
-            (edited self.old edit ≡ Err e.1) ⊎ (e.1 ≡ Refusal.Memory)) }
+            (edited 0 self.old edit ≡ Err e.1) ⊎ (e.1 ≡ Refusal.Memory)) }
         ensures given_back { IfErr result (λ e. e.0 ≡ edit) }
         ensures unchanged { OnErr result (self.new ≡ self.old) }
     {
-        if self.done.reserve(1).is_err() {
+        self.edit_as(alloc, 0, edit)
+    }
+
+    /// Carries out an edit of the editor, and empties the future. A refused edit is given back and changes
+    /// nothing.
+    pub fn edit_as(
+        &mut self,
+        alloc: Global,
+        editor: u8,
+        edit: Edit,
+    ) -> Result<Answer, (Edit, Refusal)>
+        ensures accepted { IfOk result (λ answer. edited editor self.old edit ≡ Ok (self.new, answer)) }
+        ensures refused { IfErr result (λ e.
+            (edited editor self.old edit ≡ Err e.1) ⊎ (e.1 ≡ Refusal.Memory)) }
+        ensures given_back { IfErr result (λ e. e.0 ≡ edit) }
+        ensures unchanged { OnErr result (self.new ≡ self.old) }
+    {
+        if self.done.reserve(1).is_err() || self.editors.reserve(1).is_err() {
             return Err((edit, Refusal::Memory));
         }
         match apply(alloc, &mut self.store, edit) {
             Ok(inverse) => {
                 let answer = inverse.answer();
+                self.editors.truncate(self.done.len());
+                self.editors.push(editor).unwrap();
                 self.done.push(inverse).unwrap();
                 self.undone.clear();
                 Ok(answer)
@@ -74,21 +99,36 @@ impl Editor {
         }
     }
 
-    /// Takes the last edit back. A refused undo changes nothing; without a past it takes no memory.
+    /// Takes the last edit back, where it was editor 0's.
     pub fn undo(&mut self, alloc: Global) -> Result<(), Refusal>
-        ensures done { OnOk result (undone self.old ≡ Ok self.new) }
-        ensures refused { IfErr result (λ refusal. (undone self.old ≡ Err refusal)
-            ⊎ ((refusal ≡ Refusal.Memory) × IsOk (undone self.old))) }
+        ensures done { OnOk result (undone 0 self.old ≡ Ok self.new) }
+        ensures refused { IfErr result (λ refusal. (undone 0 self.old ≡ Err refusal)
+            ⊎ ((refusal ≡ Refusal.Memory) × IsOk (undone 0 self.old))) }
         ensures unchanged { OnErr result (self.new ≡ self.old) }
     {
-        let Some(inverse) = self.done.pop() else {
+        self.undo_as(alloc, 0)
+    }
+
+    /// Takes the last edit back, where it was the editor's: `NothingToUndo` without a past, `NotYours` where it
+    /// was another's. A refused undo changes nothing, and but for `Memory` it takes no memory.
+    pub fn undo_as(&mut self, alloc: Global, editor: u8) -> Result<(), Refusal>
+        ensures done { OnOk result (undone editor self.old ≡ Ok self.new) }
+        ensures refused { IfErr result (λ refusal. (undone editor self.old ≡ Err refusal)
+            ⊎ ((refusal ≡ Refusal.Memory) × IsOk (undone editor self.old))) }
+        ensures unchanged { OnErr result (self.new ≡ self.old) }
+    {
+        let Some(last) = self.done.len().checked_sub(1) else {
             return Err(Refusal::NothingToUndo);
         };
+        let owner = self.editors[last];
+        if owner != editor {
+            return Err(Refusal::NotYours(owner));
+        }
         // The place among the edits to be done again comes first.
         if self.undone.reserve(1).is_err() {
-            self.done.push(inverse).unwrap();
             return Err(Refusal::Memory);
         }
+        let inverse = self.done.pop().unwrap();
         match revert(alloc, &mut self.store, inverse) {
             Ok(edit) => {
                 self.undone.push(edit).unwrap();
@@ -101,21 +141,36 @@ impl Editor {
         }
     }
 
-    /// Does the last edit that was taken back again. A refused redo changes nothing; without a future it takes
-    /// no memory.
+    /// Does the last edit that was taken back again, where it was editor 0's.
     pub fn redo(&mut self, alloc: Global) -> Result<(), Refusal>
-        ensures done { OnOk result (redone self.old ≡ Ok self.new) }
-        ensures refused { IfErr result (λ refusal. (redone self.old ≡ Err refusal)
-            ⊎ ((refusal ≡ Refusal.Memory) × IsOk (redone self.old))) }
+        ensures done { OnOk result (redone 0 self.old ≡ Ok self.new) }
+        ensures refused { IfErr result (λ refusal. (redone 0 self.old ≡ Err refusal)
+            ⊎ ((refusal ≡ Refusal.Memory) × IsOk (redone 0 self.old))) }
         ensures unchanged { OnErr result (self.new ≡ self.old) }
     {
-        let Some(edit) = self.undone.pop() else {
+        self.redo_as(alloc, 0)
+    }
+
+    /// Does the last edit that was taken back again, where it was the editor's: `NothingToRedo` without a
+    /// future, `NotYours` where it was another's. A refused redo changes nothing, and but for `Memory` it takes
+    /// no memory.
+    pub fn redo_as(&mut self, alloc: Global, editor: u8) -> Result<(), Refusal>
+        ensures done { OnOk result (redone editor self.old ≡ Ok self.new) }
+        ensures refused { IfErr result (λ refusal. (redone editor self.old ≡ Err refusal)
+            ⊎ ((refusal ≡ Refusal.Memory) × IsOk (redone editor self.old))) }
+        ensures unchanged { OnErr result (self.new ≡ self.old) }
+    {
+        if self.undone.is_empty() {
             return Err(Refusal::NothingToRedo);
-        };
+        }
+        let owner = self.editors[self.done.len()];
+        if owner != editor {
+            return Err(Refusal::NotYours(owner));
+        }
         if self.done.reserve(1).is_err() {
-            self.undone.push(edit).unwrap();
             return Err(Refusal::Memory);
         }
+        let edit = self.undone.pop().unwrap();
         match apply(alloc, &mut self.store, edit) {
             Ok(inverse) => {
                 self.done.push(inverse).unwrap();

@@ -9,13 +9,12 @@ use Rattle.sf_features.specs.declared.column_type.ColumnType.{ColumnType}
 use Rattle.sf_features.specs.declared.attr_value.AttrValue.{AttrValue}
 use Rattle.sf_features.specs.Columns.{numbered}
 use Rattle.sf_features.specs.Features.{FeatureContent}
-use Rattle.sf_wkb.specs.Grammar.{read as read_wkb}
 use Rattle.sf_layers.specs.declared.layer_kind.LayerKind.{LayerKind}
 use Rattle.sf_layers.specs.WellFormed.{IsIssued}
 use Rattle.sf_streams.specs.Streams.{Left}
 use Rattle.sf_format.specs.declared.defect.Defect.TheVariants.{NoColumn}
 use Rattle.sf_format.specs.Readings.{Reading, ◌>>=◌, done, field, items, number}
-use Rattle.sf_format.specs.Format.{allowed, geometry, last_number, next_column_of, next_of, typed_value, value}
+use Rattle.sf_format.specs.Format.{RowReading, allowed, geometry, last_number, next_column_of, next_of, typed_value, value}
 use Rattle.sf_loading.specs.declared.halt.Halt.{Halt}
 use Rattle.sf_loading.specs.Streaming.{Ends, Takes}
 
@@ -47,10 +46,10 @@ pub record AreUpTo {X : Type 0} (last : ℕ) (entries : List (ℕ × X)) : Type 
   pub rising : IsStrictlySortedBy nat_cmp (keys_of entries)
 
 -- a feature of a layer, behind its identifier, which is above a number
-abbrev pub feature_above : LayerKind → ℕ → List Column → ℕ → Reading (ℕ × FeatureContent)
-feature_above kind next_id columns before = do
+abbrev pub feature_above : RowReading → LayerKind → ℕ → List Column → ℕ → Reading (ℕ × FeatureContent)
+feature_above row kind next_id columns before = do
   id ← field (number 4) (next_of next_id before)
-  shape ← geometry read_wkb kind
+  shape ← geometry row kind
   count ← field (number 2) (λ n. allowed (nat_le n (length columns)) NoColumn n)
   values ← items (value columns) count []
   done (id, record { geometry = shape; values = values })

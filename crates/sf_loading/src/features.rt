@@ -1,6 +1,6 @@
 //! The features of a layer.
 ghost use Rattle.std.specs.Prelude.{◌≡◌, ◌&&◌, ◌≤◌, ◌<◌, ℕ, List, [], nat_le, nat_lt, length, IfOk};
-ghost use Rattle.sf_wkb.specs.Grammar.{read as read_wkb};
+ghost use Rattle.sf_wkb.specs.Grammar.{read_in};
 ghost use Rattle.sf_layers.specs.WellFormed.{IsFeature, IsLayer};
 ghost use Rattle.sf_format.specs.declared.defect.Defect.TheVariants.{IdsExhausted, NoColumn};
 ghost use Rattle.sf_format.specs.Readings.{field, items, number};
@@ -18,6 +18,7 @@ use sf_features::Feature;
 use sf_format::Defect;
 use sf_layers::Layer;
 use sf_streams::Window;
+use sf_wkb::Grid;
 use std::alloc::Global;
 use std::io::Read;
 
@@ -63,18 +64,19 @@ fn feature<R: Read>(
     alloc: Global,
     window: &mut Window,
     reader: &mut R,
+    grid: Grid,
     layer: &Layer,
     types: &ColumnTypes,
     previous: u32,
 ) -> Result<(u32, Feature), Halt>
     requires { AreTypesOf types.now layer.now.columns }
-    ensures gives { Gives (λ f. f) (feature_above layer.now.kind layer.now.next_id layer.now.columns previous)
+    ensures gives { Gives (λ f. f) (feature_above (read_in grid) layer.now.kind layer.now.next_id layer.now.columns previous)
         (R.remaining reader.old) (R.remaining reader.new) window.old window.new result }
     ensures fits { IfOk result (λ f. IsFeature layer.now.kind layer.now.columns f.1) }
     ensures between { IfOk result (λ f. (previous < f.0) × (f.0 < layer.now.next_id)) }
 {
     let id = feature_id(window, reader, layer.next_id(), previous)?;
-    let valid = geometry(alloc, window, reader, layer.kind())?;
+    let valid = geometry(alloc, window, reader, grid, layer.kind())?;
     let count = value_count(window, reader, layer)?;
     let mut feature = Feature::new(alloc, valid);
     values(alloc, window, reader, types, count, &mut feature)?;
@@ -100,6 +102,7 @@ pub(crate) fn features<R: Read>(
     alloc: Global,
     window: &mut Window,
     reader: &mut R,
+    grid: Grid,
     layer: &mut Layer,
     types: &ColumnTypes,
     count: u32,
@@ -107,14 +110,14 @@ pub(crate) fn features<R: Read>(
     requires types { AreTypesOf types.now layer.old.columns }
     requires empty { layer.old.features ≡ [] }
     requires fits { IsLayer layer.old }
-    ensures gives { Gives (λ _. layer.new.features) (items (feature_of read_wkb layer.old.kind layer.old.next_id layer.old.columns) count [])
+    ensures gives { Gives (λ _. layer.new.features) (items (feature_of (read_in grid) layer.old.kind layer.old.next_id layer.old.columns) count [])
         (R.remaining reader.old) (R.remaining reader.new) window.old window.new result }
     ensures kept { layer.new ≡ record layer.old { features = layer.new.features } }
     ensures fits { IsLayer layer.new }
 {
     let mut previous = 0;
     for _ in 0..count {
-        let (id, feature) = feature(alloc, window, reader, layer, types, previous)?;
+        let (id, feature) = feature(alloc, window, reader, grid, layer, types, previous)?;
         if layer.put_feature(alloc, id, feature).is_err() {
             return Err(Halt::Memory);
         }

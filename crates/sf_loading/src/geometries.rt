@@ -6,7 +6,7 @@ ghost use Rattle.sf_geometry.specs.Size.{IsSized};
 ghost use Rattle.sf_rules.specs.Verdicts.{first_fault};
 ghost use Rattle.sf_validity.specs.Held.{IsHeld};
 ghost use Rattle.sf_wkb.specs.declared.fault.WkbFault.{WkbFault as RowFault};
-ghost use Rattle.sf_wkb.specs.Grammar.{OrMemory, read as read_wkb};
+ghost use Rattle.sf_wkb.specs.Grammar.{OrMemory, read_in};
 ghost use Rattle.sf_layers.specs.Content.{admits};
 ghost use Rattle.sf_format.specs.declared.defect.Defect.TheVariants.{TooManyVertices};
 ghost use Rattle.sf_format.specs.Readings.{field, number};
@@ -21,7 +21,7 @@ use sf_geometry::Geometry;
 use sf_layers::LayerKind;
 use sf_streams::Window;
 use sf_validity::{Refusal, Valid, validate};
-use sf_wkb::WkbFault;
+use sf_wkb::{Grid, WkbFault};
 use std::alloc::Global;
 use std::io::Read;
 
@@ -80,14 +80,15 @@ fn admitted(
     }
 }
 
-/// A binary geometry, behind its length.
+/// A binary geometry on a grid, behind its length.
 pub(crate) fn geometry<R: Read>(
     alloc: Global,
     window: &mut Window,
     reader: &mut R,
+    grid: Grid,
     kind: LayerKind,
 ) -> Result<Valid, Halt>
-    ensures gives { Gives (λ v. v) (geometry_of read_wkb kind) (R.remaining reader.old)
+    ensures gives { Gives (λ v. v) (geometry_of (read_in grid) kind) (R.remaining reader.old)
         (R.remaining reader.new) window.old window.new result }
     ensures kind { IfOk result (λ v. IsTrue (admits kind (kind_of v))) }
     ensures held { IfOk result IsHeld }
@@ -95,7 +96,7 @@ pub(crate) fn geometry<R: Read>(
     let size = row_size(window, reader)? as usize;
     require(window, reader, size)?;
     let place = window.place();
-    let read = sf_wkb::read(alloc, window.front(size));
+    let read = sf_wkb::read_in(alloc, window.front(size), grid);
     window.skip(size);
     admitted(alloc, place, kind, read)
 }

@@ -1,12 +1,12 @@
 //! The layers of a store.
 ghost use Rattle.std.specs.Prelude.{◌≡◌, ◌≤◌, None, [], nat_le, nat_lt, IfOk, IsTrue};
-ghost use Rattle.sf_wkb.specs.Grammar.{read as read_wkb};
+ghost use Rattle.sf_wkb.specs.Grammar.{read_in};
 ghost use Rattle.sf_features.specs.Names.{is_name};
 ghost use Rattle.sf_layers.specs.Content.{layer_of};
 ghost use Rattle.sf_layers.specs.WellFormed.{IsLayer, layers_max};
 ghost use Rattle.sf_format.specs.declared.defect.Defect.TheVariants.{ColumnsExhausted, IdsExhausted, WrongKind};
 ghost use Rattle.sf_format.specs.Readings.{field, items, number};
-ghost use Rattle.sf_format.specs.Format.{allowed as allowed_of, kind_of_byte as kind_of_byte_of, layer as read_layer, layers as read_layers, present as present_of};
+ghost use Rattle.sf_format.specs.Format.{RowReading, allowed as allowed_of, kind_of_byte as kind_of_byte_of, layer as read_layer, layers as read_layers, present as present_of};
 ghost use Rattle.sf_loading.specs.Streaming.{Gives, Reaches};
 ghost use Rattle.sf_loading.specs.Layers.{IsBare, layer_after_counters};
 
@@ -21,6 +21,7 @@ use sf_format::Defect;
 use sf_geometry::Kind;
 use sf_layers::{LAYERS_MAX, Layer, LayerKind, Store};
 use sf_streams::Window;
+use sf_wkb::Grid;
 use std::alloc::Global;
 use std::io::Read;
 
@@ -76,7 +77,7 @@ fn header<R: Read>(
     reader: &mut R,
     store: &Store,
 ) -> Result<(Text, Layer), Halt>
-    ensures reaches { Reaches (read_layer read_wkb store.now) layer_after_counters (R.remaining reader.old)
+    ensures reaches { (row : RowReading) → Reaches (read_layer row store.now) (layer_after_counters row) (R.remaining reader.old)
         (R.remaining reader.new) window.old window.new result }
     ensures bare { IfOk result (λ entry. IsBare entry.1) }
     ensures named { IfOk result (λ entry. IsTrue (is_name entry.0)) }
@@ -97,9 +98,10 @@ fn layer<R: Read>(
     alloc: Global,
     window: &mut Window,
     reader: &mut R,
+    grid: Grid,
     store: &Store,
 ) -> Result<(Text, Layer), Halt>
-    ensures gives { Gives (λ entry. entry) (read_layer read_wkb store.now) (R.remaining reader.old)
+    ensures gives { Gives (λ entry. entry) (read_layer (read_in grid) store.now) (R.remaining reader.old)
         (R.remaining reader.new) window.old window.new result }
     ensures fits { IfOk result (λ entry. IsLayer entry.1) }
     ensures named { IfOk result (λ entry. IsTrue (is_name entry.0)) }
@@ -109,7 +111,15 @@ fn layer<R: Read>(
     let column_count = column_count(window, reader, layer.next_column())?;
     let types = columns(alloc, window, reader, &mut layer, column_count)?;
     let feature_count = feature_count(window, reader, layer.next_id())?;
-    features(alloc, window, reader, &mut layer, &types, feature_count)?;
+    features(
+        alloc,
+        window,
+        reader,
+        grid,
+        &mut layer,
+        &types,
+        feature_count,
+    )?;
     layer.reindex(alloc);
     Ok((name, layer))
 }
@@ -133,15 +143,16 @@ fn counted_layers<R: Read>(
     alloc: Global,
     window: &mut Window,
     reader: &mut R,
+    grid: Grid,
     count: u32,
 ) -> Result<Store, Halt>
     requires { count ≤ layers_max }
-    ensures { Gives (λ s. s) (items (read_layer read_wkb) count []) (R.remaining reader.old)
+    ensures { Gives (λ s. s) (items (read_layer (read_in grid)) count []) (R.remaining reader.old)
         (R.remaining reader.new) window.old window.new result }
 {
     let mut store = Store::new(alloc);
     for _ in 0..count {
-        let (name, layer) = layer(alloc, window, reader, &store)?;
+        let (name, layer) = layer(alloc, window, reader, grid, &store)?;
         let last = store.layer_count();
         if store.put_layer(alloc, last, name, layer).is_err() {
             return Err(Halt::Memory);
@@ -150,15 +161,16 @@ fn counted_layers<R: Read>(
     Ok(store)
 }
 
-/// The layers of a store, behind their count.
+/// The layers of a store, behind their count, with geometries on a grid.
 pub(crate) fn layers<R: Read>(
     alloc: Global,
     window: &mut Window,
     reader: &mut R,
+    grid: Grid,
 ) -> Result<Store, Halt>
-    ensures { Gives (λ s. s) (read_layers read_wkb) (R.remaining reader.old) (R.remaining reader.new)
+    ensures { Gives (λ s. s) (read_layers (read_in grid)) (R.remaining reader.old) (R.remaining reader.new)
         window.old window.new result }
 {
     let count = layer_count(window, reader)?;
-    counted_layers(alloc, window, reader, count)
+    counted_layers(alloc, window, reader, grid, count)
 }

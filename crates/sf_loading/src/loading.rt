@@ -1,37 +1,71 @@
 //! A store from the bytes of a reader.
 ghost use Rattle.std.specs.Prelude.{◌≡◌, IfErr, IfOk};
-ghost use Rattle.sf_wkb.specs.Grammar.{read as read_wkb};
 ghost use Rattle.sf_streams.specs.Streams.{nothing_ahead};
-ghost use Rattle.sf_format.specs.Format.{file as read_file, head as read_head};
+ghost use Rattle.sf_format.specs.Format.{file as read_file, grid_of_byte, head as read_head, is_second as is_second_of};
+ghost use Rattle.sf_format.specs.Readings.{bytes, field, number};
 ghost use Rattle.sf_loading.specs.Loading.{FailsBy, Loads};
 ghost use Rattle.sf_loading.specs.Streaming.{Ends, Gives};
 
 use super::halt::Halt;
 use super::layers::layers;
 use super::load_fault::LoadFault;
-use super::numbers::require;
+use super::numbers::{number_u8, require};
+use super::rules::allowed;
 use sf_format::Defect;
 use sf_layers::Store;
 use sf_streams::Window;
+use sf_wkb::Grid;
 use std::alloc::Global;
 use std::io::Read;
 
-/// The first bytes of each file.
-const HEAD: &[u8; 8] = b"SFSTORE1";
+/// The first bytes of each file of the first version.
+const FIRST: &[u8; 8] = b"SFSTORE1";
 
-/// The first bytes of a file.
-fn head<R: Read>(window: &mut Window, reader: &mut R) -> Result<(), Halt>
-    ensures { Gives (λ _. read_wkb) read_head (R.remaining reader.old) (R.remaining reader.new)
-        window.old window.new result }
+/// The first bytes of each file of the second version.
+const SECOND: &[u8; 8] = b"SFSTORE2";
+
+/// The byte of the grid in a file of the second version: coordinates of so many bits.
+const GRID_BITS: u8 = 24;
+
+/// Whether the first bytes are those of the second version.
+fn is_second<R: Read>(window: &mut Window, reader: &mut R) -> Result<bool, Halt>
+    ensures { Gives (λ second. second) (field (bytes 8) is_second_of) (R.remaining reader.old)
+        (R.remaining reader.new) window.old window.new result }
 {
     let place = window.place();
-    require(window, reader, HEAD.len())?;
-    let is_head = window.front(HEAD.len()) == HEAD.as_slice();
-    window.skip(HEAD.len());
-    if is_head {
-        Ok(())
+    require(window, reader, FIRST.len())?;
+    let is_first = window.front(FIRST.len()) == FIRST.as_slice();
+    let is_second = window.front(SECOND.len()) == SECOND.as_slice();
+    window.skip(FIRST.len());
+    if is_first {
+        Ok(false)
+    } else if is_second {
+        Ok(true)
     } else {
         Err(Halt::Found(place, Defect::BadFile))
+    }
+}
+
+/// The grid that a byte stands for.
+fn row_grid<R: Read>(window: &mut Window, reader: &mut R) -> Result<Grid, Halt>
+    ensures { Gives (λ grid. grid) (field (number 1) grid_of_byte) (R.remaining reader.old)
+        (R.remaining reader.new) window.old window.new result }
+{
+    let place = window.place();
+    let byte = number_u8(window, reader)?;
+    allowed(byte == GRID_BITS, place, Defect::BadFile, Grid::Bits24)
+}
+
+/// The bytes at the front of a file: the grid on which its geometries are.
+fn head<R: Read>(window: &mut Window, reader: &mut R) -> Result<Grid, Halt>
+    ensures { Gives (λ grid. grid) read_head (R.remaining reader.old) (R.remaining reader.new)
+        window.old window.new result }
+{
+    let second = is_second(window, reader)?;
+    if second {
+        row_grid(window, reader)
+    } else {
+        Ok(Grid::Bits20)
     }
 }
 
@@ -42,8 +76,8 @@ fn file<R: Read>(alloc: Global, window: &mut Window, reader: &mut R) -> Result<S
     ensures ended { IfErr result (λ halt.
         Ends read_file (R.remaining reader.old) (R.remaining reader.new) nothing_ahead halt) }
 {
-    head(window, reader)?;
-    let store = layers(alloc, window, reader)?;
+    let grid = head(window, reader)?;
+    let store = layers(alloc, window, reader, grid)?;
     if window.need(reader, 1)? {
         return Err(Halt::Found(window.place(), Defect::Trailing));
     }

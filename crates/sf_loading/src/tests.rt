@@ -94,6 +94,74 @@ fn every_front_is_cut(rt: HostRuntime) {
     }
 }
 
+/// The bytes of a file of the second version that has what a file of the first version has.
+fn second(alloc: Global, first: &[u8]) -> Result<Vec<u8>, Fail> {
+    let mut bytes = Vec::new(alloc);
+    bytes.extend_from_slice(b"SFSTORE2\x18")?;
+    bytes.extend_from_slice(first.get(8..).unwrap_or(&[]))?;
+    Ok(bytes)
+}
+
+// The same content in both versions; the front of the second one has a byte more.
+#[test]
+fn second_version_loads(rt: HostRuntime) -> Result<(), Fail> {
+    let alloc = rt.alloc();
+    let bytes = second(alloc, WELLS.as_slice())?;
+    assert_eq!(rt; bytes.len(), 63);
+    assert!(rt; is_wells(&load(alloc, &mut bytes.as_slice())?));
+    for len in 0..bytes.len() {
+        assert!(rt;
+            is_refused(alloc, &bytes.as_slice()[..len], len as u64, 7),
+            "at {len}"
+        );
+    }
+    for change in [
+        (0, 0x54, 0, 34),
+        (7, 0x33, 0, 34),
+        (8, 20, 8, 34),
+        (8, 0, 8, 34),
+        (19, 7, 19, 26),
+    ] {
+        assert!(rt;
+            is_refused_changed(alloc, bytes.as_slice(), change),
+            "at {}",
+            change.0
+        );
+    }
+    Ok(())
+}
+
+#[test]
+fn used_up_identifiers_in_the_second_version(rt: HostRuntime) -> Result<(), Fail> {
+    let alloc = rt.alloc();
+    let bytes = second(alloc, USED_UP.as_slice())?;
+    let store = load(alloc, &mut bytes.as_slice())?;
+    let layer = store.layer("w").ok_or("no layer")?;
+    assert_eq!(rt; layer.next_id(), u32::MAX);
+    assert!(rt; is_refused(alloc, &bytes.as_slice()[..27], 27, 7));
+    Ok(())
+}
+
+// x is 524288, which is on the grid of the second version alone.
+#[test]
+fn far_points_load_in_the_second_version(rt: HostRuntime) -> Result<(), Fail> {
+    let alloc = rt.alloc();
+    let mut far = WELLS;
+    far[50] = 0x20;
+    far[51] = 0x41;
+    assert!(rt; is_refused(alloc, far.as_slice(), 39, 4));
+    let bytes = second(alloc, far.as_slice())?;
+    let store = load(alloc, &mut bytes.as_slice())?;
+    let layer = store.layer("wells").ok_or("no layer")?;
+    let feature = layer.feature(1).ok_or("no feature")?;
+    let Geometry::Point(point) = feature.valid().geometry() else {
+        return Err(Fail::from("no point"));
+    };
+    assert_eq!(rt; point.x(), 524_288);
+    assert_eq!(rt; point.y(), 4);
+    Ok(())
+}
+
 #[test]
 fn used_up_identifiers_load(rt: HostRuntime) -> Result<(), Fail> {
     let store = load(rt.alloc(), &mut USED_UP.as_slice())?;
@@ -126,8 +194,10 @@ fn is_refused_changed(alloc: Global, file: &[u8], change: (usize, u8, u64, u8)) 
 
 /// For the saved wells: the place of a byte and what is put there; the place and the number that it is
 /// refused by, which are those of its field.
-const WELLS_CHANGED: [(usize, u8, u64, u8); 17] = [
+const WELLS_CHANGED: [(usize, u8, u64, u8); 19] = [
     (0, 0x54, 0, 34),
+    (7, 0x32, 8, 34),
+    (7, 0x33, 0, 34),
     (12, 0, 12, 20),
     (12, 33, 12, 20),
     (13, 0x39, 12, 20),

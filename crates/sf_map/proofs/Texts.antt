@@ -2,26 +2,27 @@
 use Rattle.std.proofs.Common.{◌≡◌, ◌≤◌, ◌+◌, ℕ, zero, suc, Bool, true, false, List, [], ◌∷◌, ◌++◌, length, drop, slice_get, Some, ap, sym, refl, ◌∙◌, append_assoc, arith}
 use Rattle.std.specs.Prelude.{if◌then◌else◌}
 use Rattle.sf_layers.specs.Content.{Content, LayerContent}
+use Rattle.sf_map.specs.declared.view.View.{View}
 use Rattle.sf_map.specs.Pictures.{Choice, layer_text, layers_text, legend_row, legend_rows, row_height, shows_layer}
 
 -- what is left from a place on begins with the layer there
-pub layers-at : (choice : Choice) (content : Content) (place : ℕ) (entry : List ℕ × LayerContent) → slice_get content place ≡ Some entry
-    → layers_text choice place (drop place content) ≡ layer_text choice place entry ++ layers_text choice (place + 1) (drop (place + 1) content)
-layers-at choice content place entry there =
+pub layers-at : (choice : Choice) (view : View) (content : Content) (place : ℕ) (entry : List ℕ × LayerContent) → slice_get content place ≡ Some entry
+    → layers_text choice view place (drop place content) ≡ layer_text choice view place entry ++ layers_text choice view (place + 1) (drop (place + 1) content)
+layers-at choice view content place entry there =
     let next : suc place ≡ place + 1 = omega arith in
-    begins content place place entry there ∙ ap (λ (n : ℕ). layer_text choice place entry ++ layers_text choice n (drop n content)) next
+    begins content place place entry there ∙ ap (λ (n : ℕ). layer_text choice view place entry ++ layers_text choice view n (drop n content)) next
   where
     begins : (entries : Content) (i from : ℕ) (entry : List ℕ × LayerContent) → slice_get entries i ≡ Some entry
-        → layers_text choice from (drop i entries) ≡ layer_text choice from entry ++ layers_text choice (suc from) (drop (suc i) entries)
+        → layers_text choice view from (drop i entries) ≡ layer_text choice view from entry ++ layers_text choice view (suc from) (drop (suc i) entries)
     begins [] i from entry there = absurd cc
-    begins (e ∷ es) zero from entry there = let same : ◌≡◌ {A = List ℕ × LayerContent} e entry = cc in ap (λ (z : List ℕ × LayerContent). layer_text choice from z ++ layers_text choice (suc from) es) same
+    begins (e ∷ es) zero from entry there = let same : ◌≡◌ {A = List ℕ × LayerContent} e entry = cc in ap (λ (z : List ℕ × LayerContent). layer_text choice view from z ++ layers_text choice view (suc from) es) same
     begins (e ∷ es) (suc i) from entry there = begins es i from entry there
 
 -- nothing is left from the end on
-pub layers-none : (choice : Choice) (content : Content) (place : ℕ) → length content ≤ place → layers_text choice place (drop place content) ≡ []
-layers-none choice content place past = ends content place place past
+pub layers-none : (choice : Choice) (view : View) (content : Content) (place : ℕ) → length content ≤ place → layers_text choice view place (drop place content) ≡ []
+layers-none choice view content place past = ends content place place past
   where
-    ends : (entries : Content) (i from : ℕ) → length entries ≤ i → layers_text choice from (drop i entries) ≡ []
+    ends : (entries : Content) (i from : ℕ) → length entries ≤ i → layers_text choice view from (drop i entries) ≡ []
     ends [] zero from past = refl
     ends [] (suc i) from past = refl
     ends (e ∷ es) zero from past = absurd (omega (arith, past))

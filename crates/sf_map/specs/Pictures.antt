@@ -29,8 +29,8 @@ abbrev pub shows_geometry : Choice → Geometry → Bool
 shows_geometry choice geometry = is_in_window choice.window geometry
 
 -- the text of a feature of the layer of a name
-abbrev pub feature_text : Choice → List ℕ → ℕ × FeatureContent → List ℕ
-feature_text choice name entry = if shows_geometry choice entry.1.geometry then element name entry else []
+abbrev pub feature_text : Choice → View → List ℕ → ℕ × FeatureContent → List ℕ
+feature_text choice view name entry = if shows_geometry choice entry.1.geometry then element view name entry else []
 
 -- ---- layers
 
@@ -44,18 +44,18 @@ layer_head place name =
     codes "<g id='" ++ name ++ codes "' class='layer tint-" ++ decimal (place % tint_count) ++ codes "'>\n"
 
 -- the text of a layer at a place of the order, which is shown
-abbrev pub shown_layer_text : Choice → ℕ → List ℕ × LayerContent → List ℕ
-shown_layer_text choice place entry =
-    layer_head place entry.0 ++ (flat_map (feature_text choice entry.0) entry.1.features ++ codes "</g>\n")
+abbrev pub shown_layer_text : Choice → View → ℕ → List ℕ × LayerContent → List ℕ
+shown_layer_text choice view place entry =
+    layer_head place entry.0 ++ (flat_map (feature_text choice view entry.0) entry.1.features ++ codes "</g>\n")
 
 -- the text of a layer, if it is shown
-abbrev pub layer_text : Choice → ℕ → List ℕ × LayerContent → List ℕ
-layer_text choice place entry = if shows_layer choice entry.0 then shown_layer_text choice place entry else []
+abbrev pub layer_text : Choice → View → ℕ → List ℕ × LayerContent → List ℕ
+layer_text choice view place entry = if shows_layer choice entry.0 then shown_layer_text choice view place entry else []
 
 -- the text of the layers from a place of the order on
-abbrev pub layers_text : Choice → ℕ → Content → List ℕ
-layers_text choice place [] = []
-layers_text choice place (entry ∷ entries) = layer_text choice place entry ++ layers_text choice (suc place) entries
+abbrev pub layers_text : Choice → View → ℕ → Content → List ℕ
+layers_text choice view place [] = []
+layers_text choice view place (entry ∷ entries) = layer_text choice view place entry ++ layers_text choice view (suc place) entries
 
 -- ---- the legend
 
@@ -95,14 +95,17 @@ map_size view =
     codes "<rect class='background' width='100%' height='100%'/>\n<svg class='map' width='" ++ (decimal view.width ++ (codes "' height='"
     ++ (decimal view.map_height ++ codes "' viewBox='")))
 
--- the rectangle of the plane that the map shows, in grid steps: y is upwards within it
-abbrev pub map_box : View → List ℕ
-map_box view =
-    signed_decimal view.left ++ codes " " ++ signed_decimal view.top ++ codes " " ++ decimal view.wide ++ codes " " ++ decimal view.high
+-- how wide and how high the map is, in grid steps
+abbrev pub map_sides : View → List ℕ
+map_sides view = codes "0 0 " ++ (decimal view.wide ++ (codes " " ++ (decimal view.high ++ codes "' data-corner='")))
+
+-- where its corner lies in the plane: places are told from there, y upwards
+abbrev pub map_corner : View → List ℕ
+map_corner view = signed_decimal view.left ++ (codes " " ++ signed_decimal view.top)
 
 -- what stands before the layers
 abbrev pub front : View → List ℕ
-front view = picture_head view ++ style ++ map_size view ++ map_box view ++ codes "'>\n<g transform='scale(1 -1)'>\n"
+front view = picture_head view ++ style ++ map_size view ++ map_sides view ++ map_corner view ++ codes "'>\n<g transform='scale(1 -1)'>\n"
 
 -- the end of the map, and a frame round it
 abbrev pub frame_text : View → List ℕ
@@ -126,4 +129,4 @@ back choice view content =
 
 -- the picture of a store
 abbrev pub picture : Choice → View → Content → List ℕ
-picture choice view content = front view ++ (layers_text choice 0 content ++ back choice view content)
+picture choice view content = front view ++ (layers_text choice view 0 content ++ back choice view content)

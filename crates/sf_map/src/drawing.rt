@@ -36,7 +36,7 @@ pub fn draw<W: Write>(
     let mut text = String::new(alloc);
     push_front(&mut text, view)?;
     output.put(writer, text.as_bytes())?;
-    put_layers(&mut output, &mut text, writer, choice, store)?;
+    put_layers(&mut output, &mut text, writer, choice, view, store)?;
     text.clear();
     push_back(&mut text, choice, view, store)?;
     output.put(writer, text.as_bytes())?;

@@ -1,6 +1,6 @@
 //! What stands before and behind the layers of a picture: its size and style, a scale, a legend.
 ghost use Rattle.std.specs.Prelude.{◌≡◌, ◌++◌, string_bytes, OnOk};
-ghost use Rattle.sf_map.specs.Pictures.{back, frame_text, front, legend_row, legend_rows, legend_top, map_box, map_size, picture_head, scale_text, style};
+ghost use Rattle.sf_map.specs.Pictures.{back, frame_text, front, legend_row, legend_rows, legend_top, map_corner, map_sides, map_size, picture_head, scale_text, style};
 
 use super::choice::Choice;
 use super::layers::TINT_COUNT;
@@ -19,7 +19,8 @@ pub(crate) fn push_front(text: &mut String, view: &View) -> Result<(), AllocErro
     push_picture_head(text, view)?;
     text.push_str(STYLE)?;
     push_map_size(text, view)?;
-    push_map_box(text, view)?;
+    push_map_sides(text, view)?;
+    push_map_corner(text, view)?;
     text.push_str("'>\n<g transform='scale(1 -1)'>\n")
 }
 
@@ -47,15 +48,22 @@ fn push_map_size(text: &mut String, view: &View) -> Result<(), AllocError>
     )
 }
 
-/// Puts the rectangle of the plane that the map shows behind a text.
-fn push_map_box(text: &mut String, view: &View) -> Result<(), AllocError>
-    ensures { OnOk result (string_bytes text.new ≡ string_bytes text.old ++ map_box view.now) }
+/// Puts how wide and how high the map is behind a text.
+fn push_map_sides(text: &mut String, view: &View) -> Result<(), AllocError>
+    ensures { OnOk result (string_bytes text.new ≡ string_bytes text.old ++ map_sides view.now) }
+{
+    let wide = view.wide;
+    let high = view.high;
+    write!(text, "0 0 {wide} {high}' data-corner='")
+}
+
+/// Puts where the map's corner lies behind a text.
+fn push_map_corner(text: &mut String, view: &View) -> Result<(), AllocError>
+    ensures { OnOk result (string_bytes text.new ≡ string_bytes text.old ++ map_corner view.now) }
 {
     let left = view.left;
     let top = view.top;
-    let wide = view.wide;
-    let high = view.high;
-    write!(text, "{left} {top} {wide} {high}")
+    write!(text, "{left} {top}")
 }
 
 /// Puts what stands behind the layers behind a text.

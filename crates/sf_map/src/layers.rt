@@ -6,6 +6,7 @@ ghost use Rattle.sf_streams.specs.Streams.{Puts, WritesFront};
 use super::choice::Choice;
 use super::draw_fault::DrawFault;
 use super::elements::push_element;
+use super::view::View;
 use sf_layers::{Feature, Layer, Store};
 use sf_streams::Output;
 use std::alloc::AllocError;
@@ -32,18 +33,19 @@ fn put_feature<W: Write>(
     text: &mut String,
     writer: &mut W,
     choice: &Choice,
+    view: &View,
     name: &str,
     id: u32,
     feature: &Feature,
 ) -> Result<(), DrawFault>
     ensures ok { OnOk result (Puts (W.contents writer.old) (W.contents writer.new) output.old output.new
-        (feature_text choice.now name.now (id, feature.now))) }
+        (feature_text choice.now view.now name.now (id, feature.now))) }
     ensures broken { OnErr result (WritesFront (W.contents writer.old) (W.contents writer.new)
-        (output.old ++ feature_text choice.now name.now (id, feature.now))) }
+        (output.old ++ feature_text choice.now view.now name.now (id, feature.now))) }
 {
     if choice.shows_geometry(feature.valid().geometry()) {
         text.clear();
-        push_element(text, name, id, feature)?;
+        push_element(text, view, name, id, feature)?;
         output.put(writer, text.as_bytes())?;
     }
     Ok(())
@@ -55,16 +57,17 @@ fn put_features<W: Write>(
     text: &mut String,
     writer: &mut W,
     choice: &Choice,
+    view: &View,
     name: &str,
     layer: &Layer,
 ) -> Result<(), DrawFault>
     ensures ok { OnOk result (Puts (W.contents writer.old) (W.contents writer.new) output.old output.new
-        (flat_map (feature_text choice.now name.now) layer.now.features)) }
+        (flat_map (feature_text choice.now view.now name.now) layer.now.features)) }
     ensures broken { OnErr result (WritesFront (W.contents writer.old) (W.contents writer.new)
-        (output.old ++ flat_map (feature_text choice.now name.now) layer.now.features)) }
+        (output.old ++ flat_map (feature_text choice.now view.now name.now) layer.now.features)) }
 {
     for (id, feature) in layer.features() {
-        put_feature(output, text, writer, choice, name, *id, feature)?;
+        put_feature(output, text, writer, choice, view, name, *id, feature)?;
     }
     Ok(())
 }
@@ -75,17 +78,18 @@ fn put_layer<W: Write>(
     text: &mut String,
     writer: &mut W,
     choice: &Choice,
+    view: &View,
     place: usize,
     name: &str,
     layer: &Layer,
 ) -> Result<(), DrawFault>
     ensures ok { OnOk result (Puts (W.contents writer.old) (W.contents writer.new) output.old output.new
-        (layer_text choice.now place (name.now, layer.now))) }
+        (layer_text choice.now view.now place (name.now, layer.now))) }
     ensures broken { OnErr result (WritesFront (W.contents writer.old) (W.contents writer.new)
-        (output.old ++ layer_text choice.now place (name.now, layer.now))) }
+        (output.old ++ layer_text choice.now view.now place (name.now, layer.now))) }
 {
     if choice.shows_layer(name) {
-        put_shown_layer(output, text, writer, choice, place, name, layer)?;
+        put_shown_layer(output, text, writer, choice, view, place, name, layer)?;
     }
     Ok(())
 }
@@ -96,19 +100,20 @@ fn put_shown_layer<W: Write>(
     text: &mut String,
     writer: &mut W,
     choice: &Choice,
+    view: &View,
     place: usize,
     name: &str,
     layer: &Layer,
 ) -> Result<(), DrawFault>
     ensures ok { OnOk result (Puts (W.contents writer.old) (W.contents writer.new) output.old output.new
-        (shown_layer_text choice.now place (name.now, layer.now))) }
+        (shown_layer_text choice.now view.now place (name.now, layer.now))) }
     ensures broken { OnErr result (WritesFront (W.contents writer.old) (W.contents writer.new)
-        (output.old ++ shown_layer_text choice.now place (name.now, layer.now))) }
+        (output.old ++ shown_layer_text choice.now view.now place (name.now, layer.now))) }
 {
     text.clear();
     push_layer_head(text, place, name)?;
     output.put(writer, text.as_bytes())?;
-    put_features(output, text, writer, choice, name, layer)?;
+    put_features(output, text, writer, choice, view, name, layer)?;
     output.put(writer, LAYER_END.as_bytes())?;
     Ok(())
 }
@@ -119,16 +124,17 @@ pub(crate) fn put_layers<W: Write>(
     text: &mut String,
     writer: &mut W,
     choice: &Choice,
+    view: &View,
     store: &Store,
 ) -> Result<(), DrawFault>
     ensures ok { OnOk result (Puts (W.contents writer.old) (W.contents writer.new) output.old output.new
-        (layers_text choice.now 0 store.now)) }
+        (layers_text choice.now view.now 0 store.now)) }
     ensures broken { OnErr result (WritesFront (W.contents writer.old) (W.contents writer.new)
-        (output.old ++ layers_text choice.now 0 store.now)) }
+        (output.old ++ layers_text choice.now view.now 0 store.now)) }
 {
     for place in 0..store.layer_count() {
         let (name, layer) = store.layer_at(place).unwrap();
-        put_layer(output, text, writer, choice, place, name, layer)?;
+        put_layer(output, text, writer, choice, view, place, name, layer)?;
     }
     Ok(())
 }

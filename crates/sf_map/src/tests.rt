@@ -15,7 +15,7 @@ const HEAD: &str =
     "<svg xmlns='http://www.w3.org/2000/svg' width='200' height='260' viewBox='0 0 200 260'>\n<style>";
 
 const MAP: &str =
-    "</style>\n<rect class='background' width='100%' height='100%'/>\n<svg class='map' width='200' height='200' viewBox='2 -5 2 2'>\n<g transform='scale(1 -1)'>\n<g id='wells' class='layer tint-0'>\n<path id='wells-1' class='feature point' d='M3 4h0'/>\n</g>\n</g>\n</svg>\n<rect class='frame' width='200' height='200'/>\n<g class='scale' transform='translate(10 215)'><path d='M0 0v6h100v-6'/><text x='108' y='8'>1 grid steps</text></g>\n<g class='entry tint-0' transform='translate(10 235)'><rect class='swatch' width='14' height='14'/><text x='22' y='12'>wells</text></g>\n</svg>\n";
+    "</style>\n<rect class='background' width='100%' height='100%'/>\n<svg class='map' width='200' height='200' viewBox='0 0 2 2' data-corner='2 5'>\n<g transform='scale(1 -1)'>\n<g id='wells' class='layer tint-0'>\n<path id='wells-1' class='feature point' d='M1 -1h0'/>\n</g>\n</g>\n</svg>\n<rect class='frame' width='200' height='200'/>\n<g class='scale' transform='translate(10 215)'><path d='M0 0v6h100v-6'/><text x='108' y='8'>1 grid steps</text></g>\n<g class='entry tint-0' transform='translate(10 235)'><rect class='swatch' width='14' height='14'/><text x='22' y='12'>wells</text></g>\n</svg>\n";
 
 /// A layer of points with one feature, the point 3 4.
 fn wells(alloc: Global) -> Result<Layer, Fail>
@@ -181,7 +181,7 @@ fn missing_layers_are_named(rt: HostRuntime) -> Result<(), Fail> {
 
 /// A window and a width, and what of the view follows: left, top, wide, high, the height of map and
 /// picture, and the steps and pixels of the bar.
-const VIEWS: &[(Extent, u32, (i64, i64, u64, u64), (u32, u64), (u64, u32))] = &[
+const VIEWS: &[(Extent, u32, (i32, i32, u64, u64), (u32, u64), (u64, u32))] = &[
     (
         Extent {
             min_x: -10,
@@ -190,7 +190,7 @@ const VIEWS: &[(Extent, u32, (i64, i64, u64, u64), (u32, u64), (u64, u32))] = &[
             max_y: 30,
         },
         500,
-        (-10, -30, 100, 50),
+        (-10, 30, 100, 50),
         (250, 310),
         (20, 100),
     ),
@@ -202,21 +202,21 @@ const VIEWS: &[(Extent, u32, (i64, i64, u64, u64), (u32, u64), (u64, u32))] = &[
             max_y: 5,
         },
         800,
-        (5, -5, 1, 1),
+        (5, 5, 1, 1),
         (800, 860),
         (1, 800),
     ),
     (
         Extent {
-            min_x: -524_288,
+            min_x: -8_388_608,
             min_y: 0,
-            max_x: 524_287,
+            max_x: 8_388_607,
             max_y: 1,
         },
         1_000,
-        (-524_288, -1, 1_048_575, 1),
+        (-8_388_608, 1, 16_777_215, 1),
         (1, 61),
-        (200_000, 190),
+        (2_000_000, 119),
     ),
 ];
 

@@ -7,9 +7,9 @@ use sf_geometry::Extent;
 use sf_layers::{Layer, Store};
 
 /// How long the bar of a scale can be, in grid steps.
-const BAR_LENGTHS: [u64; 18] = [
+const BAR_LENGTHS: [u64; 20] = [
     1, 2, 5, 10, 20, 50, 100, 200, 500, 1_000, 2_000, 5_000, 10_000, 20_000, 50_000, 100_000,
-    200_000, 500_000,
+    200_000, 500_000, 1_000_000, 2_000_000,
 ];
 
 /// How high the map is at most, in pixels.
@@ -25,9 +25,9 @@ pub(crate) const ROW_HEIGHT: u64 = 20;
 #[derive(Clone, Copy, Debug, PartialEq, Eq)]
 pub struct View {
     /// The least x of the map, in grid steps.
-    pub left: i64,
-    /// The greatest y of the map with the other sign, in grid steps: the picture counts downwards.
-    pub top: i64,
+    pub left: i32,
+    /// The greatest y of the map, in grid steps.
+    pub top: i32,
     /// How wide the map is, in grid steps.
     pub wide: u64,
     /// How high the map is, in grid steps.
@@ -57,8 +57,8 @@ impl View {
         let bar_steps = bar_length(wide / 4);
         let map_height = share(high, wide, width.into()).clamp(1, MAP_HEIGHT_MAX);
         View {
-            left: i64::from(extent.min_x) - i64::from(margin),
-            top: -i64::from(extent.max_y) - i64::from(margin),
+            left: extent.min_x.saturating_sub_unsigned(margin),
+            top: extent.max_y.saturating_add_unsigned(margin),
             wide,
             high,
             width,

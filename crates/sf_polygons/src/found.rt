@@ -43,6 +43,10 @@ impl CellSink for RingFaults {
         self.outside = self.outside || is_outside(on, above);
         self.nested = self.nested || count_inside(on, above, 1) >= 2;
     }
+
+    fn is_full(&self) -> bool {
+        self.meet && self.outside && self.nested
+    }
 }
 
 impl CellSink for PolygonFaults {
@@ -58,6 +62,10 @@ impl CellSink for PolygonFaults {
     fn cell(&mut self, dim: u8, on: &[u32], above: &[u32]) {
         self.meet = self.meet || is_shared(dim, on);
         self.overlap = self.overlap || count_inside(on, above, 0) >= 2;
+    }
+
+    fn is_full(&self) -> bool {
+        self.meet && self.overlap
     }
 }
 

@@ -1,15 +1,49 @@
 //! Whether a geometry is as asked. What a point tells is not walked.
 
-ghost use Rattle.std.specs.Prelude.{◌≡◌, IfOk, IfSome};
+ghost use Rattle.std.specs.Prelude.{◌≡◌, IfOk, IfSome, IsFalse, IsTrue};
+ghost use Rattle.sf_geometry.specs.Envelope.{envelope_of};
+ghost use Rattle.sf_rules.specs.Validity.{IsValid};
 ghost use Rattle.sf_relate.specs.Matrices.{matrix_of};
+ghost use Rattle.sf_relate.specs.Patterns.{has_contact};
 ghost use Rattle.sf_relate.specs.Predicates.{holds};
 ghost use Rattle.sf_query.specs.Answers.{dim_of_geometry, is_asked};
 
 use super::ask::Ask;
-use sf_geometry::Geometry;
-use sf_relate::{Predicate, dimension, holds, holds_of_point, locate, relate, shares_first_point};
+use sf_geometry::{Extent, Geometry};
+use sf_relate::{
+    Predicate, holds_between, holds_of_point, locate, match_between, shares_edge_point,
+    shares_first_point,
+};
 use sf_validity::Valid;
 use std::alloc::{AllocError, Global};
+
+/// Whether the matrix of a feature's geometry with the given one is as asked, where `extent` is the
+/// given one's: geometries whose boxes share no point are disjoint, without a walk.
+pub(crate) fn is_asked_beside(
+    alloc: Global,
+    ask: &Ask,
+    geometry: &Valid,
+    given: &Valid,
+    extent: Extent,
+) -> Result<bool, AllocError>
+    requires extent { extent ≡ envelope_of given.now }
+    requires valid { IsValid given.now }
+    ensures { IfOk result (λ answer. answer ≡ is_asked ask.now geometry.now given.now) }
+{
+    if ask.is_for_disjoint() && are_apart(geometry, given, extent) {
+        return Ok(true);
+    }
+    is_asked(alloc, ask, geometry, given)
+}
+
+/// Whether the boxes of two geometries share no point, where `extent` is the second one's.
+fn are_apart(geometry: &Valid, given: &Valid, extent: Extent) -> bool
+    requires extent { extent ≡ envelope_of given.now }
+    requires valid { IsValid given.now }
+    ensures { IsTrue result → IsFalse (has_contact (matrix_of geometry.now given.now)) }
+{
+    !geometry.geometry().envelope().meets(extent)
+}
 
 /// Whether the matrix of a feature's geometry with the given one is as asked.
 pub(crate) fn is_asked(
@@ -21,29 +55,12 @@ pub(crate) fn is_asked(
     ensures { IfOk result (λ answer. answer ≡ is_asked ask.now geometry.now given.now) }
 {
     match ask {
-        Ask::Matching(pattern) => Ok(pattern.matches(&relate(alloc, geometry, given)?)),
+        Ask::Matching(pattern) => match_between(alloc, &[*pattern], geometry, given),
         Ask::Named(predicate) => match told_by_points(*predicate, geometry, given) {
             Some(answer) => Ok(answer),
             None => holds_between(alloc, *predicate, geometry, given),
         },
     }
-}
-
-/// Whether the predicate holds, by the matrix.
-fn holds_between(
-    alloc: Global,
-    predicate: Predicate,
-    geometry: &Valid,
-    given: &Valid,
-) -> Result<bool, AllocError>
-    ensures { IfOk result (λ answer. answer ≡ holds predicate
-        (dim_of_geometry geometry.now) (dim_of_geometry given.now)
-        (matrix_of geometry.now given.now)) }
-{
-    let matrix = relate(alloc, geometry, given)?;
-    let first = dimension(geometry.geometry());
-    let second = dimension(given.geometry());
-    Ok(holds(predicate, first, second, &matrix))
 }
 
 /// Whether the predicate holds, where a Point's place or a first point tells it.
@@ -54,19 +71,26 @@ fn told_by_points(predicate: Predicate, geometry: &Valid, given: &Valid) -> Opti
 {
     match geometry.geometry() {
         Geometry::Point(point) => holds_of_point(predicate, locate(given, *point)),
-        _ => told_by_first_points(predicate, geometry, given),
+        _ => told_by_contact(predicate, geometry, given),
     }
 }
 
-/// Whether the predicate holds, where it goes by contact alone and a first point shows that.
-fn told_by_first_points(predicate: Predicate, geometry: &Valid, given: &Valid) -> Option<bool>
+/// Whether the predicate holds, where it goes by contact alone and a first point or an edge shows that.
+fn told_by_contact(predicate: Predicate, geometry: &Valid, given: &Valid) -> Option<bool>
     ensures { IfSome result (λ answer. answer ≡ holds predicate
         (dim_of_geometry geometry.now) (dim_of_geometry given.now)
         (matrix_of geometry.now given.now)) }
 {
     match predicate {
-        Predicate::Intersects if shares_first_point(geometry, given) => Some(true),
-        Predicate::Disjoint if shares_first_point(geometry, given) => Some(false),
+        Predicate::Intersects if shows_contact(geometry, given) => Some(true),
+        Predicate::Disjoint if shows_contact(geometry, given) => Some(false),
         _ => None,
     }
+}
+
+/// Whether first points or edges show that two geometries have contact. If not, nothing is known.
+fn shows_contact(geometry: &Valid, given: &Valid) -> bool
+    ensures { IsTrue result → IsTrue (has_contact (matrix_of geometry.now given.now)) }
+{
+    shares_first_point(geometry, given) || shares_edge_point(geometry, given)
 }

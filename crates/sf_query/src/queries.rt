@@ -10,7 +10,7 @@ ghost use Rattle.sf_layers.specs.WellFormed.{IsLayer};
 ghost use Rattle.sf_query.specs.Answers.{IsAnswer, needs_contact};
 ghost use Rattle.sf_query.specs.Replies.{IsQueried, IsRelated};
 
-use super::answering::is_asked;
+use super::answering::{is_asked, is_asked_beside};
 use super::ask::Ask;
 use super::found::Found;
 use super::refusal::Refusal;
@@ -132,7 +132,7 @@ fn found_by_pass(
             continue;
         }
         looked += 1;
-        if is_asked(alloc, ask, valid, given)? {
+        if is_asked_beside(alloc, ask, valid, given, extent)? {
             ids.push(*id)?;
         }
     }

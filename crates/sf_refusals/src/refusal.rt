@@ -5,75 +5,77 @@ ghost use Rattle.sf_refusals.specs.Refusals.{name_of, number_of};
 #[derive(Clone, Copy, Debug, PartialEq, Eq)]
 pub enum Refusal {
     /// No memory was found.
-    Memory = 1,
+    Memory,
     /// The text isn't well-known text, or the bytes can't be decoded.
-    Syntax = 2,
+    Syntax,
     /// A coordinate is no whole number.
-    OffGrid = 3,
+    OffGrid,
     /// A whole coordinate is outside the grid.
-    OutOfRange = 4,
+    OutOfRange,
     /// A geometry, or one of its lists, has no point.
-    Empty = 5,
+    Empty,
     /// The kind of geometry is none of the six that are kept.
-    UnsupportedType = 6,
+    UnsupportedType,
     /// The bytes end too early.
-    Truncated = 7,
+    Truncated,
     /// Bytes are left over.
-    Trailing = 8,
+    Trailing,
     /// A geometry has more than 4,096 points.
-    TooManyVertices = 9,
+    TooManyVertices,
     /// A line has fewer than two different points in a row.
-    ShortLine = 10,
+    ShortLine,
     /// The first and the last point of a ring differ.
-    OpenRing = 11,
+    OpenRing,
     /// A ring has fewer than four points in a row that differ.
-    ShortRing = 12,
+    ShortRing,
     /// A ring touches or crosses itself.
-    RingNotSimple = 13,
+    RingNotSimple,
     /// Two rings share a piece of an edge.
-    RingsMeet = 14,
+    RingsMeet,
     /// A hole leaves its shell.
-    HoleOutside = 15,
+    HoleOutside,
     /// Two holes of a polygon have an inner point in common.
-    HolesNested = 16,
+    HolesNested,
     /// Two polygons have an inner point in common.
-    PolygonsOverlap = 17,
+    PolygonsOverlap,
     /// No layer has the name.
-    NoLayer = 18,
+    NoLayer,
     /// A layer has the name already.
-    LayerExists = 19,
+    LayerExists,
     /// The text isn't 1 to 32 ASCII letters, digits or underscores, the first of them a letter.
-    BadName = 20,
+    BadName,
     /// The layer has no feature under the identifier.
-    NoFeature = 21,
+    NoFeature,
     /// The layer has no column of the name.
-    NoColumn = 22,
+    NoColumn,
     /// The layer has a column of the name already.
-    ColumnExists = 23,
+    ColumnExists,
     /// The value isn't of the column's type, or breaks its limits.
-    WrongValue = 24,
+    WrongValue,
     /// The geometry has no such vertex.
-    NoVertex = 25,
+    NoVertex,
     /// The layer takes no geometry of this kind.
-    WrongKind = 26,
+    WrongKind,
     /// The layer's identifiers, or the store's 65,535 layers, are used up.
-    IdsExhausted = 27,
+    IdsExhausted,
     /// The layer's column numbers are used up.
-    ColumnsExhausted = 28,
+    ColumnsExhausted,
     /// No edit is left to undo.
-    NothingToUndo = 29,
+    NothingToUndo,
     /// No edit is left to redo.
-    NothingToRedo = 30,
+    NothingToRedo,
     /// The line is no command.
-    BadCommand = 31,
+    BadCommand,
     /// The text is no DE-9IM pattern.
-    BadPattern = 32,
+    BadPattern,
     /// The line has more than 131,072 bytes before its line feed.
-    LineTooLong = 33,
+    LineTooLong,
     /// The bytes are no file of the store.
-    BadFile = 34,
+    BadFile,
     /// The order of layers has no such place.
-    BadPlace = 35,
+    BadPlace,
+    /// The step is another editor's, whose number this is.
+    NotYours(u8),
 }
 
 impl Refusal {
@@ -81,7 +83,44 @@ impl Refusal {
     pub fn number(self) -> u8
         ensures { result ≡ number_of self }
     {
-        self as u8
+        match self {
+            Refusal::Memory => 1,
+            Refusal::Syntax => 2,
+            Refusal::OffGrid => 3,
+            Refusal::OutOfRange => 4,
+            Refusal::Empty => 5,
+            Refusal::UnsupportedType => 6,
+            Refusal::Truncated => 7,
+            Refusal::Trailing => 8,
+            Refusal::TooManyVertices => 9,
+            Refusal::ShortLine => 10,
+            Refusal::OpenRing => 11,
+            Refusal::ShortRing => 12,
+            Refusal::RingNotSimple => 13,
+            Refusal::RingsMeet => 14,
+            Refusal::HoleOutside => 15,
+            Refusal::HolesNested => 16,
+            Refusal::PolygonsOverlap => 17,
+            Refusal::NoLayer => 18,
+            Refusal::LayerExists => 19,
+            Refusal::BadName => 20,
+            Refusal::NoFeature => 21,
+            Refusal::NoColumn => 22,
+            Refusal::ColumnExists => 23,
+            Refusal::WrongValue => 24,
+            Refusal::NoVertex => 25,
+            Refusal::WrongKind => 26,
+            Refusal::IdsExhausted => 27,
+            Refusal::ColumnsExhausted => 28,
+            Refusal::NothingToUndo => 29,
+            Refusal::NothingToRedo => 30,
+            Refusal::BadCommand => 31,
+            Refusal::BadPattern => 32,
+            Refusal::LineTooLong => 33,
+            Refusal::BadFile => 34,
+            Refusal::BadPlace => 35,
+            Refusal::NotYours(_) => 36,
+        }
     }
 
     /// The name of the refusal.
@@ -124,6 +163,7 @@ impl Refusal {
             Refusal::LineTooLong => "LineTooLong",
             Refusal::BadFile => "BadFile",
             Refusal::BadPlace => "BadPlace",
+            Refusal::NotYours(_) => "NotYours",
         }
     }
 }

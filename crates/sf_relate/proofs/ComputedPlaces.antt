@@ -69,7 +69,7 @@ unfolding text items at
 point_in_square = refl
 
 far_line_misses_point : text (Point (at (pos 0) (pos 0)))
-    (LineString (at (negsuc 524287) (negsuc 524287) ∷ at (pos 524287) (pos 524286) ∷ [])) ≡ codes "FF0FFF102"
+    (LineString (at (negsuc 8388607) (negsuc 8388607) ∷ at (pos 8388607) (pos 8388606) ∷ [])) ≡ codes "FF0FFF102"
 unfolding text items at
 far_line_misses_point = refl
 

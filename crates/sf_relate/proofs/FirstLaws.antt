@@ -52,7 +52,7 @@ begins x (y ∷ ys) p h = some-is x p (sym (ap (λ n. slice_get (take n (x ∷ y
     less n = omega arith
 
 -- on lines is in them
-in-lines : (on end : Bool) → on ≡ true → (on && not end || end) ≡ true
+pub in-lines : (on end : Bool) → on ≡ true → (on && not end || end) ≡ true
 in-lines on true h = or_right (on && not true) true refl
 in-lines on false h = or_left (on && not false) false (ap (λ b. b && true) h)
 

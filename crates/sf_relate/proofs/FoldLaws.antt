@@ -33,20 +33,20 @@ use Rattle.sf_relate.proofs.GroupLaws.{first-place, pieces-are, second-place}
 use Rattle.sf_relate.proofs.PlaceLaws.{counts_tell_places}
 
 -- ---- entries as a table over pairs of places
-abbrev Table : Type 0
+abbrev pub Table : Type 0
 Table = Place → Place → Dim
 
-abbrev listed : Table → List Dim
+abbrev pub listed : Table → List Dim
 listed t =
     t Interior Interior ∷ t Interior Boundary ∷ t Interior Exterior
     ∷ t Boundary Interior ∷ t Boundary Boundary ∷ t Boundary Exterior
     ∷ t Exterior Interior ∷ t Exterior Boundary ∷ t Exterior Exterior ∷ []
 
 -- the table with a dimension at one pair
-abbrev with_dim : Table → Place → Place → Dim → Table
+abbrev pub with_dim : Table → Place → Place → Dim → Table
 with_dim t p q d r s = if is_place r p && is_place s q then greater_dim (t r s) d else t r s
 
-raised-listed : (t : Table) (p q : Place) (d : Dim) → raised (listed t) (entry_place p q) d ≡ listed (with_dim t p q d)
+pub raised-listed : (t : Table) (p q : Place) (d : Dim) → raised (listed t) (entry_place p q) d ≡ listed (with_dim t p q d)
 raised-listed t Interior Interior d = refl
 raised-listed t Interior Boundary d = refl
 raised-listed t Interior Exterior d = refl
@@ -71,7 +71,7 @@ listed-same t u h =
 abbrev is_at : Shape → Shape → Place → Place → Item → Bool
 is_at a b p q i = is_place p (first_place a i) && is_place q (second_place b i)
 
-abbrev greatest_at : Shape → Shape → List Item → Table
+abbrev pub greatest_at : Shape → Shape → List Item → Table
 greatest_at a b is p q = greatest_of_items (is_at a b p q) is
 
 greater-nothing : (d : Dim) → greater_dim d Nothing ≡ d
@@ -104,7 +104,7 @@ greater-greater One One Two = refl
 greater-greater One Two e = refl
 greater-greater Two d e = refl
 
-fold-listed : (a b : Shape) (t : Table) (is : List Item) → fold (with_item a b) (listed t) is ≡ listed (λ p q. greater_dim (t p q) (greatest_at a b is p q))
+pub fold-listed : (a b : Shape) (t : Table) (is : List Item) → fold (with_item a b) (listed t) is ≡ listed (λ p q. greater_dim (t p q) (greatest_at a b is p q))
 fold-listed a b t [] = listed-same t (λ p q. greater_dim (t p q) Nothing) (λ p q. sym (greater-nothing (t p q)))
 fold-listed a b t (i ∷ is) =
     ap (λ es. fold (with_item a b) es is) (raised-listed t (first_place a i) (second_place b i) (dim_of i.dim))

@@ -17,3 +17,5 @@ pub mod NeighbourLaws
 pub mod TestedPlaces
 pub mod PointLaws
 pub mod FirstLaws
+pub mod QuestionLaws
+pub mod EdgeContactLaws

@@ -1,10 +1,10 @@
 //! The pieces of a geometry, added to groups.
 
-ghost use Rattle.std.specs.Prelude.{◌≡◌, ◌++◌, OnOk, map};
+ghost use Rattle.std.specs.Prelude.{◌≡◌, ◌++◌, IfOk, OnOk, map};
 ghost use Rattle.sf_columns.specs.declared.piece.Piece.TheVariants.{Dot};
 ghost use Rattle.sf_geometry.specs.Parts.{joined};
 ghost use Rattle.sf_pieces.specs.Marked.{marked};
-ghost use Rattle.sf_relate.specs.AllPieces.{grouped, lists_in, pieces_of};
+ghost use Rattle.sf_relate.specs.AllPieces.{all_grouped, grouped, lists_in, pieces_of};
 
 use sf_geometry::{Geometry, Sequence};
 use sf_grid::GridPoint;
@@ -23,8 +23,22 @@ pub(crate) const FIRST_ENDS: u32 = 2;
 /// The group of the ends of the second geometry's lines.
 pub(crate) const SECOND_ENDS: u32 = 3;
 
+/// The pieces of two geometries and dots at the ends of their lines, by groups.
+pub(crate) fn pieces_of(
+    alloc: Global,
+    first: &Geometry,
+    second: &Geometry,
+) -> Result<GroupedPieces, AllocError>
+    ensures { IfOk result (λ pieces. pieces ≡ all_grouped first.now second.now) }
+{
+    let mut pieces = GroupedPieces::new(alloc);
+    push_grouped(alloc, &mut pieces, second, SECOND, SECOND_ENDS)?;
+    push_grouped(alloc, &mut pieces, first, FIRST, FIRST_ENDS)?;
+    Ok(pieces)
+}
+
 /// Adds the pieces of a geometry to one group, and dots at the ends of its lines to another one.
-pub(crate) fn push_grouped(
+fn push_grouped(
     alloc: Global,
     pieces: &mut GroupedPieces,
     geometry: &Geometry,

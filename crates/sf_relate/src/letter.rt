@@ -1,5 +1,6 @@
 ghost use Rattle.std.specs.Prelude.{◌≡◌};
 ghost use Rattle.sf_relate.specs.Patterns.{admits, asks_filled, letter_of};
+ghost use Rattle.sf_relate.specs.Questions.{is_broken, is_settled};
 
 use sf_plane::Dim;
 
@@ -48,6 +49,32 @@ impl Letter {
             (Letter::Zero, Dim::Zero) => true,
             (Letter::One, Dim::One) => true,
             (Letter::Two, Dim::Two) => true,
+            _ => false,
+        }
+    }
+
+    /// Whether an entry is as it asks however much that still grows.
+    pub(crate) fn is_settled(self, dim: Dim) -> bool
+        ensures { result ≡ is_settled self dim }
+    {
+        match (self, dim) {
+            (Letter::Any, _) => true,
+            (Letter::Filled, Dim::Nothing) => false,
+            (Letter::Filled, _) => true,
+            (Letter::Two, Dim::Two) => true,
+            _ => false,
+        }
+    }
+
+    /// Whether an entry isn't as it asks however much that still grows.
+    pub(crate) fn is_broken(self, dim: Dim) -> bool
+        ensures { result ≡ is_broken self dim }
+    {
+        match (self, dim) {
+            (Letter::Empty, Dim::Nothing) => false,
+            (Letter::Empty, _) => true,
+            (Letter::Zero, Dim::One | Dim::Two) => true,
+            (Letter::One, Dim::Two) => true,
             _ => false,
         }
     }

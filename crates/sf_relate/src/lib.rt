@@ -1,6 +1,7 @@
 //! DE-9IM matrices of two geometries, patterns, and the named predicates.
 #![tactic(auto)]
 
+mod edge_contact;
 mod first_points;
 mod grouping;
 pub mod laws;
@@ -11,6 +12,8 @@ mod pattern;
 mod place;
 mod point_predicates;
 mod predicate;
+mod predicate_questions;
+mod questions;
 mod refusal;
 mod relating;
 mod shape;
@@ -18,6 +21,7 @@ mod sink;
 #[cfg(test)]
 mod tests;
 
+pub use edge_contact::shares_edge_point;
 pub use first_points::shares_first_point;
 pub use letter::Letter;
 pub use locating::locate;
@@ -26,6 +30,8 @@ pub use pattern::Pattern;
 pub use place::Place;
 pub use point_predicates::holds_of_point;
 pub use predicate::{Predicate, holds};
+pub use predicate_questions::holds_between;
+pub use questions::match_between;
 pub use refusal::Refusal;
 pub use relating::relate;
 pub use sf_plane::Dim;

@@ -1,11 +1,13 @@
 ghost use Rattle.std.specs.Prelude.{◌≡◌, Result};
 ghost use Rattle.sf_relate.specs.Patterns.{asks_contact, matches, pattern_of};
+ghost use Rattle.sf_relate.specs.Questions.{is_matched_for_good, is_missed_for_good};
 ghost use Rattle.sf_relate.specs.declared.refusal.Refusal.TheVariants.{BadPattern};
 ghost use Rattle.std.specs.Option.{ok_or};
 
 use super::letter::Letter;
 use super::matrix::Matrix;
 use super::refusal::Refusal;
+use sf_plane::Dim;
 use std::marker::Model;
 
 /// What nine entries are to be.
@@ -52,6 +54,26 @@ impl Pattern {
             .iter()
             .zip(matrix.0.iter())
             .all(|(letter, dim)| letter.admits(*dim))
+    }
+
+    /// Whether entries match it however much they still grow.
+    pub(crate) fn is_matched_for_good(&self, entries: &[Dim; 9]) -> bool
+        ensures { result ≡ is_matched_for_good self.now entries.now }
+    {
+        self.letters
+            .iter()
+            .zip(entries.iter())
+            .all(|(letter, dim)| letter.is_settled(*dim))
+    }
+
+    /// Whether entries don't match it however much they still grow.
+    pub(crate) fn is_missed_for_good(&self, entries: &[Dim; 9]) -> bool
+        ensures { result ≡ is_missed_for_good self.now entries.now }
+    {
+        self.letters
+            .iter()
+            .zip(entries.iter())
+            .any(|(letter, dim)| letter.is_broken(*dim))
     }
 
     /// Whether only geometries that share a point can match: an entry of interiors and boundaries

@@ -3,11 +3,10 @@
 ghost use Rattle.std.specs.Prelude.{◌≡◌, IfOk};
 ghost use Rattle.sf_relate.specs.Matrices.{IsMatrix, matrix_of};
 
-use super::grouping::{FIRST, FIRST_ENDS, SECOND, SECOND_ENDS, push_grouped};
+use super::grouping::pieces_of;
 use super::matrix::Matrix;
 use super::shape::Shape;
 use super::sink::MatrixSink;
-use sf_pieces::GroupedPieces;
 use sf_plane::Dim;
 use sf_validity::Valid;
 use std::alloc::{AllocError, Global};
@@ -23,9 +22,7 @@ pub fn relate(alloc: Global, a: &Valid, b: &Valid) -> Result<Matrix, AllocError>
 {
     let first = a.geometry();
     let second = b.geometry();
-    let mut pieces = GroupedPieces::new(alloc);
-    push_grouped(alloc, &mut pieces, second, SECOND, SECOND_ENDS)?;
-    push_grouped(alloc, &mut pieces, first, FIRST, FIRST_ENDS)?;
+    let pieces = pieces_of(alloc, first, second)?;
     let mut sink = MatrixSink {
         first: Shape::of(first),
         second: Shape::of(second),

@@ -2,7 +2,7 @@
 
 ghost use Rattle.std.specs.Prelude.{◌≡◌, ◌<◌, slice_index};
 ghost use Rattle.sf_plane.specs.Unions.{dim_of as dim_of_number, greater_dim};
-ghost use Rattle.sf_relate.specs.Places.{entry_place};
+ghost use Rattle.sf_relate.specs.Places.{entry_place, place_by};
 
 use super::grouping::{FIRST, FIRST_ENDS, SECOND, SECOND_ENDS};
 use super::place::Place;
@@ -29,21 +29,35 @@ impl CellSink for MatrixSink {
     ghost after = { with_cell };
 
     fn cell(&mut self, dim: u8, on: &[u32], above: &[u32]) {
-        let first = Place::by_counts(
-            self.first,
-            count_in(on, FIRST),
-            count_in(on, FIRST_ENDS),
-            count_in(above, FIRST),
-        );
-        let second = Place::by_counts(
-            self.second,
-            count_in(on, SECOND),
-            count_in(on, SECOND_ENDS),
-            count_in(above, SECOND),
-        );
-        let entry = entry_of(first, second);
+        let entry = entry_of_cell(self.first, self.second, on, above);
         self.entries[entry] = greater(self.entries[entry], dim_of(dim));
     }
+
+    fn is_full(&self) -> bool {
+        false
+    }
+}
+
+/// Which of the nine entries is that of a cell, by the counts on it and above it.
+pub(crate) fn entry_of_cell(first: Shape, second: Shape, on: &[u32], above: &[u32]) -> usize
+    ensures value { result ≡ entry_place
+        (place_by first (slice_index on.now 0) (slice_index on.now 2) (slice_index above.now 0))
+        (place_by second (slice_index on.now 1) (slice_index on.now 3) (slice_index above.now 1)) }
+    ensures bound { result < 9 }
+{
+    let first = Place::by_counts(
+        first,
+        count_in(on, FIRST),
+        count_in(on, FIRST_ENDS),
+        count_in(above, FIRST),
+    );
+    let second = Place::by_counts(
+        second,
+        count_in(on, SECOND),
+        count_in(on, SECOND_ENDS),
+        count_in(above, SECOND),
+    );
+    entry_of(first, second)
 }
 
 /// The count of a group, 0 where no piece is of the group.
@@ -62,7 +76,7 @@ fn entry_of(first: Place, second: Place) -> usize
 }
 
 /// The greater of two dimensions.
-fn greater(a: Dim, b: Dim) -> Dim
+pub(crate) fn greater(a: Dim, b: Dim) -> Dim
     ensures { result ≡ greater_dim a b }
 {
     match (a, b) {
@@ -74,7 +88,7 @@ fn greater(a: Dim, b: Dim) -> Dim
 }
 
 /// A number as a dimension.
-fn dim_of(dim: u8) -> Dim
+pub(crate) fn dim_of(dim: u8) -> Dim
     ensures { result ≡ dim_of_number dim }
 {
     match dim {

@@ -1,8 +1,8 @@
 //! Matrices of worked pairs and which predicates hold of them; patterns of texts; places of points.
 
 use crate::{
-    Dim, Pattern, Place, Predicate, Refusal, dimension, holds, holds_of_point, locate, relate,
-    shares_first_point,
+    Dim, Pattern, Place, Predicate, Refusal, dimension, holds, holds_between, holds_of_point,
+    locate, match_between, relate, shares_edge_point, shares_first_point,
 };
 use sf_geometry::{Geometry, Sequence};
 use sf_grid::GridPoint;
@@ -411,6 +411,114 @@ fn patterns(rt: HostRuntime) -> Result<(), Fail> {
     for (text, asks) in asking {
         let found = Pattern::parse(text).map(|pattern| pattern.needs_contact());
         assert_eq!(rt; found, Ok(asks), "{text}");
+    }
+    Ok(())
+}
+
+/// Patterns of contact, of dimensions, of exteriors, and of each letter.
+const PATTERNS: &[&str] = &[
+    "*********",
+    "T********",
+    "F********",
+    "0********",
+    "1********",
+    "2********",
+    "*T*******",
+    "*F*******",
+    "*0*******",
+    "*1*******",
+    "**T******",
+    "**F******",
+    "**2******",
+    "***T*****",
+    "***F*****",
+    "****T****",
+    "****F****",
+    "****0****",
+    "****1****",
+    "*****F***",
+    "*****T***",
+    "******T**",
+    "******F**",
+    "*******F*",
+    "********T",
+    "********F",
+    "********2",
+    "FF*FF****",
+    "T*F**F***",
+    "T*****FF*",
+    "T*F**FFF*",
+    "T*T***T**",
+    "1*T***T**",
+    "FT*******",
+    "F**T*****",
+    "F***T****",
+    "212101212",
+    "101FF0212",
+    "0F1FF0102",
+    "2F2F1*212",
+];
+
+/// Whether what is asked of two geometries is answered as by their whole matrix.
+fn is_answered_alike(alloc: Global, case: &Case) -> Result<bool, Fail> {
+    let first = case.first.valid(alloc)?;
+    let second = case.second.valid(alloc)?;
+    let matrix = relate(alloc, &first, &second)?;
+    for text in PATTERNS {
+        let Ok(pattern) = Pattern::parse(text) else {
+            return Err("no pattern".into());
+        };
+        if match_between(alloc, &[pattern], &first, &second)? != pattern.matches(&matrix) {
+            return Ok(false);
+        }
+    }
+    for predicate in PREDICATES.iter() {
+        let holds = holds_between(alloc, *predicate, &first, &second)?;
+        if holds != case.predicates.contains(predicate) {
+            return Ok(false);
+        }
+    }
+    Ok(true)
+}
+
+#[test]
+fn questions_are_answered_as_by_the_matrix(rt: HostRuntime) -> Result<(), Fail> {
+    for case in CASES {
+        assert!(rt; is_answered_alike(rt.alloc(), case)?, "of {}", case.matrix);
+    }
+    Ok(())
+}
+
+/// Two geometries, and whether edges show that they have contact.
+const CONTACTS: &[(Made, Made, bool)] = &[
+    (Made::Polygon(&[SQUARE]), Made::Polygon(&[ACROSS]), true),
+    (Made::Polygon(&[SQUARE]), Made::Polygon(&[BESIDE]), true),
+    (Made::Line(RISING), Made::Line(FALLING), true),
+    (
+        Made::Lines(&[FALLING, RISING]),
+        Made::Polygons(&[&[LARGE, HOLE], &[ISLAND]]),
+        true,
+    ),
+    (
+        Made::Polygons(&[&[LARGE, HOLE], &[ISLAND]]),
+        Made::Line(UPRIGHT),
+        false,
+    ),
+    (
+        Made::Polygon(&[LARGE, HOLE]),
+        Made::Polygon(&[ISLAND]),
+        false,
+    ),
+    (Made::Point(5, 5), Made::Line(RISING), false),
+];
+
+#[test]
+fn edges_show_contact(rt: HostRuntime) -> Result<(), Fail> {
+    for (first, second, wanted) in CONTACTS {
+        let first = first.valid(rt.alloc())?;
+        let second = second.valid(rt.alloc())?;
+        assert_eq!(rt; shares_edge_point(&first, &second), *wanted);
+        assert_eq!(rt; shares_edge_point(&second, &first), *wanted);
     }
     Ok(())
 }

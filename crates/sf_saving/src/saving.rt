@@ -11,8 +11,8 @@ use sf_streams::Output;
 use std::alloc::Global;
 use std::io::Write;
 
-/// The bytes at the front of a file.
-const FRONT: &str = "SFSTORE1";
+/// The bytes at the front of a file: of the second version, with coordinates of 24 bits.
+const FRONT: &str = "SFSTORE2\x18";
 
 /// How many bytes a binary geometry has at most.
 const ROW_MAX: usize = 131_072;

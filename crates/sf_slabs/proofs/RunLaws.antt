@@ -182,6 +182,12 @@ map-append : {A B : Type 0} (f : A → B) (xs ys : List A) → map f (xs ++ ys) 
 map-append f [] ys = refl
 map-append f (x ∷ xs) ys = ap (λ zs. f x ∷ zs) (map-append f xs ys)
 
+-- a full sink holds the same after any further items
+pub full-fold : {A B : Type 0} (after : B → A → B) (content : B) → ((item : A) → after content item ≡ content) →
+    (items : List A) → fold after content items ≡ content
+full-fold after content full [] = refl
+full-fold after content full (i ∷ items) = ap (λ z. fold after z items) (full i) ∙ full-fold after content full items
+
 pub handed-one : {A B : Type 0} (f : Cell → A) (after : B → A → B) (b c : B) (all first rest : List Cell) → all ≡ first ++ rest → c ≡ fold after b (map f first) →
     fold after c (map f rest) ≡ fold after b (map f all)
 handed-one f after b c all first rest e h =

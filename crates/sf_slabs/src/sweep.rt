@@ -124,7 +124,7 @@ impl Sweep {
     }
 
     /// Hands out all cells: the slab left of everything, and then each column with the slab right
-    /// of it.
+    /// of it. A sink that is full ends it, since what is left would change nothing in it.
     fn run<S: CellSink>(
         &mut self,
         pieces: &[Piece],
@@ -147,6 +147,9 @@ impl Sweep {
         let mut next = next_column(first_place(ahead), self.contacts.as_slice());
         self.slab(pieces, groups, sink);
         while let Some(x) = next {
+            if sink.is_full() {
+                return;
+            }
             let (here, later) = ahead.split_at(column_len(&x, ahead));
             self.column(&x, pieces, groups, here, sink);
             ahead = later;
@@ -174,7 +177,8 @@ fn column_len(x: &Frac, vertices: &[Vertex]) -> usize
 /// Hands the cells of the pieces to the sink, each with its dimension and, of every group, how many
 /// of its pieces are on the cell and how many of its edges are above it: columns from the left,
 /// each from the top. The groups are those of the pieces, one for each; there are as many as the
-/// greatest number says, plus one. Where memory is wanting the sink is left as it was.
+/// greatest number says, plus one. Where memory is wanting the sink is left as it was. Once the sink is
+/// full, no further column is handed out.
 pub fn walk<S: CellSink>(
     alloc: Global,
     pieces: &[Piece],

@@ -5,9 +5,9 @@ use sf_grid::GridPoint;
 use std::alloc::Global;
 use std::test::Fail;
 
-const LOW: i32 = -524_288;
+const LOW: i32 = -8_388_608;
 
-const HIGH: i32 = 524_287;
+const HIGH: i32 = 8_388_607;
 
 /// Pieces, each by its two ends, or a dot by twice its place, and the cells of each column and of
 /// each slab, from the left. A cell is its dimension, then `+` and the numbers of the pieces on it,
@@ -269,6 +269,10 @@ impl CellSink for Transcript {
         self.groups(b'+', on);
         self.groups(b'^', above);
         self.byte(b' ');
+    }
+
+    fn is_full(&self) -> bool {
+        false
     }
 }
 

@@ -110,6 +110,10 @@ impl CellSink for Tangles {
         );
         self.found |= tangled;
     }
+
+    fn is_full(&self) -> bool {
+        self.found
+    }
 }
 
 /// The count of a group, 0 where no piece is of the group.

@@ -2,7 +2,7 @@
 use super::support::{ByteByByte, answers};
 use std::test::Fail;
 
-const SESSIONS: [(&str, &str); 7] = [
+const SESSIONS: [(&str, &str); 8] = [
     // Both orders of bytes, digits in either case.
     (
         "layer add w point\naddhex w 0101000000000000000000f03f0000000000000040\naddhex w 00000000013FF00000000000004000000000000000\nshow w\nhex w 2\nhex w 3\nhex v 1\n",
@@ -10,8 +10,13 @@ const SESSIONS: [(&str, &str); 7] = [
     ),
     // Faults of the binary, and a zero with a sign.
     (
-        "layer add w point\naddhex w 0000000001c120000000000000411ffffc00000000\naddhex w 000000000141200000000000000000000000000000\naddhex w 00000000013fe00000000000000000000000000000\naddhex w 000000000180000000000000008000000000000000\nshow w\nhex w 2\n",
-        "ok\nok 1\nrefused 4 OutOfRange\nrefused 3 OffGrid\nok 2\nrows 2\n1 POINT (-524288 524287)\n2 POINT (0 0)\n010100000000000000000000000000000000000000\n",
+        "layer add w point\naddhex w 0000000001c120000000000000411ffffc00000000\naddhex w 000000000141200000000000000000000000000000\naddhex w 00000000013fe00000000000000000000000000000\naddhex w 000000000180000000000000008000000000000000\nshow w\nhex w 2\nhex w 3\n",
+        "ok\nok 1\nok 2\nrefused 3 OffGrid\nok 3\nrows 3\n1 POINT (-524288 524287)\n2 POINT (524288 0)\n3 POINT (0 0)\n010100000000000000000020410000000000000000\n010100000000000000000000000000000000000000\n",
+    ),
+    // The corners of the grid, and what lies a step outside.
+    (
+        "layer add w point\naddhex w 0000000001c160000000000000415fffffc0000000\naddhex w 000000000141600000000000000000000000000000\naddhex w 00000000010000000000000000c160000020000000\nshow w\nhex w 1\n",
+        "ok\nok 1\nrefused 4 OutOfRange\nrefused 4 OutOfRange\nrows 1\n1 POINT (-8388608 8388607)\n010100000000000000000060c1000000c0ffff5f41\n",
     ),
     (
         "layer add w point\naddhex w 0101000000000000000000f03f\naddhex w 0101000000000000000000f03f000000000000004000\naddhex w 0107000000\naddhex w 010200000000000000\naddhex w 0102000000ffffffff\naddhex w 010\naddhex w 01zz\nshow w\nundo\nundo\n",

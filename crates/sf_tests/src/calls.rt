@@ -4,37 +4,42 @@ use sf_edits::Answer;
 use std::alloc::Global;
 use std::test::Fail;
 
-/// What lines are read as: a verb, and the identifier of a feature or 0.
-const READ: [(&str, &str, u32); 8] = [
-    (" undo ", "undo", 0),
-    ("show w", "show", 0),
-    ("hex w 4294967295", "hex", 4_294_967_295),
-    ("simple w 007", "simple", 7),
-    ("box w 1", "box", 1),
-    ("relate w 2 POINT (0 0)", "relate", 2),
-    ("match w t******** POINT (0 0)", "match", 0),
-    ("query w within POINT (0 0)", "query", 0),
+/// What lines are read as: the editor, a verb, and the identifier of a feature or 0.
+const READ: [(&str, u8, &str, u32); 11] = [
+    (" undo ", 0, "undo", 0),
+    ("show w", 0, "show", 0),
+    ("hex w 4294967295", 0, "hex", 4_294_967_295),
+    ("simple w 007", 0, "simple", 7),
+    ("box w 1", 0, "box", 1),
+    ("relate w 2 POINT (0 0)", 0, "relate", 2),
+    ("match w t******** POINT (0 0)", 0, "match", 0),
+    ("query w within POINT (0 0)", 0, "query", 0),
+    ("@1 undo", 1, "undo", 0),
+    (" @007\tshow w", 7, "show", 0),
+    ("@255  box w 3", 255, "box", 3),
 ];
 
 /// What a line is read as, or None where it is refused or is another command.
-fn read(alloc: Global, line: &str) -> Option<(&'static str, u32)> {
-    match parse(alloc, line) {
-        Ok(Command::Undo) => Some(("undo", 0)),
-        Ok(Command::Show(_)) => Some(("show", 0)),
-        Ok(Command::Hex(_, id)) => Some(("hex", id)),
-        Ok(Command::Simple(_, id)) => Some(("simple", id)),
-        Ok(Command::Extent(_, id)) => Some(("box", id)),
-        Ok(Command::Relate(_, id, _)) => Some(("relate", id)),
-        Ok(Command::Match(_, _, _)) => Some(("match", 0)),
-        Ok(Command::Query(_, _, _)) => Some(("query", 0)),
-        _ => None,
-    }
+fn read(alloc: Global, line: &str) -> Option<(u8, &'static str, u32)> {
+    let (editor, command) = parse(alloc, line).ok()?;
+    let (verb, id) = match command {
+        Command::Undo => ("undo", 0),
+        Command::Show(_) => ("show", 0),
+        Command::Hex(_, id) => ("hex", id),
+        Command::Simple(_, id) => ("simple", id),
+        Command::Extent(_, id) => ("box", id),
+        Command::Relate(_, id, _) => ("relate", id),
+        Command::Match(_, _, _) => ("match", 0),
+        Command::Query(_, _, _) => ("query", 0),
+        _ => return None,
+    };
+    Some((editor, verb, id))
 }
 
 #[test]
 fn parse_reads_commands(rt: HostRuntime) {
-    for (line, verb, id) in READ {
-        assert_eq!(rt; read(rt.alloc(), line), Some((verb, id)));
+    for (line, editor, verb, id) in READ {
+        assert_eq!(rt; read(rt.alloc(), line), Some((editor, verb, id)));
     }
 }
 
@@ -49,7 +54,7 @@ fn editor_edits_undoes_and_redoes(rt: HostRuntime) -> Result<(), Fail> {
             Answer::Id(2),
         ),
     ] {
-        let Ok(Command::Edit(edit)) = parse(rt.alloc(), line) else {
+        let Ok((0, Command::Edit(edit))) = parse(rt.alloc(), line) else {
             return Err(Fail::from("no edit"));
         };
         assert!(rt; matches!(editor.edit(rt.alloc(), edit), Ok(given) if given == answer));

@@ -33,6 +33,10 @@ impl CellSink for Seen {
         self.meeting |= *ring > 0 && *line > 0 && dim == 0;
         self.overlap |= *ring > 0 && *line > 0 && dim > 0;
     }
+
+    fn is_full(&self) -> bool {
+        false
+    }
 }
 
 /// The edges between these places and the next ones.

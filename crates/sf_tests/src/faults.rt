@@ -24,10 +24,10 @@ const INPUT: &str = "layer add wells point\nadd wells POINT (3 4)\nshow wells\nu
 const OUTPUT: &str = "ok\nok 1\nrows 1\n1 POINT (3 4)\nok\nrows 0\n";
 
 /// The file of the store before its undo.
-const FILE: [u8; 62] = [
-    0x53, 0x46, 0x53, 0x54, 0x4f, 0x52, 0x45, 0x31, 0, 0, 0, 1, 5, 0x77, 0x65, 0x6c, 0x6c, 0x73, 1,
-    0, 0, 0, 2, 0, 1, 0, 0, 0, 0, 0, 1, 0, 0, 0, 1, 0, 0, 0, 0x15, 1, 1, 0, 0, 0, 0, 0, 0, 0, 0, 0,
-    8, 0x40, 0, 0, 0, 0, 0, 0, 0x10, 0x40, 0, 0,
+const FILE: [u8; 63] = [
+    0x53, 0x46, 0x53, 0x54, 0x4f, 0x52, 0x45, 0x32, 0x18, 0, 0, 0, 1, 5, 0x77, 0x65, 0x6c, 0x6c,
+    0x73, 1, 0, 0, 0, 2, 0, 1, 0, 0, 0, 0, 0, 1, 0, 0, 0, 1, 0, 0, 0, 0x15, 1, 1, 0, 0, 0, 0, 0, 0,
+    0, 0, 0, 8, 0x40, 0, 0, 0, 0, 0, 0, 0x10, 0x40, 0, 0,
 ];
 
 /// How many bytes are given or taken at a time.

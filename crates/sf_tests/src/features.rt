@@ -10,7 +10,7 @@ const SESSIONS: [(&str, &str); 11] = [
     ),
     // Texts and their faults.
     (
-        "layer add w any\nadd w point(3.000 -4)\nadd w POINT (3.5 4)\nadd w POINT EMPTY\nadd w POINT Z (1 2 3)\nadd w POINT (524288 0)\nadd w POINT (1 2\nadd w MULTIPOINT (1 2, (3 4))\nlayer add p polygon\nadd p POINT (1 1)\nshow w\n",
+        "layer add w any\nadd w point(3.000 -4)\nadd w POINT (3.5 4)\nadd w POINT EMPTY\nadd w POINT Z (1 2 3)\nadd w POINT (8388608 0)\nadd w POINT (1 2\nadd w MULTIPOINT (1 2, (3 4))\nlayer add p polygon\nadd p POINT (1 1)\nshow w\n",
         "ok\nok 1\nrefused 3 OffGrid\nrefused 5 Empty\nrefused 6 UnsupportedType\nrefused 4 OutOfRange\nrefused 2 Syntax\nok 2\nok\nrefused 26 WrongKind\nrows 2\n1 POINT (3 -4)\n2 MULTIPOINT ((1 2), (3 4))\n",
     ),
     // Rings that touch, and an island that is its hole.
@@ -25,8 +25,8 @@ const SESSIONS: [(&str, &str); 11] = [
     ),
     // Boxes.
     (
-        "layer add w any\nadd w POLYGON ((0 0, 10 0, 10 10, 0 10, 0 0))\nadd w MULTIPOINT (5 -7, -3 4)\nadd w MULTIPOINT (-524288 524287, 524287 -524288)\nadd w POINT (3 -4)\nbox w 1\nbox w 2\nbox w 3\nbox w 4\n",
-        "ok\nok 1\nok 2\nok 3\nok 4\n0 0 10 10\n-3 -7 5 4\n-524288 -524288 524287 524287\n3 -4 3 -4\n",
+        "layer add w any\nadd w POLYGON ((0 0, 10 0, 10 10, 0 10, 0 0))\nadd w MULTIPOINT (5 -7, -3 4)\nadd w MULTIPOINT (-8388608 8388607, 8388607 -8388608)\nadd w POINT (3 -4)\nbox w 1\nbox w 2\nbox w 3\nbox w 4\n",
+        "ok\nok 1\nok 2\nok 3\nok 4\n0 0 10 10\n-3 -7 5 4\n-8388608 -8388608 8388607 8388607\n3 -4 3 -4\n",
     ),
     // Simple or not: repeats in a line, equal points, a line that passes through its end, an area.
     (

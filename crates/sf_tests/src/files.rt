@@ -29,9 +29,9 @@ const SESSIONS: [(&str, &str, &str); 5] = [
     ),
     // All six kinds, found by what their layer is asked.
     (
-        "layer add w any\nadd w POINT (-524288 524287)\nadd w LINESTRING (0 0, 0 0, 5 5)\nadd w POLYGON ((0 0, 30 0, 30 30, 0 30, 0 0), (0 10, 10 10, 10 20, 0 10))\nadd w MULTIPOINT ((1 1), (1 1))\nadd w MULTILINESTRING ((0 0, 5 5), (5 5, 10 0))\nadd w MULTIPOLYGON (((0 0, 10 0, 10 10, 0 10, 0 0)), ((10 10, 20 10, 20 20, 10 10)))\n",
+        "layer add w any\nadd w POINT (-8388608 8388607)\nadd w LINESTRING (0 0, 0 0, 5 5)\nadd w POLYGON ((0 0, 30 0, 30 30, 0 30, 0 0), (0 10, 10 10, 10 20, 0 10))\nadd w MULTIPOINT ((1 1), (1 1))\nadd w MULTILINESTRING ((0 0, 5 5), (5 5, 10 0))\nadd w MULTIPOLYGON (((0 0, 10 0, 10 10, 0 10, 0 0)), ((10 10, 20 10, 20 20, 10 10)))\n",
         "show w\nquery w intersects POINT (1 1)\nquery w disjoint POINT (1 1)\nrelate w 5 POINT (5 5)\n",
-        "rows 6\n1 POINT (-524288 524287)\n2 LINESTRING (0 0, 0 0, 5 5)\n3 POLYGON ((0 0, 30 0, 30 30, 0 30, 0 0), (0 10, 10 10, 10 20, 0 10))\n4 MULTIPOINT ((1 1), (1 1))\n5 MULTILINESTRING ((0 0, 5 5), (5 5, 10 0))\n6 MULTIPOLYGON (((0 0, 10 0, 10 10, 0 10, 0 0)), ((10 10, 20 10, 20 20, 10 10)))\nrows 5\n2\n3\n4\n5\n6\nrows 1\n1\n0F1FF0FF2\n",
+        "rows 6\n1 POINT (-8388608 8388607)\n2 LINESTRING (0 0, 0 0, 5 5)\n3 POLYGON ((0 0, 30 0, 30 30, 0 30, 0 0), (0 10, 10 10, 10 20, 0 10))\n4 MULTIPOINT ((1 1), (1 1))\n5 MULTILINESTRING ((0 0, 5 5), (5 5, 10 0))\n6 MULTIPOLYGON (((0 0, 10 0, 10 10, 0 10, 0 0)), ((10 10, 20 10, 20 20, 10 10)))\nrows 5\n2\n3\n4\n5\n6\nrows 1\n1\n0F1FF0FF2\n",
     ),
 ];
 

@@ -13,6 +13,8 @@ mod dialogs;
 #[cfg(test)]
 mod editing;
 #[cfg(test)]
+mod editors;
+#[cfg(test)]
 mod faults;
 #[cfg(test)]
 mod features;

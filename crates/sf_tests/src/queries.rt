@@ -36,7 +36,7 @@ const SESSIONS: [(&str, &str); 12] = [
     ),
     // A line from corner to corner of the grid, but for one step, passes a point nearby.
     (
-        "layer add w point\nadd w POINT (0 0)\nrelate w 1 LINESTRING (-524288 -524288, 524287 524286)\nquery w disjoint LINESTRING (-524288 -524288, 524287 524286)\nquery w intersects LINESTRING (-524288 -524288, 524287 524286)\n",
+        "layer add w point\nadd w POINT (0 0)\nrelate w 1 LINESTRING (-8388608 -8388608, 8388607 8388606)\nquery w disjoint LINESTRING (-8388608 -8388608, 8388607 8388606)\nquery w intersects LINESTRING (-8388608 -8388608, 8388607 8388606)\n",
         "ok\nok 1\nFF0FFF102\nrows 1\n1\nrows 0\n",
     ),
     // Letters of patterns, small ones too; each letter at a place where it tells.
@@ -51,7 +51,7 @@ const SESSIONS: [(&str, &str); 12] = [
     ),
     // Which fault comes first: words, pattern, text, validity, layer, feature.
     (
-        "relate\nrelate w\nrelate w 1\nrelate w x POINT (0 0\nrelate w 1 POINT (0 0\nrelate w 1 POINT (0 0.5)\nrelate w 1 LINESTRING (0 0, 0 0)\nrelate w 1 POINT (0 0)\nquery\nquery w\nquery w near POINT (0 0)\nquery w Within POINT (0 0\nquery w within\nquery w within POINT (0 0\nquery w within POINT (524288 0)\nquery w within POLYGON ((0 0, 10 10, 10 0, 0 10, 0 0))\nquery w within POINT (0 0)\nmatch w T\nmatch w T POINT (0 0\nmatch w ********* POINT EMPTY\nmatch w ********* POLYGON ((0 0, 10 0, 10 10, 0 10))\nmatch w ********* POINT (0 0)\nlayer add w point\nrelate w 1 POINT (0 0)\nquery w within POINT (0 0)\nmatch w T******** POINT (0 0)\n",
+        "relate\nrelate w\nrelate w 1\nrelate w x POINT (0 0\nrelate w 1 POINT (0 0\nrelate w 1 POINT (0 0.5)\nrelate w 1 LINESTRING (0 0, 0 0)\nrelate w 1 POINT (0 0)\nquery\nquery w\nquery w near POINT (0 0)\nquery w Within POINT (0 0\nquery w within\nquery w within POINT (0 0\nquery w within POINT (8388608 0)\nquery w within POLYGON ((0 0, 10 10, 10 0, 0 10, 0 0))\nquery w within POINT (0 0)\nmatch w T\nmatch w T POINT (0 0\nmatch w ********* POINT EMPTY\nmatch w ********* POLYGON ((0 0, 10 0, 10 10, 0 10))\nmatch w ********* POINT (0 0)\nlayer add w point\nrelate w 1 POINT (0 0)\nquery w within POINT (0 0)\nmatch w T******** POINT (0 0)\n",
         "refused 31 BadCommand\nrefused 31 BadCommand\nrefused 31 BadCommand\nrefused 31 BadCommand\nrefused 2 Syntax\nrefused 3 OffGrid\nrefused 10 ShortLine\nrefused 18 NoLayer\nrefused 31 BadCommand\nrefused 31 BadCommand\nrefused 31 BadCommand\nrefused 31 BadCommand\nrefused 31 BadCommand\nrefused 2 Syntax\nrefused 4 OutOfRange\nrefused 13 RingNotSimple\nrefused 18 NoLayer\nrefused 31 BadCommand\nrefused 32 BadPattern\nrefused 5 Empty\nrefused 11 OpenRing\nrefused 18 NoLayer\nok\nrefused 21 NoFeature\nrows 0\nrows 0\n",
     ),
     // What edits, undo and redo change is found as it is then; a question is no edit.

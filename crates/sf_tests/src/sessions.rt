@@ -49,16 +49,16 @@ const SESSIONS: [(&[u8], &str); 36] = [
     ),
     // Well-known texts.
     (
-        b"layer add w point\nadd w POINT (524287 -524288)\nshow w\n",
-        "ok\nok 1\nrows 1\n1 POINT (524287 -524288)\n",
+        b"layer add w point\nadd w POINT (8388607 -8388608)\nshow w\n",
+        "ok\nok 1\nrows 1\n1 POINT (8388607 -8388608)\n",
     ),
     (
         b"layer add w any\nadd w point(3.000 -4)\nadd w POINT (3.000 -0)\nshow w\n",
         "ok\nok 1\nok 2\nrows 2\n1 POINT (3 -4)\n2 POINT (3 0)\n",
     ),
     (
-        b"layer add w point\nadd w POINT (524288 0)\nadd w POINT (3.5 4)\nadd w POINT EMPTY\nadd w POINT (EMPTY 1)\nadd w POINT (1 EMPTY)\n",
-        "ok\nrefused 4 OutOfRange\nrefused 3 OffGrid\nrefused 5 Empty\nrefused 5 Empty\nrefused 2 Syntax\n",
+        b"layer add w point\nadd w POINT (524288 0)\nadd w POINT (8388608 0)\nadd w POINT (3.5 4)\nadd w POINT EMPTY\nadd w POINT (EMPTY 1)\nadd w POINT (1 EMPTY)\n",
+        "ok\nok 1\nrefused 4 OutOfRange\nrefused 3 OffGrid\nrefused 5 Empty\nrefused 5 Empty\nrefused 2 Syntax\n",
     ),
     (
         b"layer add w point\nadd w POINT Z (1 2 3)\nadd w LINESTRING (1 2, 3 4)\nadd w CIRCLE (1 2)\nadd w POINT (1 2\nadd w\n",
@@ -112,7 +112,7 @@ const SESSIONS: [(&[u8], &str); 36] = [
     ),
     // Refused lines change nothing, and are not undone.
     (
-        b"layer add w point\nadd w POINT (1 1)\nadd w POINT (9)\nadd w POINT (524288 0)\nlayer add w any\nadd v POINT (1 1)\nshow w\n",
+        b"layer add w point\nadd w POINT (1 1)\nadd w POINT (9)\nadd w POINT (8388608 0)\nlayer add w any\nadd v POINT (1 1)\nshow w\n",
         "ok\nok 1\nrefused 2 Syntax\nrefused 4 OutOfRange\nrefused 19 LayerExists\nrefused 18 NoLayer\nrows 1\n1 POINT (1 1)\n",
     ),
     (

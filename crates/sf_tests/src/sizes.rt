@@ -84,7 +84,7 @@ fn most_points(rt: HostRuntime) -> Result<(), Fail> {
 fn long_input(alloc: Global) -> Result<String, AllocError> {
     let mut input = String::from_str(alloc, "layer add w point\n")?;
     for _ in 0..FEATURES {
-        input.push_str("add w POINT (-524288 -524288)\n")?;
+        input.push_str("add w POINT (-8388608 -8388608)\n")?;
     }
     input.push_str("show w\n")?;
     Ok(input)
@@ -98,7 +98,7 @@ fn long_output(alloc: Global) -> Result<String, AllocError> {
     }
     writeln!(output, "rows {FEATURES}")?;
     for id in 1..=FEATURES {
-        writeln!(output, "{id} POINT (-524288 -524288)")?;
+        writeln!(output, "{id} POINT (-8388608 -8388608)")?;
     }
     Ok(output)
 }

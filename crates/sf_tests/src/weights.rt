@@ -66,7 +66,7 @@ const EDITS: [(&str, u64); 28] = [
 /// The edit of a line, or none where it asks for something else.
 fn edit_of(alloc: Global, line: &str) -> Option<Edit> {
     match parse(alloc, line) {
-        Ok(Command::Edit(edit)) => Some(edit),
+        Ok((_, Command::Edit(edit))) => Some(edit),
         _ => None,
     }
 }

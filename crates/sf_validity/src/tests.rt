@@ -351,9 +351,9 @@ const SHORT: &[Case] = &[
 ];
 
 /// The least and the greatest coordinate of the grid.
-const LOW: i32 = -524_288;
+const LOW: i32 = -8_388_608;
 
-const HIGH: i32 = 524_287;
+const HIGH: i32 = 8_388_607;
 
 /// The ring over all four corners of the grid.
 const GRID: Places = &[

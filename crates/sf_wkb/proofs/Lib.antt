@@ -7,4 +7,5 @@ pub mod OtherWords
 pub mod Rooms
 pub mod RoundTrip
 pub mod Sized
+pub mod Widening
 pub mod WordLaws

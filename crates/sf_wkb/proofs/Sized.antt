@@ -4,7 +4,7 @@ use Rattle.std.proofs.lemmas.Bool.Decides.{nat_tests}
 use Rattle.std.proofs.lemmas.Int.{ints}
 use Rattle.std.proofs.lemmas.List.{append-nil}
 use Rattle.std.specs.List.{AllByRecursion}
-use Rattle.sf_grid.specs.Bounds.{IsCoordinate, is_coordinate}
+use Rattle.sf_grid.specs.Bounds.{IsCoordinate}
 use Rattle.sf_grid.specs.Plane.{Coordinates, IsOnGrid}
 use Rattle.sf_geometry.specs.declared.geometry.Geometry.{Geometry}
 use Rattle.sf_geometry.specs.declared.geometry.Geometry.TheVariants.{Point, LineString, Polygon, MultiPoint, MultiLineString, MultiPolygon}
@@ -15,8 +15,10 @@ use Rattle.sf_geometry.specs.Size.{points_max, IsSized}
 use Rattle.sf_wkb.specs.declared.fault.WkbFault.{WkbFault}
 use Rattle.sf_wkb.specs.declared.fault.WkbFault.TheVariants as faults
 use Rattle.sf_wkb.specs.declared.order.Order.{Order}
-use Rattle.sf_wkb.specs.Words.{signed, is_negative, exponent_of, fraction_of, whole_by, whole_of_fields}
-use Rattle.sf_wkb.specs.Grammar.{Left, Reads, ◌>>=◌, with_rest, next, order, number, any_code, code, count, coordinate, point, items, listed, line, rings, member, made, body, ending, read}
+use Rattle.sf_wkb.specs.declared.grid.Grid.{Grid}
+use Rattle.sf_wkb.specs.declared.grid.Grid.TheVariants.{Bits20, Bits24}
+use Rattle.sf_wkb.specs.Words.{in_grid, signed, is_negative, exponent_of, fraction_of, whole_by, whole_of_fields}
+use Rattle.sf_wkb.specs.Grammar.{Left, Reads, ◌>>=◌, with_rest, next, order, number, any_code, code, count, coordinate, point, items, listed, line, rings, member, made, body, ending, read_in}
 use Rattle.sf_geometry.proofs.Filled.{GoodList, GoodLine, GoodLines, one, total, total_line, total_lines, total_polygons, filled_line, filled_lines, filled_polygons, lines_on_grid, polygons_on_grid}
 
 pub bind_ok : {A B : Type 0} (r : Result A WkbFault) (f : A → Result B WkbFault) (y : B) → (r >>= f) ≡ Ok y → (x : A) × (r ≡ Ok x) × (f x ≡ Ok y)
@@ -49,24 +51,29 @@ pub by_zero : (is_zero : Bool) (r : Result ℤ WkbFault) (n : ℤ) → (if is_ze
 by_zero true r n e = inl cc
 by_zero false r n e = inr e
 
-pub in_range : (m n : ℤ) → is_coordinate m ≡ true → m ≡ n → IsCoordinate n
-in_range m n test same = let on : IsCoordinate m = grind (arith, ints) in subst IsCoordinate same on
+-- a coordinate of either grid is a coordinate
+pub on_either : (grid : Grid) (n : ℤ) → in_grid grid n ≡ true → IsCoordinate n
+on_either Bits20 n test = grind (arith, ints)
+on_either Bits24 n test = grind (arith, ints)
 
-by_exponent : (negative : Bool) (exponent fraction : ℕ) (n : ℤ) → whole_by is_coordinate negative exponent fraction ≡ Ok n → IsCoordinate n
-by_exponent negative exponent fraction n e =
+in_range : (grid : Grid) (m n : ℤ) → in_grid grid m ≡ true → m ≡ n → IsCoordinate n
+in_range grid m n test same = subst IsCoordinate same (on_either grid m test)
+
+by_exponent : (grid : Grid) (negative : Bool) (exponent fraction : ℕ) (n : ℤ) → whole_by (in_grid grid) negative exponent fraction ≡ Ok n → IsCoordinate n
+by_exponent grid negative exponent fraction n e =
     let unit : ℕ = 2 ^ (1075 - exponent) in
     let m : ℤ = signed negative ((2 ^ 52 + fraction) / unit) in
-    let there = unless_ok (not (fraction % unit == 0)) faults.OffGrid (if not (is_coordinate m) then Err faults.OutOfRange else Ok m) n e in
-    let found = by_range (is_coordinate m) m n there.1 in
-    in_range m n found.0 found.1
+    let there = unless_ok (not (fraction % unit == 0)) faults.OffGrid (if not (in_grid grid m) then Err faults.OutOfRange else Ok m) n e in
+    let found = by_range (in_grid grid m) m n there.1 in
+    in_range grid m n found.0 found.1
 
 zero_or : (n : ℤ) (r : Result ℤ WkbFault) → ((pos 0 ≡ n) ⊎ (r ≡ Ok n)) → (r ≡ Ok n → IsCoordinate n) → IsCoordinate n
-zero_or n r (inl zero_is) other = in_range (pos 0) n refl zero_is
+zero_or n r (inl zero_is) other = in_range Bits24 (pos 0) n refl zero_is
 zero_or n r (inr found) other = other found
 
-pub fields_ok : (negative : Bool) (exponent fraction : ℕ) (n : ℤ) → whole_of_fields is_coordinate negative exponent fraction ≡ Ok n → IsCoordinate n
-fields_ok negative exponent fraction n e =
-    let whole : Result ℤ WkbFault = whole_by is_coordinate negative exponent fraction in
+pub fields_ok : (grid : Grid) (negative : Bool) (exponent fraction : ℕ) (n : ℤ) → whole_of_fields (in_grid grid) negative exponent fraction ≡ Ok n → IsCoordinate n
+fields_ok grid negative exponent fraction n e =
+    let whole : Result ℤ WkbFault = whole_by (in_grid grid) negative exponent fraction in
     let not_great : Result ℤ WkbFault = if nat_lt 1074 exponent then Err faults.OutOfRange else whole in
     let not_special : Result ℤ WkbFault = if exponent == 2047 then Err faults.OffGrid else not_great in
     let not_small : Result ℤ WkbFault = if nat_lt exponent 1023 then Err faults.OffGrid else not_special in
@@ -74,10 +81,10 @@ fields_ok negative exponent fraction n e =
     let a = unless_ok (nat_lt exponent 1023) faults.OffGrid not_special n found in
     let b = unless_ok (exponent == 2047) faults.OffGrid not_great n a.1 in
     let c = unless_ok (nat_lt 1074 exponent) faults.OutOfRange whole n b.1 in
-    by_exponent negative exponent fraction n c.1)
+    by_exponent grid negative exponent fraction n c.1)
 
-pub coordinate_ok : (o : Order) (bytes : List ℕ) (n : ℤ) → coordinate o bytes ≡ Ok n → IsCoordinate n
-coordinate_ok o bytes n e = let word : ℕ = number o 8 bytes in fields_ok (is_negative word) (exponent_of word) (fraction_of word) n e
+pub coordinate_ok : (grid : Grid) (o : Order) (bytes : List ℕ) (n : ℤ) → coordinate grid o bytes ≡ Ok n → IsCoordinate n
+coordinate_ok grid o bytes n e = let word : ℕ = number o 8 bytes in fields_ok grid (is_negative word) (exponent_of word) (fraction_of word) n e
 
 -- ---- points and lists
 
@@ -92,20 +99,20 @@ Keeps {T = T} item = (left rest : Left) (x : T) → left.points ≤ points_max �
 abbrev with_y : ℤ → ℤ × Left → Reads Coordinates
 with_y x y = Ok (record { x = x; y = y.0 }, record y.1 { points = y.1.points + 1 })
 
-abbrev with_x : Order → ℤ × Left → Reads Coordinates
-with_x o x = next 8 (coordinate o) x.1 >>= with_y x.0
+abbrev with_x : Grid → Order → ℤ × Left → Reads Coordinates
+with_x grid o x = next 8 (coordinate grid o) x.1 >>= with_y x.0
 
 pub point_counts : (o : Order) → Counts (point o) one IsOnGrid
 point_counts o left rest p e =
-    let a = bind_ok (next 8 (coordinate o) left) (with_x o) (p, rest) e in
-    let b = bind_ok (next 8 (coordinate o) a.0.1) (with_y a.0.0) (p, rest) a.2 in
-    let x = next_ok 8 (coordinate o) left a.0.1 a.0.0 a.1 in
-    let y = next_ok 8 (coordinate o) a.0.1 b.0.1 b.0.0 b.1 in
+    let a = bind_ok (next 8 (coordinate left.grid o) left) (with_x left.grid o) (p, rest) e in
+    let b = bind_ok (next 8 (coordinate left.grid o) a.0.1) (with_y a.0.0) (p, rest) a.2 in
+    let x = next_ok 8 (coordinate left.grid o) left a.0.1 a.0.0 a.1 in
+    let y = next_ok 8 (coordinate left.grid o) a.0.1 b.0.1 b.0.0 b.1 in
     let end : Left = record b.0.1 { points = b.0.1.points + 1 } in
     let q : Coordinates = record { x = a.0.0; y = b.0.0 } in
     let found : ◌≡◌ {A = Result (Coordinates × Left) WkbFault} (Ok (q, end)) (Ok (p, rest)) = b.2 in
     let same : ◌≡◌ {A = Coordinates × Left} (q, end) (p, rest) = cc in
-    let on : IsOnGrid q = (coordinate_ok o (take 8 left.bytes) a.0.0 x.0, coordinate_ok o (take 8 a.0.1.bytes) b.0.0 y.0) in
+    let on : IsOnGrid q = (coordinate_ok left.grid o (take 8 left.bytes) a.0.0 x.0, coordinate_ok left.grid o (take 8 a.0.1.bytes) b.0.0 y.0) in
     let ended : end.points ≡ rest.points = ap (λ (r : Coordinates × Left). r.1.points) same in
     (subst IsOnGrid (ap (λ (r : Coordinates × Left). r.0) same) on, omega (arith, ended, x.1, y.1))
 
@@ -223,7 +230,7 @@ rings_keeps o = listed_keeps o (line o) (line_keeps o)
 
 -- ---- whole geometries
 
-made_ok : {A : Type 0} (f : A → Geometry) (r : Reads A) (g : Geometry) (rest : Left) → made f r ≡ Ok (g, rest) → (x : A) × (r ≡ Ok (x, rest)) × (f x ≡ g)
+pub made_ok : {A : Type 0} (f : A → Geometry) (r : Reads A) (g : Geometry) (rest : Left) → made f r ≡ Ok (g, rest) → (x : A) × (r ≡ Ok (x, rest)) × (f x ≡ g)
 made_ok {A = A} f (Ok found) g rest e =
     let equal : ◌≡◌ {A = Result (Geometry × Left) WkbFault} (Ok (f found.0, found.1)) (Ok (g, rest)) = e in
     let same : ◌≡◌ {A = Geometry × Left} (f found.0, found.1) (g, rest) = cc in
@@ -296,9 +303,9 @@ with_kind o coded = body coded.0 o coded.1 >>= with_geometry
 abbrev with_start : Order × Left → Result Geometry WkbFault
 with_start ordered = next 4 (any_code ordered.0) ordered.1 >>= with_kind ordered.0
 
-pub read_ok : (bytes : List ℕ) (g : Geometry) → read bytes ≡ Ok g → IsGood g
-read_ok bytes g e =
-    let start : Left = record { bytes = bytes; points = 0 } in
+pub read_ok : (grid : Grid) (bytes : List ℕ) (g : Geometry) → read_in grid bytes ≡ Ok g → IsGood g
+read_ok grid bytes g e =
+    let start : Left = record { bytes = bytes; points = 0; grid = grid } in
     let a = bind_ok (next 1 order start) with_start g e in
     let b = bind_ok (next 4 (any_code a.0.0) a.0.1) (with_kind a.0.0) g a.2 in
     let c = bind_ok (body b.0.0 a.0.0 b.0.1) with_geometry g b.2 in
@@ -313,5 +320,5 @@ if_ok : (r : Result Geometry WkbFault) → ((g : Geometry) → r ≡ Ok g → Is
 if_ok (Ok g) good = good g refl
 if_ok (Err fault) good = tt
 
-pub read_is_sized : (bytes : List ℕ) → IfOk (read bytes) (λ g. IsSized g × AllByRecursion IsOnGrid (points_of g))
-read_is_sized bytes = if_ok (read bytes) (read_ok bytes)
+pub read_is_sized : (grid : Grid) (bytes : List ℕ) → IfOk (read_in grid bytes) (λ g. IsSized g × AllByRecursion IsOnGrid (points_of g))
+read_is_sized grid bytes = if_ok (read_in grid bytes) (read_ok grid bytes)

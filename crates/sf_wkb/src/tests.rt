@@ -1,6 +1,6 @@
 ghost use Rattle.std.specs.Prelude.{◌<◌};
 
-use super::{WkbFault, append, read, whole_of, word_of, write};
+use super::{Grid, WkbFault, append, read, read_in, whole_of, word_of, write};
 use std::alloc::Global;
 use std::process::Abort;
 use std::test::Fail;
@@ -57,6 +57,10 @@ fn geometries_are_read_and_written(rt: HostRuntime) -> Result<(), Fail> {
         (
             "00 00000001 c120000000000000 411ffffc00000000",
             "01 01000000 00000000000020c1 00000000fcff1f41",
+        ),
+        (
+            "00 00000001 c160000000000000 415fffffc0000000",
+            "01 01000000 00000000000060c1 000000c0ffff5f41",
         ),
         (
             "01 01000000 0000000000000080 0000000000000000",
@@ -204,13 +208,13 @@ fn faults_at_the_front(rt: HostRuntime) -> Result<(), Fail> {
         ),
         // the first fault decides: a coordinate before the bytes that are missing, x before y
         ("01 01000000 000000000000e03f", WkbFault::OffGrid),
-        ("01 01000000 0000000000002041", WkbFault::OutOfRange),
+        ("01 01000000 0000000000006041", WkbFault::OutOfRange),
         (
-            "00 00000001 4120000000000000 3fe0000000000000",
+            "00 00000001 4160000000000000 3fe0000000000000",
             WkbFault::OutOfRange,
         ),
         (
-            "00 00000001 3fe0000000000000 4120000000000000 00",
+            "00 00000001 3fe0000000000000 4160000000000000 00",
             WkbFault::OffGrid,
         ),
     ] {
@@ -259,7 +263,7 @@ fn faults_in_lists_of_points(rt: HostRuntime) -> Result<(), Fail> {
         for (bad, fault) in [
             ("000000000000e03f 0000000000000040", WkbFault::OffGrid),
             ("000000000000f03f 000000000000f87f", WkbFault::OffGrid),
-            ("0000000000002041 0000000000000040", WkbFault::OutOfRange),
+            ("0000000000006041 0000000000000040", WkbFault::OutOfRange),
             ("000000000000f03f 0000000000003043", WkbFault::OutOfRange),
         ] {
             let good = "000000000000f03f 0000000000000040";
@@ -275,8 +279,8 @@ fn faults_in_lists_of_points(rt: HostRuntime) -> Result<(), Fail> {
         for (bad, fault) in [
             ("3fe0000000000000 4000000000000000", WkbFault::OffGrid),
             ("3ff0000000000000 fff0000000000000", WkbFault::OffGrid),
-            ("4120000000000000 4000000000000000", WkbFault::OutOfRange),
-            ("3ff0000000000000 c120000200000000", WkbFault::OutOfRange),
+            ("4160000000000000 4000000000000000", WkbFault::OutOfRange),
+            ("3ff0000000000000 c160000020000000", WkbFault::OutOfRange),
         ] {
             let good = "3ff0000000000000 4000000000000000";
             expect_at_each_place(&rt, rt.alloc(), before, good, bad, fault)?;
@@ -301,7 +305,7 @@ fn faults_in_lists_of_rings(rt: HostRuntime) -> Result<(), Fail> {
                 WkbFault::OffGrid,
             ),
             (
-                "01000000 0000000000002041 0000000000000040",
+                "01000000 0000000000006041 0000000000000040",
                 WkbFault::OutOfRange,
             ),
         ] {
@@ -371,7 +375,7 @@ fn faults_in_lists_of_members(rt: HostRuntime) -> Result<(), Fail> {
         (
             points,
             point,
-            "01 01000000 0000000000002041",
+            "01 01000000 0000000000006041",
             WkbFault::OutOfRange,
         ),
         (
@@ -383,7 +387,7 @@ fn faults_in_lists_of_members(rt: HostRuntime) -> Result<(), Fail> {
         (
             lines,
             line,
-            "00 00000002 00000001 c120000200000000",
+            "00 00000002 00000001 c160000020000000",
             WkbFault::OutOfRange,
         ),
         (
@@ -469,14 +473,20 @@ fn words_of_coordinates(rt: HostRuntime) {
         (524_287, 0x411f_fffc_0000_0000),
         (-524_287, 0xc11f_fffc_0000_0000),
         (-524_288, 0xc120_0000_0000_0000),
+        (524_288, 0x4120_0000_0000_0000),
+        (-524_289, 0xc120_0002_0000_0000),
+        (8_388_606, 0x415f_ffff_8000_0000),
+        (8_388_607, 0x415f_ffff_c000_0000),
+        (-8_388_607, 0xc15f_ffff_c000_0000),
+        (-8_388_608, 0xc160_0000_0000_0000),
     ] {
         assert_eq!(rt; word_of(n), word, "at {n}");
         assert_eq!(rt; whole_of(word), Ok(n), "at {n}");
     }
     // whole numbers outside the grid have words too
     for (n, word) in [
-        (524_288, 0x4120_0000_0000_0000),
-        (-524_289, 0xc120_0002_0000_0000),
+        (8_388_608, 0x4160_0000_0000_0000),
+        (-8_388_609, 0xc160_0000_2000_0000),
         (i32::MAX, 0x41df_ffff_ffc0_0000),
         (i32::MIN, 0xc1e0_0000_0000_0000),
     ] {
@@ -503,12 +513,12 @@ fn other_words(rt: HostRuntime) {
         (0x3ff0_0000_0000_0001, Err(WkbFault::OffGrid)),
         (0x3ff8_0000_0000_0000, Err(WkbFault::OffGrid)),
         (0xbfff_ffff_ffff_ffff, Err(WkbFault::OffGrid)),
-        // around the ends of the grid: 524287.5, 524288, 524288.5, -524288.5, -524289
-        (0x411f_fffe_0000_0000, Err(WkbFault::OffGrid)),
-        (0x4120_0000_0000_0000, Err(WkbFault::OutOfRange)),
-        (0x4120_0001_0000_0000, Err(WkbFault::OffGrid)),
-        (0xc120_0001_0000_0000, Err(WkbFault::OffGrid)),
-        (0xc120_0002_0000_0000, Err(WkbFault::OutOfRange)),
+        // around the ends of the grid: 8388607.5, 8388608, 8388608.5, -8388608.5, -8388609
+        (0x415f_ffff_e000_0000, Err(WkbFault::OffGrid)),
+        (0x4160_0000_0000_0000, Err(WkbFault::OutOfRange)),
+        (0x4160_0000_1000_0000, Err(WkbFault::OffGrid)),
+        (0xc160_0000_1000_0000, Err(WkbFault::OffGrid)),
+        (0xc160_0000_2000_0000, Err(WkbFault::OutOfRange)),
         // exponent 1074: the last bit is a half
         (0x4320_0000_0000_0000, Err(WkbFault::OutOfRange)),
         (0x4320_0000_0000_0001, Err(WkbFault::OffGrid)),
@@ -529,6 +539,50 @@ fn other_words(rt: HostRuntime) {
     ] {
         assert_eq!(rt; whole_of(word), coordinate, "at {word:x}");
     }
+}
+
+#[test]
+fn rows_of_20_bits(rt: HostRuntime) -> Result<(), Fail> {
+    for (digits, narrow, wide) in [
+        ("00 00000001 411ffffc00000000 c120000000000000", None, None),
+        (
+            "00 00000001 4120000000000000 0000000000000000",
+            Some(WkbFault::OutOfRange),
+            None,
+        ),
+        (
+            "01 01000000 0000000000000000 00000000020020c1",
+            Some(WkbFault::OutOfRange),
+            None,
+        ),
+        (
+            "00 00000001 4120000000000000 3fe0000000000000",
+            Some(WkbFault::OutOfRange),
+            Some(WkbFault::OffGrid),
+        ),
+        (
+            "00 00000001 4160000000000000 3fe0000000000000",
+            Some(WkbFault::OutOfRange),
+            Some(WkbFault::OutOfRange),
+        ),
+        (
+            "00 00000001 4120000100000000 0000000000000000",
+            Some(WkbFault::OffGrid),
+            Some(WkbFault::OffGrid),
+        ),
+    ] {
+        let bytes = hex(rt.alloc(), digits)?;
+        let found = read_in(rt.alloc(), bytes.as_slice(), Grid::Bits20).err();
+        assert_eq!(rt; found, narrow, "at {digits}");
+        let found = read_in(rt.alloc(), bytes.as_slice(), Grid::Bits24).err();
+        assert_eq!(rt; found, wide, "at {digits}");
+        assert_eq!(rt;
+            read(rt.alloc(), bytes.as_slice()).err(),
+            wide,
+            "at {digits}"
+        );
+    }
+    Ok(())
 }
 
 /// Looks at the number, the name and the message of a fault.

@@ -15,6 +15,9 @@ fn texts_are_read_and_written(rt: HostRuntime) -> Result<(), Fail> {
         // the corners of the grid
         ("POINT (524287 -524288)", "POINT (524287 -524288)"),
         ("POINT (-524288 -524288)", "POINT (-524288 -524288)"),
+        ("POINT (524288 -524289)", "POINT (524288 -524289)"),
+        ("POINT (8388607 -8388608)", "POINT (8388607 -8388608)"),
+        ("POINT (-8388608 8388607.0)", "POINT (-8388608 8388607)"),
         // keywords in mixed case, tabs, and numbers that are spelled freely
         ("\t PoInT\t(\t+007. \t-0.0 ) ", "POINT (7 0)"),
         ("pOINT (-00012.000 +0)", "POINT (-12 0)"),
@@ -73,7 +76,7 @@ fn texts_are_read_and_written(rt: HostRuntime) -> Result<(), Fail> {
 fn texts_are_put_behind_others(rt: HostRuntime) -> Result<(), Fail> {
     for (geometry, expected) in [
         ("POINT (3.000 -0)", "7 POINT (3 0)"),
-        ("POINT (-524288 -524288)", "7 POINT (-524288 -524288)"),
+        ("POINT (-8388608 -8388608)", "7 POINT (-8388608 -8388608)"),
         ("MULTIPOINT (1 2, 3 4)", "7 MULTIPOINT ((1 2), (3 4))"),
     ] {
         let mut text = format!(in rt.alloc(); "7 ")?;
@@ -135,9 +138,9 @@ fn wkt_faults(rt: HostRuntime) -> Result<(), Fail> {
         ("MULTIPOLYGON EMPTY", WktFault::Empty),
         // numbers: a fraction before the range
         ("POINT (3.5 4)", WktFault::OffGrid),
-        ("POINT (524288 0)", WktFault::OutOfRange),
-        ("POINT (0 -524289)", WktFault::OutOfRange),
-        ("POINT (524288.5 0)", WktFault::OffGrid),
+        ("POINT (8388608 0)", WktFault::OutOfRange),
+        ("POINT (0 -8388609)", WktFault::OutOfRange),
+        ("POINT (8388608.5 0)", WktFault::OffGrid),
         ("POINT (99999999999999999999 0)", WktFault::OutOfRange),
         ("POINT (0 -4294967296)", WktFault::OutOfRange),
         ("POINT (0 18446744073709551616)", WktFault::OutOfRange),
@@ -238,8 +241,8 @@ fn faults_in_lists_of_points(rt: HostRuntime) -> Result<(), Fail> {
         for (bad, fault) in [
             ("1.5 2", WktFault::OffGrid),
             ("1 2.5", WktFault::OffGrid),
-            ("524288 2", WktFault::OutOfRange),
-            ("1 -524289", WktFault::OutOfRange),
+            ("8388608 2", WktFault::OutOfRange),
+            ("1 -8388609", WktFault::OutOfRange),
             ("EMPTY", WktFault::Empty),
             ("1 EMPTY", WktFault::Syntax(2)),
             ("1 2 EMPTY", WktFault::Syntax(4)),
@@ -260,7 +263,7 @@ fn faults_in_lists_of_points(rt: HostRuntime) -> Result<(), Fail> {
 fn faults_in_points_with_brackets(rt: HostRuntime) -> Result<(), Fail> {
     for (bad, fault) in [
         ("(1.5 2)", WktFault::OffGrid),
-        ("(1 524288)", WktFault::OutOfRange),
+        ("(1 8388608)", WktFault::OutOfRange),
         ("(EMPTY)", WktFault::Empty),
         ("EMPTY", WktFault::Empty),
         ("(1 EMPTY)", WktFault::Syntax(3)),
@@ -292,7 +295,7 @@ fn faults_in_lists_of_lists(rt: HostRuntime) -> Result<(), Fail> {
             ("(EMPTY)", WktFault::Empty),
             ("(1 2, EMPTY)", WktFault::Empty),
             ("(1 2.5, 3 4)", WktFault::OffGrid),
-            ("(1 2, 3 524288)", WktFault::OutOfRange),
+            ("(1 2, 3 8388608)", WktFault::OutOfRange),
             ("1 2", WktFault::Syntax(0)),
             ("()", WktFault::Syntax(1)),
             ("((1 2))", WktFault::Syntax(1)),
@@ -311,7 +314,7 @@ fn faults_in_lists_of_lists(rt: HostRuntime) -> Result<(), Fail> {
         ("((EMPTY))", WktFault::Empty),
         ("((1 2), EMPTY)", WktFault::Empty),
         ("((1.5 2))", WktFault::OffGrid),
-        ("((1 2), (524288 2))", WktFault::OutOfRange),
+        ("((1 2), (8388608 2))", WktFault::OutOfRange),
         ("1 2", WktFault::Syntax(0)),
         ("()", WktFault::Syntax(1)),
         ("(1 2)", WktFault::Syntax(1)),
@@ -379,8 +382,8 @@ fn points_are_counted(rt: HostRuntime) -> Result<(), Fail> {
         // and what is refused up to there comes first
         ("LINESTRING (", ", 1.5 2)", WktFault::OffGrid),
         ("LINESTRING (", ", 1 2.5)", WktFault::OffGrid),
-        ("LINESTRING (", ", 524288 2)", WktFault::OutOfRange),
-        ("LINESTRING (", ", 1 524288)", WktFault::OutOfRange),
+        ("LINESTRING (", ", 8388608 2)", WktFault::OutOfRange),
+        ("LINESTRING (", ", 1 8388608)", WktFault::OutOfRange),
         ("LINESTRING (", ", EMPTY)", WktFault::Empty),
         ("LINESTRING (", ", 1-2)", WktFault::Syntax(57_348)),
         ("LINESTRING (", ", x)", WktFault::Syntax(57_347)),

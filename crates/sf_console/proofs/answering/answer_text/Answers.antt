@@ -23,20 +23,20 @@ returns-then-is_blank_text c =
     let blank : list_all is_blank line ≡ true = ap (list_all is_blank) (sym c.in-Ok.ensures.cases.0) ∙ sym c.is_blank_text.ensures ∙ c.if-is_blank_text.true in
     subst (λ r. IsAnswered c.args.editor.now r [] c.args.editor.now) (sym (text_reading-by line true true text blank)) (refl, refl)
 
-pub returns-in_err-command : goal.returns-in_err-command
-returns-in_err-command c =
+pub returns-in_err-asker : goal.returns-in_err-asker
+returns-in_err-asker c =
     let line = c.args.bytes.now in
     let text : is_utf8 line ≡ true = is_utf8-from_IsUtf8 line c.in-Ok.ensures.cases.1 in
     let command : list_all is_blank line ≡ false = ap (list_all is_blank) (sym c.in-Ok.ensures.cases.0) ∙ sym c.is_blank_text.ensures ∙ c.if-is_blank_text.false in
-    let parsed : OrMemory (command_of line) (Err c.in_err-command.field-0.0) = subst (λ l. OrMemory (command_of l) (Err c.in_err-command.field-0.0)) c.in-Ok.ensures.cases.0 c.in_err-command.ensures in
+    let parsed : OrMemory (command_of line) (Err c.in_err-asker.field-0.0) = subst (λ l. OrMemory (command_of l) (Err c.in_err-asker.field-0.0)) c.in-Ok.ensures.cases.0 c.in_err-asker.ensures in
     subst (λ r. IsAnswered c.args.editor.now r (reply_text c.from_residual.result) c.args.editor.now) (sym (text_reading-by line true false text command))
-    (IsAnswered-refused c.args.editor.now (command_of line) c.in_err-command.field-0.0 c.from_residual.result parsed c.from_residual.ensures.1)
+    (IsAnswered-refused c.args.editor.now (command_of line) c.in_err-asker.field-0.0 c.from_residual.result parsed c.from_residual.ensures.1)
 
 pub returns : goal.returns
 returns c =
     let line = c.args.bytes.now in
     let text : is_utf8 line ≡ true = is_utf8-from_IsUtf8 line c.in-Ok.ensures.cases.1 in
     let command : list_all is_blank line ≡ false = ap (list_all is_blank) (sym c.in-Ok.ensures.cases.0) ∙ sym c.is_blank_text.ensures ∙ c.if-is_blank_text.false in
-    let parsed : OrMemory (command_of line) (Ok c.in_ok-command.command) = subst (λ l. OrMemory (command_of l) (Ok c.in_ok-command.command)) c.in-Ok.ensures.cases.0 c.in_ok-command.ensures in
+    let parsed : OrMemory (command_of line) (Ok (c.in_ok-asker.asker, c.in_ok-asker.command)) = subst (λ l. OrMemory (command_of l) (Ok (c.in_ok-asker.asker, c.in_ok-asker.command))) c.in-Ok.ensures.cases.0 c.in_ok-asker.ensures in
     subst (λ r. IsAnswered c.args.editor.now r (reply_text c.execute.result) c.execute.new.editor) (sym (text_reading-by line true false text command))
-    (IsAnswered-asked c.args.editor.now c.execute.new.editor (reply_text c.execute.result) (command_of line) (Ok c.in_ok-command.command) parsed c.execute.ensures)
+    (IsAnswered-asked c.args.editor.now c.execute.new.editor (reply_text c.execute.result) (command_of line) (Ok (c.in_ok-asker.asker, c.in_ok-asker.command)) parsed c.execute.ensures)

@@ -3,7 +3,7 @@ use Rattle.std.specs.Prelude.{IsTrue, length, nat_le}
 use Rattle.std.proofs.lemmas.Result.{err_from_is_err_and}
 use Rattle.sf_geometry.specs.declared.geometry.Geometry.{Geometry}
 use Rattle.sf_geometry.specs.Kinds.{kind_of}
-use Rattle.sf_wkb.specs.Grammar.{read}
+use Rattle.sf_wkb.specs.Grammar.{read_in}
 use Rattle.sf_features.specs.Features.{FeatureContent}
 use Rattle.sf_layers.specs.Content.{admits}
 use Rattle.sf_format.specs.declared.defect.Defect.TheVariants.{NoColumn}
@@ -22,12 +22,12 @@ returns-in_err-valid-clause-gives g c =
     let columns = c.args.layer.now.columns in
     let kind = c.args.layer.now.kind in
     let before = c.args.previous in
-    let whole = feature_above kind c.args.layer.now.next_id columns before in
+    let whole = feature_above (read_in c.args.grid) kind c.args.layer.now.next_id columns before in
     let id = c.in_ok-id.id in
-    let one = Goes-then (field (number 4) (next_of c.args.layer.now.next_id before)) (feature_after_id read kind columns) id _ _ _ _ (subst (λ n. Takes (field (number 4) (next_of n before)) id (g.R.Read.remaining c.args.reader.now) (g.R.Read.remaining c.feature_id.new.reader) c.args.window.now c.feature_id.new.window) c.next_id.ensures c.in_ok-id.ensures) in
+    let one = Goes-then (field (number 4) (next_of c.args.layer.now.next_id before)) (feature_after_id (read_in c.args.grid) kind columns) id _ _ _ _ (subst (λ n. Takes (field (number 4) (next_of n before)) id (g.R.Read.remaining c.args.reader.now) (g.R.Read.remaining c.feature_id.new.reader) c.args.window.now c.feature_id.new.window) c.next_id.ensures c.in_ok-id.ensures) in
     let halt = c.in_err-valid.field-0.0 in
-    rw (p.1, p.2) (Ends-step whole (geometry read kind) (feature_after_geometry columns id) halt _ _ _ _ _ one
-    (subst (λ k. Ends (geometry read k) (g.R.Read.remaining c.feature_id.new.reader) (g.R.Read.remaining c.geometry.new.reader) c.feature_id.new.window halt) c.kind.ensures c.in_err-valid.ensures.gives))
+    rw (p.1, p.2) (Ends-step whole (geometry (read_in c.args.grid) kind) (feature_after_geometry columns id) halt _ _ _ _ _ one
+    (subst (λ k. Ends (geometry (read_in c.args.grid) k) (g.R.Read.remaining c.feature_id.new.reader) (g.R.Read.remaining c.geometry.new.reader) c.feature_id.new.window halt) c.kind.ensures c.in_err-valid.ensures.gives))
 
 pub returns-in_err-count-clause-gives : goal.returns-in_err-count-clause-gives
 returns-in_err-count-clause-gives g c =
@@ -35,11 +35,11 @@ returns-in_err-count-clause-gives g c =
     let columns = c.args.layer.now.columns in
     let kind = c.args.layer.now.kind in
     let before = c.args.previous in
-    let whole = feature_above kind c.args.layer.now.next_id columns before in
+    let whole = feature_above (read_in c.args.grid) kind c.args.layer.now.next_id columns before in
     let id = c.in_ok-id.id in
-    let one = Goes-then (field (number 4) (next_of c.args.layer.now.next_id before)) (feature_after_id read kind columns) id _ _ _ _ (subst (λ n. Takes (field (number 4) (next_of n before)) id (g.R.Read.remaining c.args.reader.now) (g.R.Read.remaining c.feature_id.new.reader) c.args.window.now c.feature_id.new.window) c.next_id.ensures c.in_ok-id.ensures) in
+    let one = Goes-then (field (number 4) (next_of c.args.layer.now.next_id before)) (feature_after_id (read_in c.args.grid) kind columns) id _ _ _ _ (subst (λ n. Takes (field (number 4) (next_of n before)) id (g.R.Read.remaining c.args.reader.now) (g.R.Read.remaining c.feature_id.new.reader) c.args.window.now c.feature_id.new.window) c.next_id.ensures c.in_ok-id.ensures) in
     let shape = c.in_ok-valid.valid in
-    let two = Goes-step whole (geometry read kind) (feature_after_geometry columns id) shape _ _ _ _ _ _ one (subst (λ k. Takes (geometry read k) shape (g.R.Read.remaining c.feature_id.new.reader) (g.R.Read.remaining c.geometry.new.reader) c.feature_id.new.window c.geometry.new.window) c.kind.ensures c.in_ok-valid.ensures.gives) in
+    let two = Goes-step whole (geometry (read_in c.args.grid) kind) (feature_after_geometry columns id) shape _ _ _ _ _ _ one (subst (λ k. Takes (geometry (read_in c.args.grid) k) shape (g.R.Read.remaining c.feature_id.new.reader) (g.R.Read.remaining c.geometry.new.reader) c.feature_id.new.window c.geometry.new.window) c.kind.ensures c.in_ok-valid.ensures.gives) in
     rw (p.1, p.2) (Ends-step whole (field (number 2) (λ (n : ℕ). allowed (nat_le n (length columns)) NoColumn n)) (feature_after_count columns id shape) c.in_err-count.field-0.0 _ _ _ _ _ two c.in_err-count.ensures)
 
 pub returns-in_err-values-clause-gives : goal.returns-in_err-values-clause-gives
@@ -48,11 +48,11 @@ returns-in_err-values-clause-gives g c =
     let columns = c.args.layer.now.columns in
     let kind = c.args.layer.now.kind in
     let before = c.args.previous in
-    let whole = feature_above kind c.args.layer.now.next_id columns before in
+    let whole = feature_above (read_in c.args.grid) kind c.args.layer.now.next_id columns before in
     let id = c.in_ok-id.id in
-    let one = Goes-then (field (number 4) (next_of c.args.layer.now.next_id before)) (feature_after_id read kind columns) id _ _ _ _ (subst (λ n. Takes (field (number 4) (next_of n before)) id (g.R.Read.remaining c.args.reader.now) (g.R.Read.remaining c.feature_id.new.reader) c.args.window.now c.feature_id.new.window) c.next_id.ensures c.in_ok-id.ensures) in
+    let one = Goes-then (field (number 4) (next_of c.args.layer.now.next_id before)) (feature_after_id (read_in c.args.grid) kind columns) id _ _ _ _ (subst (λ n. Takes (field (number 4) (next_of n before)) id (g.R.Read.remaining c.args.reader.now) (g.R.Read.remaining c.feature_id.new.reader) c.args.window.now c.feature_id.new.window) c.next_id.ensures c.in_ok-id.ensures) in
     let shape = c.in_ok-valid.valid in
-    let two = Goes-step whole (geometry read kind) (feature_after_geometry columns id) shape _ _ _ _ _ _ one (subst (λ k. Takes (geometry read k) shape (g.R.Read.remaining c.feature_id.new.reader) (g.R.Read.remaining c.geometry.new.reader) c.feature_id.new.window c.geometry.new.window) c.kind.ensures c.in_ok-valid.ensures.gives) in
+    let two = Goes-step whole (geometry (read_in c.args.grid) kind) (feature_after_geometry columns id) shape _ _ _ _ _ _ one (subst (λ k. Takes (geometry (read_in c.args.grid) k) shape (g.R.Read.remaining c.feature_id.new.reader) (g.R.Read.remaining c.geometry.new.reader) c.feature_id.new.window c.geometry.new.window) c.kind.ensures c.in_ok-valid.ensures.gives) in
     let count = c.in_ok-count.count in
     let three = Goes-step whole (field (number 2) (λ (n : ℕ). allowed (nat_le n (length columns)) NoColumn n)) (feature_after_count columns id shape) count _ _ _ _ _ _ two c.in_ok-count.ensures in
     rw (p.1, p.2) (Ends-step whole (items (value columns) count []) (λ values. done (id, record { geometry = shape; values = values })) c.in_err-values.field-0.0 _ _ _ _ _ three (c.in_err-values.ensures.gives columns c.requires))
@@ -62,11 +62,11 @@ returns-clause-gives g c =
     let columns = c.args.layer.now.columns in
     let kind = c.args.layer.now.kind in
     let before = c.args.previous in
-    let whole = feature_above kind c.args.layer.now.next_id columns before in
+    let whole = feature_above (read_in c.args.grid) kind c.args.layer.now.next_id columns before in
     let id = c.in_ok-id.id in
-    let one = Goes-then (field (number 4) (next_of c.args.layer.now.next_id before)) (feature_after_id read kind columns) id _ _ _ _ (subst (λ n. Takes (field (number 4) (next_of n before)) id (g.R.Read.remaining c.args.reader.now) (g.R.Read.remaining c.feature_id.new.reader) c.args.window.now c.feature_id.new.window) c.next_id.ensures c.in_ok-id.ensures) in
+    let one = Goes-then (field (number 4) (next_of c.args.layer.now.next_id before)) (feature_after_id (read_in c.args.grid) kind columns) id _ _ _ _ (subst (λ n. Takes (field (number 4) (next_of n before)) id (g.R.Read.remaining c.args.reader.now) (g.R.Read.remaining c.feature_id.new.reader) c.args.window.now c.feature_id.new.window) c.next_id.ensures c.in_ok-id.ensures) in
     let shape = c.in_ok-valid.valid in
-    let two = Goes-step whole (geometry read kind) (feature_after_geometry columns id) shape _ _ _ _ _ _ one (subst (λ k. Takes (geometry read k) shape (g.R.Read.remaining c.feature_id.new.reader) (g.R.Read.remaining c.geometry.new.reader) c.feature_id.new.window c.geometry.new.window) c.kind.ensures c.in_ok-valid.ensures.gives) in
+    let two = Goes-step whole (geometry (read_in c.args.grid) kind) (feature_after_geometry columns id) shape _ _ _ _ _ _ one (subst (λ k. Takes (geometry (read_in c.args.grid) k) shape (g.R.Read.remaining c.feature_id.new.reader) (g.R.Read.remaining c.geometry.new.reader) c.feature_id.new.window c.geometry.new.window) c.kind.ensures c.in_ok-valid.ensures.gives) in
     let count = c.in_ok-count.count in
     let three = Goes-step whole (field (number 2) (λ (n : ℕ). allowed (nat_le n (length columns)) NoColumn n)) (feature_after_count columns id shape) count _ _ _ _ _ _ two c.in_ok-count.ensures in
     let values = c.values.new.feature.values in

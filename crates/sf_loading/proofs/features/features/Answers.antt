@@ -1,6 +1,6 @@
 use Rattle.std.proofs.Common.{◌≡◌, ◌∙◌, ◌++◌, ◌∷◌, ◌+◌, ◌-◌, ℕ, List, [], ap, arith, refl, rules, subst, sym}
 use Rattle.std.proofs.lemmas.Result.{err_from_is_err_and}
-use Rattle.sf_wkb.specs.Grammar.{read}
+use Rattle.sf_wkb.specs.Grammar.{read_in}
 use Rattle.sf_features.specs.Features.{FeatureContent}
 use Rattle.sf_layers.specs.Content.{LayerContent, with_feature}
 use Rattle.sf_layers.specs.WellFormed.{IsLayer}
@@ -19,7 +19,7 @@ pub loop-init : goal.loop-init
 loop-init g c =
     let none = c.requires.empty in
     let first = c.args.layer.now in
-    let item = feature read first.kind first.next_id first.columns in
+    let item = feature (read_in c.args.grid) first.kind first.next_id first.columns in
     let all : c.args.count - 0 ≡ c.args.count = omega arith in (
       subst (λ (es : List (ℕ × FeatureContent)). Goes (items item c.args.count []) (items item (c.args.count - 0) es) (g.R.Read.remaining c.args.reader.now) (g.R.Read.remaining c.args.reader.now) c.args.window.now c.args.window.now) (sym none)
           (subst (λ n. Goes (items item c.args.count []) (items item n []) (g.R.Read.remaining c.args.reader.now) (g.R.Read.remaining c.args.reader.now) c.args.window.now c.args.window.now) (sym all)
@@ -34,14 +34,14 @@ returns-in_err-id-clause-gives g c =
     let p = err_from_is_err_and c.from_residual.result c.from_residual.ensures.1 in
     let so_far = c.loop.layer.features in
     let first = c.args.layer.now in
-    let item = feature read first.kind first.next_id first.columns in
+    let item = feature (read_in c.args.grid) first.kind first.next_id first.columns in
     let count = c.args.count in
     let i = c.loop.counter in
     let halt = c.in_err-id.field-0.0 in
     rw (p.1, p.2) (Ends-after (items item count []) (items item (count - i) so_far) halt _ _ _ _ _ c.loop.invariant.0
     (Ends-item item count i so_far halt _ _ _ c.loop-test.true
-    (subst (λ before. Ends (feature_above first.kind first.next_id first.columns before) (g.R.Read.remaining c.loop.reader) (g.R.Read.remaining c.feature.new.reader) c.loop.window halt) (sym c.loop.invariant.1.is_last)
-    (subst (λ (l : LayerContent). Ends (feature_above l.kind l.next_id l.columns c.loop.previous) (g.R.Read.remaining c.loop.reader) (g.R.Read.remaining c.feature.new.reader) c.loop.window halt) c.loop.invariant.2
+    (subst (λ before. Ends (feature_above (read_in c.args.grid) first.kind first.next_id first.columns before) (g.R.Read.remaining c.loop.reader) (g.R.Read.remaining c.feature.new.reader) c.loop.window halt) (sym c.loop.invariant.1.is_last)
+    (subst (λ (l : LayerContent). Ends (feature_above (read_in c.args.grid) l.kind l.next_id l.columns c.loop.previous) (g.R.Read.remaining c.loop.reader) (g.R.Read.remaining c.feature.new.reader) c.loop.window halt) c.loop.invariant.2
     c.in_err-id.ensures.gives))))
 
 pub put_feature-requires : goal.put_feature-requires
@@ -51,12 +51,12 @@ pub returns-then-is_err-clause-gives : goal.returns-then-is_err-clause-gives
 returns-then-is_err-clause-gives g c =
     let so_far = c.loop.layer.features in
     let first = c.args.layer.now in
-    let item = feature read first.kind first.next_id first.columns in
+    let item = feature (read_in c.args.grid) first.kind first.next_id first.columns in
     let count = c.args.count in
     let i = c.loop.counter in
     let x : ℕ × FeatureContent = (c.in_ok-id.id, c.in_ok-id.feature) in
-    let taken = subst (λ before. Takes (feature_above first.kind first.next_id first.columns before) x (g.R.Read.remaining c.loop.reader) (g.R.Read.remaining c.feature.new.reader) c.loop.window c.feature.new.window) (sym c.loop.invariant.1.is_last)
-    (subst (λ (l : LayerContent). Takes (feature_above l.kind l.next_id l.columns c.loop.previous) x (g.R.Read.remaining c.loop.reader) (g.R.Read.remaining c.feature.new.reader) c.loop.window c.feature.new.window) c.loop.invariant.2
+    let taken = subst (λ before. Takes (feature_above (read_in c.args.grid) first.kind first.next_id first.columns before) x (g.R.Read.remaining c.loop.reader) (g.R.Read.remaining c.feature.new.reader) c.loop.window c.feature.new.window) (sym c.loop.invariant.1.is_last)
+    (subst (λ (l : LayerContent). Takes (feature_above (read_in c.args.grid) l.kind l.next_id l.columns c.loop.previous) x (g.R.Read.remaining c.loop.reader) (g.R.Read.remaining c.feature.new.reader) c.loop.window c.feature.new.window) c.loop.invariant.2
     c.in_ok-id.ensures.gives) in
     let on = Goes-on (items item count []) (items item (count - i) so_far) (items item (count - (i + 1)) (so_far ++ x ∷ [])) _ _ _ _ _ _ c.loop.invariant.0
     (Goes-item item count i so_far x _ _ _ _ c.loop-test.true taken) in
@@ -66,12 +66,12 @@ pub loop-preserved : goal.loop-preserved
 loop-preserved g c =
     let so_far = c.loop.layer.features in
     let first = c.args.layer.now in
-    let item = feature read first.kind first.next_id first.columns in
+    let item = feature (read_in c.args.grid) first.kind first.next_id first.columns in
     let count = c.args.count in
     let i = c.loop.counter in
     let x : ℕ × FeatureContent = (c.in_ok-id.id, c.in_ok-id.feature) in
-    let taken = subst (λ before. Takes (feature_above first.kind first.next_id first.columns before) x (g.R.Read.remaining c.loop.reader) (g.R.Read.remaining c.feature.new.reader) c.loop.window c.feature.new.window) (sym c.loop.invariant.1.is_last)
-    (subst (λ (l : LayerContent). Takes (feature_above l.kind l.next_id l.columns c.loop.previous) x (g.R.Read.remaining c.loop.reader) (g.R.Read.remaining c.feature.new.reader) c.loop.window c.feature.new.window) c.loop.invariant.2
+    let taken = subst (λ before. Takes (feature_above (read_in c.args.grid) first.kind first.next_id first.columns before) x (g.R.Read.remaining c.loop.reader) (g.R.Read.remaining c.feature.new.reader) c.loop.window c.feature.new.window) (sym c.loop.invariant.1.is_last)
+    (subst (λ (l : LayerContent). Takes (feature_above (read_in c.args.grid) l.kind l.next_id l.columns c.loop.previous) x (g.R.Read.remaining c.loop.reader) (g.R.Read.remaining c.feature.new.reader) c.loop.window c.feature.new.window) c.loop.invariant.2
     c.in_ok-id.ensures.gives) in
     let on = Goes-on (items item count []) (items item (count - i) so_far) (items item (count - (i + 1)) (so_far ++ x ∷ [])) _ _ _ _ _ _ c.loop.invariant.0
     (Goes-item item count i so_far x _ _ _ _ c.loop-test.true taken) in

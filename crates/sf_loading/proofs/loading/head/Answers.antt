@@ -1,32 +1,22 @@
-use Rattle.std.proofs.Common.{◌∙◌, ℕ, List, Result, ap, sym, take}
-use Rattle.std.specs.Prelude.{bytes_eq, codes}
+use Rattle.std.proofs.Common.{Bool, true, false, subst}
 use Rattle.std.proofs.lemmas.Result.{err_from_is_err_and}
-use Rattle.sf_wkb.specs.Grammar.{read}
-use Rattle.sf_format.specs.declared.defect.Defect.{Defect}
-use Rattle.sf_format.specs.declared.defect.Defect.TheVariants.{BadFile}
-use Rattle.sf_format.specs.Readings.{bytes}
-use Rattle.sf_format.specs.Format.{RowReading, allowed}
-use Rattle.sf_loading.proofs.StreamLaws.{Ends-field, Finds-field, Takes-field, Takes-skipped}
+use Rattle.sf_format.specs.Readings.{bytes, done, field}
+use Rattle.sf_format.specs.Format.{grid_of, head, is_second}
+use Rattle.sf_loading.specs.Streaming.{Takes}
+use Rattle.sf_loading.proofs.StreamLaws.{Ends-first, Goes-then, Reaches-after}
 use Rattle.sf_loading.proofs.loading.head.Goals as goal
 
-abbrev rule : List ℕ → Result RowReading Defect
-rule text = allowed (bytes_eq text (codes "SFSTORE1")) BadFile read
-
-pub returns-in_err-require : goal.returns-in_err-require
-returns-in_err-require g c =
+pub returns-in_err-second : goal.returns-in_err-second
+returns-in_err-second g c =
     let p = err_from_is_err_and c.from_residual.result c.from_residual.ensures.1 in
-    rw (p.1, p.2) (Ends-field (bytes 8) rule c.in_err-require.field-0.0 _ _ _ c.in_err-require.ensures.cut)
+    rw (p.1, p.2) (Ends-first (field (bytes 8) is_second) grid_of c.in_err-second.field-0.0 _ _ _ c.in_err-second.ensures)
 
-pub returns-then-is_head : goal.returns-then-is_head
-returns-then-is_head g c =
-    let text = take 8 c.require.new.window.bytes in
-    let same = ap (λ (t : List ℕ). bytes_eq t (codes "SFSTORE1")) (sym c.front.ensures) ∙ ap (bytes_eq c.front.result.now) (sym c.as_slice.ensures) ∙ sym c.eq-is_head.ensures ∙ c.if-is_head.true in
-    Takes-field (bytes 8) rule text read _ _ _ _ (ap (λ t. allowed t BadFile read) same)
-    (Takes-skipped 8 _ _ _ c.require.new.window c.skip.new.self c.in_ok-require.ensures.ahead c.in_ok-require.ensures.enough c.skip.ensures)
+pub returns-then-second : goal.returns-then-second
+returns-then-second g c =
+    let taken = subst (λ (b : Bool). Takes (field (bytes 8) is_second) b (g.R.Read.remaining c.args.reader.now) (g.R.Read.remaining c.is_second.new.reader) c.args.window.now c.is_second.new.window) c.if-second.true c.in_ok-second.ensures in
+    Reaches-after head (grid_of true) (λ grid. done grid) c.row_grid.result _ _ _ _ _ _ (Goes-then (field (bytes 8) is_second) grid_of true _ _ _ _ taken) c.row_grid.ensures
 
-pub returns-else-is_head : goal.returns-else-is_head
-returns-else-is_head g c =
-    let text = take 8 c.require.new.window.bytes in
-    let same = ap (λ (t : List ℕ). bytes_eq t (codes "SFSTORE1")) (sym c.front.ensures) ∙ ap (bytes_eq c.front.result.now) (sym c.as_slice.ensures) ∙ sym c.eq-is_head.ensures ∙ c.if-is_head.false in
-    Finds-field (bytes 8) rule text c.place-place.result BadFile _ _ _ _ c.place-place.ensures (ap (λ t. allowed t BadFile read) same)
-    (Takes-skipped 8 _ _ _ c.require.new.window c.skip.new.self c.in_ok-require.ensures.ahead c.in_ok-require.ensures.enough c.skip.ensures)
+pub returns-else-second : goal.returns-else-second
+returns-else-second g c =
+    let taken = subst (λ (b : Bool). Takes (field (bytes 8) is_second) b (g.R.Read.remaining c.args.reader.now) (g.R.Read.remaining c.is_second.new.reader) c.args.window.now c.is_second.new.window) c.if-second.false c.in_ok-second.ensures in
+    Goes-then (field (bytes 8) is_second) grid_of false _ _ _ _ taken

@@ -9,7 +9,7 @@ use Rattle.sf_map.proofs.drawing.draw.Goals.{After-as_bytes, After-as_bytes-2, I
 
 -- what is left behind the front
 abbrev behind_front : Choice → View → Content → List ℕ
-behind_front choice view content = layers_text choice 0 content ++ back choice view content
+behind_front choice view content = layers_text choice view 0 content ++ back choice view content
 
 front-is : (g : _) (c : After-as_bytes g) → c.as_bytes.result.now ≡ front c.args.view.now
 front-is g c = c.as_bytes.ensures.value ∙ c.in_ok-push_front.ensures ∙ ap (λ (t : List ℕ). t ++ front c.args.view.now) c.new-text.ensures.bytes
@@ -30,7 +30,7 @@ with_layers : (g : _) (c : In_ok-put_layers g)
     → Putting (g.W.Write.contents c.args.writer.now) (g.W.Write.contents c.put_layers.new.writer) c.in_ok-output.output c.put_layers.new.output (picture c.args.choice.now c.args.view.now c.args.store.now)
     (back c.args.choice.now c.args.view.now c.args.store.now)
 with_layers g c so_far =
-    Putting-more (layers_text c.args.choice.now 0 c.args.store.now) (back c.args.choice.now c.args.view.now c.args.store.now) refl so_far c.in_ok-put_layers.ensures.ok
+    Putting-more (layers_text c.args.choice.now c.args.view.now 0 c.args.store.now) (back c.args.choice.now c.args.view.now c.args.store.now) refl so_far c.in_ok-put_layers.ensures.ok
 
 with_back : (g : _) (c : In_ok-put-2 g) → c.as_bytes-2.result.now ≡ back c.args.choice.now c.args.view.now c.args.store.now
     → Putting (g.W.Write.contents c.args.writer.now) (g.W.Write.contents c.put_layers.new.writer) c.in_ok-output.output c.put_layers.new.output (picture c.args.choice.now c.args.view.now c.args.store.now)
@@ -50,7 +50,7 @@ pub returns-in_err-put_layers-clause-broken : goal.returns-in_err-put_layers-cla
 returns-in_err-put_layers-clause-broken g c =
     let at = goal.at.returns-in_err-put_layers-clause-broken g c in
     broken-whole c.from_residual-in_err-put_layers.result _ _ (picture c.args.choice.now c.args.view.now c.args.store.now) c.in_ok-output.ensures
-    (breaks c.from_residual-in_err-put_layers.result (layers_text c.args.choice.now 0 c.args.store.now) (back c.args.choice.now c.args.view.now c.args.store.now) refl
+    (breaks c.from_residual-in_err-put_layers.result (layers_text c.args.choice.now c.args.view.now 0 c.args.store.now) (back c.args.choice.now c.args.view.now c.args.store.now) refl
     (with_front g at.In_ok-put (front-is g at.After-as_bytes)) c.in_err-put_layers.ensures.broken)
 
 pub returns-in_err-push_back-clause-broken : goal.returns-in_err-push_back-clause-broken

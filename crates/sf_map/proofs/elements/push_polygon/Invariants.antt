@@ -3,4 +3,4 @@ use Rattle.sf_map.specs.Elements.{ring_path}
 use Rattle.sf_map.proofs.elements.push_polygon.Given as goal
 
 abbrev pub invariant-loop-ring : goal.invariant-loop-ring
-invariant-loop-ring l = string_bytes l.text ≡ string_bytes l.fn.text ++ flat_map ring_path (take l.ring-index l.rings)
+invariant-loop-ring l = string_bytes l.text ≡ string_bytes l.fn.text ++ flat_map (ring_path l.view) (take l.ring-index l.rings)

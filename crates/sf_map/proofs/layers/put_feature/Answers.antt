@@ -8,7 +8,7 @@ use Rattle.sf_map.proofs.layers.put_feature.Goals as goal
 
 pub returns-in_err-push_element-clause-broken : goal.returns-in_err-push_element-clause-broken
 returns-in_err-push_element-clause-broken g c =
-    let text = feature_text c.args.choice.now c.args.name.now (c.args.id, c.args.feature.now) in
+    let text = feature_text c.args.choice.now c.args.view.now c.args.name.now (c.args.id, c.args.feature.now) in
     stops c.from_residual.result text (Putting-start (g.W.Write.contents c.args.writer.now) c.args.output.now text)
 
 pub returns-else-shows_geometry-clause-ok : goal.returns-else-shows_geometry-clause-ok
@@ -16,4 +16,4 @@ returns-else-shows_geometry-clause-ok g c =
     let entry : ℕ × FeatureContent = (c.args.id, c.args.feature.now) in
     let shape = c.geometry.ensures.same ∙ c.valid.ensures.same in
     let hidden = sym (ap (shows_geometry c.args.choice.now) shape) ∙ sym c.shows_geometry.ensures ∙ c.if-shows_geometry.false in
-    Puts-hidden (g.W.Write.contents c.args.writer.now) c.args.output.now (element c.args.name.now entry) (shows_geometry c.args.choice.now c.args.feature.now.geometry) hidden
+    Puts-hidden (g.W.Write.contents c.args.writer.now) c.args.output.now (element c.args.view.now c.args.name.now entry) (shows_geometry c.args.choice.now c.args.feature.now.geometry) hidden

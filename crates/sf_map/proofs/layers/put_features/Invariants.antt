@@ -6,5 +6,5 @@ use Rattle.sf_map.proofs.layers.put_features.Given as goal
 -- the features that the iterator has are left
 abbrev pub invariant-loop-id : goal.invariant-loop-id
 invariant-loop-id g l =
-    Putting (g.W.Write.contents l.fn.writer) (g.W.Write.contents l.writer) l.fn.output l.output (flat_map (feature_text l.choice l.name) l.layer.features)
-    (flat_map (feature_text l.choice l.name) l.id-iterator)
+    Putting (g.W.Write.contents l.fn.writer) (g.W.Write.contents l.writer) l.fn.output l.output (flat_map (feature_text l.choice l.view l.name) l.layer.features)
+    (flat_map (feature_text l.choice l.view l.name) l.id-iterator)

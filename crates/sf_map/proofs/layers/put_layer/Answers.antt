@@ -7,5 +7,5 @@ use Rattle.sf_map.proofs.layers.put_layer.Goals as goal
 pub returns-else-shows_layer-clause-ok : goal.returns-else-shows_layer-clause-ok
 returns-else-shows_layer-clause-ok g c =
     let entry : List ℕ × LayerContent = (c.args.name.now, c.args.layer.now) in
-    Puts-hidden (g.W.Write.contents c.args.writer.now) c.args.output.now (shown_layer_text c.args.choice.now c.args.place entry) (shows_layer c.args.choice.now c.args.name.now)
+    Puts-hidden (g.W.Write.contents c.args.writer.now) c.args.output.now (shown_layer_text c.args.choice.now c.args.view.now c.args.place entry) (shows_layer c.args.choice.now c.args.name.now)
     (sym c.shows_layer.ensures ∙ c.if-shows_layer.false)

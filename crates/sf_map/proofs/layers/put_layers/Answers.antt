@@ -12,29 +12,29 @@ there g c = sym c.layer_at.ensures ∙ ap (option_map (λ entry. (entry.0.now, e
 
 -- its text is the next one
 next-text : (g : _) (c : After-unwrap g)
-    → Putting (g.W.Write.contents c.args.writer.now) (g.W.Write.contents c.loop-place.writer) c.args.output.now c.loop-place.output (layers_text c.args.choice.now 0 c.args.store.now)
-    (layer_text c.args.choice.now c.loop-place.place (c.unwrap.result.0.now, c.unwrap.result.1.now)
-    ++ layers_text c.args.choice.now (c.loop-place.place + 1) (drop (c.loop-place.place + 1) c.args.store.now))
+    → Putting (g.W.Write.contents c.args.writer.now) (g.W.Write.contents c.loop-place.writer) c.args.output.now c.loop-place.output (layers_text c.args.choice.now c.args.view.now 0 c.args.store.now)
+    (layer_text c.args.choice.now c.args.view.now c.loop-place.place (c.unwrap.result.0.now, c.unwrap.result.1.now)
+    ++ layers_text c.args.choice.now c.args.view.now (c.loop-place.place + 1) (drop (c.loop-place.place + 1) c.args.store.now))
 next-text g c =
     let entry : List ℕ × LayerContent = (c.unwrap.result.0.now, c.unwrap.result.1.now) in
-    let later = layers_text c.args.choice.now (c.loop-place.place + 1) (drop (c.loop-place.place + 1) c.args.store.now) in
-    Putting-left (layer_text c.args.choice.now c.loop-place.place entry ++ later) (layers-at c.args.choice.now c.args.store.now c.loop-place.place entry (there g c)) c.loop-place.invariant
+    let later = layers_text c.args.choice.now c.args.view.now (c.loop-place.place + 1) (drop (c.loop-place.place + 1) c.args.store.now) in
+    Putting-left (layer_text c.args.choice.now c.args.view.now c.loop-place.place entry ++ later) (layers-at c.args.choice.now c.args.view.now c.args.store.now c.loop-place.place entry (there g c)) c.loop-place.invariant
 
 pub loop-place-init : goal.loop-place-init
-loop-place-init g c = Putting-start (g.W.Write.contents c.args.writer.now) c.args.output.now (layers_text c.args.choice.now 0 c.args.store.now)
+loop-place-init g c = Putting-start (g.W.Write.contents c.args.writer.now) c.args.output.now (layers_text c.args.choice.now c.args.view.now 0 c.args.store.now)
 
 pub returns-in_err-put_layer-clause-broken : goal.returns-in_err-put_layer-clause-broken
 returns-in_err-put_layer-clause-broken g c =
     let at = (goal.at.returns-in_err-put_layer-clause-broken g c).After-unwrap in
-    breaks c.from_residual.result (layer_text c.args.choice.now c.loop-place.place (c.unwrap.result.0.now, c.unwrap.result.1.now))
-    (layers_text c.args.choice.now (c.loop-place.place + 1) (drop (c.loop-place.place + 1) c.args.store.now)) refl (next-text g at) c.in_err-put_layer.ensures.broken
+    breaks c.from_residual.result (layer_text c.args.choice.now c.args.view.now c.loop-place.place (c.unwrap.result.0.now, c.unwrap.result.1.now))
+    (layers_text c.args.choice.now c.args.view.now (c.loop-place.place + 1) (drop (c.loop-place.place + 1) c.args.store.now)) refl (next-text g at) c.in_err-put_layer.ensures.broken
 
 pub loop-place-preserved : goal.loop-place-preserved
 loop-place-preserved g c =
     let at = (goal.at.loop-place-preserved g c).After-unwrap in
-    Putting-more (layer_text c.args.choice.now c.loop-place.place (c.unwrap.result.0.now, c.unwrap.result.1.now))
-    (layers_text c.args.choice.now (c.loop-place.place + 1) (drop (c.loop-place.place + 1) c.args.store.now)) refl (next-text g at) c.in_ok-put_layer.ensures.ok
+    Putting-more (layer_text c.args.choice.now c.args.view.now c.loop-place.place (c.unwrap.result.0.now, c.unwrap.result.1.now))
+    (layers_text c.args.choice.now c.args.view.now (c.loop-place.place + 1) (drop (c.loop-place.place + 1) c.args.store.now)) refl (next-text g at) c.in_ok-put_layer.ensures.ok
 
 pub returns-clause-ok : goal.returns-clause-ok
 returns-clause-ok g c =
-    Putting-done (Putting-left [] (layers-none c.args.choice.now c.args.store.now c.loop-place.place (omega (arith, c.loop-place-test.false, c.layer_count-place-end.ensures.count))) c.loop-place.invariant)
+    Putting-done (Putting-left [] (layers-none c.args.choice.now c.args.view.now c.args.store.now c.loop-place.place (omega (arith, c.loop-place-test.false, c.layer_count-place-end.ensures.count))) c.loop-place.invariant)

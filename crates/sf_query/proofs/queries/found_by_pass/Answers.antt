@@ -32,7 +32,7 @@ loop-id-preserved-in-Continue-branch-2 c =
     let at = goal.at.loop-id-preserved-in-Continue-branch-2 c in
     IsPassing-found (passes c.args.ask.now c.args.given.now) (is_near c.args.given.now) c.needs_contact-needs_contact.result c.args.layer.now.features c.loop-id.id-iterator c.next.new.self (c.in-Some.id.now, c.in-Some.feature.now) c.loop-id.ids.items c.push.new.self.items c.loop-id.looked
     (turn at.In-Some) (on at.Else-is_passed_over)
-    (asked-passes c.args.ask.now c.valid-valid.result.now c.args.given.now (c.in-Some.id.now, c.in-Some.feature.now) c.in_ok-is_asked.field-0 _ c.in_ok-is_asked.ensures c.valid-valid.ensures.same c.if-branch.true)
+    (asked-passes c.args.ask.now c.valid-valid.result.now c.args.given.now (c.in-Some.id.now, c.in-Some.feature.now) c.in_ok-is_asked_beside.field-0 _ c.in_ok-is_asked_beside.ensures c.valid-valid.ensures.same c.if-branch.true)
     c.in_ok-push.ensures.items c.loop-id.invariant
 
 pub loop-id-preserved : goal.loop-id-preserved
@@ -40,7 +40,7 @@ loop-id-preserved c =
     let at = goal.at.loop-id-preserved c in
     IsPassing-other (passes c.args.ask.now c.args.given.now) (is_near c.args.given.now) c.needs_contact-needs_contact.result c.args.layer.now.features c.loop-id.id-iterator c.next.new.self (c.in-Some.id.now, c.in-Some.feature.now) c.loop-id.ids.items c.loop-id.looked
     (turn at.In-Some) (on at.Else-is_passed_over)
-    (asked-passes c.args.ask.now c.valid-valid.result.now c.args.given.now (c.in-Some.id.now, c.in-Some.feature.now) c.in_ok-is_asked.field-0 _ c.in_ok-is_asked.ensures c.valid-valid.ensures.same c.if-branch.false)
+    (asked-passes c.args.ask.now c.valid-valid.result.now c.args.given.now (c.in-Some.id.now, c.in-Some.feature.now) c.in_ok-is_asked_beside.field-0 _ c.in_ok-is_asked_beside.ensures c.valid-valid.ensures.same c.if-branch.false)
     c.loop-id.invariant
 
 pub returns : goal.returns

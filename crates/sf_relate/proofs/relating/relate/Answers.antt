@@ -1,5 +1,5 @@
-use Rattle.std.proofs.Common.{◌≡◌, ap, ◌∙◌, ◌++◌, [], ◌∷◌}
-use Rattle.sf_relate.specs.AllPieces.{all_grouped, grouped}
+use Rattle.std.proofs.Common.{◌≡◌, ap, ◌∙◌, [], ◌∷◌}
+use Rattle.sf_relate.specs.AllPieces.{all_grouped}
 use Rattle.sf_relate.specs.Places.{gathered_by, is_areal, shape_of}
 use Rattle.sf_relate.proofs.MatrixLaws.{begun, begun-as, entries-left, matrix-over-plane}
 use Rattle.sf_relate.proofs.SizeLaws.{CanWalk, can-walk}
@@ -7,16 +7,14 @@ use Rattle.sf_relate.proofs.relating.relate.Goals as goal
 use Rattle.sf_relate.proofs.relating.relate.Goals.{After-is_areal-2}
 
 -- the pieces are those of both
-pieces : (c : After-is_areal-2) → c.push_grouped-2.new.pieces ≡ all_grouped c.args.a.now c.args.b.now
-pieces c =
-    c.in_ok-push_grouped-2.ensures
-    ∙ ap (λ ms. ms ++ grouped 0 2 c.geometry-first.result.now)
-    (c.in_ok-push_grouped.ensures ∙ ap (λ ms. ms ++ grouped 1 3 c.geometry-second.result.now) c.new-pieces.ensures)
-    ∙ ap (λ g. grouped 1 3 c.geometry-second.result.now ++ grouped 0 2 g) c.geometry-first.ensures.same
-    ∙ ap (λ g. grouped 1 3 g ++ grouped 0 2 c.args.a.now) c.geometry-second.ensures.same
+both : (c : After-is_areal-2) → c.in_ok-pieces.pieces ≡ all_grouped c.args.a.now c.args.b.now
+both c =
+    c.in_ok-pieces.ensures
+    ∙ ap (λ g. all_grouped g c.geometry-second.result.now) c.geometry-first.ensures.same
+    ∙ ap (λ g. all_grouped c.args.a.now g) c.geometry-second.ensures.same
 
-can : (c : After-is_areal-2) → CanWalk c.push_grouped-2.new.pieces
-can c = can-walk c.args.a.now c.args.b.now c.push_grouped-2.new.pieces c.geometry-first.ensures.valid.valid c.geometry-second.ensures.valid.valid (pieces c)
+can : (c : After-is_areal-2) → CanWalk c.in_ok-pieces.pieces
+can c = can-walk c.args.a.now c.args.b.now c.in_ok-pieces.pieces c.geometry-first.ensures.valid.valid c.geometry-second.ensures.valid.valid (both c)
 
 pub walk-requires-clause-few : goal.walk-requires-clause-few
 walk-requires-clause-few c = (can (goal.at.walk-requires-clause-few c).After-is_areal-2).few
@@ -31,8 +29,8 @@ returns-clause-computed c =
     let b = c.args.b.now in
     let first : c.of.result ≡ shape_of a = c.of.ensures ∙ ap shape_of c.geometry-first.ensures.same in
     let second : c.of-2.result ≡ shape_of b = c.of-2.ensures ∙ ap shape_of c.geometry-second.ensures.same in
-    entries-left a b c.push_grouped-2.new.pieces (c.is_areal.result ∷ c.is_areal-2.result ∷ []) (begun c.of.result c.of-2.result) (gathered_by c.walk.new.sink)
-    c.geometry-first.ensures.valid.valid c.geometry-second.ensures.valid.valid (pieces at.After-is_areal-2)
+    entries-left a b c.in_ok-pieces.pieces (c.is_areal.result ∷ c.is_areal-2.result ∷ []) (begun c.of.result c.of-2.result) (gathered_by c.walk.new.sink)
+    c.geometry-first.ensures.valid.valid c.geometry-second.ensures.valid.valid (both at.After-is_areal-2)
     (ap (λ x. x ∷ c.is_areal-2.result ∷ []) (c.is_areal.ensures ∙ ap is_areal first) ∙ ap (λ x. is_areal (shape_of a) ∷ x ∷ []) (c.is_areal-2.ensures ∙ ap is_areal second))
     (begun-as a b c.of.result c.of-2.result first second)
     c.in_ok-walk.ensures.ok

@@ -6,7 +6,7 @@ use Rattle.sf_cells.specs.Samples.{listed, unlisted}
 use Rattle.sf_slabs.specs.Sweeps.{cells_in}
 use Rattle.sf_slabs.proofs.Ahead.{IsAhead}
 use Rattle.sf_slabs.proofs.RemainingLaws.{ahead_of_all, left, remaining, start-ahead, start-column}
-use Rattle.sf_slabs.proofs.RunLaws.{IsComingNext, Stands, StandsBefore, column-ahead, column-apart, column-cells, column-coming, column-vertices, coming-next, fewer-left, first-cells, first-coming, first-slab, first-stands, handed-one, handed-two, no_more_ahead, ready-fewer, slab-column, slab-coming, slab-of, slab_place, stands}
+use Rattle.sf_slabs.proofs.RunLaws.{IsComingNext, Stands, StandsBefore, column-ahead, column-apart, column-cells, column-coming, column-vertices, coming-next, fewer-left, first-cells, first-coming, first-slab, first-stands, full-fold, handed-one, handed-two, no_more_ahead, ready-fewer, slab-column, slab-coming, slab-of, slab_place, stands}
 use Rattle.sf_slabs.proofs.sweep.Sweep.run.Goals as goal
 
 pub slab-requires-clause-slab : goal.slab-requires-clause-slab
@@ -124,3 +124,10 @@ loop-next-preserved g c =
           ∙ ap (λ o. fold g.S.CellSink.after (g.S.CellSink.content l.sink) (map (item_of c.args.groups.now) (remaining pieces o))) (sym c.in-Some.is)
           ∙ l.invariant.handed;
     }
+
+pub returns-then-is_full : goal.returns-then-is_full
+returns-then-is_full g c =
+    let l = c.loop-next in
+    let held = g.S.CellSink.content l.sink in
+    sym (full-fold g.S.CellSink.after held (c.is_full.ensures c.if-is_full.true) (map (item_of c.args.groups.now) (remaining c.args.pieces.now l.next)))
+    ∙ l.invariant.handed

@@ -1,0 +1,56 @@
+-- Whose steps the undos and redos of a session move.
+use Rattle.std.proofs.Common.{◌≡◌, ◌⊎◌, ℕ, inl, inr, List, [], ◌∷◌, Option, None, Some, Result, Ok, Err, filter_map, refl, sym, ap, ◌∙◌, subst}
+use Rattle.std.specs.List.{cons_option}
+use Rattle.sf_refusals.specs.declared.refusal.Refusal.{Refusal}
+use Rattle.sf_steps.specs.declared.answer.Answer.{Answer}
+use Rattle.sf_history.specs.History.{Machine, fresh, edited, undone, redone}
+use Rattle.sf_history.specs.Laws.{Turn, Leads, LeadInTurn}
+use Rattle.sf_history.proofs.OwnSteps.{own_steps_law}
+use Rattle.sf_commands.specs.declared.command.Command.TheVariants as commands
+use Rattle.sf_console.specs.Answers.{edit_reply, history_reply}
+use Rattle.sf_console.specs.Readings.{Reading, Blank, Unreadable, Asked, readings_of}
+use Rattle.sf_console.specs.Session.{IsAnswered, Run}
+use Rattle.sf_console.specs.Laws.{turn_of, SessionsMoveOwnSteps}
+
+-- a line that asks nothing of the history leaves it, and one that does is its turn or is refused
+abbrev LeadsOrStays : Option Turn → Machine → Machine → Type 0
+LeadsOrStays None old new = new ≡ old
+LeadsOrStays (Some turn) old new = Leads old turn new ⊎ (new ≡ old)
+
+edit_turn : (old new : Machine) (text : List ℕ) (r e : Result (Machine × Answer) Refusal) → e ≡ r → edit_reply old r ≡ (new, text)
+    → ((answer : Answer) × (e ≡ Ok (new, answer))) ⊎ (new ≡ old)
+edit_turn old new text (Ok done) e is h = inl (done.1, is ∙ ap (λ (m : Machine). let r : Result (Machine × Answer) Refusal = Ok (m, done.1) in r) (ap (λ p. p.0) h))
+edit_turn old new text (Err refusal) e is h = inr (sym (ap (λ p. p.0) h))
+
+move_turn : (old new : Machine) (text : List ℕ) (r e : Result Machine Refusal) → e ≡ r → history_reply old r ≡ (new, text) → (e ≡ Ok new) ⊎ (new ≡ old)
+move_turn old new text (Ok other) e is h = inl (is ∙ ap (λ (m : Machine). let r : Result Machine Refusal = Ok m in r) (ap (λ p. p.0) h))
+move_turn old new text (Err refusal) e is h = inr (sym (ap (λ p. p.0) h))
+
+line_turn : (old new : Machine) (line : Reading) (text : List ℕ) → IsAnswered old line text new → LeadsOrStays (turn_of line) old new
+line_turn old new Blank text answered = answered.1
+line_turn old new (Unreadable refusal) text answered = answered.1
+line_turn old new (Asked (Err refusal)) text (inl replied) = sym (ap (λ p. p.0) replied)
+line_turn old new (Asked (Err refusal)) text (inr refused) = refused.1
+line_turn old new (Asked (Ok (editor, commands.Edit edit))) text (inl replied) = edit_turn old new text (edited editor old edit) (edited editor old edit) refl replied
+line_turn old new (Asked (Ok (editor, commands.Edit edit))) text (inr refused) = inr refused.1
+line_turn old new (Asked (Ok (editor, commands.Undo))) text (inl replied) = move_turn old new text (undone editor old) (undone editor old) refl replied
+line_turn old new (Asked (Ok (editor, commands.Undo))) text (inr refused) = inr refused.1
+line_turn old new (Asked (Ok (editor, commands.Redo))) text (inl replied) = move_turn old new text (redone editor old) (redone editor old) refl replied
+line_turn old new (Asked (Ok (editor, commands.Redo))) text (inr refused) = inr refused.1
+line_turn old new (Asked (Ok (editor, command))) text (inl replied) = sym (ap (λ p. p.0) replied)
+line_turn old new (Asked (Ok (editor, command))) text (inr refused) = refused.1
+
+-- the lines' turns lead where the session leads
+one_more : (old mid new : Machine) (turn : Option Turn) (lines : List Reading) → LeadsOrStays turn old mid → LeadInTurn mid (filter_map turn_of lines) new
+    → LeadInTurn old (cons_option turn (filter_map turn_of lines)) new
+one_more old mid new None lines led rest = subst (λ m. LeadInTurn m (filter_map turn_of lines) new) led rest
+one_more old mid new (Some turn) lines led rest = (mid, led, rest)
+
+turns_lead : (old new : Machine) (lines : List Reading) (output : List ℕ) → Run old lines output new → LeadInTurn old (filter_map turn_of lines) new
+turns_lead old new [] output ran = ran.1
+turns_lead old new (line ∷ lines) output (mid, text, rest, answered, ran, parts) =
+    one_more old mid new (turn_of line) lines (line_turn old mid line text answered) (turns_lead mid new lines rest ran)
+
+pub sessions_move_own_steps : SessionsMoveOwnSteps
+sessions_move_own_steps content input output machine ran =
+    own_steps_law content (filter_map turn_of (readings_of input)) machine (turns_lead (fresh content) machine (readings_of input) output ran)
