@@ -1,0 +1,11 @@
+use Rattle.std.proofs.Common.{◌≡◌, drop}
+use Rattle.sf_sweep.specs.Parities.{row_below, stored}
+use Rattle.sf_sweep.proofs.parities.store.Given as goal
+
+-- what is left to put down gives the table and the row in the end
+abbrev pub invariant-loop-edge : goal.invariant-loop-edge
+invariant-loop-edge l =
+    record {
+      table : stored l.areal l.groups l.table l.odd (drop l.edge-index l.edges) ≡ stored l.areal l.groups l.fn.table l.above l.edges;
+      below : row_below l.areal l.groups l.odd (drop l.edge-index l.edges) ≡ row_below l.areal l.groups l.above l.edges;
+    }

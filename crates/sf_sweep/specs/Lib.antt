@@ -1,0 +1,11 @@
+pub mod Tables
+pub mod Windows
+pub mod Passing
+pub mod Nearest
+pub mod Parities
+pub mod Repairs
+pub mod Cuts
+pub mod Settled
+pub mod Sides
+pub mod NextWindow
+pub mod Within

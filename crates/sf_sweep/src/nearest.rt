@@ -1,0 +1,53 @@
+//! The first of the points ahead at which neighbours meet, kept by pieces, one of which changes at a time.
+
+ghost use Rattle.std.specs.Prelude.{◌≡◌, ℕ, ◌+◌, ◌*◌, ◌≤◌, ◌<◌, length, slice_set};
+ghost use Rattle.sf_sweep.specs.Nearest.{IsTree, earlier, place_at};
+ghost use Rattle.sf_sweep.specs.Tables.{point_before};
+
+use sf_grid::FracPoint;
+use std::cmp::Ordering;
+
+/// Puts a point, or none, in a place of the leaves of a tree, and the first of every two on the way
+/// to its root.
+pub fn set(tree: &mut [Option<FracPoint>], count: usize, leaf: usize, point: Option<FracPoint>)
+    requires few { count ≤ 65535 }
+    requires len { length tree.old ≡ 2 * count }
+    requires leaf { count ≤ leaf }
+    requires within { leaf < 2 * count }
+    requires tree { IsTree count tree.old }
+    ensures tree { IsTree count tree.new }
+    ensures len { length tree.new ≡ length tree.old }
+    ensures leaves { (k : ℕ) → count ≤ k → place_at tree.new k ≡ place_at (slice_set tree.old leaf point) k }
+{
+    tree[leaf] = point;
+    let mut place = leaf;
+    while place > 1 {
+        place /= 2;
+        let first = first_of(tree[2 * place], tree[2 * place + 1]);
+        tree[place] = first;
+    }
+}
+
+/// The first of two points, where there are any.
+fn first_of(a: Option<FracPoint>, b: Option<FracPoint>) -> Option<FracPoint>
+    ensures { result ≡ earlier a b }
+{
+    match a {
+        None => b,
+        Some(p) => match b {
+            None => a,
+            Some(q) => { if comes_before(&q, &p) { b } else { a } }
+        },
+    }
+}
+
+/// Whether a point comes before another: columns from the left, each from the top.
+pub fn comes_before(p: &FracPoint, q: &FracPoint) -> bool
+    ensures { result ≡ point_before p.now q.now }
+{
+    match p.x().compare(&q.x()) {
+        Ordering::Less => true,
+        Ordering::Equal => q.y().compare(&p.y()) == Ordering::Less,
+        Ordering::Greater => false,
+    }
+}
