@@ -37,6 +37,8 @@ def main() -> None:
     bad = len(result.failures) + len(result.errors) + len(result.unexpectedSuccesses)
     passed += result.testsRun - bad - len(result.skipped)
     failed += bad
+    for test, reason in result.skipped:
+        print(f"skipped: {test}: {reason}")
     print(f"{passed} passed, {failed} failed")
     sys.exit(failed != 0)
 

@@ -3,12 +3,14 @@
 from __future__ import annotations
 
 import hashlib
+import json
 import os
 import shutil
 import subprocess
 import sys
 import tempfile
 import unittest
+from importlib.util import find_spec
 from pathlib import Path
 
 TOP = Path(__file__).resolve().parent.parent
@@ -60,7 +62,7 @@ class Package(unittest.TestCase):
             file = Path(folder) / "wells.sfs"
             self.answers(b"layer add wells point\nadd wells POINT (3 4)\n", "--save", file)
             drawn = subprocess.run([self.root / "usr/bin/sfmap"], input=file.read_bytes(), check=True, capture_output=True)
-        self.assertIn(b"<path id='wells-1' class='feature point' d='M3 4h0'/>", drawn.stdout)
+        self.assertIn(b"<path id='wells-1' class='feature point' d='M1 -1h0'/>", drawn.stdout)
 
     def test_help_names_the_options(self):
         self.assertIn(b"--load <FILE>", self.answers(b"", "--help"))
@@ -78,6 +80,42 @@ class Package(unittest.TestCase):
         )
         self.assertEqual(said.stdout, "[]\n")
 
+    def command(self, name, *words):
+        """Runs a command of the module, as the package has it."""
+        return subprocess.run(
+            [sys.executable, self.root / "usr/bin" / name, *words],
+            env={
+                **os.environ,
+                "PATH": f"{self.program.parent}{os.pathsep}{os.environ['PATH']}",
+                "PYTHONPATH": str(self.root / "usr/lib/python3/dist-packages"),
+            },
+            stdin=subprocess.DEVNULL,
+            capture_output=True,
+            text=True,
+        )
+
+    def test_the_commands_of_the_module(self):
+        for name in ("sfstore-import", "sfstore-export", "sfstore-console"):
+            self.assertTrue(os.access(self.root / "usr/bin" / name, os.X_OK))
+            said = self.command(name, "--help")
+            self.assertEqual((said.returncode, said.stderr), (0, ""))
+            self.assertIn(f"usage: {name}", said.stdout)
+        said = self.command("sfstore-console", "town.sfs")
+        self.assertEqual(said.returncode, 2)
+        self.assertIn("needs a terminal", said.stderr)
+
+    @unittest.skipUnless(find_spec("osgeo"), "no GDAL for Python (python3-gdal)")
+    def test_a_map_goes_in_and_out(self):
+        with tempfile.TemporaryDirectory() as folder:
+            source, store, back = (Path(folder) / name for name in ("a.geojson", "a.sfs", "a.gpkg"))
+            geometry = {"type": "Point", "coordinates": [3.5, 4.25]}
+            source.write_text(json.dumps({"type": "Feature", "id": 7, "properties": {}, "geometry": geometry}))
+            said = self.command("sfstore-import", source, store, "--grid", "0", "0", "0.25")
+            self.assertEqual((said.returncode, said.stderr), (0, ""))
+            self.assertEqual(self.answers(b"show a\n", "--load", store), b"rows 1\n7 POINT (14 17)\n")
+            self.assertEqual(self.command("sfstore-export", store, back).returncode, 0)
+            self.assertTrue(back.exists())
+
     def test_built_tells_what_the_package_is(self):
         commit = subprocess.run(["git", "rev-parse", "HEAD"], cwd=TOP, check=True, capture_output=True, text=True)
         said = (self.documents / "BUILT").read_text()
@@ -91,6 +129,8 @@ class Package(unittest.TestCase):
     def test_the_links_of_the_readme_lead_to_its_documents(self):
         for name in ("docs/CONSOLE.md", "docs/FORMAT.md", "docs/PICTURE.md", "examples/town.svg"):
             self.assertIn(f"({name})", (self.documents / "README.md").read_text())
+            self.assertTrue((self.documents / name).is_file())
+        for name in ("docs/EXCHANGE.md", "docs/JOURNAL.md"):
             self.assertTrue((self.documents / name).is_file())
 
     def test_the_version_stands_in_one_place(self):

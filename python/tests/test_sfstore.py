@@ -1,12 +1,10 @@
 """Tests of the module against the real program.
 
-The program is the one that the environment variable SFSTORE names, else the one that `rt run`
-leaves in the checkout. From the folder `python`: python3 -m unittest tests/test_sfstore.py
+From the folder `python/tests`: python3 -m unittest test_sfstore.py
 """
 
 from __future__ import annotations
 
-import atexit
 import doctest
 import os
 import pickle
@@ -23,85 +21,13 @@ from importlib.util import find_spec
 from pathlib import Path
 from unittest import mock
 
-FOLDER = Path(__file__).resolve().parent.parent
-sys.path.insert(0, str(FOLDER))
+from support import FOLDER, PROGRAM, TestCase, child_of
 
-import sfstore  # noqa: E402
-from sfstore import Column, Feature, Layer, ProgramEnded, Refused, Store  # noqa: E402
-
-PROGRAM = os.path.abspath(
-    os.environ.get("SFSTORE") or FOLDER.parent / "crates" / "sfstore" / "out" / "sfstore"
-)
-# The examples start the program by its name.
-BY_NAME = tempfile.TemporaryDirectory()
-atexit.register(BY_NAME.cleanup)
-(Path(BY_NAME.name) / "sfstore").symlink_to(PROGRAM)
-os.environ["PATH"] = BY_NAME.name + os.pathsep + os.environ["PATH"]
+import sfstore.store
+from sfstore import Column, Feature, Layer, ProgramEnded, Refused, Store
 
 SQUARE = "POLYGON ((0 0, 10 0, 10 10, 0 10, 0 0))"
 LINE_MAX = 131_072
-
-# How a program begins that behaves as the real one up to the first line of the test.
-BEGINNING = """
-import os, sys, time
-
-def line():
-    return sys.stdin.buffer.readline()
-
-def say(text):
-    sys.stdout.buffer.write(text.encode())
-    sys.stdout.buffer.flush()
-
-line()
-say("refused 29 NothingToUndo\\n")
-"""
-
-
-def child_of(store):
-    """The identifier of the process of a store's program."""
-    return store._program._process.pid
-
-
-class TestCase(unittest.TestCase):
-    """A test with a folder of its own, and with a limit of time: no call may hang."""
-
-    SECONDS = 120
-
-    def setUp(self):
-        folder = tempfile.TemporaryDirectory()
-        self.addCleanup(folder.cleanup)
-        self.folder = Path(folder.name)
-        self.limit_time()
-        self.addCleanup(signal.alarm, 0)
-
-    def limit_time(self):
-        def too_slow(*_):
-            raise TimeoutError("the test hangs")
-
-        signal.signal(signal.SIGALRM, too_slow)
-        signal.alarm(self.SECONDS)
-
-    def assert_refused(self, number, name, call, *arguments):
-        with self.assertRaises(Refused) as caught:
-            call(*arguments)
-        self.assertEqual((caught.exception.number, caught.exception.name), (number, name))
-
-    def assert_ended(self, status, last_line, call, *arguments):
-        with self.assertRaises(ProgramEnded) as caught:
-            call(*arguments)
-        self.assertEqual((caught.exception.status, caught.exception.last_line), (status, last_line))
-
-    def script(self, text):
-        """The path of a program in a folder of the test."""
-        path = self.folder / "script"
-        path.write_text(text, encoding="utf-8")
-        path.chmod(0o700)
-        return path
-
-    def program(self, body):
-        """A program that ends in its own way: `line()` reads a line, `say(text)` writes a text."""
-        return self.script(f"#!{sys.executable}\n" + BEGINNING + textwrap.dedent(body))
-
 
 class Commands(TestCase):
     def setUp(self):
@@ -270,6 +196,53 @@ class Commands(TestCase):
         store.undo()
         self.assertEqual(store.layers(), [])
         self.assert_refused(29, "NothingToUndo", store.undo)
+
+    def test_editors_move_their_own_steps(self):
+        store = self.store
+        ann, ben = store.editor(1), store.editor(2)
+        ann.add_layer("w", "point")
+        self.assertEqual(ann.add("w", "POINT (1 1)"), 1)
+        self.assertEqual(ben.add("w", "POINT (2 2)"), 2)
+        for other in (store, ann, store.editor(255)):
+            self.assert_refused(36, "NotYours", other.undo)
+        ben.undo()
+        self.assert_refused(36, "NotYours", ben.undo)
+        self.assert_refused(36, "NotYours", ann.redo)
+        ann.undo()
+        self.assert_refused(36, "NotYours", ben.redo)
+        ann.redo()
+        ben.redo()
+        self.assertEqual(self.wkts("w"), ["POINT (1 1)", "POINT (2 2)"])
+        ben.undo()
+        store.editor(3).delete("w", 1)
+        self.assert_refused(30, "NothingToRedo", ben.redo)
+        self.assertEqual(ann.show("w"), [])
+
+    def test_lines_of_an_editor(self):
+        editor = self.store.editor(20)
+        self.assertEqual(editor.run("layer add w any"), "ok")
+        self.assertEqual(
+            editor.run_all(["layers", "@1 layers", "undo"])[0::2], [["w any"], "ok"]
+        )
+        with self.assertRaises(Refused) as caught:
+            editor.run("redo now")
+        self.assertEqual(caught.exception.line, "@20 redo now")
+        for line in ("", " \t", "\r", "undo\nundo"):
+            with self.assertRaises(ValueError):
+                editor.run(line)
+
+    def test_numbers_of_editors(self):
+        for number in (0, 256, -1):
+            with self.assertRaises(ValueError):
+                self.store.editor(number)
+        with self.assertRaises(TypeError):
+            self.store.editor("1")
+
+    def test_an_editor_ends_with_its_store(self):
+        with Store(PROGRAM) as store:
+            editor = store.editor(1)
+        with self.assertRaises(RuntimeError):
+            editor.layers()
 
     def test_run_answers_a_line_or_rows(self):
         run = self.store.run
@@ -444,7 +417,7 @@ class Refusals(TestCase):
         (2, "Syntax", "add w POINT (1 2"),
         (2, "Syntax", "addhex w 0"),
         (3, "OffGrid", "add w POINT (1.5 2)"),
-        (4, "OutOfRange", "add w POINT (524288 0)"),
+        (4, "OutOfRange", "add w POINT (8388608 0)"),
         (5, "Empty", "add w POINT EMPTY"),
         (6, "UnsupportedType", "add w CIRCLE (1 2)"),
         (7, "Truncated", "addhex w 0101000000"),
@@ -575,17 +548,17 @@ class Batches(TestCase):
 
     def test_lines_about_as_long_as_a_batch(self):
         with Store() as store:
-            for length in range(sfstore._BATCH_BYTES - 3, sfstore._BATCH_BYTES + 4):
+            for length in range(sfstore.store._BATCH_BYTES - 3, sfstore.store._BATCH_BYTES + 4):
                 lines = ["layers".ljust(length), "redo", "layers".ljust(length)]
                 first, second, third = store.run_all(lines)
                 self.assertEqual((first, second.number, third), ([], 30, []))
 
     def test_a_long_answer(self):
         with Store() as store:
-            store.run_all(["layer add w point"] + ["add w POINT (-524288 -524288)"] * 300_000)
+            store.run_all(["layer add w point"] + ["add w POINT (-8388608 -8388608)"] * 300_000)
             rows = store.run("show w")
         self.assertEqual(len(rows), 300_000)
-        self.assertEqual(set(row.split(" ", 1)[1] for row in rows), {"POINT (-524288 -524288)"})
+        self.assertEqual(set(row.split(" ", 1)[1] for row in rows), {"POINT (-8388608 -8388608)"})
 
     def test_what_progress_raises_leaves_the_store_in_step(self):
         def progress(done, total):
@@ -611,7 +584,7 @@ class Files(TestCase):
         self.assertEqual(
             path.read_bytes(),
             bytes.fromhex(
-                "5346 5354 4f52 4531 0000 0001 0577 656c 6c73 0100 0000 0200 0300 0200 0101 0564"
+                "5346 5354 4f52 4532 18 0000 0001 0577 656c 6c73 0100 0000 0200 0300 0200 0101 0564"
                 "6570 7468 0002 0205 6c61 6265 6c00 0000 0100 0000 0100 0000 1501 0100 0000 0000"
                 "0000 0000 0840 0000 0000 0000 1040 0002 0001 ffff ffff ffff fff9 0002 0003 6f6c"
                 "64"
@@ -701,7 +674,10 @@ class Files(TestCase):
         path = self.folder / "bad.sfs"
         faults = {
             b"": "0 7",
-            b"SFSTORE2": "0 34",
+            b"SFSTORE3": "0 34",
+            b"SFSTORE2": "8 7",
+            b"SFSTORE2\x14\0\0\0\0": "8 34",
+            b"SFSTORE2\x18\0\0\0\1": "13 7",
             b"SFSTORE1\0\0\0\1": "12 7",
             b"SFSTORE1\0\0\0\0x": "12 8",
         }
@@ -983,7 +959,7 @@ class Users(TestCase):
 class GeoInterfaces(TestCase):
     GEOMETRIES = {
         "POINT (3 -4)": ("Point", (3, -4)),
-        "LINESTRING (0 0, -524288 524287)": ("LineString", ((0, 0), (-524288, 524287))),
+        "LINESTRING (0 0, -8388608 8388607)": ("LineString", ((0, 0), (-8388608, 8388607))),
         "POLYGON ((0 0, 30 0, 30 30, 0 0), (20 10, 25 10, 25 15, 20 10))": (
             "Polygon",
             (((0, 0), (30, 0), (30, 30), (0, 0)), ((20, 10), (25, 10), (25, 15), (20, 10))),
@@ -1090,7 +1066,7 @@ class GeoInterfaces(TestCase):
 
 
 def load_tests(loader, tests, pattern):
-    tests.addTests(doctest.DocTestSuite(sfstore))
+    tests.addTests(doctest.DocTestSuite(sfstore.store))
     return tests
 
 

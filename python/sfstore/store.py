@@ -27,17 +27,32 @@ import weakref
 from collections.abc import Callable, Iterable, Iterator, Sequence
 from dataclasses import dataclass
 from types import TracebackType
-from typing import Any, BinaryIO, Literal, NamedTuple, TypeVar, Union, cast, get_args
+from typing import (
+    Any,
+    BinaryIO,
+    Literal,
+    NamedTuple,
+    Protocol,
+    TypeVar,
+    Union,
+    cast,
+    get_args,
+    overload,
+)
+
+from sfstore.journal import Journal, JournalError
 
 __all__ = [
     "Answer",
     "Column",
     "ColumnType",
+    "Editor",
     "Feature",
     "Kind",
     "Layer",
     "Predicate",
     "ProgramEnded",
+    "Recovered",
     "Refused",
     "Store",
     "Value",
@@ -63,10 +78,12 @@ Predicate = Literal[
 """What may be asked of a feature's geometry and a given one."""
 
 _T = TypeVar("_T")
+_Path = Union[str, "os.PathLike[str]"]
 
 _NAME = re.compile(r"[A-Za-z][A-Za-z0-9_]{0,31}")
 _PATTERN = re.compile(r"[TtFf*012]{9}")
 _IDENTIFIER_MAX = 4_294_967_295
+_EDITOR_MAX = 255
 _INT_MIN, _INT_MAX = -(2**63), 2**63 - 1
 
 # The least room that a pipe has. An empty one takes as many bytes at once, so that the module never
@@ -136,6 +153,19 @@ class ProgramEnded(Exception):
         return f"the program ended with status {self.status}: {self.last_line or 'no last line'}"
 
 
+class Recovered(NamedTuple):
+    """What the opening of a store found in its journal.
+
+    >>> Recovered(edits=12, torn=0).edits
+    12
+    """
+
+    edits: int
+    """How many edits the last save did not have. They are there again, and can be undone."""
+    torn: int
+    """How many bytes of an edit were dropped that was not written to its end, nor answered."""
+
+
 class Layer(NamedTuple):
     """A layer, as `Store.layers` lists it.
 
@@ -193,76 +223,34 @@ class Feature:
         }
 
 
-class Store:
-    """A store of layers, columns and features, held by a program that this object starts.
+class Editor:
+    """One of the editors of a store, each known by a number, and its commands.
 
-    ``load`` names a file to begin with, ``save`` one to which the store is saved when it is closed.
-    ``program`` is a path, or a name that is looked for on the ``PATH``.
-    `ProgramEnded` where the file can't be loaded.
+    All editors see one content, and edit it in turn. An editor undoes and redoes its own edits
+    alone: where the one in turn is another's, it is refused as 36 NotYours. An accepted edit of
+    any of them leaves nothing to be done again for all.
 
-    A store is closed by `close`, or at the end of a ``with``. It is saved then, and not before.
-    Where an exception leaves the body of the ``with``, and where a store is dropped without
-    having been closed, the program is killed: the file to save to stays as it was.
-    If Python itself is killed between two commands, the program meets the end of its input, and
-    saves; in the middle of one it may save or not.
-
-    A command raises `Refused` where the store refuses it, `ValueError` where an argument has no
-    place in a line, such as a name with a blank or a text with a line feed, and `ProgramEnded`
-    where the program has ended. An exception from outside in the middle of a command, such as
-    `KeyboardInterrupt`, kills the program.
-
-    Only the thread that made a store may use it: elsewhere, and in a forked process,
-    its methods raise `RuntimeError`.
+    `Store.editor` gives an editor. A `Store` is itself the editor of number 0.
 
     >>> with Store() as store:
-    ...     store.add_layer("wells", "point")
-    ...     store.layers()
-    [Layer(name='wells', kind='point')]
+    ...     ann, ben = store.editor(1), store.editor(2)
+    ...     ann.add_layer("wells", "point")
+    ...     ben.add("wells", "POINT (3 4)")
+    ...     try:
+    ...         ann.undo()
+    ...     except Refused as refused:
+    ...         refused.name
+    ...     ben.undo()
+    ...     ann.show("wells")
+    1
+    'NotYours'
+    []
     """
 
-    def __init__(
-        self,
-        program: str | os.PathLike[str] = "sfstore",
-        load: str | os.PathLike[str] | None = None,
-        save: str | os.PathLike[str] | None = None,
-    ) -> None:
-        path = os.fsdecode(program)
-        words = [path]
-        if load is not None:
-            words.append(f"--load={os.fsdecode(load)}")
-        if save is not None:
-            words.append(f"--save={os.fsdecode(save)}")
-        self._program = _Program(words)
-        # There is nothing to undo yet: the refusal shows that the file is loaded.
-        [answer] = self._program.exchange([b"undo\n"])
-        if not isinstance(answer, Refused):
-            self._program.abort()
-            raise RuntimeError(f"{path} is another program than sfstore")
-
-    def __enter__(self) -> Store:
-        return self
-
-    def __exit__(
-        self,
-        error_type: type[BaseException] | None,
-        error: BaseException | None,
-        traceback: TracebackType | None,
-    ) -> None:
-        if error_type is None:
-            self.close()
-        else:
-            self._program.abort()
-
-    def close(self) -> None:
-        """Ends the input of the program, and waits until it has saved the store and ended.
-
-        `ProgramEnded` where it ends with another status than 0: a part of a file may then stand
-        where the store was to be saved. A store that is closed already stays so.
-
-        >>> store = Store()
-        >>> store.close()
-        """
-        self._program.close()
+    def __init__(self, program: _Link, address: bytes) -> None:
+        self._program = program
+        # What stands before each line.
+        self._address = address
 
     def run(self, line: str) -> Answer:
         """The answer of a command line: its one line, or the rows behind ``rows N`` as a list.
@@ -278,7 +266,8 @@ class Store:
         'ok 1'
         ['1 POINT (3 4)']
         """
-        [outcome] = self._program.exchange([_encoded(line)])
+        [outcome] = self._program.exchange([self._address + _encoded(line)])
+        self._program.commit()
         if isinstance(outcome, Refused):
             raise outcome
         return outcome
@@ -295,16 +284,21 @@ class Store:
         a `ValueError` none was carried out. ``progress`` is called after each batch with the number
         of lines that are answered, and that of all lines.
 
+        With a journal the accepted edits are on the disk before the answers are given: all at once,
+        or before each call of ``progress``.
+
         >>> with Store() as store:
         ...     store.run_all(["layer add wells point", "add wells POINT (3 4)", "redo"])
         ['ok', 'ok 1', Refused(30, 'NothingToRedo', 'redo')]
         """
-        encoded = [_encoded(line) for line in lines]
+        encoded = [self._address + _encoded(line) for line in lines]
         outcomes: list[Answer | Refused] = []
         for batch in _batches(encoded):
             outcomes += self._program.exchange(batch)
             if progress is not None:
+                self._program.commit()
                 progress(len(outcomes), len(encoded))
+        self._program.commit()
         return outcomes
 
     def add_layer(self, name: str, kind: Kind = "any") -> None:
@@ -590,7 +584,7 @@ class Store:
         return [int(row) for row in rows]
 
     def undo(self) -> None:
-        """Takes back the last edit that is not undone yet.
+        """Takes back the last edit that is not undone yet, where it is this editor's.
 
         >>> with Store() as store:
         ...     store.add_layer("wells")
@@ -601,7 +595,7 @@ class Store:
         self.run("undo")
 
     def redo(self) -> None:
-        """Does the last edit that was undone again.
+        """Does the last edit that was undone again, where it is this editor's.
 
         >>> with Store() as store:
         ...     store.add_layer("wells")
@@ -619,6 +613,181 @@ class Store:
     def _rows(self, line: str) -> list[str]:
         """The rows that answer a command."""
         return cast("list[str]", self.run(line))
+
+
+class Store(Editor):
+    """A store of layers, columns and features, held by a program that this object starts.
+
+    ``load`` names a file to begin with, ``save`` one to which the store is saved when it is closed.
+    ``program`` is a path, or a name that is looked for on the ``PATH``.
+    `ProgramEnded` where the file can't be loaded.
+
+    A store is closed by `close`, or at the end of a ``with``. It is saved then, and not before.
+    Where an exception leaves the body of the ``with``, and where a store is dropped without
+    having been closed, the program is killed: the file to save to stays as it was.
+    If Python itself is killed between two commands, the program meets the end of its input, and
+    saves; in the middle of one it may save or not.
+
+    A command raises `Refused` where the store refuses it, `ValueError` where an argument has no
+    place in a line, such as a name with a blank or a text with a line feed, and `ProgramEnded`
+    where the program has ended. An exception from outside in the middle of a command, such as
+    `KeyboardInterrupt`, kills the program.
+
+    ``Store(path, journal=True)`` holds the store of a file with a journal beside it: an accepted
+    edit is on the disk before it is answered, `save` and `close` put a new file in the place of the
+    old one, and the next opening has what a crash left unsaved, and can undo it. A new store begins
+    where the file is missing. `JournalError` where another session has the file, and where file and
+    journal do not fit. docs/JOURNAL.md of the project says what is promised.
+
+    Only the thread that made a store may use it: elsewhere, and in a forked process,
+    its methods raise `RuntimeError`.
+
+    >>> with Store() as store:
+    ...     store.add_layer("wells", "point")
+    ...     store.layers()
+    [Layer(name='wells', kind='point')]
+    """
+
+    @overload
+    def __init__(
+        self, program: _Path, /, load: _Path | None = None, save: _Path | None = None
+    ) -> None: ...
+
+    @overload
+    def __init__(
+        self, *, program: _Path = "sfstore", load: _Path | None = None, save: _Path | None = None
+    ) -> None: ...
+
+    @overload
+    def __init__(
+        self, path: _Path, /, *, journal: Literal[True], program: _Path = "sfstore"
+    ) -> None: ...
+
+    def __init__(
+        self,
+        path: _Path | None = None,
+        load: _Path | None = None,
+        save: _Path | None = None,
+        *,
+        program: _Path | None = None,
+        journal: bool = False,
+    ) -> None:
+        if not journal:
+            if path is not None and program is not None:
+                raise TypeError("the program is named twice")
+            words = [os.fsdecode(path or program or "sfstore")]
+            if load is not None:
+                words.append(f"--load={os.fsdecode(load)}")
+            if save is not None:
+                words.append(f"--save={os.fsdecode(save)}")
+            super().__init__(_started(words), b"")
+            return
+        if path is None or load is not None or save is not None:
+            raise TypeError("a store with a journal is named by its path alone")
+        super().__init__(_Journaled(os.fsdecode(program or "sfstore"), path), b"")
+
+    def __enter__(self) -> Store:
+        return self
+
+    def __exit__(
+        self,
+        error_type: type[BaseException] | None,
+        error: BaseException | None,
+        traceback: TracebackType | None,
+    ) -> None:
+        if error_type is None:
+            self.close()
+        else:
+            self._program.abort()
+
+    def close(self, save: bool = True) -> None:
+        """Ends the input of the program, and waits until it has saved the store and ended.
+
+        `ProgramEnded` where it ends with another status than 0: a part of a file may then stand
+        where the store was to be saved. A store that is closed already stays so.
+
+        With a journal the store is saved as by `save`. Where ``save`` is false nothing is saved:
+        the edits are lost, or with a journal stay there for the next opening.
+
+        >>> store = Store()
+        >>> store.close()
+        """
+        if save:
+            self._program.close()
+        else:
+            self._program.abort()
+
+    def save(self) -> None:
+        """Saves a store with a journal to its file, and begins a new journal.
+
+        The history ends with it, as with each loading: what was done before can't be undone any
+        more. Where all is saved already nothing is done. `JournalError` where the file can't be
+        made, as on a full disk: nothing is lost then, and the store can be used on.
+        `RuntimeError` without a journal: such a store is saved when it is closed.
+
+        >>> import tempfile
+        >>> with tempfile.TemporaryDirectory() as folder:
+        ...     with Store(folder + "/town.sfs", journal=True) as store:
+        ...         store.add_layer("wells")
+        ...         store.save()
+        ...         store.unsaved
+        0
+        """
+        self._journaled().save()
+
+    def copy(self, path: _Path) -> None:
+        """Writes a store with a journal as it is now to another file; nothing else is changed.
+
+        `JournalError` where that can't be made, `RuntimeError` without a journal.
+        """
+        self._journaled().copy(os.fsdecode(path))
+
+    @property
+    def unsaved(self) -> int:
+        """How many accepted edits a store with a journal has that its file does not.
+
+        An undo is an edit here, and so is a redo. `RuntimeError` without a journal.
+        """
+        return self._journaled().unsaved
+
+    @property
+    def recovered(self) -> Recovered:
+        """What the opening of a store with a journal found there. `RuntimeError` without one."""
+        return self._journaled().recovered
+
+    def _journaled(self) -> _Journaled:
+        if not isinstance(self._program, _Journaled):
+            raise RuntimeError("the store has no journal: it is saved when it is closed")
+        return self._program
+
+    def editor(self, number: int) -> Editor:
+        """The editor of a number from 1 to 255.
+
+        It speaks to the same program, and ends with the store. The same number gives the same
+        editor, as far as undo and redo go.
+
+        >>> with Store() as store:
+        ...     store.editor(7).add_layer("wells")
+        ...     store.layers()
+        [Layer(name='wells', kind='any')]
+        """
+        return Editor(self._program, b"@%d " % _editor(number))
+
+
+class _Link(Protocol):
+    """What editors need of the program that holds their store."""
+
+    def exchange(self, lines: Sequence[bytes]) -> list[Answer | Refused]:
+        """Sends lines, each with its line feed, and reads as many answers."""
+
+    def commit(self) -> None:
+        """Has all accepted edits where a crash does not reach them. Answers are given after it."""
+
+    def close(self) -> None:
+        """Saves the store, and ends the program."""
+
+    def abort(self) -> None:
+        """Ends the program, and saves nothing."""
 
 
 class _Program:
@@ -647,7 +816,7 @@ class _Program:
 
         More than one line may be sent only where all together have `_BATCH_BYTES` at most.
         """
-        self._check_user()
+        self.check_user()
         if self._closed:
             raise RuntimeError("the store is closed")
         if self._has_ended():
@@ -664,9 +833,12 @@ class _Program:
             self._kill()
             raise
 
+    def commit(self) -> None:
+        """Nothing is kept elsewhere than in the program."""
+
     def close(self) -> None:
         """Ends the input, and waits for the program to save and to end."""
-        self._check_user()
+        self.check_user()
         if self._closed:
             return
         self._closed = True
@@ -689,7 +861,8 @@ class _Program:
         """Closes the copy of the input that a forked process has: the program shall see its end."""
         self._input.close()
 
-    def _check_user(self) -> None:
+    def check_user(self) -> None:
+        """`RuntimeError` in another thread or process than the one that made the store."""
         if os.getpid() != self._owner:
             raise RuntimeError("the store belongs to the process before the fork: make another one")
         if threading.current_thread() is not self._thread:
@@ -744,6 +917,139 @@ class _Program:
         self._output.close()
 
 
+class _Journaled:
+    """A program whose accepted edits are in the journal of a file before they are answered."""
+
+    def __init__(self, program: str, path: _Path) -> None:
+        self._name = program
+        self._journal = Journal(path)
+        self._in_doubt = False
+        try:
+            edits = list(self._journal.lines)
+            self._program = self._loaded()
+            self._replay(edits)
+        except BaseException:
+            self._journal.give_up()
+            raise
+        torn = len(self._journal.torn)
+        self.recovered = Recovered(len(edits), torn)
+        if torn:
+            warnings.warn(
+                f"{self._journal.path}.journal ended with {torn} bytes of an edit that was not "
+                "written to its end, nor answered: they are dropped",
+                RuntimeWarning,
+                stacklevel=3,
+            )
+
+    @property
+    def unsaved(self) -> int:
+        return len(self._journal.lines)
+
+    def exchange(self, lines: Sequence[bytes]) -> list[Answer | Refused]:
+        self._program.check_user()
+        if self._in_doubt:
+            # Two interrupts, or an interrupt at the wrong moment: the journal decides.
+            self.abort()
+        try:
+            self._in_doubt = True
+            outcomes = self._program.exchange(lines)
+            self._journal.append(line for line, told in zip(lines, outcomes) if _is_edit(told))
+            self._in_doubt = False
+        except BaseException:
+            # The program may have an edit that the journal has not.
+            self.abort()
+            raise
+        return outcomes
+
+    def commit(self) -> None:
+        try:
+            self._journal.commit()
+        except JournalError:
+            # What is on the disk is not known.
+            self.abort()
+            raise
+
+    def save(self) -> None:
+        """Saves the store, and goes on from the file."""
+        self._program.check_user()
+        if self._save():
+            self._program.abort()
+            try:
+                self._program = self._loaded()
+            except BaseException:
+                self._journal.close()
+                raise
+
+    def copy(self, path: str) -> None:
+        self._program.check_user()
+        self._check_open()
+        self._journal.copy(path, self._name)
+
+    def close(self) -> None:
+        """Saves the store, and ends the program. What can't be saved stays in the journal."""
+        self._program.check_user()
+        try:
+            if not self._journal.closed:
+                self._save()
+        finally:
+            self.abort()
+
+    def abort(self) -> None:
+        """Ends the program. The journal has all that was answered."""
+        self._program.abort()
+        self._journal.close()
+
+    def _save(self) -> bool:
+        """Makes the file have all edits, where it has not. Tells whether it is another one now."""
+        self._check_open()
+        if not self._journal.lines and os.path.exists(self._journal.path):
+            return False
+        try:
+            self._journal.save(self._name)
+        finally:
+            if self._journal.closed:
+                self._program.abort()
+        return True
+
+    def _check_open(self) -> None:
+        if self._in_doubt or self._journal.closed:
+            self.abort()
+            raise RuntimeError("the store is closed")
+
+    def _loaded(self) -> _Program:
+        """The program with what is in the file."""
+        words = [self._name]
+        if os.path.exists(self._journal.path):
+            words.append(f"--load={self._journal.path}")
+        return _started(words)
+
+    def _replay(self, edits: list[bytes]) -> None:
+        """Has the program do the edits of the journal. `JournalError` where it refuses one."""
+        for batch in _batches(edits):
+            for outcome in self._program.exchange(batch):
+                if not _is_edit(outcome):
+                    self._program.abort()
+                    raise JournalError(
+                        f"{self._journal.path}.journal does not go on from the file: {outcome}"
+                    )
+
+
+def _started(words: list[str]) -> _Program:
+    """A program that has loaded its file. `ProgramEnded` where it could not."""
+    program = _Program(words)
+    # There is nothing to undo yet: the refusal shows that the file is loaded.
+    [answer] = program.exchange([b"undo\n"])
+    if not isinstance(answer, Refused):
+        program.abort()
+        raise RuntimeError(f"{words[0]} is another program than sfstore")
+    return program
+
+
+def _is_edit(outcome: Answer | Refused) -> bool:
+    """Whether a line was an edit that was accepted: these alone are answered so."""
+    return isinstance(outcome, str) and (outcome == "ok" or outcome.startswith("ok "))
+
+
 _programs: weakref.WeakSet[_Program] = weakref.WeakSet()
 
 
@@ -752,7 +1058,7 @@ def _abandon(process: subprocess.Popen[bytes], owner: int) -> None:
     if os.getpid() == owner:
         with process:
             process.kill()
-        warnings.warn("a store was not closed: nothing was saved", ResourceWarning)
+        warnings.warn("a store was not closed: it was not saved", ResourceWarning)
 
 
 def _close_inherited_inputs() -> None:
@@ -826,6 +1132,14 @@ def _identifier(number: int) -> int:
     if not 0 <= integer <= _IDENTIFIER_MAX:
         raise ValueError(f"{integer} is not from 0 to {_IDENTIFIER_MAX}")
     return integer
+
+
+def _editor(number: int) -> int:
+    """The number of an editor, where it is one."""
+    number = operator.index(number)
+    if not 1 <= number <= _EDITOR_MAX:
+        raise ValueError(f"no number of an editor: {number}")
+    return number
 
 
 def _vertex(layer: str, feature_id: int, part: int, ring: int, index: int) -> str:

@@ -1,0 +1,47 @@
+"""A store of vector map features, held by the program ``sfstore``.
+
+    >>> from sfstore import Store
+    >>> with Store() as store:
+    ...     store.add_layer("wells", "point")
+    ...     store.add("wells", "POINT (3 4)")
+    1
+
+`Store` and its companions need POSIX and nothing beside the standard library. What the commands
+mean, and why they are refused, is in docs/CONSOLE.md of the project; docs/JOURNAL.md says what
+``Store(path, journal=True)`` promises, and docs/EXCHANGE.md how maps come in and go out by
+`sfstore.exchange`, which needs GDAL/OGR.
+"""
+
+from sfstore.journal import JournalError
+from sfstore.store import (
+    Answer,
+    Column,
+    ColumnType,
+    Editor,
+    Feature,
+    Kind,
+    Layer,
+    Predicate,
+    ProgramEnded,
+    Recovered,
+    Refused,
+    Store,
+    Value,
+)
+
+__all__ = [
+    "Answer",
+    "Column",
+    "ColumnType",
+    "Editor",
+    "Feature",
+    "JournalError",
+    "Kind",
+    "Layer",
+    "Predicate",
+    "ProgramEnded",
+    "Recovered",
+    "Refused",
+    "Store",
+    "Value",
+]

@@ -1,0 +1,392 @@
+"""The command ``sfstore-console``: a store's file at a terminal, for people.
+
+It speaks the commands of the program, with help, completion, history and refusals in words. Every
+accepted edit is in the journal before it is answered, so that nothing is lost whatever ends it.
+"""
+
+from __future__ import annotations
+
+import argparse
+import contextlib
+import difflib
+import os
+import pydoc
+import shlex
+import shutil
+import subprocess
+import sys
+import tempfile
+import warnings
+import webbrowser
+from collections.abc import Callable, Iterator
+from pathlib import Path
+from typing import Protocol
+
+from sfstore import files
+from sfstore.commands import COMMANDS, OWN, candidates, help_text
+from sfstore.exchange import exporting, importing
+from sfstore.faults import fault_of
+from sfstore.geometry import NotTaken, Shape, read_wkb, read_wkt
+from sfstore.journal import JournalError
+from sfstore.refusals import words_of
+from sfstore.store import ProgramEnded, Refused, Store
+from sfstore.storefile import fault_words
+
+__all__ = ["Console", "geometry_of", "main"]
+
+Complete = Callable[[str], "list[str]"]
+
+
+class _Terminal(Protocol):
+    """Where lines are asked for."""
+
+    def ask(self, prompt: str) -> str:
+        """A line. `EOFError` at the end of the input, `KeyboardInterrupt` for Ctrl-C."""
+
+
+class _ToolkitTerminal:
+    """Lines by ``prompt_toolkit``. `ImportError` where it is missing."""
+
+    def __init__(self, complete: Complete) -> None:
+        from prompt_toolkit import PromptSession
+        from prompt_toolkit.completion import CompleteEvent, Completer, Completion
+        from prompt_toolkit.document import Document
+        from prompt_toolkit.history import FileHistory, History, InMemoryHistory
+
+        class Words(Completer):
+            """Offers what `complete` gives."""
+
+            def get_completions(
+                self, document: Document, complete_event: CompleteEvent
+            ) -> Iterator[Completion]:
+                line = document.text_before_cursor
+                for word in complete(line):
+                    yield Completion(word, start_position=-len(line.rpartition(" ")[2]))
+
+        path = _history_path()
+        history: History = InMemoryHistory() if path is None else FileHistory(path)
+        self._session: PromptSession[str] = PromptSession(
+            history=history, completer=Words(), complete_while_typing=False
+        )
+
+    def ask(self, prompt: str) -> str:
+        return self._session.prompt(prompt)
+
+
+class _PlainTerminal:
+    """Lines by ``readline``, where Python has it."""
+
+    def __init__(self, complete: Complete) -> None:
+        try:
+            import readline
+        except ImportError:
+            return
+        readline.set_completer_delims(" ")
+        readline.parse_and_bind("tab: complete")
+
+        def completer(text: str, state: int) -> str | None:
+            found = complete(readline.get_line_buffer()[: readline.get_endidx()])
+            return found[state] if state < len(found) else None
+
+        readline.set_completer(completer)
+
+    def ask(self, prompt: str) -> str:
+        return input(prompt)
+
+
+def _history_path() -> str | None:
+    """Where the lines of earlier sessions are kept, or none where nothing can be written there."""
+    state = os.environ.get("XDG_STATE_HOME") or os.path.join(Path.home(), ".local", "state")
+    folder = os.path.join(state, "sfstore")
+    with contextlib.suppress(OSError):
+        os.makedirs(folder, exist_ok=True)
+    return os.path.join(folder, "history") if os.access(folder, os.W_OK) else None
+
+
+class Console:
+    """A session at a terminal."""
+
+    def __init__(self, path: str, program: str, make_terminal: Callable[[Complete], _Terminal]):
+        self._path = path
+        self._program = program
+        self._store = self._opened()
+        self._terminal = make_terminal(self._complete)
+        self._is_over = False
+        self._own: dict[str, Callable[[list[str]], None]] = {
+            "help": self._help,
+            "save": self._save,
+            "picture": self._picture,
+            "import": self._import,
+            "export": self._export,
+            "quit": self._quit,
+        }
+
+    def run(self) -> None:
+        """Asks for lines and carries them out, until the user leaves."""
+        print("`help` lists the commands; Tab completes them; `quit` leaves.")
+        while not self._is_over:
+            try:
+                lines = self._terminal.ask(f"{os.path.basename(self._path)}> ").splitlines()
+            except KeyboardInterrupt:
+                continue
+            except EOFError:
+                lines = ["quit"]
+            for line in lines:
+                self._carry_out(line.strip())
+
+    def _carry_out(self, line: str) -> None:
+        """Carries out a line. Where that ends the program, the store is opened anew."""
+        if not line:
+            return
+        try:
+            word = line.split()[0]
+            if word in self._own:
+                self._own[word](shlex.split(line)[1:])
+            else:
+                self._ask_program(line)
+        except Refused as refused:
+            self._tell_refused(refused, line)
+        except ValueError as error:
+            print(f"That line can't be read: {error}")
+        except KeyboardInterrupt:
+            self._open_anew("Interrupted.")
+        except ProgramEnded as error:
+            self._open_anew(f"{error}.")
+        except (JournalError, OSError, RuntimeError) as error:
+            if self._is_open():
+                print(f"{error}.")
+            else:
+                self._open_anew(f"{error}.")
+
+    def _is_open(self) -> bool:
+        """Whether the store can be used on."""
+        try:
+            self._store.layers()
+        except (JournalError, ProgramEnded, RuntimeError):
+            return False
+        return True
+
+    def _opened(self) -> Store:
+        """The store of the file. What its journal had is told."""
+        with warnings.catch_warnings():
+            # A torn record is told here.
+            warnings.simplefilter("ignore", RuntimeWarning)
+            store = Store(self._path, journal=True, program=self._program)
+        edits, torn = store.recovered
+        if edits:
+            print(f"{edits} edits from the journal were not saved yet: they are there, to undo too.")
+        if torn:
+            print(f"An edit that was not written to its end, nor answered, is dropped ({torn} bytes).")
+        return store
+
+    def _open_anew(self, reason: str) -> None:
+        """Goes on from file and journal, where a session was ended by something."""
+        print(reason)
+        self._store.close(save=False)
+        print("The store is opened again, with every edit that was answered.")
+        self._store = self._opened()
+
+    def _ask_program(self, line: str) -> None:
+        answer = self._store.run(line)
+        if isinstance(answer, str):
+            print(answer)
+        else:
+            count = f"{len(answer)} row{'' if len(answer) == 1 else 's'}"
+            self._show("\n".join([*answer, count]))
+
+    def _show(self, text: str) -> None:
+        """Writes a text, by a pager where it is longer than the terminal is high."""
+        if text.count("\n") + 1 < shutil.get_terminal_size().lines:
+            print(text)
+        else:
+            pydoc.pager(text + "\n")
+
+    def _tell_refused(self, refused: Refused, line: str) -> None:
+        """A refusal in words: what is wrong, where, and what helps."""
+        words = words_of(refused.number)
+        print(f"Refused ({refused.number} {refused.name}): {words.reason}.")
+        place = self._place(refused.number, line)
+        if place:
+            print(f"  {place}")
+            print("  (This place is worked out by the console, outside of the proved program.)")
+        near = self._near_words(line) if refused.number == 31 else ""
+        print(f"  {near or words.help}")
+
+    def _place(self, number: int, line: str) -> str:
+        """Where a geometry breaks a rule, or nothing."""
+        if not 10 <= number <= 17:
+            return ""
+        shape = geometry_of(line, self._store)
+        return str(fault_of(number, shape) or "") if shape else ""
+
+    def _near_words(self, line: str) -> str:
+        """What may have been meant, where the first word is no command, or how it is used."""
+        word = next((word for word in line.split() if not word.startswith("@")), "")
+        known = [command.usage.split(" ")[0] for command in COMMANDS + OWN]
+        if word in known:
+            return "It is used so:\n" + help_text(word)
+        near = difflib.get_close_matches(word, known, 1)
+        return f"Is `{near[0]}` meant?" if near else ""
+
+    def _complete(self, line: str) -> list[str]:
+        return candidates(line, self._layer_names, self._column_names)
+
+    def _layer_names(self) -> list[str]:
+        return [layer.name for layer in self._store.layers()] if self._is_open() else []
+
+    def _column_names(self, layer: str) -> list[str]:
+        if layer not in self._layer_names():
+            return []
+        return [column.name for column in self._store.columns(layer)]
+
+    def _yes(self, question: str) -> bool:
+        """Whether a question is answered with y. Ctrl-C and the end of the input mean no."""
+        try:
+            return self._terminal.ask(f"{question} [y/n] ").strip().lower() in ("y", "yes")
+        except (KeyboardInterrupt, EOFError):
+            return False
+
+    def _help(self, words: list[str]) -> None:
+        self._show(help_text(words[0] if words else ""))
+
+    def _save(self, words: list[str]) -> None:
+        self._store.save()
+        print(f"{self._path} is saved. The history begins anew.")
+
+    def _quit(self, words: list[str]) -> None:
+        """Leaves. Where something is not saved, that is asked about; else it stays in the journal."""
+        unsaved = self._store.unsaved
+        if unsaved and self._yes(f"{unsaved} edits are not saved. Save them now?"):
+            self._save([])
+        elif unsaved:
+            print(f"They stay in {self._path}.journal, and are there when it is opened again.")
+        self._store.close(save=False)
+        self._is_over = True
+
+    def _picture(self, words: list[str]) -> None:
+        """Draws the store as it is, and opens the picture where there is a browser."""
+        target = words[0] if words else self._path + ".svg"
+        program = shutil.which("sfmap")
+        if program is None:
+            print("This needs the program sfmap, and it is not on the PATH.")
+            return
+        with tempfile.TemporaryDirectory() as folder, files.whole_file(target) as beside:
+            copy = os.path.join(folder, "copy.sfs")
+            self._store.copy(copy)
+            with open(copy, "rb") as store, open(beside, "wb") as svg:
+                ended = subprocess.run([program], stdin=store, stdout=svg)
+            if ended.returncode:
+                raise RuntimeError(f"sfmap ended with status {ended.returncode}: no picture is drawn")
+        print(f"{target} is drawn.")
+        if os.environ.get("DISPLAY") or os.environ.get("WAYLAND_DISPLAY"):
+            with contextlib.suppress(webbrowser.Error):
+                webbrowser.open(Path(target).resolve().as_uri())
+
+    def _import(self, words: list[str]) -> None:
+        """Brings a map into this store where it has no layers, or into the file that is named."""
+        with contextlib.suppress(SystemExit):
+            asked = importing.parser().parse_intermixed_args(words)
+            words = [*words, f"--program={self._program}"]
+            if asked.suggest or asked.file is not None:
+                importing.main(words)
+                return
+            if self._store.layers():
+                print("This store has layers: name another file behind the source, and open that.")
+                return
+            self._store.close()
+            importing.main([*words, self._path, "--overwrite"])
+            self._store = self._opened()
+
+    def _export(self, words: list[str]) -> None:
+        """Gives the store back as a map; it is saved first."""
+        if self._store.unsaved:
+            if not self._yes(f"{self._store.unsaved} edits are not saved. Save them now?"):
+                print("Nothing is written: an export is one of the saved store.")
+                return
+            self._save([])
+        with contextlib.suppress(SystemExit):
+            if exporting.main([self._path, *words, f"--program={self._program}"]) == 0:
+                print("It is written.")
+
+
+def geometry_of(line: str, store: Store) -> Shape | None:
+    """The geometry that a refused line would have brought, or none where that is not known."""
+    words = line.split()
+    if words[0].startswith("@"):
+        words = words[1:]
+    given = {"add": 2, "addhex": 2, "replace": 3, "relate": 3, "match": 3, "query": 3}
+    try:
+        if words[0] == "addhex":
+            return read_wkb(bytes.fromhex(words[2]))
+        if words[0] in given:
+            return read_wkt(" ".join(words[given[words[0]] :]))
+        if words[0] == "vertex":
+            shape = read_wkb(bytes.fromhex(store.hex(words[2], int(words[3]))))
+            return _with_vertex(shape, words[1], [int(word.split(".")[0]) for word in words[4:]])
+    except (NotTaken, Refused, ValueError, IndexError):
+        pass
+    return None
+
+
+def _with_vertex(shape: Shape, change: str, numbers: list[int]) -> Shape:
+    """A geometry with a vertex inserted, moved or removed. `IndexError` where it has no such one."""
+    part, ring, index, *place = numbers
+    members = [[list(line) for line in member] for member in shape.members]
+    line = members[part][ring]
+    closes = shape.code in (3, 6)
+    if closes:
+        del line[-2:]
+    until = 2 * index + (0 if change == "insert" else 2)
+    line[2 * index : until] = place
+    if closes:
+        line += line[:2]
+    return Shape(shape.code, [list(member) for member in members])
+
+
+def _terminal(complete: Complete) -> _Terminal:
+    """The terminal of ``prompt_toolkit``, or a plain one where that is missing."""
+    try:
+        return _ToolkitTerminal(complete)
+    except ImportError:
+        print("(Python's prompt_toolkit is missing: lines are read without its comforts.)")
+        return _PlainTerminal(complete)
+
+
+def main(words: list[str] | None = None) -> int:
+    """Carries out the command, and gives its status."""
+    parser = argparse.ArgumentParser(
+        prog="sfstore-console",
+        description="Opens a store's file at a terminal; a new one where the file is missing. "
+        "Every accepted edit is in a journal beside it before it is answered.",
+        epilog="Status 0: the session ended; 2: wrong words, or no terminal; 3: the store can't be "
+        "opened.",
+    )
+    parser.add_argument("file", help="the store's file")
+    parser.add_argument(
+        "--program", default="sfstore", help="the program sfstore (looked for on the PATH)"
+    )
+    asked = parser.parse_args(words)
+    if not (sys.stdin.isatty() and sys.stdout.isatty()):
+        print(
+            "sfstore-console needs a terminal. For lines of a file or a pipe there is the program "
+            "sfstore: sfstore --load FILE --save FILE < LINES",
+            file=sys.stderr,
+        )
+        return 2
+    try:
+        Console(asked.file, asked.program, _terminal).run()
+    except ProgramEnded as ended:
+        reason = fault_words(asked.file, ended.last_line) if ended.status == 3 else str(ended)
+        print(f"sfstore-console: {asked.file} does not load: {reason}", file=sys.stderr)
+        return 3
+    except KeyboardInterrupt:
+        print("Interrupted: every edit that was answered is in the journal.", file=sys.stderr)
+        return 3
+    except (JournalError, OSError) as error:
+        print(f"sfstore-console: {error}", file=sys.stderr)
+        return 3
+    return 0
+
+
+if __name__ == "__main__":
+    sys.exit(main())

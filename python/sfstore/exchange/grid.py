@@ -1,0 +1,120 @@
+"""The grid: which doubles are steps from an origin, and which doubles stand for steps."""
+
+from __future__ import annotations
+
+import math
+from collections.abc import Sequence
+from dataclasses import dataclass
+from decimal import Decimal, InvalidOperation
+from fractions import Fraction
+
+__all__ = ["LEAST", "MOST", "Grid", "OffGrid", "Outside", "Rounding"]
+
+LEAST, MOST = -8_388_608, 8_388_607
+"""The coordinates of the store, in steps from the origin."""
+
+
+class OffGrid(ValueError):
+    """A coordinate is no step of the grid. The text names it."""
+
+
+class Outside(ValueError):
+    """A coordinate is further from the origin than the store's coordinates go. The text names it."""
+
+
+@dataclass
+class Rounding:
+    """How far coordinates were moved to the nearest step, in the units of the source."""
+
+    moved: int = 0
+    """How many coordinates were moved."""
+    total: float = 0.0
+    """How far all of them together."""
+    most: float = 0.0
+    """How far the one that was moved furthest."""
+
+
+class Grid:
+    """Steps from an origin, all three exact decimals.
+
+    A double is *on* the grid if it is the one nearest to origin + k * step for a whole k. So the
+    double that a step stands for is the one that came in. `ValueError` where a word is no decimal,
+    or the step is not above 0.
+    """
+
+    words: tuple[str, str, str]
+    """x and y of the origin, and the step, as they were given."""
+
+    def __init__(self, x: str, y: str, step: str) -> None:
+        self.words = x, y, step
+        exact = [_decimal(word) for word in self.words]
+        if exact[2] <= 0:
+            raise ValueError(f"the step of a grid is above 0, not {step}")
+        self._denominator = math.lcm(*(number.denominator for number in exact))
+        whole = [int(number * self._denominator) for number in exact]
+        self._origin, self._step = whole[:2], whole[2]
+        self._near_origin = [float(number) for number in exact[:2]]
+        self._near_step = float(exact[2])
+        if self._near_step == 0.0:
+            raise ValueError(f"the step {step} is too small")
+
+    def places(self, steps: Sequence[float]) -> list[float]:
+        """The doubles of steps, x and y in turn: of each the nearest to origin + k * step."""
+        origin, step, denominator = self._origin, self._step, self._denominator
+        # A quotient of whole numbers is the nearest double.
+        return [
+            (origin[index & 1] + int(k) * step) / denominator for index, k in enumerate(steps)
+        ]
+
+    def steps(self, places: Sequence[float], rounding: Rounding | None = None) -> list[int]:
+        """The steps of doubles, x and y in turn.
+
+        `OffGrid` where one is no step, unless ``rounding`` is given: the nearest step is taken
+        then, and counted there. `Outside` where one is too far from the origin.
+        """
+        origin, step, denominator = self._origin, self._step, self._denominator
+        near_origin, near_step = self._near_origin, self._near_step
+        found = []
+        for index, place in enumerate(places):
+            axis = index & 1
+            try:
+                k = round((place - near_origin[axis]) / near_step)
+            except (ValueError, OverflowError):
+                raise OffGrid(f"{'xy'[axis]} {place!r} of point {index // 2}") from None
+            if (origin[axis] + k * step) / denominator != place:
+                k = self._nearest(place, axis)
+                moved = abs((origin[axis] + k * step) / denominator - place)
+                if moved and rounding is None:
+                    raise OffGrid(f"{'xy'[axis]} {place!r} of point {index // 2}")
+                if moved and rounding is not None:
+                    rounding.moved += 1
+                    rounding.total += moved
+                    rounding.most = max(rounding.most, moved)
+            if not LEAST <= k <= MOST:
+                raise Outside(f"{'xy'[axis]} {place!r} of point {index // 2}")
+            found.append(k)
+        return found
+
+    def exact(self, x: Fraction, y: Fraction) -> tuple[Fraction, Fraction]:
+        """The place of a point between steps."""
+        return (
+            (self._origin[0] + x * self._step) / self._denominator,
+            (self._origin[1] + y * self._step) / self._denominator,
+        )
+
+    def _nearest(self, place: float, axis: int) -> int:
+        """The step that is nearest to a double, exactly; of two the greater."""
+        numerator, denominator = place.as_integer_ratio()
+        twice = 2 * (numerator * self._denominator - self._origin[axis] * denominator)
+        unit = 2 * self._step * denominator
+        return (twice + unit // 2) // unit
+
+
+def _decimal(word: str) -> Fraction:
+    try:
+        number = Decimal(word)
+    except InvalidOperation:
+        raise ValueError(f"{word!r} is no decimal number") from None
+    if not number.is_finite() or abs(number.adjusted()) > 300:
+        raise ValueError(f"{word!r} is no decimal number that a grid can have")
+    return Fraction(number)

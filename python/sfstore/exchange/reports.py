@@ -1,0 +1,161 @@
+"""What an import left out or changed: as text, and as features for a map."""
+
+from __future__ import annotations
+
+import contextlib
+import os
+from collections import Counter
+from typing import Any, NamedTuple
+
+from sfstore import files
+from sfstore.exchange import ogr
+from sfstore.sidecar import Crs
+
+__all__ = ["FEATURE_FORMATS", "Problem", "Report"]
+
+# How many identifiers the summary names for each reason.
+_SHOWN = 8
+
+FEATURE_FORMATS = {".geojson": "GeoJSON", ".gpkg": "GPKG"}
+"""The formats of faulty features, by the endings of their files."""
+
+
+class Problem(NamedTuple):
+    """Something that did not fit."""
+
+    layer: str
+    """The layer's name in the source."""
+    identifier: int | None
+    """The feature's identifier in the source, or none where it is the layer or a column."""
+    reason: str
+    """What is wrong, the same words for all features that have it."""
+    detail: str
+    """Where, and by what value."""
+    geometry: bytes | None
+    """The feature's geometry in the source, as well-known binary."""
+
+
+class Report:
+    """All that did not fit, all that was changed, and how many features were taken."""
+
+    def __init__(self) -> None:
+        self.problems: list[Problem] = []
+        self.notes: list[tuple[str, str]] = []
+        self.read: Counter[str] = Counter()
+        self.taken: Counter[str] = Counter()
+
+    def problem(
+        self,
+        layer: str,
+        identifier: int | None,
+        reason: str,
+        detail: str = "",
+        geometry: bytes | None = None,
+    ) -> None:
+        """Has something that did not fit told."""
+        self.problems.append(Problem(layer, identifier, reason, detail, geometry))
+
+    def note(self, layer: str, text: str) -> None:
+        """Has something told that was changed, and not left out."""
+        self.notes.append((layer, text))
+
+    def summary(self) -> str:
+        """A few lines for each layer: counts, reasons with the first identifiers, and notes."""
+        names = [*self.read, *(problem.layer for problem in self.problems)]
+        lines = []
+        for layer in dict.fromkeys(names):
+            lines.append(f"{layer}: {self.read[layer]} features read, {self.taken[layer]} taken")
+            lines += self._reasons(layer)
+            lines += [f"  {text}" for name, text in self.notes if name == layer]
+        return "".join(line + "\n" for line in lines)
+
+    def text(self) -> str:
+        """A line for each problem: layer, identifier, reason and detail, with tabulators between."""
+        rows = (
+            (
+                problem.layer,
+                "" if problem.identifier is None else str(problem.identifier),
+                problem.reason,
+                problem.detail,
+            )
+            for problem in self.problems
+        )
+        notes = (f"{layer}\t\tchanged\t{text}\n" for layer, text in self.notes)
+        return "".join("\t".join(row) + "\n" for row in rows) + "".join(notes)
+
+    def write_text(self, path: str) -> None:
+        """Writes `text` to a file, whole or not at all."""
+        with files.whole_file(path) as beside:
+            with open(beside, "w", encoding="utf-8") as file:
+                file.write(self.text())
+
+    def write_features(self, path: str, crs: Crs | None) -> None:
+        """Writes the features that did not fit to a GeoJSON or GeoPackage, by the path's ending.
+
+        `ogr.ExchangeError` where it can't be written.
+        """
+        ending = os.path.splitext(path)[1].lower()
+        # The driver looks at the ending too.
+        beside = f"{path[: -len(ending)]}.part{ending}"
+        try:
+            with contextlib.suppress(FileNotFoundError):
+                os.unlink(beside)
+            self._write_features(beside, FEATURE_FORMATS[ending], crs)
+            files.sync(beside)
+            files.replace(beside, path)
+        except (OSError, RuntimeError) as error:
+            raise ogr.ExchangeError(f"{path} can't be written: {error}") from None
+
+    def _reasons(self, layer: str) -> list[str]:
+        found: dict[str, list[Problem]] = {}
+        for problem in self.problems:
+            if problem.layer == layer:
+                found.setdefault(problem.reason, []).append(problem)
+        return [f"  {_counted(reason, problems)}" for reason, problems in found.items()]
+
+    def _write_features(self, path: str, name: str, crs: Crs | None) -> None:
+        data = ogr.driver(name).CreateDataSource(path)
+        try:
+            self._write_layer(data, name, crs)
+        finally:
+            data.Destroy()
+
+    def _write_layer(self, data: Any, name: str, crs: Crs | None) -> None:
+        _, ogr_module, _ = ogr.gdal()
+        options = ["COORDINATE_PRECISION=17"] if name == "GeoJSON" else []
+        reference = ogr.spatial_reference(crs)
+        layer = data.CreateLayer("faulty", reference, ogr_module.wkbUnknown, options)
+        for column, kind in (
+            ("layer", ogr_module.OFTString),
+            ("identifier", ogr_module.OFTInteger64),
+            ("reason", ogr_module.OFTString),
+            ("detail", ogr_module.OFTString),
+        ):
+            layer.CreateField(ogr_module.FieldDefn(column, kind))
+        for problem in self.problems:
+            if problem.geometry is None or problem.identifier is None:
+                continue
+            feature = ogr_module.Feature(layer.GetLayerDefn())
+            for place, value in enumerate(
+                (problem.layer, problem.identifier, problem.reason, problem.detail)
+            ):
+                feature.SetField(place, value)
+            geometry = ogr_module.CreateGeometryFromWkb(problem.geometry)
+            if name == "GeoJSON" and geometry.HasCurveGeometry():
+                geometry = geometry.GetLinearGeometry()
+            feature.SetGeometry(geometry)
+            layer.CreateFeature(feature)
+        layer.SyncToDisk()
+
+
+def _counted(reason: str, problems: list[Problem]) -> str:
+    """A reason with how many features have it, the first of them named."""
+    named = [problem for problem in problems if problem.identifier is not None]
+    if not named:
+        return "; ".join(f"{reason}: {problem.detail}" for problem in problems)
+    shown = ", ".join(
+        f"{problem.identifier} ({problem.detail})" if problem.detail else str(problem.identifier)
+        for problem in named[:_SHOWN]
+    )
+    more = f" and {len(named) - _SHOWN} more" if len(named) > _SHOWN else ""
+    return f"{len(named)} {reason}: {shown}{more}"

@@ -1,0 +1,144 @@
+"""The small JSON file beside a store's file: its grid, reference system, and names in the source.
+
+It belongs to a store's file by its digest. A session with a journal keeps it so: before it puts
+a new file in the place of an old one, it writes the digests of both.
+"""
+
+from __future__ import annotations
+
+import json
+import os
+from dataclasses import asdict, dataclass, field
+from typing import Any
+
+from sfstore import files
+
+__all__ = ["ColumnOrigin", "Crs", "LayerOrigin", "Sidecar", "SidecarError", "follow", "read", "write"]
+
+_FORMAT = "sfstore side-car 1"
+
+
+class SidecarError(Exception):
+    """The side-car is missing, is no side-car, or belongs to another file. The text says which."""
+
+
+@dataclass(frozen=True)
+class Crs:
+    """A coordinate reference system, by its authority's code where it has one."""
+
+    authority: str
+    """Such as ``EPSG``; empty where there is none."""
+    code: str
+    """Such as ``25832``; empty where there is none."""
+    wkt: str
+    """The definition as well-known text."""
+
+    def __str__(self) -> str:
+        return f"{self.authority}:{self.code}" if self.authority else "one without a code"
+
+
+@dataclass(frozen=True)
+class ColumnOrigin:
+    """A column, and what it was in the source."""
+
+    name: str
+    source_name: str
+    type: str
+    """OGR's name of the type, such as ``Integer64``."""
+    subtype: str
+    """OGR's name of the subtype, such as ``Boolean``, or ``None``."""
+    width: int
+    """The greatest number of characters that the source takes, 0 where it says none."""
+
+
+@dataclass(frozen=True)
+class LayerOrigin:
+    """A layer, and what it was in the source."""
+
+    name: str
+    source_name: str
+    identifier_column: str
+    """The column of the identifiers. Empty where the source has none."""
+    geometry_column: str
+    """The column of the geometries. Empty where the source names none."""
+    columns: list[ColumnOrigin]
+
+
+@dataclass(frozen=True)
+class Sidecar:
+    """What stands in the file."""
+
+    grid: tuple[str, str, str]
+    """x and y of the origin, and the step, as decimals."""
+    crs: Crs | None
+    layers: list[LayerOrigin]
+    digests: list[str] = field(default_factory=list)
+    """The SHA-256 of the store's file, and of the one that is about to take its place."""
+
+
+def path_of(store: str) -> str:
+    """The side-car's path, of the store's file."""
+    return store + ".json"
+
+
+def read(store: str) -> Sidecar:
+    """The side-car of a store's file. `SidecarError` where it is missing, wrong, or another's."""
+    found = _read(path_of(store))
+    if files.digest(store) not in found.digests:
+        raise SidecarError(
+            f"{path_of(store)} belongs to another file than {store}: "
+            "this one was changed since, by something that keeps no side-car"
+        )
+    return found
+
+
+def write(store: str, found: Sidecar, digests: list[str]) -> None:
+    """Writes the side-car of a store's file, whole or not at all, for files of these digests."""
+    content = {"format": _FORMAT, **asdict(found), "digests": digests}
+    with files.whole_file(path_of(store)) as beside:
+        with open(beside, "w", encoding="utf-8") as file:
+            json.dump(content, file, ensure_ascii=False, indent=1)
+            file.write("\n")
+
+
+def follow(store: str, old: str, new: str) -> None:
+    """Has the side-car belong to a new file too, where there is one that belongs to the old file."""
+    if not os.path.exists(path_of(store)):
+        return
+    try:
+        found = _read(path_of(store))
+    except SidecarError:
+        # It is left as it is: whoever needs it is told what is wrong with it.
+        return
+    if old in found.digests and old != new:
+        write(store, found, [old, new])
+
+
+def _read(path: str) -> Sidecar:
+    try:
+        with open(path, encoding="utf-8") as file:
+            content = json.load(file)
+    except FileNotFoundError:
+        raise SidecarError(
+            f"{path} is missing: it has the grid and the reference system of the store"
+        ) from None
+    except (OSError, ValueError) as error:
+        raise SidecarError(f"{path} can't be read: {error}") from None
+    try:
+        return _sidecar(content)
+    except (KeyError, TypeError, ValueError) as error:
+        raise SidecarError(f"{path} is no side-car of a store: {error!r}") from None
+
+
+def _sidecar(content: dict[str, Any]) -> Sidecar:
+    if content["format"] != _FORMAT:
+        raise ValueError(content["format"])
+    x, y, step = map(str, content["grid"])
+    crs = content["crs"]
+    layers = list(map(_layer, content["layers"]))
+    return Sidecar((x, y, step), crs and Crs(**crs), layers, list(map(str, content["digests"])))
+
+
+def _layer(content: dict[str, Any]) -> LayerOrigin:
+    columns = [ColumnOrigin(**column) for column in content.pop("columns")]
+    return LayerOrigin(columns=columns, **content)

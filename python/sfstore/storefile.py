@@ -1,0 +1,207 @@
+"""The file of a store, as docs/FORMAT.md of the project has it: read, and written as version 2.
+
+What is written here is for the program to load: it decides whether it is a file of a store.
+"""
+
+from __future__ import annotations
+
+import struct
+from dataclasses import dataclass, field
+from typing import BinaryIO, NamedTuple, Union
+
+from sfstore.refusals import BAD_FIELDS
+
+__all__ = [
+    "INT",
+    "TEXT",
+    "FileColumn",
+    "FileFeature",
+    "FileLayer",
+    "fault_words",
+    "field_at",
+    "read",
+    "write",
+]
+
+INT, TEXT = 1, 2
+"""The types of columns in a file."""
+
+_MAGIC = b"SFSTORE2\x18"
+_MAGIC_1 = b"SFSTORE1"
+
+
+class FileColumn(NamedTuple):
+    """A column of a layer."""
+
+    number: int
+    type: int
+    name: str
+
+
+class FileFeature(NamedTuple):
+    """A feature of a layer."""
+
+    id: int
+    geometry: bytes
+    """Well-known binary."""
+    values: dict[int, Union[int, str]]
+    """The values by the numbers of their columns."""
+
+
+@dataclass
+class FileLayer:
+    """A layer, with all that the file has of it."""
+
+    name: str
+    kind: int
+    next_id: int
+    next_column: int
+    columns: list[FileColumn] = field(default_factory=list)
+    features: list[FileFeature] = field(default_factory=list)
+
+
+def write(file: BinaryIO, layers: list[FileLayer]) -> None:
+    """Writes a file of version 2. `struct.error` where a number has no place in its field."""
+    file.write(_MAGIC + struct.pack(">I", len(layers)))
+    for layer in layers:
+        numbers = layer.kind, layer.next_id, layer.next_column, len(layer.columns)
+        file.write(_name(layer.name) + struct.pack(">BIHH", *numbers))
+        for column in layer.columns:
+            file.write(struct.pack(">HB", column.number, column.type) + _name(column.name))
+        file.write(struct.pack(">I", len(layer.features)))
+        file.writelines(map(_feature, layer.features))
+
+
+def _name(name: str) -> bytes:
+    return struct.pack(">B", len(name)) + name.encode("ascii")
+
+
+def _feature(feature: FileFeature) -> bytes:
+    parts = [struct.pack(">II", feature.id, len(feature.geometry)), feature.geometry]
+    parts.append(struct.pack(">H", len(feature.values)))
+    for number, value in sorted(feature.values.items()):
+        if isinstance(value, int):
+            parts.append(struct.pack(">Hq", number, value))
+        else:
+            text = value.encode("utf-8")
+            parts.append(struct.pack(">HH", number, len(text)) + text)
+    return b"".join(parts)
+
+
+def read(data: bytes) -> list[FileLayer]:
+    """The layers of a file that the program loads. `ValueError` or `struct.error` for others."""
+    return _Reader(data).layers()
+
+
+def field_at(data: bytes, place: int) -> str:
+    """The name of the field that begins at a place, such as ``name of a layer``.
+
+    It is that of the last field before where none begins there, as at the end of a file.
+    """
+    reader = _Reader(data, place)
+    try:
+        reader.layers()
+    except (ValueError, struct.error, _Found):
+        pass
+    return reader.last
+
+
+def fault_words(path: str, last: str) -> str:
+    """The last line of a program that could not load a file, in words: place, field and reason."""
+    words = last.split(" ")
+    if words[:3] != ["fault", "load", "BadFile"]:
+        plain = {
+            "fault load Open": "it can't be opened",
+            "fault load Read": "it can't be read",
+            "fault load Memory": "it does not fit into memory",
+        }
+        return plain.get(last, last)
+    place, number = map(int, words[3:])
+    with open(path, "rb") as file:
+        name = field_at(file.read(), place)
+    return f"place {place}, {name}: {BAD_FIELDS.get(number, 'it is wrong')} ({number})"
+
+
+class _Found(Exception):
+    """The field that was looked for is reached."""
+
+
+class _Reader:
+    """Reads a file from its front to its end."""
+
+    def __init__(self, data: bytes, wanted: int | None = None) -> None:
+        self._data = data
+        self._at = 0
+        self._wanted = wanted
+        self.last = ""
+
+    def layers(self) -> list[FileLayer]:
+        self._begin("first eight bytes")
+        if self._data[:8] == _MAGIC_1:
+            self._at = 8
+        elif self._data[:8] == _MAGIC[:8]:
+            self._at = 8
+            self._begin("byte of the grid")
+            self._at = 9
+        else:
+            raise ValueError("no file of a store")
+        layers = [self._layer() for _ in range(self._number("I", "number of layers"))]
+        self._begin("end")
+        return layers
+
+    def _layer(self) -> FileLayer:
+        layer = FileLayer(
+            self._text("B", "name of a layer"),
+            self._number("B", "kind of a layer"),
+            self._number("I", "next identifier of a layer"),
+            self._number("H", "next column number of a layer"),
+        )
+        columns = range(self._number("H", "number of columns"))
+        layer.columns = [self._column() for _ in columns]
+        types = {column.number: column.type for column in layer.columns}
+        features = range(self._number("I", "number of features"))
+        layer.features = [self._feature(types) for _ in features]
+        return layer
+
+    def _column(self) -> FileColumn:
+        return FileColumn(
+            self._number("H", "number of a column"),
+            self._number("B", "type of a column"),
+            self._text("B", "name of a column"),
+        )
+
+    def _feature(self, types: dict[int, int]) -> FileFeature:
+        number = self._number("I", "identifier of a feature")
+        length = self._number("I", "length of a geometry")
+        geometry = self._bytes(length, "geometry")
+        values: dict[int, Union[int, str]] = {}
+        for _ in range(self._number("H", "number of values")):
+            column = self._number("H", "column number of a value")
+            if types.get(column) == INT:
+                values[column] = self._number("q", "whole number of a value")
+            else:
+                values[column] = self._text("H", "text of a value")
+        return FileFeature(number, geometry, values)
+
+    def _begin(self, name: str) -> None:
+        self.last = name
+        if self._at == self._wanted:
+            raise _Found
+
+    def _number(self, form: str, name: str) -> int:
+        self._begin(name)
+        (number,) = struct.unpack_from(">" + form, self._data, self._at)
+        self._at += struct.calcsize(">" + form)
+        return int(number)
+
+    def _text(self, form: str, name: str) -> str:
+        length = self._number(form, name)
+        return self._bytes(length, name).decode("utf-8")
+
+    def _bytes(self, length: int, name: str) -> bytes:
+        self._begin(name)
+        taken = self._data[self._at : self._at + length]
+        if len(taken) != length:
+            raise ValueError(f"the file ends in the field {name}")
+        self._at += length
+        return taken

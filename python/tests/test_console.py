@@ -1,0 +1,457 @@
+"""Tests of the console for people, through a pseudo-terminal, against the real program."""
+
+from __future__ import annotations
+
+import errno
+import fcntl
+import os
+import pty
+import re
+import select
+import signal
+import struct
+import subprocess
+import sys
+import termios
+import time
+import unittest
+from importlib.util import find_spec
+
+from support import FOLDER, PROGRAM, TestCase
+
+from sfstore import Store, commands
+from sfstore.console import geometry_of
+
+HAS_TOOLKIT = find_spec("prompt_toolkit") is not None
+HAS_GDAL = find_spec("osgeo") is not None
+
+ESCAPES = re.compile(r"\x1b\[[0-9;?]*[A-Za-z]|\x1b[=>]|\r|\x08")
+START = """
+import sys
+sys.path.insert(0, {folder!r})
+{hide}
+from {module} import main
+sys.exit(main({words!r}))
+"""
+# Rows and columns.
+SIZE = (40, 200)
+HIDE = "sys.modules['prompt_toolkit'] = None"
+
+
+class Terminal:
+    """A console on a pseudo-terminal: what it wrote since the last look, and keys for it."""
+
+    def __init__(self, words, environment, plain=False, module="sfstore.console"):
+        hide = HIDE if plain else "pass"
+        code = START.format(folder=str(FOLDER), hide=hide, module=module, words=words)
+        self.process, self.file = pty.fork()
+        if self.process == 0:
+            os.execve(sys.executable, [sys.executable, "-c", code], environment)
+        fcntl.ioctl(self.file, termios.TIOCSWINSZ, struct.pack("4H", *SIZE, 0, 0))
+        self.seen = ""
+        self.status = None
+
+    def send(self, keys):
+        os.write(self.file, keys.encode())
+
+    def wait(self, words, seconds=10):
+        """Everything up to some words. `AssertionError` where they do not come."""
+        until = time.monotonic() + seconds
+        while words not in self.seen:
+            ready, _, _ = select.select([self.file], [], [], max(0, until - time.monotonic()))
+            data = self.read() if ready else b""
+            if not data:
+                raise AssertionError(f"{words!r} did not come: {self.seen!r}")
+            self.seen += ESCAPES.sub("", data.decode("utf-8", "replace"))
+        before, words, self.seen = self.seen.partition(words)
+        return before + words
+
+    def read(self):
+        try:
+            return os.read(self.file, 65536)
+        except OSError as error:
+            if error.errno != errno.EIO:
+                raise
+            return b""
+
+    def line(self, line, words):
+        """Types a line, and gives everything up to some words of the answer."""
+        self.send(line + "\r")
+        return self.wait(words)
+
+    def end(self):
+        """Everything up to its end; the status is kept."""
+        while data := self.read():
+            self.seen += ESCAPES.sub("", data.decode("utf-8", "replace"))
+        _, status = os.waitpid(self.process, 0)
+        self.status = os.waitstatus_to_exitcode(status)
+        self.process = None
+        return self.seen
+
+    def close(self):
+        if self.process is not None:
+            os.kill(self.process, signal.SIGKILL)
+            os.waitpid(self.process, 0)
+        os.close(self.file)
+
+
+class ConsoleCase(TestCase):
+    PLAIN = False
+
+    def setUp(self):
+        super().setUp()
+        self.path = self.folder / "town.sfs"
+        self.environment = {
+            **os.environ,
+            "TERM": "xterm",
+            "PROMPT_TOOLKIT_NO_CPR": "1",
+            "XDG_STATE_HOME": str(self.folder / "state"),
+            "HOME": str(self.folder),
+            "PAGER": "cat",
+        }
+        self.environment.pop("DISPLAY", None)
+        self.environment.pop("WAYLAND_DISPLAY", None)
+
+    def console(self):
+        words = [str(self.path), "--program", PROGRAM]
+        terminal = Terminal(words, self.environment, self.PLAIN)
+        self.addCleanup(terminal.close)
+        terminal.wait("town.sfs>")
+        return terminal
+
+    def leave(self, terminal, answer="y"):
+        terminal.line("quit", "Save them now?")
+        terminal.send(answer + "\r")
+        said = terminal.end()
+        self.assertEqual(terminal.status, 0, said)
+        return said
+
+    def stored(self, lines):
+        with Store(PROGRAM, save=self.path) as store:
+            store.run_all(lines)
+
+
+@unittest.skipUnless(HAS_TOOLKIT, "no prompt_toolkit (python3-prompt-toolkit)")
+class Sessions(ConsoleCase):
+    def test_a_session(self):
+        terminal = self.console()
+        terminal.line("layer add wells point", "ok")
+        terminal.line("add wells POINT (3 4)", "ok 1")
+        said = terminal.line("show wells", "1 row")
+        self.assertIn("1 POINT (3 4)", said)
+        said = self.leave(terminal)
+        self.assertIn("town.sfs is saved", said)
+        with Store(PROGRAM, load=self.path) as store:
+            self.assertEqual(len(store.show("wells")), 1)
+
+    def test_what_is_not_saved_stays_in_the_journal(self):
+        terminal = self.console()
+        terminal.line("layer add wells point", "ok")
+        said = self.leave(terminal, "n")
+        self.assertIn("They stay in", said)
+        self.assertFalse(self.path.exists())
+        terminal = self.console()
+        terminal.line("layers", "wells point")
+        terminal.line("undo", "ok")
+        terminal.line("save", "is saved. The history begins anew.")
+        terminal.send("quit\r")
+        terminal.end()
+        self.assertEqual(terminal.status, 0)
+
+    def test_a_refusal_in_words_with_its_place(self):
+        terminal = self.console()
+        terminal.line("layer add p any", "ok")
+        said = terminal.line(
+            "@7 add p POLYGON ((0 0, 3 3, 3 0, 0 2, 0 0))", "edges do not cross."
+        )
+        self.assertIn("Refused (13 RingNotSimple): a ring meets itself.", said)
+        self.assertIn("edges 0 and 2 of ring 0 meet at (6/5 6/5)", said)
+        self.assertIn("outside of the proved program", said)
+        terminal.line("add p POLYGON ((0 0, 10 0, 10 10, 0 10, 0 0))", "ok 1")
+        said = terminal.line("vertex move p 1 0 0 2 5 -5", "edges do not cross.")
+        self.assertIn("edges 0 and 2 of ring 0 meet at (10/3 0)", said)
+        self.assertIn("`layers` lists them", terminal.line("show q", "differ."))
+        self.assertIn("Is `layers` meant?", terminal.line("layrs", "meant?"))
+        said = terminal.line("layer add", "layer move wells 0")
+        self.assertIn("It is used so:", said)
+        self.leave(terminal)
+
+    def test_help(self):
+        terminal = self.console()
+        said = terminal.line("help add", "example: add wells POINT (3 4)")
+        self.assertIn("adds a feature, and tells its number", said)
+        terminal.line("help nothing", "There is no command nothing")
+        terminal.line("help", "leaves; asks first")
+
+    def test_completion(self):
+        self.stored(["layer add wells point", "layer add walls any", "column add wells depth int"])
+        terminal = self.console()
+        terminal.send("columns we\t")
+        time.sleep(0.5)
+        terminal.send("\r")
+        terminal.wait("depth int")
+
+    def test_history_is_kept(self):
+        terminal = self.console()
+        terminal.line("layers", "0 rows")
+        terminal.send("quit\r")
+        terminal.end()
+        terminal = self.console()
+        for keys in ("\x1b[A", "\x1b[A", "\r"):
+            time.sleep(0.3)
+            terminal.send(keys)
+        terminal.wait("0 rows")
+
+    def test_long_answers_go_through_a_pager(self):
+        pager = self.folder / "pager"
+        pager.write_text("#!/bin/sh\necho PAGED\ncat\n")
+        pager.chmod(0o700)
+        self.environment["PAGER"] = str(pager)
+        self.stored(["layer add w point", *(f"add w POINT ({k} 1)" for k in range(200))])
+        terminal = self.console()
+        said = terminal.line("show w", "200 rows")
+        self.assertIn("PAGED", said)
+        self.assertNotIn("PAGED", terminal.line("box w 1", "0 1 0 1"))
+
+    def test_control_c_at_the_prompt_and_the_end_of_input(self):
+        terminal = self.console()
+        terminal.send("layer add never any")
+        time.sleep(0.2)
+        terminal.send("\x03")
+        terminal.wait("town.sfs>")
+        terminal.line("layers", "0 rows")
+        terminal.wait("town.sfs>")
+        time.sleep(0.3)
+        terminal.send("\x04")
+        terminal.end()
+        self.assertEqual(terminal.status, 0)
+
+    def test_control_c_in_a_command(self):
+        """A program that answers one line only after an hour: Ctrl-C ends it, and no edit is lost."""
+        slow = self.script(
+            f"#!{sys.executable}\n"
+            "import subprocess, sys, time\n"
+            f"real = subprocess.Popen([{PROGRAM!r}, *sys.argv[1:]], stdin=subprocess.PIPE)\n"
+            "for line in sys.stdin.buffer:\n"
+            "    if line == b'box w 1\\n': time.sleep(3600)\n"
+            "    real.stdin.write(line); real.stdin.flush()\n"
+            "real.stdin.close(); sys.exit(real.wait())\n"
+        )
+        terminal = Terminal([str(self.path), "--program", str(slow)], self.environment, self.PLAIN)
+        self.addCleanup(terminal.close)
+        terminal.wait("town.sfs>")
+        terminal.line("layer add w point", "ok")
+        terminal.line("add w POINT (1 1)", "ok 1")
+        terminal.send("box w 1\r")
+        time.sleep(0.7)
+        terminal.send("\x03")
+        said = terminal.wait("to undo too.")
+        self.assertIn("Interrupted.", said)
+        self.assertIn("2 edits from the journal were not saved yet", said)
+        terminal.line("show w", "1 row")
+
+    def test_a_program_that_is_killed(self):
+        terminal = self.console()
+        terminal.line("layer add w point", "ok")
+        children = subprocess.run(
+            ["pgrep", "-P", str(terminal.process)], capture_output=True, text=True, check=True
+        )
+        os.kill(int(children.stdout), signal.SIGKILL)
+        said = terminal.line("layers", "to undo too.")
+        self.assertIn("the program was killed by signal 9", said)
+        terminal.line("layers", "w point")
+
+    def test_a_terminal_that_goes_away(self):
+        terminal = self.console()
+        terminal.line("layer add w point", "ok")
+        os.kill(terminal.process, signal.SIGHUP)
+        terminal.end()
+        self.console().line("layers", "w point")
+
+    def test_a_second_session(self):
+        self.console()
+        words = [str(self.path), "--program", PROGRAM]
+        second = Terminal(words, self.environment, self.PLAIN)
+        self.addCleanup(second.close)
+        said = second.end()
+        self.assertEqual(second.status, 3)
+        self.assertIn("town.sfs is open in another session", said)
+
+    def test_a_file_that_does_not_load(self):
+        self.path.write_bytes(b"something else")
+        words = [str(self.path), "--program", PROGRAM]
+        terminal = Terminal(words, self.environment, self.PLAIN)
+        self.addCleanup(terminal.close)
+        said = terminal.end()
+        self.assertEqual(terminal.status, 3)
+        self.assertIn("does not load: place 0, first eight bytes: the file is none of a store", said)
+
+    def test_a_picture(self):
+        sfmap = self.folder / "sfmap"
+        sfmap.write_text("#!/bin/sh\necho '<svg>'\nwc -c\n")
+        sfmap.chmod(0o700)
+        self.environment["PATH"] = f"{self.folder}{os.pathsep}{self.environment['PATH']}"
+        terminal = self.console()
+        terminal.line("layer add w point", "ok")
+        terminal.line(f"picture {self.folder}/town.svg", "town.svg is drawn.")
+        self.assertIn("<svg>", (self.folder / "town.svg").read_text())
+        sfmap.write_text("#!/bin/sh\nexit 3\n")
+        terminal.line(f"picture {self.folder}/none.svg", "sfmap ended with status 3")
+        self.assertFalse((self.folder / "none.svg").exists())
+        terminal.line("layers", "w point")
+
+    def test_a_browser_is_asked_where_there_is_a_display(self):
+        for name, text in (("sfmap", "echo '<svg/>'"), ("browser", f"echo $1 > {self.folder}/asked")):
+            script = self.folder / name
+            script.write_text(f"#!/bin/sh\n{text}\n")
+            script.chmod(0o700)
+        self.environment["PATH"] = f"{self.folder}{os.pathsep}{self.environment['PATH']}"
+        self.environment |= {"DISPLAY": ":99", "BROWSER": str(self.folder / "browser")}
+        terminal = self.console()
+        terminal.line(f"picture {self.folder}/town.svg", "town.svg is drawn.")
+        terminal.line("layers", "0 rows")
+        asked = (self.folder / "asked").read_text()
+        self.assertEqual(asked, (self.folder / "town.svg").as_uri() + "\n")
+
+    @unittest.skipUnless(HAS_GDAL, "no GDAL for Python (python3-gdal)")
+    def test_import_edit_and_export(self):
+        from test_exchange import KINDS, Source
+
+        town = self.folder / "town.gpkg"
+        source = Source(town)
+        source.layer("wells", {3: (KINDS["point"], {})}, 1)
+        source.close()
+        terminal = self.console()
+        grid = "--grid 500000 5600000 0.01"
+        terminal.line(f"import {self.folder}/missing.gpkg {grid}", "does not open")
+        terminal.line(f"import {town}", "the grid is missing")
+        terminal.line(f"import {town} --nothing", "unrecognized arguments")
+        terminal.line(f"import --suggest {town}", "--grid")
+        terminal.line(f"import {town} {grid}", "wells: 1 features read, 1 taken")
+        terminal.line("add wells POINT (0 0)", "ok 4")
+        terminal.line(f"import {town} {grid}", "This store has layers")
+        back = self.folder / "back.gpkg"
+        terminal.line(f"export {back}", "Save them now?")
+        terminal.line("n", "Nothing is written")
+        terminal.line(f"export {back}", "Save them now?")
+        terminal.line("y", "It is written.")
+        terminal.line(f"export {back}", "is there already")
+        self.assertTrue(back.exists())
+        terminal.send("quit\r")
+        terminal.end()
+        self.assertEqual(terminal.status, 0)
+
+
+class PlainSessions(Sessions):
+    """The same without prompt_toolkit."""
+
+    PLAIN = True
+    __unittest_skip__ = False
+
+    def test_history_is_kept(self):
+        """Of an earlier session there is none."""
+
+    def test_it_is_told(self):
+        words = [str(self.path), "--program", PROGRAM]
+        terminal = Terminal(words, self.environment, self.PLAIN)
+        self.addCleanup(terminal.close)
+        terminal.wait("prompt_toolkit is missing")
+
+
+@unittest.skipUnless(HAS_GDAL and find_spec("rich"), "no GDAL or no rich (python3-rich)")
+class Progress(ConsoleCase):
+    def test_an_import_shows_how_far_it_is(self):
+        from test_exchange import GRID, Source, parcels
+
+        town = self.folder / "town.gpkg"
+        source = Source(town)
+        source.layer("parcels", {key: (text, {}) for key, (text, _) in parcels(6000)}, 3)
+        source.close()
+        words = [str(town), str(self.path), *GRID, "--program", PROGRAM]
+        terminal = Terminal(words, self.environment, module="sfstore.exchange.importing")
+        self.addCleanup(terminal.close)
+        said = terminal.end()
+        self.assertEqual(terminal.status, 0, said)
+        self.assertRegex(said, "parcels .* [0-9]+%")
+        self.assertIn("parcels: 6000 features read, 6000 taken", said)
+
+
+class Words(TestCase):
+    def test_without_a_terminal(self):
+        environment = {**os.environ, "PYTHONPATH": str(FOLDER)}
+        ended = subprocess.run(
+            [sys.executable, "-m", "sfstore.console", "town.sfs"],
+            stdin=subprocess.DEVNULL,
+            capture_output=True,
+            text=True,
+            env=environment,
+            cwd=self.folder,
+        )
+        self.assertEqual((ended.returncode, ended.stdout), (2, ""))
+        self.assertIn("sfstore-console needs a terminal", ended.stderr)
+        self.assertIn("sfstore --load FILE --save FILE < LINES", ended.stderr)
+        self.assertEqual(os.listdir(self.folder), [])
+
+    def candidates(self, line):
+        columns = {"wells": ["depth", "label"]}
+        return commands.candidates(
+            line, lambda: ["wells", "walls"], lambda layer: columns.get(layer, [])
+        )
+
+    def test_candidates(self):
+        for line, words in (
+            ("sh", ["show"]),
+            ("@7 sh", ["show"]),
+            ("layer ", ["add", "drop", "rename", "move"]),
+            ("layer add x lin", ["linestring"]),
+            ("show ", ["wells", "walls"]),
+            ("show we", ["wells"]),
+            ("set wells 1 ", ["depth", "label"]),
+            ("set other 1 ", []),
+            ("column drop wells l", ["label"]),
+            ("column add wells x ", ["int", "text"]),
+            ("query wells to", ["touches"]),
+            ("add wells POL", ["POLYGON ("]),
+            ("help qu", ["query", "quit"]),
+            ("undo ", []),
+            ("nothing ", []),
+        ):
+            self.assertEqual(self.candidates(line), words, line)
+
+    def test_every_example_is_taken(self):
+        lines = ["layer add parcels polygon", "add parcels POLYGON ((0 0, 9 0, 9 9, 0 0))"]
+        lines += ["layer add roads linestring", "add roads LINESTRING (0 0, 5 5, 9 9)"]
+        order = [command.example for command in commands.COMMANDS]
+        late = ("layer drop", "layer rename", "column drop", "delete", "undo", "redo", "unset")
+        lines += [line for line in order if not line.startswith(late)]
+        lines.insert(lines.index("column add wells depth int"), "column add wells label text")
+        lines += ["unset wells 1 label", "delete wells 1", "undo", "redo", "column drop wells depth"]
+        lines += ["layer rename roads streets", "layer drop wells"]
+        with Store(PROGRAM) as store:
+            for line in lines:
+                self.assertIsNotNone(store.run(line), line)
+
+    def test_the_geometry_of_a_refused_line(self):
+        with Store(PROGRAM) as store:
+            store.add_layer("w")
+            store.add("w", "POLYGON ((0 0, 9 0, 9 9, 0 0))")
+            store.add("w", "MULTILINESTRING ((0 0, 1 1), (5 5, 6 6))")
+            for line, lists in (
+                ("add w LINESTRING (1 1, 2 2)", [[[1, 1, 2, 2]]]),
+                ("@3 replace w 1 point(1 1)", [[[1, 1]]]),
+                ("query w within POINT (1 1)", [[[1, 1]]]),
+                ("addhex w 0101000000000000000000f03f0000000000000040", [[[1, 2]]]),
+                ("vertex insert w 1 0 0 3 5 -5", [[[0, 0, 9, 0, 9, 9, 5, -5, 0, 0]]]),
+                ("vertex move w 1 0 0 0 5 -5", [[[5, -5, 9, 0, 9, 9, 5, -5]]]),
+                ("vertex remove w 1 0 0 0", [[[9, 0, 9, 9, 9, 0]]]),
+                ("vertex remove w 2 1 0 0", [[[0, 0, 1, 1]], [[6, 6]]]),
+            ):
+                shape = geometry_of(line, store)
+                found = [[list(points) for points in member] for member in shape.members]
+                self.assertEqual(found, lists, line)
+            for line in ("show w", "vertex move w 9 0 0 0 1 1", "add w", "vertex move w x", "addhex w z"):
+                self.assertIsNone(geometry_of(line, store))
+
+
+if __name__ == "__main__":
+    unittest.main()

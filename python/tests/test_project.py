@@ -1,0 +1,65 @@
+"""Tests of the module as a project: its types, and its installation by pip from a checkout."""
+
+from __future__ import annotations
+
+import os
+import shutil
+import subprocess
+import sys
+import textwrap
+import unittest
+from importlib.util import find_spec
+
+from support import FOLDER, PROGRAM, TestCase
+
+TOP = FOLDER.parent
+PIP = ("pip", "setuptools", "wheel")
+OPTIONAL = ("osgeo", "prompt_toolkit", "rich")
+
+
+class Project(TestCase):
+    @unittest.skipUnless(shutil.which("mypy"), "no mypy")
+    def test_types(self):
+        words = ["mypy", "--config-file", "pyproject.toml", f"--cache-dir={self.folder}"]
+        checked = subprocess.run(words, cwd=TOP, capture_output=True, text=True)
+        self.assertEqual(checked.returncode, 0, checked.stdout)
+
+    @unittest.skipUnless(all(map(find_spec, PIP)), "no pip with setuptools and wheel")
+    def test_installed_by_pip_from_the_checkout(self):
+        checkout, target = self.folder / "checkout", self.folder / "installed"
+        hidden = shutil.ignore_patterns("__pycache__", "*.egg-info")
+        shutil.copytree(FOLDER / "sfstore", checkout / "python" / "sfstore", ignore=hidden)
+        (checkout / "package").mkdir()
+        for name in ("pyproject.toml", "package/VERSION"):
+            shutil.copy(TOP / name, checkout / name)
+        words = [sys.executable, "-m", "pip", "install", "--no-build-isolation", "--no-deps"]
+        words += ["--no-index", "--disable-pip-version-check", "--target", str(target), str(checkout)]
+        said = subprocess.run(words, capture_output=True, text=True)
+        self.assertEqual(said.returncode, 0, said.stdout + said.stderr)
+        for name in ("sfstore-import", "sfstore-export", "sfstore-console"):
+            said = subprocess.run(
+                [sys.executable, target / "bin" / name, "--help"],
+                env={**os.environ, "PYTHONPATH": str(target)},
+                capture_output=True,
+                text=True,
+            )
+            self.assertEqual((said.returncode, said.stderr), (0, ""))
+            self.assertIn(f"usage: {name}", said.stdout)
+        self.assertTrue((target / "sfstore" / "py.typed").exists())
+
+    def test_the_module_needs_no_optional_part(self):
+        lines = f"""
+            import sys
+            sys.path.insert(0, {str(FOLDER)!r})
+            for name in {OPTIONAL!r}:
+                sys.modules[name] = None
+            import sfstore, sfstore.console, sfstore.exchange.importing, sfstore.exchange.exporting
+            with sfstore.Store({PROGRAM!r}) as store:
+                print(store.layers())
+            """
+        said = subprocess.run([sys.executable, "-c", textwrap.dedent(lines)], capture_output=True, text=True)
+        self.assertEqual((said.stdout, said.stderr), ("[]\n", ""))
+
+
+if __name__ == "__main__":
+    unittest.main()
