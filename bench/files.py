@@ -53,7 +53,7 @@ def values(k):
 def write(path, kind, count, geometry, valued=False):
     """A file of one layer."""
     with open(path, "wb") as file:
-        file.write(b"SFSTORE1" + struct.pack(">IB", 1, 1) + b"w" + struct.pack(">BI", kind, count + 1))
+        file.write(b"SFSTORE2\x18" + struct.pack(">IB", 1, 1) + b"w" + struct.pack(">BI", kind, count + 1))
         if valued:
             file.write(struct.pack(">HH", 3, 2))
             file.write(struct.pack(">HBB", 1, 1, 5) + b"depth" + struct.pack(">HBB", 2, 2, 5) + b"label")

@@ -21,7 +21,7 @@ from pathlib import Path
 
 PROGRAM = Path(__file__).resolve().parent.parent / "crates/sfstore/out/sfstore"
 SIZES = [1_000, 10_000, 100_000, 1_000_000]
-GRID = 524_288
+GRID = 8_388_608
 
 
 def point(n):

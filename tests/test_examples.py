@@ -7,9 +7,14 @@ import subprocess
 import sys
 import tempfile
 import unittest
+from importlib.util import find_spec
 from pathlib import Path
 
 TOP = Path(__file__).resolve().parent.parent
+sys.path.insert(0, str(TOP / "python"))
+
+from sfstore import Store  # noqa: E402
+
 EXAMPLES = TOP / "examples"
 PROGRAM = TOP / "crates" / "sfstore" / "out" / "sfstore"
 
@@ -63,6 +68,34 @@ class Examples(unittest.TestCase):
         )
         self.assertEqual(said.stdout, AFTERNOON)
         self.assertTrue(self.answers(b"show wells\n", "--load", evening).startswith(b"rows 5\n"))
+
+    def command(self, module, *words):
+        """Runs a command of the module."""
+        return subprocess.run(
+            [sys.executable, "-m", f"sfstore.exchange.{module}", "--program", PROGRAM, *words],
+            env={**os.environ, "PYTHONPATH": str(TOP / "python")},
+            check=True,
+            capture_output=True,
+            text=True,
+        ).stdout
+
+    @unittest.skipUnless(find_spec("osgeo"), "no GDAL for Python (python3-gdal)")
+    def test_the_day_from_a_geopackage_to_a_geopackage(self):
+        town, morning = self.folder / "town.gpkg", self.folder / "morning.sfs"
+        grid = ["--grid", "500000", "5600000", "0.1", "--crs", "EPSG:25832"]
+        self.command("exporting", self.town(), town, *grid)
+        said = self.command("importing", town, morning)
+        self.assertIn("parcels: 200 features read, 200 taken\n", said)
+        self.assertEqual(morning.read_bytes(), (self.folder / "town.sfs").read_bytes())
+        self.answers((EXAMPLES / "day.txt").read_bytes(), "--load", morning, "--save", self.folder / "day.sfs")
+        lines = (EXAMPLES / "day.txt").read_text().splitlines()
+        with Store(morning, journal=True, program=PROGRAM) as store:
+            store.run_all(lines)
+        self.assertEqual(morning.read_bytes(), (self.folder / "day.sfs").read_bytes())
+        self.command("exporting", morning, self.folder / "evening.gpkg")
+        again = self.folder / "again.sfs"
+        self.command("importing", self.folder / "evening.gpkg", again)
+        self.assertEqual(again.read_bytes(), morning.read_bytes())
 
 
 if __name__ == "__main__":

@@ -2,6 +2,9 @@
 
 from __future__ import annotations
 
+import importlib.util
+import re
+import shutil
 import subprocess
 import tempfile
 import unittest
@@ -50,15 +53,48 @@ def picture(file: bytes, *words: str) -> ElementTree.Element:
     return ElementTree.fromstring(subprocess.run([PROGRAM, *words], input=file, check=True, capture_output=True).stdout)
 
 
+def map_of(root: ElementTree.Element) -> ElementTree.Element:
+    """The map within a picture."""
+    [shown] = [part for part in root.iter(f"{SVG}svg") if part.get("class") == "map"]
+    return shown
+
+
+def corner_of(root: ElementTree.Element) -> tuple[int, int]:
+    """Where the map's upper left corner lies in the plane."""
+    left, top = map_of(root).attrib["data-corner"].split(" ")
+    return int(left), int(top)
+
+
+def in_plane(path: str, corner: tuple[int, int]) -> str:
+    """A path whose places count from the corner, with the places of the plane."""
+    left, top = corner
+    return re.sub(r"(-?\d+) (-?\d+)", lambda place: f"{int(place[1]) + left} {int(place[2]) + top}", path)
+
+
 def paths(root: ElementTree.Element) -> dict[str, tuple[str, str]]:
-    """The features of a picture in their order, with kinds and paths."""
+    """The features of a picture in their order, with kinds and paths, whose places are those of the plane."""
     found = {}
+    corner = corner_of(root)
     for path in root.iter(f"{SVG}path"):
         if "id" in path.attrib:
             word, kind = path.get("class").split(" ")
             assert word == "feature"
-            found[path.get("id")] = (kind, path.get("d"))
+            found[path.get("id")] = (kind, in_plane(path.get("d"), corner))
     return found
+
+
+def dark_box(file: Path) -> tuple[int, int, int, int]:
+    """The least box with all dark pixels of the upper 800 rows of a picture of pixels, its frame left out."""
+    from PIL import Image
+
+    pixels = Image.open(file).convert("L").crop((2, 2, 798, 798)).point(lambda tone: 255 if tone < 128 else 0)
+    left, top, right, bottom = pixels.getbbox()
+    return left + 2, top + 2, right + 2, bottom + 2
+
+
+def lacks_browser() -> bool:
+    """Whether there is no Chromium, or nothing that reads what it draws."""
+    return shutil.which("chromium") is None or importlib.util.find_spec("PIL") is None
 
 
 class Pictures(unittest.TestCase):
@@ -67,9 +103,12 @@ class Pictures(unittest.TestCase):
         cls.file = file_of(SHAPES)
 
     def box(self, *words):
-        """The rectangle of the map, and its size in pixels."""
-        [shown] = [part for part in picture(self.file, *words).iter(f"{SVG}svg") if part.get("class") == "map"]
-        return [int(n) for n in shown.get("viewBox").split(" ")], int(shown.get("width")), int(shown.get("height"))
+        """The corner of the map and its sides in grid steps, and its size in pixels."""
+        root = picture(self.file, *words)
+        shown = map_of(root)
+        left, top, wide, high = (int(n) for n in shown.get("viewBox").split(" "))
+        self.assertEqual((left, top), (0, 0))
+        return [*corner_of(root), wide, high], int(shown.get("width")), int(shown.get("height"))
 
     def test_each_kind_is_drawn_with_its_points_in_order(self):
         self.assertEqual(list(paths(picture(self.file)).items()), list(PATHS.items()))
@@ -91,11 +130,11 @@ class Pictures(unittest.TestCase):
 
     def test_the_map_has_all_and_a_margin(self):
         # From -5 0 to 100 100: a twentieth of 105 is 5.
-        self.assertEqual(self.box(), ([-10, -105, 115, 110], 800, 765))
+        self.assertEqual(self.box(), ([-10, 105, 115, 110], 800, 765))
 
     def test_a_layer_alone(self):
         self.assertEqual(list(paths(picture(self.file, "--layer", "wells"))), ["wells-1"])
-        self.assertEqual(self.box("--layer", "wells"), ([99, -101, 2, 2], 800, 800))
+        self.assertEqual(self.box("--layer", "wells"), ([99, 101, 2, 2], 800, 800))
         both = picture(self.file, "--layer", "wells", "--layer", "shapes")
         self.assertEqual(list(paths(both)), list(PATHS))
 
@@ -110,7 +149,7 @@ class Pictures(unittest.TestCase):
     def test_a_window_shows_what_has_a_part_in_it(self):
         words = ("--window", "9", "-1", "31", "3", "--width", "440")
         self.assertEqual(list(paths(picture(self.file, *words))), ["shapes-1", "shapes-2", "shapes-4", "shapes-6"])
-        self.assertEqual(self.box(*words), ([9, -3, 22, 4], 440, 80))
+        self.assertEqual(self.box(*words), ([9, 3, 22, 4], 440, 80))
 
     def test_a_window_with_nothing_in_it(self):
         self.assertEqual(paths(picture(self.file, "--window", "-9", "-9", "-8", "-8")), {})
@@ -125,13 +164,32 @@ class Pictures(unittest.TestCase):
         self.assertEqual(int(root.get("height")), 840)
 
     def test_the_farthest_coordinates(self):
-        lines = b"layer add a point\nadd a POINT (-524288 -524288)\nadd a POINT (524287 524287)\n"
+        lines = b"layer add a point\nadd a POINT (-8388608 -8388608)\nadd a POINT (8388607 8388607)\n"
         found = paths(picture(file_of(lines)))
-        self.assertEqual([path for _, path in found.values()], ["M-524288 -524288h0", "M524287 524287h0"])
+        self.assertEqual([path for _, path in found.values()], ["M-8388608 -8388608h0", "M8388607 8388607h0"])
+
+    @unittest.skipIf(lacks_browser(), "chromium or python3-pil is missing")
+    def test_a_browser_draws_far_places_to_half_a_pixel(self):
+        # Squares of one step, at eight pixels a step, eight million steps from the origin either way.
+        for step in range(3, 99, 7):
+            x, y = 8_000_000 + step, 8_000_000 + 99 - step
+            ring = f"{x} {y}, {x + 1} {y}, {x + 1} {y + 1}, {x} {y + 1}, {x} {y}"
+            file = file_of(f"layer add a polygon\nadd a POLYGON (({ring}))\n".encode())
+            words = ("--window", "8000000", "8000000", "8000100", "8000100", "--width", "800")
+            text = subprocess.run([PROGRAM, *words], input=file, check=True, capture_output=True).stdout
+            style = b"<style>#a .feature{fill:#000;fill-opacity:1;stroke:none}</style>\n<svg class='map'"
+            with self.subTest(step=step), tempfile.TemporaryDirectory() as folder:
+                drawn = Path(folder) / "map.svg"
+                drawn.write_bytes(text.replace(b"<svg class='map'", style))
+                shot = Path(folder) / "map.png"
+                browser = ["chromium", "--headless", "--no-sandbox", "--disable-gpu", "--window-size=800,860"]
+                subprocess.run([*browser, f"--screenshot={shot}", drawn.as_uri()], check=True, capture_output=True)
+                left, top = 8 * step, 8 * step
+                self.assertEqual(dark_box(shot), (left, top, left + 8, top + 8))
 
     def test_faults_are_told_on_standard_error(self):
         cases = (
-            (b"SFSTORE2\0\0\0\0", (), 3, b"fault load BadFile 0 "),
+            (b"SFSTORE2\0\0\0\0", (), 3, b"fault load BadFile 8 "),
             (b"", (), 3, b"fault load BadFile 0 "),
             (self.file, ("--layer", "streets"), 2, b"fault words NoLayer streets\n"),
             (self.file, ("--window", "5", "0", "4", "0"), 2, b"fault words EmptyWindow\n"),

@@ -1,0 +1,78 @@
+#!/usr/bin/env python3
+"""Times questions that need not the whole matrix, beside `relate`, which does.
+
+Rings of several sizes that cross the border of a window of four edges are asked for by each predicate; two stars that
+overlap are asked about each other. Printed is processor time for each feature or question, with its line: the
+difference of runs with and without the questions, the least of some.
+
+    rt run is needed once in crates/sfstore (it builds the program); then: bench/questions.py
+"""
+
+from __future__ import annotations
+
+import math
+import resource
+import subprocess
+from pathlib import Path
+
+PROGRAM = Path(__file__).resolve().parent.parent / "crates" / "sfstore" / "out" / "sfstore"
+FEATURES = 400
+RUNS = 3
+WINDOW = "POLYGON ((-1000 -10, 500000 -10, 500000 10, -1000 10, -1000 -10))"
+
+
+def ring(count: int, x: int, y: int, radii: tuple[int, int]) -> str:
+    """A polygon with so many corners round a place, in turn so far from it."""
+    angles = [2 * math.pi * k / count + 0.1 for k in range(count)]
+    corners = [(round(x + radii[k % 2] * math.cos(a)), round(y + radii[k % 2] * math.sin(a))) for k, a in enumerate(angles)]
+    return "POLYGON ((" + ", ".join(f"{x} {y}" for x, y in [*corners, corners[0]]) + "))"
+
+
+def seconds(lines: list[str]) -> float:
+    """The least processor time of some runs over the lines."""
+    text = "\n".join(lines).encode()
+    found = []
+    for _ in range(RUNS):
+        before = resource.getrusage(resource.RUSAGE_CHILDREN).ru_utime
+        subprocess.run([PROGRAM], input=text, check=True, stdout=subprocess.DEVNULL)
+        found.append(resource.getrusage(resource.RUSAGE_CHILDREN).ru_utime - before)
+    return min(found)
+
+
+def cost(before: list[str], asked: list[str]) -> float:
+    """The processor time of the lines that ask, in microseconds."""
+    return (seconds(before + asked) - seconds(before)) * 1e6
+
+
+def windows(count: int) -> None:
+    """A window over rings of so many edges, each of which crosses its border."""
+    before = ["layer add a polygon", *(f"add a {ring(count, k * 1000, 0, (400, 400))}" for k in range(FEATURES))]
+    times = max(40, 8_000 // count)
+    for predicate in ("intersects", "disjoint", "within", "overlaps", "touches"):
+        each = cost(before, [f"query a {predicate} {WINDOW}"] * times) / times / FEATURES
+        print(f"window over rings of {count}: {predicate} {each:.2f} us for each feature")
+    asked = [f"relate a {k + 1} {WINDOW}" for k in range(FEATURES)]
+    each = cost(before, asked * 5) / 5 / FEATURES
+    print(f"window over rings of {count}: relate {each:.2f} us for each line")
+
+
+def stars(count: int) -> None:
+    """Two stars of so many edges that overlap; the given one is read and found valid with each question."""
+    before = ["layer add a polygon", f"add a {ring(count, 0, 0, (500_000, 250_000))}"]
+    given = ring(count, 30_011, 7, (500_000, 250_000))
+    for predicate in ("intersects", "disjoint", "within", "overlaps"):
+        times = max(10, 20_000 // count)
+        each = cost(before, [f"query a {predicate} {given}"] * times) / times
+        print(f"stars of {count}: {predicate} {each:.0f} us")
+    print(f"stars of {count}: relate {cost(before, [f'relate a 1 {given}']):.0f} us")
+
+
+def main() -> None:
+    for count in (8, 64, 512):
+        windows(count)
+    for count in (64, 512, 4_095):
+        stars(count)
+
+
+if __name__ == "__main__":
+    main()
