@@ -138,7 +138,8 @@ fn used_up_identifiers_in_the_second_version(rt: HostRuntime) -> Result<(), Fail
     let store = load(alloc, &mut bytes.as_slice())?;
     let layer = store.layer("w").ok_or("no layer")?;
     assert_eq!(rt; layer.next_id(), u32::MAX);
-    assert!(rt; is_refused(alloc, &bytes.as_slice()[..27], 27, 7));
+    let front = bytes.as_slice().get(..27).ok_or("no front")?;
+    assert!(rt; is_refused(alloc, front, 27, 7));
     Ok(())
 }
 
