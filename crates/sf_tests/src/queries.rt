@@ -3,7 +3,7 @@ use super::support::{ByteByByte, answers};
 use std::alloc::Global;
 use std::test::Fail;
 
-const SESSIONS: [(&str, &str); 12] = [
+const SESSIONS: [(&str, &str); 13] = [
     // Squares that overlap and touch, a line across one.
     (
         "layer add p any\nadd p POLYGON ((0 0, 10 0, 10 10, 0 10, 0 0))\nadd p LINESTRING (-5 5, 15 5)\nrelate p 1 POLYGON ((5 5, 15 5, 15 15, 5 15, 5 5))\nquery p overlaps POLYGON ((5 5, 15 5, 15 15, 5 15, 5 5))\nrelate p 1 POLYGON ((10 0, 20 0, 20 10, 10 10, 10 0))\nquery p touches POLYGON ((10 0, 20 0, 20 10, 10 10, 10 0))\nrelate p 2 POLYGON ((0 0, 10 0, 10 10, 0 10, 0 0))\nquery p crosses POLYGON ((0 0, 10 0, 10 10, 0 10, 0 0))\n",
@@ -33,6 +33,11 @@ const SESSIONS: [(&str, &str); 12] = [
     (
         "layer add p any\nadd p POLYGON ((0 0, 10 0, 10 10, 0 10, 0 0))\nadd p POLYGON ((0 0, 30 0, 30 2, 2 2, 2 30, 0 30, 0 0))\nadd p POINT (22 22)\nquery p disjoint POLYGON ((20 20, 25 20, 25 25, 20 25, 20 20))\nquery p intersects POLYGON ((20 20, 25 20, 25 25, 20 25, 20 20))\nrelate p 3 POLYGON ((20 20, 25 20, 25 25, 20 25, 20 20))\nmatch p T*F**F*** POLYGON ((20 20, 25 20, 25 25, 20 25, 20 20))\nmatch p TT POLYGON ((20 20, 25 20, 25 25, 20 25, 20 20))\n",
         "ok\nok 1\nok 2\nok 3\nrows 2\n1\n2\nrows 1\n3\n0FFFFF212\nrows 1\n3\nrefused 32 BadPattern\n",
+    ),
+    // A polygon that is the whole grid, and its half below the diagonal.
+    (
+        "layer add g polygon\nadd g POLYGON ((-8388608 -8388608, 8388607 -8388608, 8388607 8388607, -8388608 8388607, -8388608 -8388608))\nrelate g 1 POLYGON ((-8388608 -8388608, 8388607 -8388608, 8388607 8388607, -8388608 -8388608))\nquery g contains POLYGON ((-8388608 -8388608, 8388607 -8388608, 8388607 8388607, -8388608 -8388608))\n",
+        "ok\nok 1\n212F11FF2\nrows 1\n1\n",
     ),
     // A line from corner to corner of the grid, but for one step, passes a point nearby.
     (
