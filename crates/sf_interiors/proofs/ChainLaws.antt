@@ -27,7 +27,7 @@ odd-count test e es = ap is_odd (sum_by-cons (λ f. cond (test f) 1 0) e es) ∙
     by_test true = odd-next (count_by test es)
     by_test false = ap is_odd (none (count_by test es))
 
-differ-chain : (a b c : Bool) → differ (differ a b) (differ b c) ≡ differ a c
+pub differ-chain : (a b c : Bool) → differ (differ a b) (differ b c) ≡ differ a c
 differ-chain true true c = not-not c
   where
     not-not : (x : Bool) → (differ false (not x)) ≡ not x

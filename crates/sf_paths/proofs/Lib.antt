@@ -1,0 +1,4 @@
+pub mod ClearLaws
+pub mod SlantLaws
+pub mod UprightLaws
+pub mod PathLaws
