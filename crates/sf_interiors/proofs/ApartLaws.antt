@@ -44,7 +44,7 @@ split q (e ∷ es) h =
           record { before = e ∷ rest.before; one = rest.one; after = rest.after; is = ap (λ fs. e ∷ fs) rest.is; on = rest.on }
     ]
 
-common-edges : (es hs : List Line) (q : Point) → IsPoint q → AllByRecursion (λ (e : Line). e.a ≢ e.b) es → AllApart es → ((p : Point) → IsPoint p → IsBalanced es p) →
+pub common-edges : (es hs : List Line) (q : Point) → IsPoint q → AllByRecursion (λ (e : Line). e.a ≢ e.b) es → AllApart es → ((p : Point) → IsPoint p → IsBalanced es p) →
     ((p : Point) → IsPoint p → IsBalanced hs p) → list_any (λ e. on_edge e q) es ≡ true → IsInside hs q → HasCommon es hs
 common-edges es hs q o long apart balanced b on h =
     let s = split q es on in
@@ -54,12 +54,12 @@ common-edges es hs q o long apart balanced b on h =
     (common s.before s.after hs s.one q o length.1.0 s.on around.0 around.1 (λ p i. subst (λ fs. IsBalanced fs p) s.is (balanced p i)) b h)
 
 -- ---- what a valid polygon has
-record IsSound (rings : List (List Coordinates)) : Type 0 where
-  closed : AllByRecursion (λ ring. is_closed ring ≡ true) rings
-  simple : AllByRecursion IsSimpleRing rings
-  shares_none : SharesNone rings
-  holes_within : (p : Point) → IsPoint p → in_hole_outside rings p ≡ false
-  holes_apart : (p : Point) → IsPoint p → in_two_holes rings p ≡ false
+pub record IsSound (rings : List (List Coordinates)) : Type 0 where
+  pub closed : AllByRecursion (λ ring. is_closed ring ≡ true) rings
+  pub simple : AllByRecursion IsSimpleRing rings
+  pub shares_none : SharesNone rings
+  pub holes_within : (p : Point) → IsPoint p → in_hole_outside rings p ≡ false
+  pub holes_apart : (p : Point) → IsPoint p → in_two_holes rings p ≡ false
 
 record OverlapAt (rings others : List (List Coordinates)) : Type 0 where
   point : Point
@@ -157,7 +157,7 @@ ring-sound ring h = (
   },
 )
 
-polygons-sound : (polygons : List (List (List Coordinates))) → NoneApplies (flat_map ring_rules (joined polygons)) → NoneApplies (polygon_rules polygons) → AllByRecursion IsSound polygons
+pub polygons-sound : (polygons : List (List (List Coordinates))) → NoneApplies (flat_map ring_rules (joined polygons)) → NoneApplies (polygon_rules polygons) → AllByRecursion IsSound polygons
 polygons-sound polygons h k =
     let rings = each-of_flat (λ ring. (is_closed ring ≡ true) × IsSimpleRing ring) (λ rings. rings) polygons
     (each-map (λ ring. NoneApplies (ring_rules ring)) (λ ring. (is_closed ring ≡ true) × IsSimpleRing ring) (joined polygons) ring-sound (each-of_flat NoneOf ring_rules (joined polygons) h)) in

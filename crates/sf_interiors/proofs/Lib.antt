@@ -10,3 +10,6 @@ pub mod ParityLaws
 pub mod RingLaws
 pub mod SharingLaws
 pub mod ApartLaws
+pub mod OpenLaws
+pub mod SquareLaws
+pub mod DimensionLaws

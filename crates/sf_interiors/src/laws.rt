@@ -1,9 +1,21 @@
 //! Laws of valid geometries, each the contract of a function that does nothing.
 
 ghost use Rattle.sf_interiors.specs.Apart.{InteriorIsApart};
+ghost use Rattle.sf_interiors.specs.Dimensions.{BoundaryHasDimension, InteriorHasDimension};
 
 /// No point of the plane is both in the interior and in the boundary of a valid geometry: a point
 /// on a ring of one polygon is inside no other.
 pub fn interior_is_apart()
     ensures { InteriorIsApart }
+{}
+
+/// The interior of a valid geometry has the dimension of its kind.
+pub fn interior_has_dimension()
+    ensures { InteriorHasDimension }
+{}
+
+/// The boundary of a valid geometry has the dimension of its kind, and where it is of lines none without an
+/// end that is in it.
+pub fn boundary_has_dimension()
+    ensures { BoundaryHasDimension }
 {}
