@@ -44,7 +44,7 @@ chain-from : (p : Coordinates) (ps : List Coordinates) → IsChain p (edges_from
 chain-from p [] = refl
 chain-from p (q ∷ qs) = (refl, chain-from q qs)
 
-ring-chain : (ring : List Coordinates) → is_closed ring ≡ true → IsClosedChain (edges_of ring)
+pub ring-chain : (ring : List Coordinates) → is_closed ring ≡ true → IsClosedChain (edges_of ring)
 ring-chain [] h = (record { x = pos 0; y = pos 0 }, refl)
 ring-chain (p ∷ ps) h =
     let t = tight-of p ps in (

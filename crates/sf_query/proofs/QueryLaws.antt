@@ -33,7 +33,7 @@ use Rattle.sf_relate.proofs.SharedLaws.{contact_is_shared}
 use Rattle.sf_query.specs.declared.ask.Ask.{Ask}
 use Rattle.sf_query.specs.declared.ask.Ask.TheVariants.{Matching, Named}
 use Rattle.sf_query.specs.declared.found.Found.{Found}
-use Rattle.sf_query.specs.Answers.{IsAnswer, dim_of_geometry, is_answered, is_asked, is_disjoint, is_for_disjoint, is_near, needs_contact}
+use Rattle.sf_query.specs.Answers.{IsAnswer, dim_of_geometry, is_answered, is_asked, is_near, needs_contact}
 use Rattle.sf_query.specs.Replies.{AnswersAreOverThePlane, AreFound, IsQueried, IsRelated, IsRelatedTo}
 use Rattle.sf_query.proofs.FilterLaws.{IsFoundIn, each-filter, each-found, each-map, each-value, entry-at, filter-within, found-passes, passes-found, rising-filter, some-at, taken-found, taken-other, value-found, viewed}
 
@@ -56,34 +56,9 @@ pub disjoint-told : (predicate : Predicate) (a b : Geometry) (d e : Dim) → pre
 disjoint-told predicate a b d e is contact =
     sym (ap (λ p. holds p d e (matrix_of a b)) is ∙ (contact_is_shared a b).disjoint d e ∙ ap not contact)
 
--- no contact is there where boxes share no point
-untrue : (b : Bool) → not b ≡ true → b ≡ false
-untrue true h = absurd cc
-untrue false h = refl
-
-pub apart-has-none : (a b g : Geometry) (own extent : Extent) (meets : Bool) → IsValid a → IsValid b → g ≡ a → own ≡ envelope_of g → extent ≡ envelope_of b
-    → meets ≡ extents_meet own extent → IsTrue (not meets) → IsFalse (has_contact (matrix_of a b))
-apart-has-none a b g own extent meets va vb same is given m h =
-    apart_has_no_contact a b (valid-closed a va) (valid-closed b vb)
-    (ap (λ z. extents_meet (envelope_of z) (envelope_of b)) (sym same)
-    ∙ ap (λ z. extents_meet z (envelope_of b)) (sym is)
-    ∙ ap (λ z. extents_meet own z) (sym given) ∙ sym m ∙ untrue meets h)
-
--- so such geometries are disjoint
-is-disjoint : (predicate : Predicate) → is_disjoint predicate ≡ true → predicate ≡ Disjoint
-is-disjoint Disjoint h = refl
-is-disjoint Equals h = absurd cc
-is-disjoint Intersects h = absurd cc
-is-disjoint Touches h = absurd cc
-is-disjoint Within h = absurd cc
-is-disjoint Contains h = absurd cc
-is-disjoint Crosses h = absurd cc
-is-disjoint Overlaps h = absurd cc
-
-pub apart-told : (ask : Ask) (a b : Geometry) → is_for_disjoint ask ≡ true → IsFalse (has_contact (matrix_of a b)) → true ≡ is_asked ask a b
-apart-told (Matching letters) a b h none = absurd cc
-apart-told (Named predicate) a b h none =
-    sym (ap (λ p. is_asked (Named p) a b) (is-disjoint predicate h) ∙ (contact_is_shared a b).disjoint (dim_of_geometry a) (dim_of_geometry b) ∙ ap not none)
+-- the matrix of a feature's geometry tells whether it is as asked
+pub told-by-matrix : (ask : Ask) (a b : Geometry) (matrix : Matrix) (r : Bool) → matrix.0 ≡ matrix_of a b → r ≡ is_answered ask a b matrix.0 → r ≡ is_asked ask a b
+told-by-matrix ask a b matrix r is e = e ∙ ap (is_answered ask a b) is
 
 -- ---- what may be passed over
 

@@ -1,5 +1,5 @@
 -- What a query answers: the features of a layer whose matrix with the given geometry is as it asks.
-use Rattle.std.specs.Prelude.{◌≡◌, ℕ, Bool, true, false, List, filter, length, if◌then◌else◌}
+use Rattle.std.specs.Prelude.{◌≡◌, ℕ, Bool, List, filter, length, if◌then◌else◌}
 use Rattle.std.specs.Map.{keys_of}
 use Rattle.sf_geometry.specs.declared.geometry.Geometry.{Geometry}
 use Rattle.sf_geometry.specs.Envelope.{envelope_of, extents_meet}
@@ -9,7 +9,6 @@ use Rattle.sf_layers.specs.Content.{LayerContent}
 use Rattle.sf_plane.specs.declared.dim.Dim.{Dim}
 use Rattle.sf_plane.specs.Unions.{dim_of}
 use Rattle.sf_relate.specs.declared.predicate.Predicate.{Predicate}
-use Rattle.sf_relate.specs.declared.predicate.Predicate.TheVariants.{Disjoint}
 use Rattle.sf_relate.specs.Matrices.{matrix_of}
 use Rattle.sf_relate.specs.Patterns.{asks_contact, matches}
 use Rattle.sf_relate.specs.Predicates.{holds, predicate_asks_contact}
@@ -34,15 +33,6 @@ is_asked ask a b = is_answered ask a b (matrix_of a b)
 abbrev pub needs_contact : Ask → Bool
 needs_contact (Matching letters) = asks_contact letters
 needs_contact (Named predicate) = predicate_asks_contact predicate
-
--- disjoint geometries are asked for, by name
-abbrev pub is_disjoint : Predicate → Bool
-is_disjoint Disjoint = true
-is_disjoint predicate = false
-
-abbrev pub is_for_disjoint : Ask → Bool
-is_for_disjoint (Matching letters) = false
-is_for_disjoint (Named predicate) = is_disjoint predicate
 
 -- the identifiers of the features that answer, rising
 abbrev pub ids_found : LayerContent → Ask → Geometry → List ℕ

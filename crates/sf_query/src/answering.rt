@@ -1,48 +1,95 @@
 //! Whether a geometry is as asked. What a point tells is not walked.
 
-ghost use Rattle.std.specs.Prelude.{◌≡◌, IfOk, IfSome, IsFalse, IsTrue};
+ghost use Rattle.std.specs.Prelude.{◌≡◌, IfOk, IfSome, IsTrue};
 ghost use Rattle.sf_geometry.specs.Envelope.{envelope_of};
 ghost use Rattle.sf_rules.specs.Validity.{IsValid};
 ghost use Rattle.sf_relate.specs.Matrices.{matrix_of};
 ghost use Rattle.sf_relate.specs.Patterns.{has_contact};
 ghost use Rattle.sf_relate.specs.Predicates.{holds};
-ghost use Rattle.sf_query.specs.Answers.{dim_of_geometry, is_asked};
+ghost use Rattle.sf_prepared.specs.Boxes.{AreBoxesOf};
+ghost use Rattle.sf_query.specs.Answers.{dim_of_geometry, is_answered, is_asked};
 
 use super::ask::Ask;
 use sf_geometry::{Extent, Geometry};
+use sf_prepared::Prepared;
 use sf_relate::{
-    Predicate, holds_between, holds_of_point, locate, match_between, shares_edge_point,
-    shares_first_point,
+    Matrix, Predicate, are_apart, dimension, holds, holds_between, holds_of_point, locate,
+    match_between, matrix_apart, shares_edge_point, shares_first_point,
 };
 use sf_validity::Valid;
 use std::alloc::{AllocError, Global};
 
 /// Whether the matrix of a feature's geometry with the given one is as asked, where `extent` is the
-/// given one's: geometries whose boxes share no point are disjoint, without a walk.
+/// given one's: where their boxes share no point, kinds and ends tell the matrix, without a walk.
 pub(crate) fn is_asked_beside(
     alloc: Global,
     ask: &Ask,
     geometry: &Valid,
     given: &Valid,
     extent: Extent,
+    prepared: &Option<Prepared>,
 ) -> Result<bool, AllocError>
     requires extent { extent ≡ envelope_of given.now }
     requires valid { IsValid given.now }
+    requires prepared { IfSome prepared.now (AreBoxesOf given.now) }
     ensures { IfOk result (λ answer. answer ≡ is_asked ask.now geometry.now given.now) }
 {
-    if ask.is_for_disjoint() && are_apart(geometry, given, extent) {
-        return Ok(true);
+    if are_apart(geometry, given, extent) {
+        let matrix = matrix_apart(geometry, given);
+        return Ok(is_answered(ask, geometry, given, &matrix));
     }
-    is_asked(alloc, ask, geometry, given)
+    is_asked_prepared(alloc, ask, geometry, given, prepared)
 }
 
-/// Whether the boxes of two geometries share no point, where `extent` is the second one's.
-fn are_apart(geometry: &Valid, given: &Valid, extent: Extent) -> bool
-    requires extent { extent ≡ envelope_of given.now }
-    requires valid { IsValid given.now }
-    ensures { IsTrue result → IsFalse (has_contact (matrix_of geometry.now given.now)) }
+/// Whether the matrix of a feature's geometry with the given one is as asked, by what was made of the given
+/// one where that tells the matrix.
+pub(crate) fn is_asked_prepared(
+    alloc: Global,
+    ask: &Ask,
+    geometry: &Valid,
+    given: &Valid,
+    prepared: &Option<Prepared>,
+) -> Result<bool, AllocError>
+    requires { IfSome prepared.now (AreBoxesOf given.now) }
+    ensures { IfOk result (λ answer. answer ≡ is_asked ask.now geometry.now given.now) }
 {
-    !geometry.geometry().envelope().meets(extent)
+    match told_by_prepared(alloc, geometry, given, prepared) {
+        Some(matrix) => Ok(is_answered(ask, geometry, given, &matrix)),
+        None => is_asked(alloc, ask, geometry, given),
+    }
+}
+
+/// The matrix, where what was made of the given geometry tells it, and memory for that is found.
+fn told_by_prepared(
+    alloc: Global,
+    geometry: &Valid,
+    given: &Valid,
+    prepared: &Option<Prepared>,
+) -> Option<Matrix>
+    requires { IfSome prepared.now (AreBoxesOf given.now) }
+    ensures { IfSome result (λ matrix. matrix.0 ≡ matrix_of geometry.now given.now) }
+{
+    match prepared {
+        Some(prepared) => match prepared.matrix_told(alloc, geometry, given) {
+            Ok(told) => told,
+            Err(_) => None,
+        },
+        None => None,
+    }
+}
+
+/// Whether a matrix of a feature's geometry with the given one is as asked.
+fn is_answered(ask: &Ask, geometry: &Valid, given: &Valid, matrix: &Matrix) -> bool
+    ensures { result ≡ is_answered ask.now geometry.now given.now matrix.now.0 }
+{
+    match ask {
+        Ask::Matching(pattern) => pattern.matches(matrix),
+        Ask::Named(predicate) => {
+            let own = dimension(geometry.geometry());
+            let other = dimension(given.geometry());
+            holds(*predicate, own, other, matrix)
+        }
+    }
 }
 
 /// Whether the matrix of a feature's geometry with the given one is as asked.

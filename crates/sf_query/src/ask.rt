@@ -1,5 +1,5 @@
 ghost use Rattle.std.specs.Prelude.{◌≡◌};
-ghost use Rattle.sf_query.specs.Answers.{is_for_disjoint, needs_contact};
+ghost use Rattle.sf_query.specs.Answers.{needs_contact};
 
 use sf_relate::{Pattern, Predicate};
 
@@ -20,16 +20,6 @@ impl Ask {
         match self {
             Ask::Matching(pattern) => pattern.needs_contact(),
             Ask::Named(predicate) => predicate.needs_contact(),
-        }
-    }
-
-    /// Whether disjoint geometries are asked for, by name.
-    pub(crate) fn is_for_disjoint(&self) -> bool
-        ensures { result ≡ is_for_disjoint self.now }
-    {
-        match self {
-            Ask::Matching(_) => false,
-            Ask::Named(predicate) => matches!(predicate, Predicate::Disjoint),
         }
     }
 }

@@ -1,25 +1,33 @@
 //! Queries over a layer, by its index where it has one.
 
-ghost use Rattle.std.specs.Prelude.{◌≡◌, ◌&&◌, not, IfOk, IsTrue};
+ghost use Rattle.std.specs.Prelude.{◌≡◌, ◌&&◌, not, IfOk, IfSome, IsTrue};
 ghost use Rattle.sf_geometry.specs.Envelope.{envelope_of, extents_meet};
 ghost use Rattle.sf_rtree.specs.Indexes.{ids_meeting};
 ghost use Rattle.sf_rules.specs.Validity.{IsValid};
 ghost use Rattle.sf_layers.specs.Boxes.{boxes_of};
 ghost use Rattle.sf_layers.specs.Content.{layer_of};
 ghost use Rattle.sf_layers.specs.WellFormed.{IsLayer};
+ghost use Rattle.sf_prepared.specs.Boxes.{AreBoxesOf};
 ghost use Rattle.sf_query.specs.Answers.{IsAnswer, needs_contact};
 ghost use Rattle.sf_query.specs.Replies.{IsQueried, IsRelated};
 
-use super::answering::{is_asked, is_asked_beside};
+use super::answering::{is_asked_beside, is_asked_prepared};
 use super::ask::Ask;
 use super::found::Found;
 use super::refusal::Refusal;
 use sf_geometry::Extent;
 use sf_layers::{Layer, Store};
+use sf_prepared::Prepared;
 use sf_relate::{Matrix, relate};
 use sf_rtree::{RTree, SpatialIndex};
 use sf_validity::Valid;
 use std::alloc::{AllocError, Global};
+
+/// How many features there are at least for what is made of the given geometry to pay.
+const MANY_FEATURES: usize = 8;
+
+/// How many points the given geometry has at most to be asked about as it is.
+const FEW_POINTS: usize = 16;
 
 /// The features of a layer whose matrix with the given geometry is as asked.
 ///
@@ -69,9 +77,12 @@ fn found_in(alloc: Global, layer: &Layer, ask: &Ask, given: &Valid) -> Result<Fo
     requires { IsLayer layer.now }
     ensures { IfOk result (IsAnswer layer.now ask.now given.now) }
 {
+    let prepared = prepared_for(alloc, given, layer.feature_count());
     match layer.index() {
-        Some(index) if ask.needs_contact() => found_by_index(alloc, layer, index, ask, given),
-        _ => found_by_pass(alloc, layer, ask, given),
+        Some(index) if ask.needs_contact() => {
+            found_by_index(alloc, layer, index, ask, given, &prepared)
+        }
+        _ => found_by_pass(alloc, layer, ask, given, &prepared),
     }
 }
 
@@ -83,7 +94,9 @@ fn found_by_index(
     index: &RTree,
     ask: &Ask,
     given: &Valid,
+    prepared: &Option<Prepared>,
 ) -> Result<Found, AllocError>
+    requires prepared { IfSome prepared.now (AreBoxesOf given.now) }
     requires layer { IsLayer layer.now }
     requires index { index.now ≡ boxes_of layer.now.features }
     requires contact { IsTrue (needs_contact ask.now) }
@@ -93,12 +106,23 @@ fn found_by_index(
     let mut ids = Vec::new(alloc);
     for id in near.as_slice() {
         let feature = layer.feature(*id).unwrap();
-        if is_asked(alloc, ask, feature.valid(), given)? {
+        if is_asked_prepared(alloc, ask, feature.valid(), given, prepared)? {
             ids.push(*id)?;
         }
     }
     let looked = near.len();
     Ok(Found { ids, looked })
+}
+
+/// What is made of the given geometry where many features are asked about it; else None, and where no
+/// memory is found.
+fn prepared_for(alloc: Global, given: &Valid, features: usize) -> Option<Prepared>
+    ensures { IfSome result (AreBoxesOf given.now) }
+{
+    if features < MANY_FEATURES || given.geometry().point_count() <= FEW_POINTS {
+        return None;
+    }
+    Prepared::new(alloc, given).ok()
 }
 
 /// The identifiers of the features whose boxes meet the given geometry's, rising.
@@ -117,8 +141,10 @@ fn found_by_pass(
     layer: &Layer,
     ask: &Ask,
     given: &Valid,
+    prepared: &Option<Prepared>,
 ) -> Result<Found, AllocError>
-    requires { IsLayer layer.now }
+    requires prepared { IfSome prepared.now (AreBoxesOf given.now) }
+    requires layer { IsLayer layer.now }
     ensures { IfOk result (IsAnswer layer.now ask.now given.now) }
 {
     layer.has_few_features();
@@ -132,7 +158,7 @@ fn found_by_pass(
             continue;
         }
         looked += 1;
-        if is_asked_beside(alloc, ask, valid, given, extent)? {
+        if is_asked_beside(alloc, ask, valid, given, extent, prepared)? {
             ids.push(*id)?;
         }
     }

@@ -1,5 +1,5 @@
 -- What is in a geometry with closed rings is in its envelope; so where two envelopes share no point there is no contact.
-use Rattle.std.proofs.Common.{◌≡◌, refl, sym, ◌∙◌, subst, ℤ, pos, ◌*ℤ◌, ◌≤ℤ◌, arith, Bool, true, false, ◌&&◌, not, List, [], ◌∷◌, ◌++◌, map, fold, inl, inr}
+use Rattle.std.proofs.Common.{◌≡◌, refl, ℤ, pos, ◌*ℤ◌, ◌≤ℤ◌, arith, Bool, true, false, ◌&&◌, not, List, [], ◌∷◌, ◌++◌, map, fold, inl, inr}
 use Rattle.std.specs.Prelude.{if◌then◌else◌, int_le}
 use Rattle.std.specs.Int.{int_max, int_min}
 use Rattle.std.specs.List.{AllByRecursion, count_by, flat_map, list_any}
@@ -14,22 +14,23 @@ use Rattle.sf_slabs.proofs.CallerLemmas.{each-both, each-map, each-parts}
 use Rattle.sf_geometry.specs.declared.geometry.Geometry.{Geometry}
 use Rattle.sf_geometry.specs.declared.geometry.Geometry.TheVariants.{Point, LineString, Polygon, MultiPoint, MultiLineString, MultiPolygon}
 use Rattle.sf_geometry.specs.Envelope.{envelope_of, extents_meet, greatest, least}
-use Rattle.sf_geometry.specs.Lists.{before_tight, edges_between, edges_from, edges_of as edges_of_list, ends_of as ends_of_line, is_closed, is_same, last_from, tight}
+use Rattle.sf_geometry.specs.Lists.{before_tight, edges_between, edges_from, edges_of as edges_of_list, ends_of as ends_of_line, is_closed, is_same, tight}
 use Rattle.sf_geometry.specs.Parts.{HasClosedRings, lines_of, lists_of, points_of, polygons_of, rings_of}
 use Rattle.sf_geometry.specs.PointSets.{in_boundary, in_interior, in_polygon, in_ring, is_among, on_line, on_polygon, within_ring}
-use Rattle.sf_plane.specs.Boxes.{Box, HasEnds, IsChain, IsClosedChain, in_box}
+use Rattle.sf_plane.specs.Boxes.{Box, HasEnds, in_box}
 use Rattle.sf_plane.proofs.BoxLaws.{common_point_meets, edge_in_box, ring_in_box}
 use Rattle.sf_rules.specs.Conditions.{Applies}
 use Rattle.sf_rules.specs.Rules.{Rule, line_rules, polygon_rules, ring_rules}
 use Rattle.sf_rules.specs.Validity.{IsValid}
 use Rattle.sf_rules.proofs.MemberLaws.{each-of_flat, each-of_map}
+use Rattle.sf_interiors.proofs.RingLaws.{ring-chain}
 use Rattle.sf_strands.proofs.EndLaws.{start-same-on}
 use Rattle.sf_polygons.proofs.TestLaws.{any-follows}
 use Rattle.sf_relate.specs.Contact.{ApartHasNoContact, LiesInBox, box_of_extent}
 use Rattle.sf_relate.specs.Matrices.{matrix_of}
 use Rattle.sf_relate.specs.Patterns.{has_contact}
-use Rattle.sf_geometry.proofs.ListLaws.{not-false, same-is}
-use Rattle.sf_relate.proofs.PlaceLaws.{end-on, odd-some-count, tight-of}
+use Rattle.sf_geometry.proofs.ListLaws.{not-false}
+use Rattle.sf_relate.proofs.PlaceLaws.{end-on, odd-some-count}
 use Rattle.sf_relate.proofs.SharedLaws.{contact_is_shared}
 
 -- ---- the least and the greatest
@@ -132,19 +133,6 @@ lines-in box q i lines h k = any-in (AreIn box) (λ ps. on_line ps q) (in_box bo
 
 dot-in : (box : Box) (q : PlanePoint) → IsPoint q → (p : Coordinates) → in_box box (grid_point p) ≡ true → same_point (grid_point p) q ≡ true → in_box box q ≡ true
 dot-in box q i p h k = edge_in_box box (edge_between p p) q (h, h) i (start-same-on p p q i k)
-
-chain-from : (p : Coordinates) (ps : List Coordinates) → IsChain p (edges_from p ps) (last_from p ps)
-chain-from p [] = refl
-chain-from p (q ∷ qs) = (refl, chain-from q qs)
-
-ring-chain : (ring : List Coordinates) → is_closed ring ≡ true → IsClosedChain (edges_of_list ring)
-ring-chain [] h = (record { x = pos 0; y = pos 0 }, refl)
-ring-chain (p ∷ ps) h =
-    let t = tight-of p ps in (
-      p,
-      subst (λ ts. IsChain p (edges_between ts) p) (sym t.is)
-          (subst (IsChain p (edges_from p t.rest)) (t.last ∙ sym (same-is p (last_from p ps) h)) (chain-from p t.rest)),
-    )
 
 polygon-in : (box : Box) (q : PlanePoint) → IsPoint q → (rings : List (List Coordinates)) → AllByRecursion (AreIn box) rings → AllByRecursion (λ ring. is_closed ring ≡ true) rings →
     in_polygon rings q ≡ true → in_box box q ≡ true

@@ -19,3 +19,4 @@ pub mod PointLaws
 pub mod FirstLaws
 pub mod QuestionLaws
 pub mod EdgeContactLaws
+pub mod ToldLaws

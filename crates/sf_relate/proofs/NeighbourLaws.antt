@@ -156,18 +156,22 @@ pub decided : (next left whole : Place) → next ≡ Boundary → in_one_alone n
 decided next left whole is h = is ∙ ap (λ s. in_one_alone s left) (sym is) ∙ h
 
 -- ---- the ends of a line, by its first and its last point
+pub shut-ends : (p l : Coordinates) (front others line : List Coordinates) → line ≡ p ∷ others → others ≡ front ++ l ∷ [] → is_same p l ≡ true → ends_of line ≡ []
+shut-ends p l front others line is parts same =
+    ap ends_of is ∙ ends-closed p others (ap (is_same p) (ap (last_from p) parts ∙ last-pushed p front l) ∙ same)
+
+pub open-ends : (p l : Coordinates) (front others line : List Coordinates) → line ≡ p ∷ others → others ≡ front ++ l ∷ [] → is_same p l ≡ false → ends_of line ≡ p ∷ l ∷ []
+open-ends p l front others line is parts other =
+    let last : last_from p others ≡ l = ap (last_from p) parts ∙ last-pushed p front l in
+    ap ends_of is ∙ ends-open p others (ap (is_same p) last ∙ other) ∙ ap (λ s. p ∷ s ∷ []) last
+
 pub shut : (p l : Coordinates) (front others line : List Coordinates) (q : PlanePoint) → line ≡ p ∷ others → others ≡ front ++ l ∷ [] → is_same p l ≡ true →
     false ≡ is_among (ends_of line) q
-shut p l front others line q is parts same =
-    sym (ap (λ ps. is_among (ends_of ps) q) is
-    ∙ ap (λ ps. is_among ps q) (ends-closed p others (ap (is_same p) (ap (last_from p) parts ∙ last-pushed p front l) ∙ same)))
+shut p l front others line q is parts same = sym (ap (λ es. is_among es q) (shut-ends p l front others line is parts same))
 
 pub apart : (p l : Coordinates) (front others line : List Coordinates) (q : PlanePoint) → line ≡ p ∷ others → others ≡ front ++ l ∷ [] → is_same p l ≡ false →
     (same_point (grid_point p) q || (same_point (grid_point l) q || false)) ≡ is_among (ends_of line) q
-apart p l front others line q is parts other =
-    let last : last_from p others ≡ l = ap (last_from p) parts ∙ last-pushed p front l in
-    sym (ap (λ ps. is_among (ends_of ps) q) is
-    ∙ ap (λ ps. is_among ps q) (ends-open p others (ap (is_same p) last ∙ other) ∙ ap (λ s. p ∷ s ∷ []) last))
+apart p l front others line q is parts other = sym (ap (λ es. is_among es q) (open-ends p l front others line is parts other))
 
 pub either-first : (r s t : Bool) → r ≡ s → r ≡ true → r ≡ (s || (t || false))
 either-first r s t e h = h ∙ ap (λ b. b || (t || false)) (sym h ∙ e)

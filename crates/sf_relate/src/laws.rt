@@ -6,6 +6,7 @@ ghost use Rattle.sf_relate.specs.Matrices.{MatricesAreOverThePlane};
 ghost use Rattle.sf_relate.specs.Patterns.{PatternsNeedContact};
 ghost use Rattle.sf_relate.specs.Places.{CountsTellPlaces};
 ghost use Rattle.sf_relate.specs.Predicates.{PredicatesNeedContact};
+ghost use Rattle.sf_relate.specs.Told.{ApartIsTold, WithinIsTold};
 
 /// The entries as they are computed are the matrix over the plane, and no others are, of all
 /// geometries.
@@ -58,4 +59,14 @@ pub fn lies_in_box()
 /// Geometries with closed rings whose envelopes share no point have no contact.
 pub fn apart_has_no_contact()
     ensures { ApartHasNoContact }
+{}
+
+/// Valid geometries that share no point have a matrix that their kinds and ends tell.
+pub fn apart_is_told()
+    ensures { ApartIsTold }
+{}
+
+/// So has a valid geometry in the interior of an area that has room beside it.
+pub fn within_is_told()
+    ensures { WithinIsTold }
 {}

@@ -20,6 +20,7 @@ mod shape;
 mod sink;
 #[cfg(test)]
 mod tests;
+mod told;
 
 pub use edge_contact::shares_edge_point;
 pub use first_points::shares_first_point;
@@ -36,3 +37,4 @@ pub use refusal::Refusal;
 pub use relating::relate;
 pub use sf_plane::Dim;
 pub use shape::{Shape, dimension};
+pub use told::{are_apart, matrix_apart, matrix_within};

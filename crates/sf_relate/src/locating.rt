@@ -73,7 +73,7 @@ fn place_on_line(line: &[GridPoint], point: GridPoint) -> Place
 }
 
 /// Whether the point is the first or the last one of a line that isn't closed.
-fn is_end(line: &[GridPoint], point: GridPoint) -> bool
+pub(crate) fn is_end(line: &[GridPoint], point: GridPoint) -> bool
     ensures { result ≡ is_among (ends_of line.now) (grid_point point) }
 {
     let Some((first, others)) = line.split_first() else {

@@ -7,16 +7,28 @@ use super::grouping::pieces_of;
 use super::matrix::Matrix;
 use super::shape::Shape;
 use super::sink::MatrixSink;
+use super::told::matrix_by_boxes;
 use sf_plane::Dim;
 use sf_validity::Valid;
 use std::alloc::{AllocError, Global};
 
-/// The matrix of two geometries.
+/// The matrix of two geometries. Where their boxes share no point it is told by their kinds and ends.
 ///
 /// # Errors
 ///
 /// Want of memory alone.
 pub fn relate(alloc: Global, a: &Valid, b: &Valid) -> Result<Matrix, AllocError>
+    ensures plane { IfOk result (λ matrix. IsMatrix a.now b.now matrix.0) }
+    ensures computed { IfOk result (λ matrix. matrix.0 ≡ matrix_of a.now b.now) }
+{
+    if let Some(matrix) = matrix_by_boxes(a, b) {
+        return Ok(matrix);
+    }
+    walked(alloc, a, b)
+}
+
+/// The matrix of two geometries, by a walk over the pieces of both.
+fn walked(alloc: Global, a: &Valid, b: &Valid) -> Result<Matrix, AllocError>
     ensures plane { IfOk result (λ matrix. IsMatrix a.now b.now matrix.0) }
     ensures computed { IfOk result (λ matrix. matrix.0 ≡ matrix_of a.now b.now) }
 {

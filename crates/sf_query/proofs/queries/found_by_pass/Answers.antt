@@ -48,4 +48,4 @@ returns c =
     let none = rest_all (deref_pair {K = ℕ} {X = FeatureContent}) _ _ _ c.in-None.is c.next.ensures.steps in
     let whole = IsPassing-end (passes c.args.ask.now c.args.given.now) (is_near c.args.given.now) c.needs_contact-needs_contact.result c.args.layer.now.features c.loop-id.id-iterator c.loop-id.ids.items c.loop-id.looked none c.loop-id.invariant in
     pass-answers c.args.layer.now c.args.ask.now c.args.given.now c.needs_contact-needs_contact.result (record { ids = c.loop-id.ids; looked = c.loop-id.looked })
-    c.requires c.geometry.ensures.valid.valid c.needs_contact-needs_contact.ensures whole.0 whole.1
+    c.requires.layer c.geometry.ensures.valid.valid c.needs_contact-needs_contact.ensures whole.0 whole.1

@@ -1,39 +1,5 @@
-use Rattle.std.proofs.Common.{◌≡◌, ap, ◌∙◌, [], ◌∷◌}
-use Rattle.sf_relate.specs.AllPieces.{all_grouped}
-use Rattle.sf_relate.specs.Places.{gathered_by, is_areal, shape_of}
-use Rattle.sf_relate.proofs.MatrixLaws.{begun, begun-as, entries-left, matrix-over-plane}
-use Rattle.sf_relate.proofs.SizeLaws.{CanWalk, can-walk}
+use Rattle.sf_relate.proofs.MatrixLaws.{matrix-over-plane}
 use Rattle.sf_relate.proofs.relating.relate.Goals as goal
-use Rattle.sf_relate.proofs.relating.relate.Goals.{After-is_areal-2}
 
--- the pieces are those of both
-both : (c : After-is_areal-2) → c.in_ok-pieces.pieces ≡ all_grouped c.args.a.now c.args.b.now
-both c =
-    c.in_ok-pieces.ensures
-    ∙ ap (λ g. all_grouped g c.geometry-second.result.now) c.geometry-first.ensures.same
-    ∙ ap (λ g. all_grouped c.args.a.now g) c.geometry-second.ensures.same
-
-can : (c : After-is_areal-2) → CanWalk c.in_ok-pieces.pieces
-can c = can-walk c.args.a.now c.args.b.now c.in_ok-pieces.pieces c.geometry-first.ensures.valid.valid c.geometry-second.ensures.valid.valid (both c)
-
-pub walk-requires-clause-few : goal.walk-requires-clause-few
-walk-requires-clause-few c = (can (goal.at.walk-requires-clause-few c).After-is_areal-2).few
-
-pub walk-requires-clause-groups_in_range : goal.walk-requires-clause-groups_in_range
-walk-requires-clause-groups_in_range c = (can (goal.at.walk-requires-clause-groups_in_range c).After-is_areal-2).groups_in_range
-
-pub returns-clause-computed : goal.returns-clause-computed
-returns-clause-computed c =
-    let at = goal.at.returns-clause-computed c in
-    let a = c.args.a.now in
-    let b = c.args.b.now in
-    let first : c.of.result ≡ shape_of a = c.of.ensures ∙ ap shape_of c.geometry-first.ensures.same in
-    let second : c.of-2.result ≡ shape_of b = c.of-2.ensures ∙ ap shape_of c.geometry-second.ensures.same in
-    entries-left a b c.in_ok-pieces.pieces (c.is_areal.result ∷ c.is_areal-2.result ∷ []) (begun c.of.result c.of-2.result) (gathered_by c.walk.new.sink)
-    c.geometry-first.ensures.valid.valid c.geometry-second.ensures.valid.valid (both at.After-is_areal-2)
-    (ap (λ x. x ∷ c.is_areal-2.result ∷ []) (c.is_areal.ensures ∙ ap is_areal first) ∙ ap (λ x. is_areal (shape_of a) ∷ x ∷ []) (c.is_areal-2.ensures ∙ ap is_areal second))
-    (begun-as a b c.of.result c.of-2.result first second)
-    c.in_ok-walk.ensures.ok
-
-pub returns-clause-plane : goal.returns-clause-plane
-returns-clause-plane c = matrix-over-plane c.args.a.now c.args.b.now c.walk.new.sink.entries (returns-clause-computed c)
+pub returns-in-Some-clause-plane : goal.returns-in-Some-clause-plane
+returns-in-Some-clause-plane c = matrix-over-plane c.args.a.now c.args.b.now c.in-Some.matrix.0 c.in-Some.ensures

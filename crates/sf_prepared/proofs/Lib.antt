@@ -1,0 +1,3 @@
+pub mod NearLaws
+pub mod PlacedLaws
+pub mod TreeLaws

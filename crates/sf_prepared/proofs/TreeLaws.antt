@@ -1,0 +1,115 @@
+-- Numbered boxes of edges: they rise by number, and where none meets a box no edge has a point of it.
+use Rattle.std.proofs.Common.{◌≡◌, ℕ, suc, ◌+◌, ◌*◌, ◌<◌, ◌≤◌, arith, lit<, refl, ap, sym, ◌∙◌, subst, ℤ, pos, ◌*ℤ◌, ◌≤ℤ◌, Bool, true, false, ◌&&◌, List, [], ◌∷◌, ◌++◌, drop, length, map, filter}
+use Rattle.std.specs.Prelude.{◌^◌, if◌then◌else◌, int_le, nat_eq}
+use Rattle.std.specs.Int.{int_max, int_min}
+use Rattle.std.specs.Cmp.{nat_cmp_is}
+use Rattle.std.specs.declared.cmp.Ordering.TheVariants.{Less}
+use Rattle.std.specs.List.{AllByRecursion, flat_map}
+use Rattle.std.specs.List.Sorted.{IsStrictlySortedBy}
+use Rattle.std.specs.Map.{keys_of}
+use Rattle.std.specs.Ordering.{nat_cmp}
+use Rattle.std.proofs.lemmas.Bool.{and_from, both_ways}
+use Rattle.std.proofs.lemmas.Int.{clamps, ints}
+use Rattle.std.proofs.lemmas.Bool.Decides.{nat_tests}
+use Rattle.std.proofs.lemmas.List.{append_assoc, length-append, length-map}
+use Rattle.sf_grid.specs.Plane.{Coordinates, IsPoint, Point, grid_point, x_of, y_of}
+use Rattle.sf_grid.specs.Edge.{Edge as Line, IsOnEdge, within}
+use Rattle.sf_grid.proofs.CallerLemmas.{test_from_le}
+use Rattle.sf_geometry.specs.declared.extent.Extent.{Extent}
+use Rattle.sf_geometry.specs.declared.geometry.Geometry.{Geometry}
+use Rattle.sf_geometry.specs.declared.geometry.Geometry.TheVariants.{LineString, MultiLineString, MultiPoint, MultiPolygon, Point as OnePoint, Polygon}
+use Rattle.sf_geometry.specs.Envelope.{extents_meet}
+use Rattle.sf_geometry.specs.Lists.{edges_of as edges_of_list}
+use Rattle.sf_geometry.specs.Parts.{edge_of, edges_of, joined, points_of}
+use Rattle.sf_geometry.specs.Size.{IsSized}
+use Rattle.sf_paths.specs.Paths.{IsOffBox}
+use Rattle.sf_plane.specs.Boxes.{HasEnds, in_box}
+use Rattle.sf_plane.proofs.BoxLaws.{common_point_meets, edge_in_box}
+use Rattle.sf_polygons.proofs.SizeLaws.{few-edges}
+use Rattle.sf_rtree.specs.Indexes.{Boxes, ids_meeting}
+use Rattle.sf_relate.specs.Contact.{box_of_extent}
+use Rattle.sf_prepared.specs.Boxes.{AreBoxesOf, boxes_from, extent_of_edge}
+use Rattle.sf_prepared.specs.Places.{AreClear}
+
+-- ---- the numbers rise
+above : (m n : ℕ) (pairs : List (Coordinates × Coordinates)) → m < n → AllByRecursion (λ y. nat_cmp m y ≡ Less) (keys_of (boxes_from n pairs))
+above m n [] h = tt
+above m n (pair ∷ pairs) h = (sym (nat_cmp_is m n Less h), above m (n + 1) pairs (omega arith))
+
+pub numbers-rise : (n : ℕ) (pairs : List (Coordinates × Coordinates)) → IsStrictlySortedBy nat_cmp (keys_of (boxes_from n pairs))
+unfolding IsStrictlySortedBy
+numbers-rise n [] = tt
+numbers-rise n (pair ∷ pairs) = (above n (n + 1) pairs (omega arith), numbers-rise (n + 1) pairs)
+
+-- ---- one more
+pub one-more : (boxes : Boxes) (n : ℕ) (extent : Extent) (pair : Coordinates × Coordinates) (rest left : List (Coordinates × Coordinates)) (all : Boxes) → left ≡ pair ∷ rest → extent ≡ extent_of_edge pair →
+    boxes ++ boxes_from n left ≡ all → (boxes ++ (n, extent) ∷ []) ++ boxes_from (n + 1) rest ≡ all
+one-more boxes n extent pair rest left all is box h =
+    append_assoc boxes ((n, extent) ∷ []) (boxes_from (n + 1) rest)
+    ∙ ap (λ e. boxes ++ (n, e) ∷ boxes_from (n + 1) rest) box
+    ∙ ap (λ ps. boxes ++ boxes_from n ps) (sym is)
+    ∙ h
+
+-- ---- the box of an edge has its ends
+has-ends : (pair : Coordinates × Coordinates) → HasEnds (box_of_extent (extent_of_edge pair)) (edge_of pair)
+has-ends pair = (
+  and_from (within (int_min pair.0.x pair.1.x) (int_max pair.0.x pair.1.x) (x_of (grid_point pair.0))) (within (int_min pair.0.y pair.1.y) (int_max pair.0.y pair.1.y) (y_of (grid_point pair.0)))
+      (first pair.0.x pair.1.x) (first pair.0.y pair.1.y),
+  and_from (within (int_min pair.0.x pair.1.x) (int_max pair.0.x pair.1.x) (x_of (grid_point pair.1))) (within (int_min pair.0.y pair.1.y) (int_max pair.0.y pair.1.y) (y_of (grid_point pair.1)))
+      (second pair.0.x pair.1.x) (second pair.0.y pair.1.y),
+)
+  where
+    first : (s t : ℤ) → (int_le (int_min s t *ℤ pos 1) s && int_le s (int_max s t *ℤ pos 1)) ≡ true
+    first s t = and_from (int_le (int_min s t *ℤ pos 1) s) (int_le s (int_max s t *ℤ pos 1)) (test_from_le (int_min s t *ℤ pos 1) s (omega (arith, ints, clamps))) (test_from_le s (int_max s t *ℤ pos 1) (omega (arith, ints, clamps)))
+
+    second : (s t : ℤ) → (int_le (int_min s t *ℤ pos 1) t && int_le t (int_max s t *ℤ pos 1)) ≡ true
+    second s t = and_from (int_le (int_min s t *ℤ pos 1) t) (int_le t (int_max s t *ℤ pos 1)) (test_from_le (int_min s t *ℤ pos 1) t (omega (arith, ints, clamps))) (test_from_le t (int_max s t *ℤ pos 1) (omega (arith, ints, clamps)))
+
+-- ---- where none meets the box
+off-box : (extent : Extent) (pair : Coordinates × Coordinates) → extents_meet (extent_of_edge pair) extent ≡ false → IsOffBox (box_of_extent extent) (edge_of pair)
+off-box extent pair apart p i in_it on =
+    both_ways (extents_meet (extent_of_edge pair) extent) apart
+    (common_point_meets (box_of_extent (extent_of_edge pair)) (box_of_extent extent) p i (edge_in_box (box_of_extent (extent_of_edge pair)) (edge_of pair) p (has-ends pair) i on) in_it)
+
+none-near : (extent : Extent) (n : ℕ) (pairs : List (Coordinates × Coordinates)) → length (ids_meeting extent (boxes_from n pairs)) ≡ 0 → AreClear extent (map edge_of pairs)
+none-near extent n [] h = tt
+none-near extent n (pair ∷ pairs) h = by_test (extents_meet (extent_of_edge pair) extent) refl h (none-near extent (n + 1) pairs)
+  where
+    by_test : (t : Bool) → extents_meet (extent_of_edge pair) extent ≡ t →
+        length (keys_of (if t then (n, extent_of_edge pair) ∷ filter (λ entry. extents_meet entry.1 extent) (boxes_from (n + 1) pairs) else filter (λ entry. extents_meet entry.1 extent) (boxes_from (n + 1) pairs))) ≡ 0 →
+        (length (ids_meeting extent (boxes_from (n + 1) pairs)) ≡ 0 → AreClear extent (map edge_of pairs)) → AreClear extent (map edge_of (pair ∷ pairs))
+    by_test true e k rest = absurd (omega arith)
+    by_test false e k rest = (off-box extent pair e, rest k)
+
+pub clear-from : (geometry : Geometry) (boxes : Boxes) (extent : Extent) (ids : List ℕ) (none : Bool) → AreBoxesOf geometry boxes → ids ≡ ids_meeting extent boxes → none ≡ nat_eq (length ids) 0 → none ≡ true →
+    AreClear extent (edges_of geometry)
+clear-from geometry boxes extent ids none are is test said =
+    subst (AreClear extent) are.edges
+    (none-near extent 0 are.pairs (ap (λ bs. length (ids_meeting extent bs)) (sym are.same) ∙ ap (λ (ns : List ℕ). length ns) (sym is) ∙ zero (length ids) (sym test ∙ said)))
+  where
+    zero : (n : ℕ) → nat_eq n 0 ≡ true → n ≡ 0
+    zero n h = grind (arith, nat_tests)
+
+-- ---- edges are no more than points
+few-lists : (lists : List (List Coordinates)) → length (flat_map edges_of_list lists) ≤ length (joined lists)
+few-lists [] = omega arith
+few-lists (ps ∷ lists) =
+    omega (arith, few-edges ps, few-lists lists, length-append (edges_of_list ps) (flat_map edges_of_list lists), length-append ps (joined lists))
+
+few-of : (geometry : Geometry) → length (edges_of geometry) ≤ length (points_of geometry)
+few-of (OnePoint p) = omega arith
+few-of (MultiPoint ps) = omega arith
+few-of (LineString ps) = few-lists (ps ∷ [])
+few-of (MultiLineString lines) = few-lists lines
+few-of (Polygon rings) = few-lists rings
+few-of (MultiPolygon polygons) = few-lists (joined polygons)
+
+pub few-pairs : (geometry found : Geometry) (pairs : List (Coordinates × Coordinates)) → IsSized geometry → found ≡ geometry → map edge_of pairs ≡ edges_of found → length pairs ≤ 2 ^ 16
+few-pairs geometry found pairs sized is edges =
+    bound (length pairs) (length (points_of geometry)) (up (sym (length-map pairs edge_of) ∙ ap (λ (es : List Line). length es) (edges ∙ ap edges_of is)) (few-of geometry)) sized.few
+  where
+    up : {m n k : ℕ} → m ≡ n → n ≤ k → m ≤ k
+    up e h = omega (arith, e, h)
+
+    bound : (m n : ℕ) → m ≤ n → n ≤ 4096 → m ≤ 2 ^ 16
+    bound m n h k = omega (arith, h, k)

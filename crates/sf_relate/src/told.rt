@@ -1,0 +1,163 @@
+//! Matrices that kinds and ends tell, with no walk and no memory: of geometries that share no point, and of one
+//! in the interior of an area.
+
+ghost use Rattle.std.specs.Prelude.{◌≡◌, ◌∷◌, [], IfSome, IsTrue, MatchOption, if◌then◌else◌};
+ghost use Rattle.std.specs.List.{list_any};
+ghost use Rattle.sf_geometry.specs.declared.geometry.Geometry.TheVariants.{LineString};
+ghost use Rattle.sf_geometry.specs.Envelope.{envelope_of};
+ghost use Rattle.sf_geometry.specs.Lists.{ends_of};
+ghost use Rattle.sf_interiors.specs.Dimensions.{boundary_dim as boundary_dim_of, has_end, interior_dim as interior_dim_of};
+ghost use Rattle.sf_plane.specs.declared.dim.Dim.TheVariants as dims;
+ghost use Rattle.sf_rules.specs.Validity.{IsValid};
+ghost use Rattle.sf_relate.specs.Matrices.{matrix_of};
+ghost use Rattle.sf_relate.specs.Told.{IsWithin, ShareNone, has_odd_end, is_odd_end};
+
+use super::locating::is_end;
+use super::matrix::Matrix;
+use sf_geometry::{Extent, Geometry, Sequence};
+use sf_grid::GridPoint;
+use sf_plane::Dim;
+use sf_validity::Valid;
+
+/// The matrix of two geometries that share no point.
+pub fn matrix_apart(a: &Valid, b: &Valid) -> Matrix
+    requires { ShareNone a.now b.now }
+    ensures { result.0 ≡ matrix_of a.now b.now }
+{
+    let first = a.geometry();
+    let second = b.geometry();
+    Matrix([
+        Dim::Nothing,
+        Dim::Nothing,
+        interior_dim(first),
+        Dim::Nothing,
+        Dim::Nothing,
+        boundary_dim(first),
+        interior_dim(second),
+        boundary_dim(second),
+        Dim::Two,
+    ])
+}
+
+/// The matrix of a geometry in the interior of an area that has room beside it.
+pub fn matrix_within(a: &Valid, b: &Valid) -> Matrix
+    requires within { IsWithin a.now b.now }
+    requires area { interior_dim_of b.now ≡ dims.Two }
+    ensures { result.0 ≡ matrix_of a.now b.now }
+{
+    let first = a.geometry();
+    let second = b.geometry();
+    Matrix([
+        interior_dim(first),
+        Dim::Nothing,
+        Dim::Nothing,
+        boundary_dim(first),
+        Dim::Nothing,
+        Dim::Nothing,
+        interior_dim(second),
+        boundary_dim(second),
+        Dim::Two,
+    ])
+}
+
+/// Whether the boxes of two geometries show that they share no point, where `extent` is the second one's.
+pub fn are_apart(a: &Valid, b: &Valid, extent: Extent) -> bool
+    requires extent { extent ≡ envelope_of b.now }
+    requires valid { IsValid b.now }
+    ensures { IsTrue result → ShareNone a.now b.now }
+{
+    !a.geometry().envelope().meets(extent)
+}
+
+/// The matrix of two geometries whose boxes share no point, or None where the boxes meet.
+pub(crate) fn matrix_by_boxes(a: &Valid, b: &Valid) -> Option<Matrix>
+    ensures { IfSome result (λ matrix. matrix.0 ≡ matrix_of a.now b.now) }
+{
+    let extent = b.geometry().envelope();
+    if are_apart(a, b, extent) {
+        Some(matrix_apart(a, b))
+    } else {
+        None
+    }
+}
+
+/// The dimension of a valid geometry's interior.
+fn interior_dim(geometry: &Geometry) -> Dim
+    ensures { result ≡ interior_dim_of geometry.now }
+{
+    match geometry {
+        Geometry::Point(_) | Geometry::MultiPoint(_) => Dim::Zero,
+        Geometry::LineString(_) | Geometry::MultiLineString(_) => Dim::One,
+        Geometry::Polygon(_) | Geometry::MultiPolygon(_) => Dim::Two,
+    }
+}
+
+/// The dimension of a valid geometry's boundary.
+fn boundary_dim(geometry: &Geometry) -> Dim
+    ensures { result ≡ boundary_dim_of geometry.now }
+{
+    match geometry {
+        Geometry::Point(_) | Geometry::MultiPoint(_) => Dim::Nothing,
+        Geometry::LineString(line) => dim_of_ends(is_open(line.as_slice())),
+        Geometry::MultiLineString(lines) => dim_of_ends(has_odd_ends(lines.as_slice())),
+        Geometry::Polygon(_) | Geometry::MultiPolygon(_) => Dim::One,
+    }
+}
+
+/// The dimension of the boundary of lines, by whether an end is in it.
+fn dim_of_ends(has_end: bool) -> Dim
+    ensures { result ≡ (if has_end then dims.Zero else dims.Nothing) }
+{
+    if has_end { Dim::Zero } else { Dim::Nothing }
+}
+
+/// The ends of a line that isn't closed.
+fn ends(line: &[GridPoint]) -> Option<(GridPoint, GridPoint)>
+    ensures { MatchOption result (ends_of line.now ≡ []) (λ ends. ends_of line.now ≡ ends.0 ∷ ends.1 ∷ []) }
+{
+    let Some((first, others)) = line.split_first() else {
+        return None;
+    };
+    let Some((last, _)) = others.split_last() else {
+        return None;
+    };
+    if *first == *last {
+        return None;
+    }
+    Some((*first, *last))
+}
+
+/// Whether a line has ends.
+fn is_open(line: &[GridPoint]) -> bool
+    ensures { result ≡ has_end (LineString line.now) }
+{
+    ends(line).is_some()
+}
+
+/// Whether an odd number of the lines end at an end of one of them.
+fn has_odd_ends(lines: &[Sequence<GridPoint>]) -> bool
+    ensures { result ≡ list_any (has_odd_end lines.now) lines.now }
+{
+    lines.iter().any(|line| has_odd_end(line.as_slice(), lines))
+}
+
+/// Whether an odd number of the lines end at an end of this one.
+fn has_odd_end(line: &[GridPoint], lines: &[Sequence<GridPoint>]) -> bool
+    ensures { result ≡ has_odd_end lines.now line.now }
+{
+    match ends(line) {
+        Some((first, last)) => is_odd_end(lines, first) || is_odd_end(lines, last),
+        None => false,
+    }
+}
+
+/// Whether an odd number of the lines end at the point.
+fn is_odd_end(lines: &[Sequence<GridPoint>], point: GridPoint) -> bool
+    ensures { result ≡ is_odd_end lines.now point }
+{
+    let count = lines
+        .iter()
+        .filter(|line| is_end(line.as_slice(), point))
+        .count();
+    count % 2 == 1
+}
