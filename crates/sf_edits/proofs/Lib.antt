@@ -7,3 +7,4 @@ pub mod ValueLaws
 pub mod LayerLaws
 pub mod ColumnsOut
 pub mod ColumnLaws
+pub mod RedoLaws

@@ -153,7 +153,7 @@ back-there content name id place change at b =
     to_some (λ feature. IsOkAnd (change feature.geometry) IsValid) (feature_at content place id) b.feature (placed-at content name id place b.feature at b.held) b.valid
 
 -- the vertex that is there
-vertex-found : (content : Content) (name : List ℕ) (id place part ring index : ℕ) (feature : FeatureContent) (p : Coordinates) → place ≡ place_of content name → feature_in content name id ≡ Some feature
+pub vertex-found : (content : Content) (name : List ℕ) (id place part ring index : ℕ) (feature : FeatureContent) (p : Coordinates) → place ≡ place_of content name → feature_in content name id ≡ Some feature
     → IsSomeAnd (feature_at content place id) (λ feature. vertex_of feature.geometry part ring index ≡ Some p) → vertex_in content name id part ring index ≡ Some p
 vertex-found content name id place part ring index feature p at held h =
     ap (option_and_then (λ f. vertex_of f.geometry part ring index)) held

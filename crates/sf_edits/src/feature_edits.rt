@@ -7,6 +7,7 @@ ghost use Rattle.sf_steps.specs.Steps.{early_checks, first_refusal, size_check, 
 ghost use Rattle.sf_steps.specs.Inverses.{Carries, Fits, Reverts, RevertsOrKeeps};
 
 use super::places::{feature_place, layer_there};
+use super::reverted::Reverted;
 use sf_geometry::Geometry;
 use sf_layers::{Feature, ID_END, Layer, Store, Text};
 use sf_steps::{Edit, Inverse, Refusal};
@@ -89,17 +90,14 @@ pub(crate) fn add_feature(
     }
 }
 
-/// Takes a feature off and its layer's counter back.
-pub(crate) fn undo_add_feature(alloc: Global, store: &mut Store, layer: Text, id: u32) -> Edit
+/// Takes a feature off and its layer's counter back. Its geometry stays known as valid.
+pub(crate) fn undo_add_feature(alloc: Global, store: &mut Store, layer: Text, id: u32) -> Reverted
     requires { Fits store.old (Inverse.TakeFeature layer id) }
     ensures { Reverts store.old (Inverse.TakeFeature layer id) result store.new }
 {
     let place = store.place(layer.as_str()).unwrap();
     let feature = store.pop_feature(alloc, place, id);
-    Edit::AddFeature {
-        layer,
-        geometry: feature.into_valid().into_geometry(),
-    }
+    Reverted::add_feature(layer, feature.into_valid())
 }
 
 /// Takes a feature out. Its identifier is not given again.
@@ -197,22 +195,18 @@ pub(crate) fn replace_geometry(
     }
 }
 
-/// Puts a feature's old geometry back.
+/// Puts a feature's old geometry back. The other one stays known as valid.
 pub(crate) fn undo_replace_geometry(
     alloc: Global,
     store: &mut Store,
     layer: Text,
     id: u32,
     old: Valid,
-) -> Edit
+) -> Reverted
     requires { Fits store.old (Inverse.PutGeometry layer id old) }
     ensures { Reverts store.old (Inverse.PutGeometry layer id old) result store.new }
 {
     let place = store.place(layer.as_str()).unwrap();
     let valid = store.exchange_geometry(alloc, place, id, old);
-    Edit::ReplaceGeometry {
-        layer,
-        id,
-        geometry: valid.into_geometry(),
-    }
+    Reverted::replace_geometry(layer, id, valid)
 }

@@ -1,6 +1,8 @@
-ghost use Rattle.std.specs.Prelude.{◌≡◌, IfErr, IfOk, IsOk, IsTrue, OnErr};
+ghost use Rattle.std.specs.Prelude.{◌≡◌, Ok, IfErr, IfOk, IsOk, IsTrue, OnErr};
 ghost use Rattle.sf_steps.specs.Inverses.{Carries, Fits, Reverts, frees_only, weight};
+ghost use Rattle.sf_steps.specs.Steps.{step};
 ghost use Rattle.sf_steps.specs.Weights.{touched};
+ghost use Rattle.sf_edits.specs.Reverted.{takes_no_memory};
 
 use super::column_edits::{add_column, drop_column, undo_add_column, undo_drop_column};
 use super::feature_edits::{
@@ -11,6 +13,8 @@ use super::layer_edits::{
     add_layer, drop_layer, move_layer, rename_layer, undo_add_layer, undo_drop_layer,
     undo_move_layer, undo_rename_layer,
 };
+use super::redo::carry_out_again;
+use super::reverted::{Kept, Reverted};
 use super::value_edits::{clear_value, set_value, undo_set_value};
 use super::vertex_edits::{
     insert_vertex, move_vertex, remove_vertex, undo_insert_vertex, undo_move_vertex,
@@ -37,23 +41,45 @@ pub fn apply(alloc: Global, store: &mut Store, edit: Edit) -> Result<Inverse, (E
     Ok(inverse)
 }
 
-/// Takes an accepted edit back, and gives the edit that leads there again, with the same answer.
+/// Takes an accepted edit back, and gives the edit that leads there again, with the same answer: `reapply`
+/// carries it out.
 ///
 /// # Errors
 ///
 /// Where no memory is found, the inverse is given back and nothing is changed. What only takes out
 /// or exchanges is never refused so.
-pub fn revert(alloc: Global, store: &mut Store, inverse: Inverse) -> Result<Edit, Inverse>
+pub fn revert(alloc: Global, store: &mut Store, inverse: Inverse) -> Result<Reverted, Inverse>
     requires { Fits store.old inverse }
     ensures reverted { IfOk result (λ edit. Reverts store.old inverse edit store.new) }
     ensures given_back { IfErr result (λ back. back ≡ inverse) }
     ensures unchanged { OnErr result (store.new ≡ store.old) }
     ensures always { IsTrue (frees_only store.old inverse) → IsOk result }
 {
-    let edit = take_back(alloc, store, inverse)?;
-    let place = place_after_undo(store, &edit);
+    let reverted = take_back(alloc, store, inverse)?;
+    let place = place_after_undo(store, &reverted);
     reindex(alloc, store, place);
-    Ok(edit)
+    Ok(reverted)
+}
+
+/// Carries an edit that was taken back out again, from a content that accepts it, as the one does that taking it
+/// back has led to. No fault of its geometry is looked for.
+///
+/// # Errors
+///
+/// Where no memory is found, the edit is given back and nothing is changed. Deleting a feature, exchanging its
+/// geometry, moving a vertex and taking one out are never refused so.
+pub fn reapply(alloc: Global, store: &mut Store, reverted: Reverted) -> Result<Inverse, Reverted>
+    requires { IsOk (step store.old reverted) }
+    ensures carried_out { IfOk result (λ inverse. Carries store.old reverted (Ok inverse) store.new) }
+    ensures weight { IfOk result (λ inverse. weight inverse ≡ touched store.old reverted) }
+    ensures given_back { IfErr result (λ back. back ≡ reverted) }
+    ensures unchanged { OnErr result (store.new ≡ store.old) }
+    ensures always { IsTrue (takes_no_memory reverted) → IsOk result }
+{
+    let inverse = carry_out_again(alloc, store, reverted)?;
+    let place = place_after_edit(store, &inverse);
+    reindex(alloc, store, place);
+    Ok(inverse)
 }
 
 // Builds the index of the layer at a place anew where it was lost.
@@ -85,7 +111,17 @@ fn place_after_edit(store: &Store, inverse: &Inverse) -> Option<usize> {
 }
 
 // The same once the edit is taken back.
-fn place_after_undo(store: &Store, edit: &Edit) -> Option<usize> {
+fn place_after_undo(store: &Store, reverted: &Reverted) -> Option<usize> {
+    match &reverted.kept {
+        Kept::AddFeature { layer, .. } | Kept::ReplaceGeometry { layer, .. } => {
+            store.place(layer.as_str())
+        }
+        Kept::Other(edit) => place_of_named(store, edit),
+    }
+}
+
+// The place of the layer that an edit which was taken back names.
+fn place_of_named(store: &Store, edit: &Edit) -> Option<usize> {
     match edit {
         Edit::AddLayer { .. } => None,
         Edit::DropLayer { name } | Edit::RenameLayer { name, .. } | Edit::MoveLayer { name, .. } =>
@@ -104,7 +140,11 @@ fn place_after_undo(store: &Store, edit: &Edit) -> Option<usize> {
 }
 
 /// Carries out an edit, whatever becomes of indexes.
-fn carry_out(alloc: Global, store: &mut Store, edit: Edit) -> Result<Inverse, (Edit, Refusal)>
+pub(crate) fn carry_out(
+    alloc: Global,
+    store: &mut Store,
+    edit: Edit,
+) -> Result<Inverse, (Edit, Refusal)>
     ensures { Carries store.old edit result store.new }
 {
     match edit {
@@ -159,7 +199,7 @@ fn carry_out(alloc: Global, store: &mut Store, edit: Edit) -> Result<Inverse, (E
 }
 
 /// Takes an accepted edit back, whatever becomes of indexes.
-fn take_back(alloc: Global, store: &mut Store, inverse: Inverse) -> Result<Edit, Inverse>
+fn take_back(alloc: Global, store: &mut Store, inverse: Inverse) -> Result<Reverted, Inverse>
     requires { Fits store.old inverse }
     ensures reverted { IfOk result (λ edit. Reverts store.old inverse edit store.new) }
     ensures given_back { IfErr result (λ back. back ≡ inverse) }
@@ -167,30 +207,32 @@ fn take_back(alloc: Global, store: &mut Store, inverse: Inverse) -> Result<Edit,
     ensures always { IsTrue (frees_only store.old inverse) → IsOk result }
 {
     match inverse {
-        Inverse::TakeLayer => Ok(undo_add_layer(store)),
+        Inverse::TakeLayer => Ok(Reverted::other(undo_add_layer(store))),
         Inverse::PutLayer {
             name,
             place,
             stored,
             layer,
-        } => undo_drop_layer(alloc, store, name, place, stored, layer),
+        } => Reverted::other_or(undo_drop_layer(alloc, store, name, place, stored, layer)),
         Inverse::RenameLayer {
             name,
             place,
             stored,
-        } => undo_rename_layer(alloc, store, name, place, stored),
-        Inverse::MoveLayer { name, place } => Ok(undo_move_layer(store, name, place)),
-        Inverse::TakeColumn { layer } => Ok(undo_add_column(store, layer)),
+        } => Reverted::other_or(undo_rename_layer(alloc, store, name, place, stored)),
+        Inverse::MoveLayer { name, place } => Ok(Reverted::other(undo_move_layer(
+            store, name, place,
+        ))),
+        Inverse::TakeColumn { layer } => Ok(Reverted::other(undo_add_column(store, layer))),
         Inverse::PutColumn {
             layer,
             name,
             place,
             column,
             values,
-        } => undo_drop_column(alloc, store, layer, name, place, column, values),
+        } => Reverted::other_or(undo_drop_column(alloc, store, layer, name, place, column, values)),
         Inverse::TakeFeature { layer, id } => Ok(undo_add_feature(alloc, store, layer, id)),
         Inverse::PutFeature { layer, id, feature } => {
-            undo_delete_feature(alloc, store, layer, id, feature)
+            Reverted::other_or(undo_delete_feature(alloc, store, layer, id, feature))
         }
         Inverse::PutGeometry { layer, id, old } => {
             Ok(undo_replace_geometry(alloc, store, layer, id, old))
@@ -201,7 +243,7 @@ fn take_back(alloc: Global, store: &mut Store, inverse: Inverse) -> Result<Edit,
             part,
             ring,
             index,
-        } => Ok(undo_insert_vertex(alloc, store, layer, id, part, ring, index)),
+        } => Ok(Reverted::other(undo_insert_vertex(alloc, store, layer, id, part, ring, index))),
         Inverse::MoveVertex {
             layer,
             id,
@@ -209,7 +251,7 @@ fn take_back(alloc: Global, store: &mut Store, inverse: Inverse) -> Result<Edit,
             ring,
             index,
             old,
-        } => Ok(undo_move_vertex(alloc, store, layer, id, part, ring, index, old)),
+        } => Ok(Reverted::other(undo_move_vertex(alloc, store, layer, id, part, ring, index, old))),
         Inverse::PutVertex {
             layer,
             id,
@@ -217,12 +259,14 @@ fn take_back(alloc: Global, store: &mut Store, inverse: Inverse) -> Result<Edit,
             ring,
             index,
             old,
-        } => undo_remove_vertex(alloc, store, layer, id, part, ring, index, old),
+        } => Reverted::other_or(undo_remove_vertex(
+            alloc, store, layer, id, part, ring, index, old,
+        )),
         Inverse::PutValue {
             layer,
             id,
             column,
             old,
-        } => undo_set_value(alloc, store, layer, id, column, old),
+        } => Reverted::other_or(undo_set_value(alloc, store, layer, id, column, old)),
     }
 }

@@ -1,6 +1,7 @@
-//! All edits in a row, each taken back after those behind it.
+//! All edits in a row, each taken back after those behind it, done again and taken back.
 
-ghost use Rattle.std.specs.Prelude.{◌≡◌, OnOk};
+ghost use Rattle.std.specs.Prelude.{◌≡◌, IsOk, OnOk};
+ghost use Rattle.sf_steps.specs.Steps.{step};
 
 use super::*;
 use sf_geometry::{Geometry, Sequence};
@@ -211,7 +212,51 @@ fn shows(store: &Store, want: &(Counts, i64, (i32, i32))) -> bool {
     counts(store) == want.0 && number(store) == want.1 && vertex(store) == want.2
 }
 
-/// Carries out the edit of a step, then those after it, and takes it back once they are taken back.
+/// Carries out an edit and takes it back.
+fn edit_and_back(
+    alloc: Global,
+    store: &mut Store,
+    edit: Edit,
+    want: &(Counts, i64, (i32, i32)),
+) -> Result<(), Fail>
+    ensures { OnOk result (store.new ≡ store.old) }
+{
+    let Ok(inverse) = apply(alloc, store, edit) else {
+        return Err(Fail::from("an edit was refused"));
+    };
+    if !shows(store, want) {
+        return Err(Fail::from("an edit shows something else"));
+    }
+    match revert(alloc, store, inverse) {
+        Ok(_) => Ok(()),
+        Err(_) => Err(Fail::from("no memory")),
+    }
+}
+
+/// Does what was taken back again, and takes it back; then carries it out as any other edit, and takes it back.
+fn again_and_back(
+    alloc: Global,
+    store: &mut Store,
+    reverted: Reverted,
+    want: &(Counts, i64, (i32, i32)),
+) -> Result<(), Fail>
+    requires { IsOk (step store.old reverted) }
+    ensures { OnOk result (store.new ≡ store.old) }
+{
+    let Ok(inverse) = reapply(alloc, store, reverted) else {
+        return Err(Fail::from("no memory"));
+    };
+    if !shows(store, want) {
+        return Err(Fail::from("an edit that is done again shows something else"));
+    }
+    let Ok(reverted) = revert(alloc, store, inverse) else {
+        return Err(Fail::from("no memory"));
+    };
+    edit_and_back(alloc, store, reverted.into_edit(), want)
+}
+
+/// Carries out the edit of a step, then those after it, and takes it back once they are taken back; does it again,
+/// and takes it back.
 fn there_and_back(
     alloc: Global,
     store: &mut Store,
@@ -235,14 +280,13 @@ fn there_and_back(
         return Err(Fail::from("an edit shows something else"));
     }
     there_and_back(alloc, store, step.wrapping_add(1), later)?;
-    let Ok(_) = revert(alloc, store, inverse) else {
+    let Ok(reverted) = revert(alloc, store, inverse) else {
         return Err(Fail::from("no memory"));
     };
-    if shows(store, &before) {
-        Ok(())
-    } else {
-        Err(Fail::from("an edit was not taken back"))
+    if !shows(store, &before) {
+        return Err(Fail::from("an edit was not taken back"));
     }
+    again_and_back(alloc, store, reverted, want)
 }
 
 #[test]

@@ -1,7 +1,7 @@
 ghost use Rattle.std.specs.Prelude.{◌≡◌, ◌⊎◌, [], length, Ok, Err, IsOk, OnOk, OnErr, IfOk, IfErr};
 ghost use Rattle.sf_history.specs.History.{fresh, edited, undone, redone};
 
-use sf_edits::{Answer, Edit, Inverse, apply, revert};
+use sf_edits::{Answer, Edit, Inverse, Reverted, apply, reapply, revert};
 use sf_layers::Store;
 use sf_refusals::Refusal;
 use std::alloc::Global;
@@ -15,7 +15,7 @@ pub struct Editor {
     // The last one is that of the last edit.
     done: Vec<Inverse>,
     // The last one is the next to be done again.
-    undone: Vec<Edit>,
+    undone: Vec<Reverted>,
     // Whose steps these are: of those done the first one first, then of those undone the next one first. So
     // undo and redo leave them as they are.
     editors: Vec<u8>,
@@ -130,8 +130,8 @@ impl Editor {
         }
         let inverse = self.done.pop().unwrap();
         match revert(alloc, &mut self.store, inverse) {
-            Ok(edit) => {
-                self.undone.push(edit).unwrap();
+            Ok(reverted) => {
+                self.undone.push(reverted).unwrap();
                 Ok(())
             }
             Err(inverse) => {
@@ -170,15 +170,15 @@ impl Editor {
         if self.done.reserve(1).is_err() {
             return Err(Refusal::Memory);
         }
-        let edit = self.undone.pop().unwrap();
-        match apply(alloc, &mut self.store, edit) {
+        let reverted = self.undone.pop().unwrap();
+        match reapply(alloc, &mut self.store, reverted) {
             Ok(inverse) => {
                 self.done.push(inverse).unwrap();
                 Ok(())
             }
             // It was accepted once, from this very content: only memory can be wanting.
-            Err((edit, _)) => {
-                self.undone.push(edit).unwrap();
+            Err(reverted) => {
+                self.undone.push(reverted).unwrap();
                 Err(Refusal::Memory)
             }
         }

@@ -1,5 +1,7 @@
-use Rattle.std.proofs.Common.{◌∙◌}
+use Rattle.std.proofs.Common.{subst, sym}
 use Rattle.sf_layers.specs.Content.{without_last_feature}
+use Rattle.sf_steps.specs.declared.inverse.Inverse.TheVariants.{TakeFeature}
+use Rattle.sf_steps.specs.Inverses.{Reverts}
 use Rattle.sf_edits.proofs.Carrying.{fits-at}
 use Rattle.sf_edits.proofs.EntryLaws.{added-there, added-undone}
 use Rattle.sf_edits.proofs.FeatureLaws.{place-unwrapped}
@@ -18,6 +20,7 @@ pop_feature-feature-requires-clause-fits c =
 
 pub returns : goal.returns
 returns c =
-    added-undone c.args.store.now c.pop_feature-feature.new.self c.args.layer c.args.id c.unwrap-place.result c.pop_feature-feature.result c.into_geometry.result c.requires
+    subst (λ edit. Reverts c.args.store.now (TakeFeature c.args.layer c.args.id) edit c.pop_feature-feature.new.self) (sym c.add_feature.ensures)
+    (added-undone c.args.store.now c.pop_feature-feature.new.self c.args.layer c.args.id c.unwrap-place.result c.pop_feature-feature.result c.into_valid.result c.requires
     (place-unwrapped c.args.store.now c.args.layer c.as_str.result.now c.place.result c.unwrap-place.result c.as_str.ensures c.unwrap-place.ensures c.place.ensures.there)
-    c.pop_feature-feature.ensures.taken c.pop_feature-feature.ensures.rest (c.into_geometry.ensures.same ∙ c.into_valid.ensures)
+    c.pop_feature-feature.ensures.taken c.pop_feature-feature.ensures.rest c.into_valid.ensures)

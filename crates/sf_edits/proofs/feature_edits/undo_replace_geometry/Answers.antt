@@ -1,5 +1,8 @@
+use Rattle.std.proofs.Common.{refl, subst, sym}
 use Rattle.sf_features.specs.Features.{with_geometry}
 use Rattle.sf_layers.specs.Content.{change_feature}
+use Rattle.sf_steps.specs.declared.inverse.Inverse.TheVariants.{PutGeometry}
+use Rattle.sf_steps.specs.Inverses.{Reverts}
 use Rattle.sf_edits.proofs.Carrying.{fits-at}
 use Rattle.sf_edits.proofs.EntryLaws.{replaced-there, replaced-undone}
 use Rattle.sf_edits.proofs.FeatureLaws.{place-unwrapped}
@@ -18,6 +21,7 @@ exchange_geometry-valid-requires-clause-fits c =
 
 pub returns : goal.returns
 returns c =
-    replaced-undone c.args.store.now c.exchange_geometry-valid.new.self c.args.layer c.args.id c.unwrap-place.result c.args.old c.exchange_geometry-valid.result c.into_geometry.result c.requires
+    subst (λ edit. Reverts c.args.store.now (PutGeometry c.args.layer c.args.id c.args.old) edit c.exchange_geometry-valid.new.self) (sym c.replace_geometry.ensures)
+    (replaced-undone c.args.store.now c.exchange_geometry-valid.new.self c.args.layer c.args.id c.unwrap-place.result c.args.old c.exchange_geometry-valid.result c.exchange_geometry-valid.result c.requires
     (place-unwrapped c.args.store.now c.args.layer c.as_str.result.now c.place.result c.unwrap-place.result c.as_str.ensures c.unwrap-place.ensures c.place.ensures.there)
-    c.exchange_geometry-valid.ensures.given c.exchange_geometry-valid.ensures.put c.into_geometry.ensures.same
+    c.exchange_geometry-valid.ensures.given c.exchange_geometry-valid.ensures.put refl)
