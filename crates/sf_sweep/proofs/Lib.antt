@@ -36,3 +36,4 @@ pub mod StepLaws
 pub mod NextLaws
 pub mod CrossingLaws
 pub mod EndLaws
+pub mod ColumnLaws

@@ -2,6 +2,7 @@
 #![tactic(auto)]
 
 mod bundle;
+mod columns;
 mod cutting;
 mod front;
 mod meetings;
