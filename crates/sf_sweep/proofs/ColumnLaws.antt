@@ -1,7 +1,7 @@
 -- Down to the end of a column, window by window; and what is left when there is no further window.
 use Rattle.std.proofs.Common.{◌≡◌, refl, ap, sym, ◌∙◌, subst, ℕ, zero, suc, ◌+◌, ◌-◌, ◌≤◌, ◌<◌, arith, Bool, true, false, cond, ◌&&◌, ◌||◌, List, [], ◌∷◌, ◌++◌, Option, None, Some, length, take, drop, ◌⊎◌, inl, inr}
 use Rattle.std.specs.Prelude.{IfNone, IfSome, sum_by}
-use Rattle.std.specs.List.{All, AllByRecursion, fold, list_any, prefix_len}
+use Rattle.std.specs.List.{All, fold, list_any}
 use Rattle.std.specs.Ordering.{int_eq}
 use Rattle.std.proofs.Math.Seq.{drop-append_seam, take-append_seam}
 use Rattle.std.proofs.lemmas.Bool.{and_parts}
@@ -38,7 +38,7 @@ use Rattle.sf_sweep.proofs.CrossingLaws.{crossing-reached}
 use Rattle.sf_sweep.proofs.EndLaws.{end-within, rest-passes}
 use Rattle.sf_sweep.proofs.LightLaws.{begun-weigh}
 use Rattle.sf_sweep.proofs.NextLaws.{IsNoneNext, next-window, none-next}
-use Rattle.sf_sweep.proofs.PassWithinLaws.{ArePassed, last-everywhere}
+use Rattle.sf_sweep.proofs.PassWithinLaws.{last-everywhere}
 use Rattle.sf_sweep.proofs.StopLaws.{each-drop}
 
 -- ---- what a window takes of the vertices that are left

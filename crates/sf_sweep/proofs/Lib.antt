@@ -22,6 +22,7 @@ pub mod SettleLaws
 pub mod FrontLaws
 pub mod ParityRowLaws
 pub mod CompleteLaws
+pub mod ApartLaws
 pub mod LightLaws
 pub mod BalanceLaws
 pub mod WithinLaws

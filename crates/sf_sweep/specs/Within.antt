@@ -78,14 +78,15 @@ weigh w es = sum_by w (pieces_of es)
 abbrev pub weigh_begun : (ℕ → ℕ) → List Vertex → ℕ
 weigh_begun w vs = sum_by w (pieces_with begins vs)
 
--- of the edges `came` and the vertices vs of a column those above `rest` and `vs'` were dealt with: `done` goes on from them, and `more` was handed out
-pub record Swept (areal : List Bool) (groups : List ℕ) (column : Option Fraction) (came rest : List Active) (cs cs' : List Contact) (vs vs' : List Vertex) (done : List Active) (more : List Item) : Type 0 where
+-- of the edges `came` and the vertices vs of a column those above `rest` and `vs'` were dealt with: `done` goes on from them, in these bundles, and `more` was handed out
+pub record Swept (areal : List Bool) (groups : List ℕ) (column : Option Fraction) (came rest : List Active) (cs cs' : List Contact) (vs vs' : List Vertex) (done : List Active) (bundles : List (List ℕ)) (more : List Item) : Type 0 where
   pub levels : List Level
   pub parts : List Part
   pub cut : CutOff column came rest cs cs' vs vs' done levels
   pub stops : (os : List Active) (ls : List Level) → stops came vs (done ++ os) (levels ++ ls) ≡ all_stops parts ++ stops rest vs' os ls
   pub coming : all_coming parts ++ bundles_of cs' rest ≡ bundles_of cs came
   pub going : all_pieces (all_going parts) ≡ pieces_of done
+  pub bundled : all_going parts ≡ bundles
   pub handed : AreHanded areal groups (counts groups []) (counts groups []) parts more
 
 -- where it is a meeting ahead, that isn't left of the column x
@@ -123,7 +124,7 @@ pub record IsGiven (k : Column) : Type 0 where
 -- the edges `gone` and the vertices above `ws` were dealt with, and `done` goes on from them; `rest` is left
 pub record IsWithin (k : Column) (gone done rest : List Active) (ws : List Vertex) (table : List Contact) (odd : List (List Bool)) (more : List Item) : Type 0 where
   pub split : k.came ≡ gone ++ rest
-  pub swept : Swept k.areal k.groups (Some k.x) k.came rest k.contacts (contacts_of table rest) k.vertices ws done more
+  pub swept : Swept k.areal k.groups (Some k.x) k.came rest k.contacts (contacts_of table rest) k.vertices ws done (bundles_of (contacts_of table done) done) more
   pub right : AreParities k.areal k.groups odd (counts k.groups []) done
   pub old : AreParities k.areal k.groups odd (counts k.groups (pieces_of gone)) rest
   pub met : AreMet k.x table done rest

@@ -1,4 +1,4 @@
-use Rattle.std.proofs.Common.{◌≡◌, ap, sym, subst, ◌∙◌, arith, [], ◌+◌, ◌≤◌, length, vec_len}
+use Rattle.std.proofs.Common.{sym, subst, ◌∙◌, arith, ◌+◌, length, vec_len}
 use Rattle.sf_columns.specs.Vertices.{begins, pieces_with}
 use Rattle.sf_sweep.specs.declared.front.Front.{Front}
 use Rattle.sf_sweep.specs.Cuts.{HasBenchRoom}

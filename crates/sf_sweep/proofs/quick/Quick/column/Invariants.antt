@@ -1,4 +1,4 @@
-use Rattle.std.proofs.Common.{◌≡◌, ◌≤◌, [], length, vec_capacity, vec_len, ◌+◌, ◌-◌}
+use Rattle.std.proofs.Common.{◌≡◌, ◌≤◌, [], length, vec_capacity, ◌+◌, ◌-◌}
 use Rattle.sf_cells.specs.Groups.{counts, group_count}
 use Rattle.sf_sweep.specs.Cuts.{KeepsBenchRoom}
 use Rattle.sf_sweep.specs.Within.{IsAt, IsSince}
