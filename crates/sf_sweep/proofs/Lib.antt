@@ -38,3 +38,5 @@ pub mod NextLaws
 pub mod CrossingLaws
 pub mod EndLaws
 pub mod ColumnLaws
+pub mod LeastLaws
+pub mod AcrossLaws
