@@ -40,3 +40,4 @@ pub mod EndLaws
 pub mod ColumnLaws
 pub mod LeastLaws
 pub mod AcrossLaws
+pub mod MarksLaws
