@@ -104,11 +104,24 @@ fn replace(
     ensures room { vec_capacity order.old ≤ vec_capacity order.new }
     ensures tail_room { vec_capacity tail.old ≤ vec_capacity tail.new }
 {
+    if segment.len() == to - from {
+        overwrite(order, from, segment);
+        return;
+    }
     tail.clear();
     extend(tail, order.as_slice().split_at(to).1);
     order.truncate(from);
     extend(order, segment);
     extend(order, tail.as_slice());
+}
+
+/// Puts a segment over as many edges from a place on.
+fn overwrite(order: &mut [Active], from: usize, segment: &[Active])
+    requires within { from + length segment.now ≤ length order.old }
+    ensures { order.new ≡ take from order.old ++ segment.now ++ drop (from + length segment.now) order.old }
+{
+    let (_, lower) = order.split_at_mut(from);
+    lower.split_at_mut(segment.len()).0.copy_from_slice(segment);
 }
 
 /// Puts all of `others` behind what there is; there is room for them.
