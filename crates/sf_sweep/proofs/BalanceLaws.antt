@@ -47,9 +47,9 @@ pub record IsClosedCut (groups : List ℕ) (es : List Active) (us : List Vertex)
 whole-of : (x : Fraction) (es : List Active) (cs : List Contact) (us : List Vertex) (going : List Active) (levels : List Level) → IsCutInto x es cs us going levels → IsWhole (Some x) es cs us going levels
 whole-of x es cs us going levels c = record { tops = c.tops; onward = c.onward; all = c.all }
 
-pub window-balanced : (pieces : List Piece) (areal : List Bool) (groups : List ℕ) (x : Fraction) (came : List Active) (cs : List Contact) (vs : List Vertex) (table : List Contact) (es fs : List Active) (us ws : List Vertex)
+pub window-balanced : {bs : List (List ℕ)} (pieces : List Piece) (areal : List Bool) (groups : List ℕ) (x : Fraction) (came : List Active) (cs : List Contact) (vs : List Vertex) (table : List Contact) (es fs : List Active) (us ws : List Vertex)
     (done : List Active) (more : List Item) → IsComing pieces x (Some x) came cs → IsColumnOf pieces x vs →
-    Swept areal groups (Some x) came (es ++ fs) cs (contacts_of table (es ++ fs)) vs (us ++ ws) done more → IsWindow (Some x) table es fs us ws → AllByRecursion (λ u. u.piece < length groups) us →
+    Swept areal groups (Some x) came (es ++ fs) cs (contacts_of table (es ++ fs)) vs (us ++ ws) done bs more → IsWindow (Some x) table es fs us ws → AllByRecursion (λ u. u.piece < length groups) us →
     HasNoTop us ⊎ (ws ≡ []) → (going : List Active) (levels : List Level) → IsCutInto x es (contacts_of table es) us going levels → IsClosedCut groups es us going levels
 window-balanced pieces areal groups x came cs vs table es fs us ws done more coming column s w within upright going levels cut =
     let whole = whole-of x es (contacts_of table es) us going levels cut in
@@ -87,11 +87,11 @@ window-balanced pieces areal groups x came cs vs table es fs us ws done more com
 
 -- ---- a window further
 -- what was handed out for it, with parities in place of the counts above
-pub swept-window : (areal : List Bool) (groups : List ℕ) (x : Fraction) (came : List Active) (cs : List Contact) (vs : List Vertex) (table : List Contact) (es fs : List Active) (us ws : List Vertex) (done going : List Active)
-    (more then : List Item) (levels : List Level) (ds : List Contact) (above : List ℕ) (s : Swept areal groups (Some x) came (es ++ fs) cs (contacts_of table (es ++ fs)) vs (us ++ ws) done more) →
+pub swept-window : {bs : List (List ℕ)} (areal : List Bool) (groups : List ℕ) (x : Fraction) (came : List Active) (cs : List Contact) (vs : List Vertex) (table : List Contact) (es fs : List Active) (us ws : List Vertex) (done going : List Active)
+    (more then : List Item) (levels : List Level) (ds : List Contact) (above : List ℕ) (s : Swept areal groups (Some x) came (es ++ fs) cs (contacts_of table (es ++ fs)) vs (us ++ ws) done bs more) →
     IsWindow (Some x) table es fs us ws → IsLastApart None table es → IsCutInto x es (contacts_of table es) us going levels → IsClosedCut groups es us going levels →
     odds areal above ≡ odds areal (past groups (counts groups []) (all_going s.parts)) → then ≡ level_items groups above es us going levels ++ going_items groups above ds going →
-    Swept areal groups (Some x) came fs cs (contacts_of table fs) vs ws (done ++ going) (more ++ then)
+    Swept areal groups (Some x) came fs cs (contacts_of table fs) vs ws (done ++ going) (bs ++ bundles_of ds going) (more ++ then)
 swept-window areal groups x came cs vs table es fs us ws done going more then levels ds above s w apart cut closed e handed =
     let coming : List (List ℕ) = bundles_of (contacts_of table es) es in
     let p : Part = record { stops = stops es us going levels; coming = coming; going = bundles_of ds going } in

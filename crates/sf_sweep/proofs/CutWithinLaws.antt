@@ -1,5 +1,5 @@
 -- Within a column, a window further.
-use Rattle.std.proofs.Common.{◌≡◌, ◌≢◌, ap, sym, ◌∙◌, subst, ℕ, ◌+◌, ◌≤◌, ◌<◌, arith, Bool, List, [], ◌∷◌, ◌++◌, None, Some, length}
+use Rattle.std.proofs.Common.{◌≡◌, ◌≢◌, ap, sym, ◌∙◌, subst, ℕ, ◌+◌, ◌-◌, ◌≤◌, ◌<◌, arith, Bool, List, [], ◌∷◌, ◌++◌, None, Some, length}
 use Rattle.std.specs.List.{AllByRecursion}
 use Rattle.std.proofs.lemmas.List.{append_assoc}
 use Rattle.sf_columns.specs.declared.active.Active.{Active}
@@ -15,16 +15,17 @@ use Rattle.sf_classes.specs.Classes.{odds}
 use Rattle.sf_sweep.specs.Cuts.{IsCutInto, going_items, level_items}
 use Rattle.sf_sweep.specs.Parities.{AreParities, parities, stored}
 use Rattle.sf_sweep.specs.Passing.{IsLastApart, contact_at}
-use Rattle.sf_sweep.specs.Settled.{WereSettled, forgotten}
-use Rattle.sf_sweep.specs.Tables.{contacts_of}
+use Rattle.sf_sweep.specs.Settled.{AreMet, WereSettled, forgotten}
+use Rattle.sf_sweep.specs.Tables.{bundles_of, contacts_of}
+use Rattle.sf_sweep.proofs.ApartLaws.{AreOver, over-bundles, over-cut}
 use Rattle.sf_sweep.proofs.BalanceLaws.{IsClosedCut, swept-window}
 use Rattle.sf_sweep.proofs.GoingLaws.{each-join, onward-each}
-use Rattle.sf_sweep.proofs.JoinLaws.{IsWindow}
+use Rattle.sf_sweep.proofs.JoinLaws.{IsWindow, contacts-fewer, window-cut}
 use Rattle.sf_sweep.proofs.LightLaws.{begun-weigh, column-once, distinct-of_light, one_at, onward-light, weigh, weigh-append, weigh_begun}
 use Rattle.sf_sweep.proofs.MendLaws.{apart-each, distinct-first, kept-below}
 use Rattle.sf_sweep.proofs.ParityLaws.{AreDistinct, parities-behind, parities-parts, parities-written, stored-are}
 use Rattle.sf_sweep.proofs.RepairLaws.{each-parts}
-use Rattle.sf_sweep.proofs.SettleLaws.{apart-front, contacts-same, distinct-second, forgotten-frame, forgotten-length, settled-above, settled-below, settled-elsewhere}
+use Rattle.sf_sweep.proofs.SettleLaws.{apart-front, contacts-same, distinct-second, forgotten-frame, forgotten-length, settled-above, settled-below, settled-elsewhere, upper-contacts, went-contacts}
 use Rattle.sf_sweep.proofs.SweptLaws.{Swept}
 use Rattle.sf_sweep.proofs.WindowLaws.{none-enters}
 use Rattle.sf_sweep.proofs.WithinLaws.{Column, IsGiven, IsWithin, coming-behind, coming-same, counts-more, few-once, swept-going, within-distinct}
@@ -94,11 +95,25 @@ cut-within k gone done es fs us ws table table' odd odd' more going then g h c =
     let above : List ℕ = plus (counts k.groups []) (counts k.groups (pieces_of done)) in
     let len : length above ≡ group_count k.groups = length-added k.groups (counts k.groups []) (pieces_of done) (length-counts k.groups []) in
     let odd_is : stored k.areal k.groups odd row going ≡ odd' = sym c.rows in
+    let few : length c.contacts ≡ length going - 1 = contacts-few k.x going c.contacts c.are_contacts in
+    let range : AllByRecursion (λ a. a.piece < length (forgotten table es)) going = in-range n (length (forgotten table es)) going size went in
+    let kept : contacts_of (forgotten table es) done ≡ contacts_of table done = contacts-same table (forgotten table es) done high in
+    let met : AreMet k.x table' (done ++ going) fs =
+    settled-above k.x done going fs c.contacts (forgotten table es) table' c.settled upper (in-range n (length (forgotten table es)) done size edges.0) range
+    (subst (AreContacts k.x done) (sym kept) h.met.inner) few c.are_contacts in
+    let over : AreOver k.x done going =
+    over-cut k.pieces k.x k.came (es ++ fs) fs k.contacts (contacts_of table (es ++ fs)) (contacts_of table fs) k.vertices (us ++ ws) ws done going h.swept.levels c.levels g.coming g.column h.swept.cut
+    (window-cut (Some k.x) table es fs us ws going c.levels c.window (record { tops = c.cut.tops; onward = c.cut.onward; all = c.cut.all })) (contacts-fewer table fs) in
+    let bundled : bundles_of (contacts_of table done) done ++ bundles_of c.contacts going ≡ bundles_of (contacts_of table' (done ++ going)) (done ++ going) =
+    sym (over-bundles k.x table' done going g.coming.place met.inner over
+    ∙ ap (λ cs. bundles_of cs done ++ bundles_of (contacts_of table' going) going) (upper-contacts k.x done going fs c.contacts (forgotten table es) table' c.settled upper ∙ kept)
+    ∙ ap (λ cs. bundles_of (contacts_of table done) done ++ bundles_of cs going) (went-contacts k.x done going fs c.contacts (forgotten table es) table' c.settled upper range few)) in
     record {
       split = h.split ∙ sym (append_assoc gone es fs);
-      swept = subst (λ cs. Swept k.areal k.groups (Some k.x) k.came fs k.contacts cs k.vertices ws (done ++ going) (more ++ then)) (sym (contacts-same table table' fs low))
+      swept = subst (λ z. Swept k.areal k.groups (Some k.x) k.came fs k.contacts (contacts_of table' fs) k.vertices ws (done ++ going) z (more ++ then)) bundled
+          (subst (λ cs. Swept k.areal k.groups (Some k.x) k.came fs k.contacts cs k.vertices ws (done ++ going) (bundles_of (contacts_of table done) done ++ bundles_of c.contacts going) (more ++ then)) (sym (contacts-same table table' fs low))
           (swept-window k.areal k.groups k.x k.came k.contacts k.vertices table es fs us ws done going more then c.levels c.contacts c.above h.swept c.window c.apart c.cut c.closed
-          (c.alike ∙ ap (odds k.areal) (sym (swept-going k.areal k.groups (Some k.x) k.came (es ++ fs) k.contacts (contacts_of table (es ++ fs)) k.vertices (us ++ ws) done more h.swept))) c.handed);
+          (c.alike ∙ ap (odds k.areal) (sym (swept-going k.areal k.groups (Some k.x) k.came (es ++ fs) k.contacts (contacts_of table (es ++ fs)) k.vertices (us ++ ws) done more h.swept))) c.handed));
       right = subst (λ t. AreParities k.areal k.groups t (counts k.groups []) (done ++ going)) odd_is
           (parities-behind k.areal k.groups (stored k.areal k.groups odd row going) (counts k.groups []) done going
           (parities-written k.areal k.groups odd (stored k.areal k.groups odd row going) (counts k.groups []) done
@@ -109,9 +124,7 @@ cut-within k gone done es fs us ws table table' odd odd' more going then g h c =
           (parities-written k.areal k.groups odd (stored k.areal k.groups odd row going) (counts k.groups (pieces_of (gone ++ es))) fs
           (kept-below k.areal k.groups odd row going fs (apart-some done going fs (apart-each (done ++ going) fs after)))
           (subst (λ ns. AreParities k.areal k.groups odd ns fs) (counts-more k.groups gone es) (parities-parts k.areal k.groups odd (counts k.groups (pieces_of gone)) es fs h.old).1));
-      met = settled-above k.x done going fs c.contacts (forgotten table es) table' c.settled upper (in-range n (length (forgotten table es)) done size edges.0)
-          (in-range n (length (forgotten table es)) going size went)
-          (subst (AreContacts k.x done) (sym (contacts-same table (forgotten table es) done high)) h.met.inner) (contacts-few k.x going c.contacts c.are_contacts) c.are_contacts;
+      met = met;
       coming = coming-same k.before k.x table table' fs low (coming-behind k.before k.x table es fs h.coming);
       never = settled-elsewhere k.x done es going fs c.contacts table table' c.settled h.never;
       light = light;

@@ -32,7 +32,7 @@ pub start-within : (k : Column) (table : List Contact) (odd : List (List Bool)) 
 start-within k table odd h =
     record {
       split = refl;
-      swept = subst (λ cs. Swept k.areal k.groups (Some k.x) k.came k.came k.contacts cs k.vertices k.vertices [] []) h.contacts
+      swept = subst (λ cs. Swept k.areal k.groups (Some k.x) k.came k.came k.contacts cs k.vertices k.vertices [] [] []) h.contacts
           (swept-nothing k.areal k.groups (Some k.x) k.came k.contacts k.vertices);
       right = tt;
       old = h.rows;

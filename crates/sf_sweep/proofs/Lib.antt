@@ -22,6 +22,7 @@ pub mod SettleLaws
 pub mod FrontLaws
 pub mod ParityRowLaws
 pub mod CompleteLaws
+pub mod ApartLaws
 pub mod LightLaws
 pub mod BalanceLaws
 pub mod WithinLaws
@@ -36,3 +37,7 @@ pub mod StepLaws
 pub mod NextLaws
 pub mod CrossingLaws
 pub mod EndLaws
+pub mod ColumnLaws
+pub mod LeastLaws
+pub mod AcrossLaws
+pub mod MarksLaws

@@ -29,11 +29,11 @@ use Rattle.sf_sweep.specs.Settled.{AreMet}
 use Rattle.sf_sweep.specs.Sides.{is_below_edge}
 use Rattle.sf_sweep.specs.Tables.{IsNotBefore, ahead_of, point_before}
 use Rattle.sf_sweep.proofs.FirstLaws.{before-through}
-use Rattle.sf_sweep.specs.Within.{Column, IsApartFrom, IsNextAt, IsNotLeft, IsWithin}
+use Rattle.sf_sweep.specs.Within.{Column, Fall, FallFrom, IsApartFrom, IsNextAt, IsNotLeft, IsWithin}
 use Rattle.sf_sweep.proofs.CalmLaws.{IsElsewhere}
 use Rattle.sf_sweep.proofs.SideLaws.{lower-below}
 use Rattle.sf_sweep.proofs.StopLaws.{each-drop, each-take}
-use Rattle.sf_sweep.proofs.VertexWindowLaws.{FallFrom, heights-apart, points-above, points-below, window-of_vertices}
+use Rattle.sf_sweep.proofs.VertexWindowLaws.{heights-apart, points-above, points-below, window-of_vertices}
 
 -- ---- no meeting is left of the column
 not-both : (a b : ℤ) → int_lt a b ≡ true → int_lt b a ≡ false
@@ -153,11 +153,6 @@ crossing-below x p u [] i j s here falls h = tt
 crossing-below x p u (v ∷ vs) i j s here falls h =
     let k = lower-still p u v falls.0 h in
     ((same-columns x p v i j s here.0, k), crossing-below x p v vs i j s here.1 falls.1 k)
-
--- the vertices of a column fall from the first one on
-abbrev pub Fall : List Vertex → Type 0
-Fall [] = Unit {0}
-Fall (v ∷ vs) = FallFrom v.at.y vs
 
 all-below : (x : Fraction) (p : Point) (ws : List Vertex) → IsFraction x → IsPoint p → Same (x_of p) x → AllByRecursion (λ v. in_column x v ≡ true) ws → Fall ws → precedes p ws ≡ true →
     AllByRecursion (λ v. Same (x_of p) (x_of (grid_point v.at)) × (fraction_lt (y_of (grid_point v.at)) (y_of p) ≡ true)) ws

@@ -13,20 +13,22 @@ use Rattle.sf_cells.specs.Groups.{Item, counts}
 use Rattle.sf_cells.proofs.TallyLaws.{length-counts}
 use Rattle.sf_sweep.specs.Parities.{AreParities, parities, stored}
 use Rattle.sf_sweep.specs.Repairs.{IsRepaired}
-use Rattle.sf_sweep.specs.Passing.{ArePassing, IsLastApart, contact_at}
+use Rattle.sf_sweep.specs.Passing.{ArePassing, IsLastApart, contact_at, passing_levels}
 use Rattle.sf_sweep.specs.Settled.{AreMet}
 use Rattle.sf_sweep.specs.Tables.{IsNeverElsewhere, bundles_of, contacts_of}
 use Rattle.sf_sweep.specs.Windows.{IsPartHanded, all_coming, all_going, past}
+use Rattle.sf_sweep.proofs.ApartLaws.{AreOver, over-bundles, over-cut}
 use Rattle.sf_sweep.proofs.CalmLaws.{IsLastAlone}
+use Rattle.sf_sweep.proofs.JoinLaws.{contacts-fewer}
 use Rattle.sf_sweep.proofs.LightLaws.{weigh, weigh_begun}
 use Rattle.sf_sweep.proofs.CutWithinLaws.{apart-upper, in-range}
 use Rattle.sf_sweep.proofs.MendLaws.{IsMended, apart-each, kept-below, passing_part_of, repaired-parts}
-use Rattle.sf_sweep.proofs.PassLaws.{AreOneSloped}
+use Rattle.sf_sweep.proofs.PassLaws.{AreOneSloped, passing-cut}
 use Rattle.sf_sweep.proofs.ParityLaws.{AreDistinct, parities-behind, parities-parts, parities-written}
 use Rattle.sf_sweep.proofs.RepairLaws.{each-parts, past-pieces}
 use Rattle.sf_sweep.proofs.SettleLaws.{apart-front, distinct-second, met-append}
 use Rattle.sf_sweep.proofs.MendLaws.{distinct-first}
-use Rattle.sf_sweep.proofs.StopLaws.{passed-closed}
+use Rattle.sf_sweep.proofs.StopLaws.{bundles-join, passed-closed}
 use Rattle.sf_sweep.proofs.WindowLaws.{none-enters}
 use Rattle.sf_sweep.proofs.SweptLaws.{Swept, passing-part, swept-further}
 use Rattle.sf_sweep.proofs.WithinLaws.{Column, IsGiven, IsWithin, coming-behind, counts-more, sloped-behind, sloped-first, swept-coming, swept-going, within-distinct}
@@ -72,15 +74,15 @@ last-second column table (a ∷ b ∷ es) fs h = last-second column table (b ∷
 
 -- ---- the edges pass
 -- two parts of them, of which the first was handed out and the second passes as before
-swept-two : (areal : List Bool) (groups : List ℕ) (x : Fraction) (came : List Active) (cs : List Contact) (vs : List Vertex) (table : List Contact) (es es' fs : List Active) (ws : List Vertex) (done : List Active)
-    (more items : List Item) (before above : List ℕ) → (s : Swept areal groups (Some x) came (es ++ (es' ++ fs)) cs (contacts_of table (es ++ (es' ++ fs))) vs ws done more) →
+swept-two : {bs : List (List ℕ)} (areal : List Bool) (groups : List ℕ) (x : Fraction) (came : List Active) (cs : List Contact) (vs : List Vertex) (table : List Contact) (es es' fs : List Active) (ws : List Vertex) (done : List Active)
+    (more items : List Item) (before above : List ℕ) → (s : Swept areal groups (Some x) came (es ++ (es' ++ fs)) cs (contacts_of table (es ++ (es' ++ fs))) vs ws done bs more) →
     past groups (counts groups []) (all_coming s.parts) ≡ before → past groups (counts groups []) (all_going s.parts) ≡ above →
     IsLastApart None table es → IsLastApart None table es' → ArePassing (Some x) table es → ArePassing (Some x) table es' → AreOneSloped table es → AreOneSloped table es' →
     AllByRecursion (λ a. is_over ws a ≡ true) es → AllByRecursion (λ a. is_over ws a ≡ true) es' →
     IsPartHanded areal groups before above (passing_part_of table es) items →
-    ((t : Swept areal groups (Some x) came (es' ++ fs) cs (contacts_of table (es' ++ fs)) vs ws (done ++ es) (more ++ items)) →
+    ((t : Swept areal groups (Some x) came (es' ++ fs) cs (contacts_of table (es' ++ fs)) vs ws (done ++ es) (bs ++ bundles_of (contacts_of table es) es) (more ++ items)) →
     IsPartHanded areal groups (past groups (counts groups []) (all_coming t.parts)) (past groups (counts groups []) (all_going t.parts)) (passing_part_of table es') []) →
-    Swept areal groups (Some x) came fs cs (contacts_of table fs) vs ws ((done ++ es) ++ es') ((more ++ items) ++ [])
+    Swept areal groups (Some x) came fs cs (contacts_of table fs) vs ws ((done ++ es) ++ es') ((bs ++ bundles_of (contacts_of table es) es) ++ bundles_of (contacts_of table es') es') ((more ++ items) ++ [])
 swept-two areal groups x came cs vs table es es' fs ws done more items before above s eb ea l l' p p' o o' v v' first second =
     let one = swept-further areal groups (Some x) came (es ++ (es' ++ fs)) (es' ++ fs) cs (contacts_of table (es ++ (es' ++ fs))) (contacts_of table (es' ++ fs)) vs ws ws done es more items
     (passing_part_of table es) s (passing-part (Some x) table es (es' ++ fs) ws (last-here (Some x) table es p l) l p o v) (passed-closed groups (bundles_of (contacts_of table es) es))
@@ -90,17 +92,17 @@ swept-two areal groups x came cs vs table es es' fs ws done more items before ab
     (passing-part (Some x) table es' fs ws (last-here (Some x) table es' p' l') l' p' o' v') (passed-closed groups (bundles_of (contacts_of table es') es')) (second one)
 
 -- the edges that were handed out, and those below them
-mended-swept : {Content : Type 0} (k : Column) (gone done es fs : List Active) (ws : List Vertex) (table : List Contact) (odd' : List (List Bool)) (more : List Item) (after : Content → Item → Content) (old new : Content) →
-    k.came ≡ gone ++ (es ++ fs) → Swept k.areal k.groups (Some k.x) k.came (es ++ fs) k.contacts (contacts_of table (es ++ fs)) k.vertices ws done more →
+mended-swept : {Content : Type 0} {goings : List (List ℕ)} (k : Column) (gone done es fs : List Active) (ws : List Vertex) (table : List Contact) (odd' : List (List Bool)) (more : List Item) (after : Content → Item → Content) (old new : Content) →
+    k.came ≡ gone ++ (es ++ fs) → Swept k.areal k.groups (Some k.x) k.came (es ++ fs) k.contacts (contacts_of table (es ++ fs)) k.vertices ws done goings more →
     ArePassing (Some k.x) table es → IsLastApart None table es → AreOneSloped table es → AllByRecursion (λ a. is_over ws a ≡ true) es →
     (m : IsMended k.areal k.groups table (counts k.groups (pieces_of gone)) (counts k.groups (pieces_of done)) es odd' after old new) →
-    Swept k.areal k.groups (Some k.x) k.came fs k.contacts (contacts_of table fs) k.vertices ws (done ++ es) (more ++ m.items)
-mended-swept k gone done es fs ws table odd' more after old new split s passing last sloped over m =
+    Swept k.areal k.groups (Some k.x) k.came fs k.contacts (contacts_of table fs) k.vertices ws (done ++ es) (goings ++ bundles_of (contacts_of table es) es) (more ++ m.items)
+mended-swept {goings = goings} k gone done es fs ws table odd' more after old new split s passing last sloped over m =
     let es1 : List Active = m.done in
     let es2 : List Active = m.left in
     let whole : es ++ fs ≡ es1 ++ (es2 ++ fs) = ap (λ z. z ++ fs) m.all ∙ append_assoc es1 es2 fs in
-    let swept : Swept k.areal k.groups (Some k.x) k.came (es1 ++ (es2 ++ fs)) k.contacts (contacts_of table (es1 ++ (es2 ++ fs))) k.vertices ws done more =
-    subst (λ z. Swept k.areal k.groups (Some k.x) k.came z k.contacts (contacts_of table z) k.vertices ws done more) whole s in
+    let swept : Swept k.areal k.groups (Some k.x) k.came (es1 ++ (es2 ++ fs)) k.contacts (contacts_of table (es1 ++ (es2 ++ fs))) k.vertices ws done goings more =
+    subst (λ z. Swept k.areal k.groups (Some k.x) k.came z k.contacts (contacts_of table z) k.vertices ws done goings more) whole s in
     let came : k.came ≡ gone ++ (es1 ++ (es2 ++ fs)) = split ∙ ap (λ z. gone ++ z) whole in
     let passes = passing-parts (Some k.x) table es1 es2 (subst (ArePassing (Some k.x) table) m.all passing) in
     let slopes : AreOneSloped table (es1 ++ es2) = subst (AreOneSloped table) m.all sloped in
@@ -124,9 +126,12 @@ mended-swept k gone done es fs ws table odd' more after old new split s passing 
     (above
     ∙ sym (swept-going k.areal k.groups (Some k.x) k.came (es2 ++ fs) k.contacts (contacts_of table (es2 ++ fs)) k.vertices ws (done ++ es1) (more ++ m.items) t))
     m.second)) in
-    subst (λ z. Swept k.areal k.groups (Some k.x) k.came fs k.contacts (contacts_of table fs) k.vertices ws (done ++ z) (more ++ m.items)) (sym m.all)
-    (subst (λ z. Swept k.areal k.groups (Some k.x) k.came fs k.contacts (contacts_of table fs) k.vertices ws z (more ++ m.items)) (append_assoc done es1 es2)
-    (subst (Swept k.areal k.groups (Some k.x) k.came fs k.contacts (contacts_of table fs) k.vertices ws ((done ++ es1) ++ es2)) (append-nil (more ++ m.items)) two))
+    let first : List (List ℕ) = bundles_of (contacts_of table es1) es1 in
+    let second : List (List ℕ) = bundles_of (contacts_of table es2) es2 in
+    subst (λ z. Swept k.areal k.groups (Some k.x) k.came fs k.contacts (contacts_of table fs) k.vertices ws (done ++ z) (goings ++ bundles_of (contacts_of table z) z) (more ++ m.items)) (sym m.all)
+    (subst (λ z. Swept k.areal k.groups (Some k.x) k.came fs k.contacts (contacts_of table fs) k.vertices ws (done ++ (es1 ++ es2)) z (more ++ m.items)) (append_assoc goings first second ∙ ap (λ z. goings ++ z) (sym (bundles-join table es1 es2 m.apart)))
+    (subst (λ z. Swept k.areal k.groups (Some k.x) k.came fs k.contacts (contacts_of table fs) k.vertices ws z ((goings ++ first) ++ second) (more ++ m.items)) (append_assoc done es1 es2)
+    (subst (Swept k.areal k.groups (Some k.x) k.came fs k.contacts (contacts_of table fs) k.vertices ws ((done ++ es1) ++ es2) ((goings ++ first) ++ second)) (append-nil (more ++ m.items)) two)))
 
 -- ---- edges further
 -- what was handed out for them
@@ -151,12 +156,19 @@ pass-within k gone done es fs ws table odd odd' more after old new g h room pass
     let m = repaired-parts k.areal k.groups table es row odd odd' after old new (counts k.groups (pieces_of gone)) (counts k.groups (pieces_of done)) parts.0 (in-range n (length odd) es room parts.0)
     (distinct-first es fs lower) (length-counts k.groups (pieces_of gone)) (length-counts k.groups (pieces_of done)) refl rows.0 r in
     let stored_is : stored k.areal k.groups odd row r.done ≡ odd' = sym r.handed.kept in
+    let met : AreMet k.x table (done ++ es) fs = met-append k.x table done es fs h.met (passing-met k.before k.x table es fs passing h.coming.contacts h.coming.apart h.coming.alone) in
+    let slopes : AreOneSloped table es = sloped-first table es fs h.coming.sloped in
+    let above : AreOver k.x done es =
+    over-cut k.pieces k.x k.came (es ++ fs) fs k.contacts (contacts_of table (es ++ fs)) (contacts_of table fs) k.vertices ws ws done es h.swept.levels (passing_levels table es) g.coming g.column h.swept.cut
+    (passing-cut (Some k.x) table es fs ws last passing slopes over) (contacts-fewer table fs) in
     record {
       then = m.items;
       handed = m.handed;
       within = record {
         split = h.split ∙ sym (append_assoc gone es fs);
-        swept = mended-swept k gone done es fs ws table odd' more after old new h.split h.swept passing (last-everywhere (Some k.x) table es passing last) (sloped-first table es fs h.coming.sloped) over m;
+        swept = subst (λ z. Swept k.areal k.groups (Some k.x) k.came fs k.contacts (contacts_of table fs) k.vertices ws (done ++ es) z (more ++ m.items))
+            (sym (over-bundles k.x table done es g.coming.place met.inner above))
+            (mended-swept k gone done es fs ws table odd' more after old new h.split h.swept passing (last-everywhere (Some k.x) table es passing last) slopes over m);
         right = parities-behind k.areal k.groups odd' (counts k.groups []) done es
             (subst (λ t. AreParities k.areal k.groups t (counts k.groups []) done) stored_is
             (parities-written k.areal k.groups odd (stored k.areal k.groups odd row r.done) (counts k.groups []) done
@@ -169,7 +181,7 @@ pass-within k gone done es fs ws table odd odd' more after old new g h room pass
             (kept-below k.areal k.groups odd row r.done fs
             (apart-upper r.done r.left fs (subst (λ z. AllByRecursion (λ b. AllByRecursion (λ a. b.piece ≢ a.piece) z) fs) r.handed.all (apart-each es fs lower))))
             (subst (λ ns. AreParities k.areal k.groups odd ns fs) (counts-more k.groups gone es) rows.1));
-        met = met-append k.x table done es fs h.met (passing-met k.before k.x table es fs passing h.coming.contacts h.coming.apart h.coming.alone);
+        met = met;
         coming = coming-behind k.before k.x table es fs h.coming;
         never = subst (IsNeverElsewhere table) (sym (append_assoc done es fs)) h.never;
         light = λ w. subst (λ z. weigh w z + weigh_begun w ws ≤ weigh w k.came + weigh_begun w k.vertices) (sym (append_assoc done es fs)) (h.light w);

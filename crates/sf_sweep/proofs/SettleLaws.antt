@@ -258,6 +258,33 @@ pub settled-above : (x : Fraction) (upper went lower : List Active) (contacts ta
 settled-above x upper went lower contacts table new s d r t h e k =
     met-append x new upper went lower (settled-upper x upper went lower contacts table new s d r h) (settled-went x upper went lower contacts table new s d t e k)
 
+-- the contacts of those that go on, and of the edges above, are those that they were given and had
+pub went-contacts : (x : Fraction) (upper went lower : List Active) (contacts table new : List Contact) → WereSettled x upper went lower contacts table new → AreDistinct (upper ++ went) →
+    AllByRecursion (λ a. a.piece < length table) went → length contacts ≡ length went - 1 → contacts_of new went ≡ contacts
+went-contacts x upper went lower contacts table new s d r e =
+    let first : List Contact = joined table went contacts in
+    let second : List Contact = with_last first went s.lower_seam.contact in
+    let third : List Contact = with_last second upper s.upper_seam.contact in
+    let same : new ≡ third = s.upper_seam.written ∙ ap (λ t. with_last t upper s.upper_seam.contact) s.lower_seam.written in
+    let mine : AreDistinct went = distinct-second upper went d in
+    ap (λ t. contacts_of t went) same
+    ∙ contacts-same second third went (last-others second upper s.upper_seam.contact went (apart-each upper went d))
+    ∙ last-inner first went s.lower_seam.contact mine
+    ∙ joined-inner table went contacts mine r e
+
+pub upper-contacts : (x : Fraction) (upper went lower : List Active) (contacts table new : List Contact) → WereSettled x upper went lower contacts table new → AreDistinct (upper ++ went) →
+    contacts_of new upper ≡ contacts_of table upper
+upper-contacts x upper went lower contacts table new s d =
+    let first : List Contact = joined table went contacts in
+    let second : List Contact = with_last first went s.lower_seam.contact in
+    let third : List Contact = with_last second upper s.upper_seam.contact in
+    let same : new ≡ third = s.upper_seam.written ∙ ap (λ t. with_last t upper s.upper_seam.contact) s.lower_seam.written in
+    let front = apart-front upper went d in
+    ap (λ t. contacts_of t upper) same
+    ∙ last-inner second upper s.upper_seam.contact (distinct-first upper went d)
+    ∙ contacts-same first second upper (last-others first went s.lower_seam.contact upper front)
+    ∙ contacts-same table first upper (joined-others table went contacts upper front)
+
 -- ---- pieces that are in no edge of the order
 set-never : (table : List Contact) (p : ℕ) → slice_index_or (slice_set table p Never) p Never ≡ Never
 set-never table p = by_size (cases_lt p (length table))

@@ -85,7 +85,7 @@ pub record IsPart (column : Option Fraction) (rest rest' : List Active) (cs cs' 
   pub going : all_pieces p.going ≡ pieces_of onward
 
 -- before the first part
-pub swept-nothing : (areal : List Bool) (groups : List ℕ) (column : Option Fraction) (came : List Active) (cs : List Contact) (vs : List Vertex) → Swept areal groups column came came cs cs vs vs [] []
+pub swept-nothing : (areal : List Bool) (groups : List ℕ) (column : Option Fraction) (came : List Active) (cs : List Contact) (vs : List Vertex) → Swept areal groups column came came cs cs vs vs [] [] []
 swept-nothing areal groups column came cs vs =
     record {
       levels = [];
@@ -94,6 +94,7 @@ swept-nothing areal groups column came cs vs =
       stops = λ os ls. refl;
       coming = refl;
       going = refl;
+      bundled = refl;
       handed = refl;
     }
 
@@ -102,10 +103,10 @@ pieces-append [] cs = refl
 pieces-append (b ∷ bs) cs = ap (λ ns. b ++ ns) (pieces-append bs cs) ∙ sym (append_assoc b (all_pieces bs) (all_pieces cs))
 
 -- one part further
-pub swept-further : (areal : List Bool) (groups : List ℕ) (column : Option Fraction) (came rest rest' : List Active) (cs cs' cs'' : List Contact) (vs vs' vs'' : List Vertex) (done onward : List Active)
-    (more then : List Item) (p : Part) (s : Swept areal groups column came rest cs cs' vs vs' done more) → IsPart column rest rest' cs' cs'' vs' vs'' onward p → IsClosed groups p →
+pub swept-further : {bs : List (List ℕ)} (areal : List Bool) (groups : List ℕ) (column : Option Fraction) (came rest rest' : List Active) (cs cs' cs'' : List Contact) (vs vs' vs'' : List Vertex) (done onward : List Active)
+    (more then : List Item) (p : Part) (s : Swept areal groups column came rest cs cs' vs vs' done bs more) → IsPart column rest rest' cs' cs'' vs' vs'' onward p → IsClosed groups p →
     IsPartHanded areal groups (past groups (counts groups []) (all_coming s.parts)) (past groups (counts groups []) (all_going s.parts)) p then →
-    Swept areal groups column came rest' cs cs'' vs vs'' (done ++ onward) (more ++ then)
+    Swept areal groups column came rest' cs cs'' vs vs'' (done ++ onward) (bs ++ p.going) (more ++ then)
 swept-further areal groups column came rest rest' cs cs' cs'' vs vs' vs'' done onward more then p s i closed handed =
     record {
       levels = s.levels ++ i.levels;
@@ -129,6 +130,7 @@ swept-further areal groups column came rest rest' cs cs' cs'' vs vs' vs'' done o
           ∙ ap (λ ns. ns ++ all_pieces p.going) s.going
           ∙ ap (λ ns. pieces_of done ++ ns) i.going
           ∙ sym (map-append (λ e. e.piece) done onward);
+      bundled = going-append s.parts (p ∷ []) ∙ ap (λ z. all_going s.parts ++ z) (append-nil p.going) ∙ ap (λ z. z ++ p.going) s.bundled;
       handed = handed-append areal groups (counts groups []) (counts groups []) s.parts (p ∷ []) more then s.handed
           (closed, record { first = then; later = []; here = handed; then = refl; all = sym (append-nil then) });
     }
@@ -162,16 +164,17 @@ window-part column table es fs us vs os ls ds w apart whole =
     }
 
 -- ---- once nothing is left
-pub record IsColumnSwept (areal : List Bool) (groups : List ℕ) (column : Option Fraction) (came : List Active) (cs : List Contact) (vs : List Vertex) (done : List Active) (more : List Item) : Type 0 where
+pub record IsColumnSwept (areal : List Bool) (groups : List ℕ) (column : Option Fraction) (came : List Active) (cs : List Contact) (vs : List Vertex) (done : List Active) (bundles : List (List ℕ)) (more : List Item) : Type 0 where
   pub levels : List Level
   pub parts : List Part
   pub whole : IsWhole column came cs vs done levels
   pub stops : stops came vs done levels ≡ all_stops parts
   pub coming : all_coming parts ≡ bundles_of cs came
+  pub bundled : all_going parts ≡ bundles
   pub handed : AreHanded areal groups (counts groups []) (counts groups []) parts more
 
-pub swept-whole : (areal : List Bool) (groups : List ℕ) (column : Option Fraction) (came rest : List Active) (cs cs' : List Contact) (vs vs' : List Vertex) (done : List Active) (more : List Item) →
-    rest ≡ [] → vs' ≡ [] → Swept areal groups column came rest cs cs' vs vs' done more → IsColumnSwept areal groups column came cs vs done more
+pub swept-whole : {bs : List (List ℕ)} (areal : List Bool) (groups : List ℕ) (column : Option Fraction) (came rest : List Active) (cs cs' : List Contact) (vs vs' : List Vertex) (done : List Active) (more : List Item) →
+    rest ≡ [] → vs' ≡ [] → Swept areal groups column came rest cs cs' vs vs' done bs more → IsColumnSwept areal groups column came cs vs done bs more
 swept-whole areal groups column came rest cs cs' vs vs' done more e f s =
     record {
       levels = s.levels;
@@ -183,6 +186,7 @@ swept-whole areal groups column came rest cs cs' vs vs' done more e f s =
           ∙ s.stops [] []
           ∙ append-nil (all_stops s.parts);
       coming = sym (append-nil (all_coming s.parts)) ∙ ap (λ z. all_coming s.parts ++ z) (sym (ap (bundles_of cs') e)) ∙ s.coming;
+      bundled = s.bundled;
       handed = s.handed;
     }
 

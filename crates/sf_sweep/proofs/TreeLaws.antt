@@ -1,6 +1,6 @@
 -- A tree of points, one leaf of which is written: each place on the way to the root is mended in turn.
-use Rattle.std.proofs.Common.{◌≡◌, ◌≢◌, ap, sym, ◌∙◌, ℕ, ◌+◌, ◌*◌, ◌/◌, ◌≤◌, ◌<◌, arith, List, Option, None, length, ◌⊎◌, inl, inr}
-use Rattle.std.specs.Prelude.{slice_set}
+use Rattle.std.proofs.Common.{◌≡◌, ◌≢◌, refl, ap, sym, ◌∙◌, ℕ, zero, suc, ◌+◌, ◌*◌, ◌/◌, ◌≤◌, ◌<◌, arith, List, [], ◌∷◌, Option, None, length, ◌⊎◌, inl, inr}
+use Rattle.std.specs.Prelude.{slice_index_or, slice_set}
 use Rattle.std.proofs.lemmas.Bool.{cases_eq}
 use Rattle.std.proofs.lemmas.List.{get_or-set_same, get_or-set_other}
 use Rattle.sf_grid.specs.Plane.{Point}
@@ -59,3 +59,18 @@ all-mended n i tree h t k some few = t k some few (λ e. omega (arith, e, h, som
 pub leaves-kept : (n i : ℕ) (tree : List (Option Point)) (p : Option Point) (leaves : List (Option Point)) → i < n → ((k : ℕ) → n ≤ k → place_at tree k ≡ place_at leaves k) →
     (k : ℕ) → n ≤ k → place_at (slice_set tree i p) k ≡ place_at leaves k
 leaves-kept n i tree p leaves h same k le = elsewhere tree i k p (λ e. omega (arith, e, h, le)) ∙ same k le
+
+-- where the place without is as it would be mended, nothing is without
+pub right-already : (n i : ℕ) (tree : List (Option Point)) → IsTreeBut n i tree → place_at tree i ≡ earlier (place_at tree (2 * i)) (place_at tree (2 * i + 1)) → IsTree n tree
+right-already n i tree h e k some few = by_place (cases_eq k i)
+  where
+    by_place : (k ≡ i) ⊎ ((k ≡ i) → ⊥) → place_at tree k ≡ earlier (place_at tree (2 * k)) (place_at tree (2 * k + 1))
+    by_place (inl same) =
+        ap (place_at tree) same ∙ e ∙ sym (ap (λ j. earlier (place_at tree (2 * j)) (place_at tree (2 * j + 1))) same)
+    by_place (inr d) = h k some few d
+
+-- a place that there is, whatever stands for those that aren't there
+pub place-read : (tree : List (Option Point)) (i : ℕ) (d : Option Point) → i < length tree → slice_index_or tree i d ≡ place_at tree i
+place-read [] i d l = absurd (omega (arith, l))
+place-read (p ∷ tree) zero d l = refl
+place-read (p ∷ tree) (suc i) d l = place-read tree i d (omega (arith, l))

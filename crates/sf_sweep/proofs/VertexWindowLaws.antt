@@ -15,14 +15,11 @@ use Rattle.sf_columns.specs.declared.vertex.Vertex.{Vertex}
 use Rattle.sf_columns.specs.Vertices.{enters, in_column, leaves}
 use Rattle.sf_slabs.specs.Sweeps.{InOrderFrom}
 use Rattle.sf_sweep.specs.NextWindow.{is_top, window_length}
+pub use Rattle.sf_sweep.specs.Within.{FallFrom}
 use Rattle.sf_sweep.proofs.JoinLaws.{IsApartFrom}
 use Rattle.sf_sweep.proofs.UprightLaws.{HasNoTop}
 
 -- ---- the vertices of a column fall
-abbrev pub FallFrom : ℤ → List Vertex → Type 0
-FallFrom y [] = Unit {0}
-FallFrom y (v ∷ vs) = (v.at.y ≤ℤ y) × FallFrom v.at.y vs
-
 next-falls : (a b c d : ℤ) → a ≡ b → (int_lt a b || (int_eq a b && int_lt d c)) ≡ false → c ≤ℤ d
 next-falls a b c d e h = grind (arith, ints)
 

@@ -119,8 +119,8 @@ past-counts : (groups : List ℕ) (bs : List (List ℕ)) → past groups (counts
 past-counts groups bs = past-plus groups (counts groups []) bs ∙ none-enters groups (all_pieces bs)
 
 -- what goes on of it
-pub swept-going : (areal : List Bool) (groups : List ℕ) (column : Option Fraction) (came rest : List Active) (cs cs' : List Contact) (vs ws : List Vertex) (done : List Active) (more : List Item) →
-    (s : Swept areal groups column came rest cs cs' vs ws done more) → past groups (counts groups []) (all_going s.parts) ≡ counts groups (pieces_of done)
+pub swept-going : {bs : List (List ℕ)} (areal : List Bool) (groups : List ℕ) (column : Option Fraction) (came rest : List Active) (cs cs' : List Contact) (vs ws : List Vertex) (done : List Active) (more : List Item) →
+    (s : Swept areal groups column came rest cs cs' vs ws done bs more) → past groups (counts groups []) (all_going s.parts) ≡ counts groups (pieces_of done)
 swept-going areal groups column came rest cs cs' vs ws done more s = past-counts groups (all_going s.parts) ∙ ap (counts groups) s.going
 
 -- what came
@@ -128,8 +128,8 @@ pieces-join : (bs cs : List (List ℕ)) → all_pieces (bs ++ cs) ≡ all_pieces
 pieces-join [] cs = refl
 pieces-join (b ∷ bs) cs = ap (λ ns. b ++ ns) (pieces-join bs cs) ∙ sym (append_assoc b (all_pieces bs) (all_pieces cs))
 
-pub swept-coming : (areal : List Bool) (groups : List ℕ) (column : Option Fraction) (came gone rest : List Active) (cs cs' : List Contact) (vs ws : List Vertex) (done : List Active) (more : List Item) →
-    came ≡ gone ++ rest → (s : Swept areal groups column came rest cs cs' vs ws done more) → past groups (counts groups []) (all_coming s.parts) ≡ counts groups (pieces_of gone)
+pub swept-coming : {bs : List (List ℕ)} (areal : List Bool) (groups : List ℕ) (column : Option Fraction) (came gone rest : List Active) (cs cs' : List Contact) (vs ws : List Vertex) (done : List Active) (more : List Item) →
+    came ≡ gone ++ rest → (s : Swept areal groups column came rest cs cs' vs ws done bs more) → past groups (counts groups []) (all_coming s.parts) ≡ counts groups (pieces_of gone)
 swept-coming areal groups column came gone rest cs cs' vs ws done more split s =
     past-counts groups (all_coming s.parts)
     ∙ ap (counts groups) (append_cancel_right (all_pieces (all_coming s.parts)) (pieces_of gone) (pieces_of rest)

@@ -9,3 +9,4 @@ pub mod Settled
 pub mod Sides
 pub mod NextWindow
 pub mod Within
+pub mod Fresh

@@ -1,5 +1,5 @@
 -- The first of points that are kept by pieces: a tree, each place of which has the earlier of those at twice that place and at the next one.
-use Rattle.std.specs.Prelude.{◌≡◌, ℕ, ◌+◌, ◌*◌, ◌≤◌, ◌<◌, List, Option, None, Some, length, slice_index_or, if◌then◌else◌}
+use Rattle.std.specs.Prelude.{◌≡◌, ℕ, ◌+◌, ◌*◌, ◌≤◌, ◌<◌, List, Option, None, Some, [], ◌∷◌, length, slice_index_or, if◌then◌else◌}
 use Rattle.sf_grid.specs.Plane.{IsPoint, Point}
 use Rattle.sf_columns.specs.declared.contact.Contact.{Contact}
 use Rattle.sf_columns.specs.declared.contact.Contact.TheVariants.{Ahead, Never}
@@ -49,3 +49,8 @@ pub record IsFirstMeeting (contacts : List Contact) (p : Point) : Type 0 where
 -- no edge meets the next one
 abbrev pub NoneMeet : List Contact → Type 0
 NoneMeet contacts = (k : ℕ) → ahead_of (slice_index_or contacts k Never) ≡ None
+
+-- what a first meeting is alone, as a contact
+abbrev pub meeting_of : Option Point → List Contact
+meeting_of None = []
+meeting_of (Some p) = Ahead p ∷ []

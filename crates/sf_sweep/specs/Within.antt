@@ -1,5 +1,5 @@
 -- A column that is swept over: what holds of the edges above a place, which were dealt with, and of those below it, which are as they came.
-use Rattle.std.specs.Prelude.{◌≡◌, ◌≢◌, ℕ, ◌+◌, ◌≤◌, ◌<◌, Bool, true, false, List, [], ◌∷◌, ◌++◌, Option, None, Some, length, sum_by, ◌⊎◌}
+use Rattle.std.specs.Prelude.{◌≡◌, ◌≢◌, ℕ, ◌+◌, ◌≤◌, ◌<◌, ℤ, ◌≤ℤ◌, Bool, true, false, List, [], ◌∷◌, ◌++◌, Option, None, Some, length, sum_by, ◌⊎◌}
 use Rattle.std.specs.List.{AllByRecursion, fold}
 use Rattle.std.specs.Ordering.{int_eq}
 use Rattle.std.specs.declared.cmp.Ordering.TheVariants.{Greater}
@@ -15,7 +15,7 @@ use Rattle.sf_columns.specs.declared.vertex.Vertex.{Vertex}
 use Rattle.sf_columns.specs.Fronts.{AreApart, AreContacts, pieces_of, touches}
 use Rattle.sf_columns.specs.Parts.{is_over}
 use Rattle.sf_columns.specs.Slanted.{slope_order}
-use Rattle.sf_columns.specs.Vertices.{begins, enters, leaves, pieces_with}
+use Rattle.sf_columns.specs.Vertices.{begins, enters, in_column, leaves, pieces_with}
 use Rattle.sf_columns.proofs.CutLaws.{CutOff}
 use Rattle.sf_cells.specs.Groups.{Item, counts}
 use Rattle.sf_cells.specs.Hands.{stops}
@@ -41,6 +41,16 @@ HasNoTop us = AllByRecursion (λ u. enters u.role ≡ true → leaves u.role ≡
 abbrev pub IsApartFrom : List Vertex → List Vertex → Type 0
 IsApartFrom [] us = Unit {0}
 IsApartFrom (v ∷ vs) us = AllByRecursion (λ u. int_eq v.at.y u.at.y ≡ false) us
+
+-- the vertices of a column fall, from a height down
+abbrev pub FallFrom : ℤ → List Vertex → Type 0
+FallFrom y [] = Unit {0}
+FallFrom y (v ∷ vs) = (v.at.y ≤ℤ y) × FallFrom v.at.y vs
+
+-- from the first one on
+abbrev pub Fall : List Vertex → Type 0
+Fall [] = Unit {0}
+Fall (v ∷ vs) = FallFrom v.at.y vs
 
 -- the last edge of an order meets no next one
 abbrev pub IsLastAlone : List Contact → List Active → Type 0
@@ -68,14 +78,15 @@ weigh w es = sum_by w (pieces_of es)
 abbrev pub weigh_begun : (ℕ → ℕ) → List Vertex → ℕ
 weigh_begun w vs = sum_by w (pieces_with begins vs)
 
--- of the edges `came` and the vertices vs of a column those above `rest` and `vs'` were dealt with: `done` goes on from them, and `more` was handed out
-pub record Swept (areal : List Bool) (groups : List ℕ) (column : Option Fraction) (came rest : List Active) (cs cs' : List Contact) (vs vs' : List Vertex) (done : List Active) (more : List Item) : Type 0 where
+-- of the edges `came` and the vertices vs of a column those above `rest` and `vs'` were dealt with: `done` goes on from them, in these bundles, and `more` was handed out
+pub record Swept (areal : List Bool) (groups : List ℕ) (column : Option Fraction) (came rest : List Active) (cs cs' : List Contact) (vs vs' : List Vertex) (done : List Active) (bundles : List (List ℕ)) (more : List Item) : Type 0 where
   pub levels : List Level
   pub parts : List Part
   pub cut : CutOff column came rest cs cs' vs vs' done levels
   pub stops : (os : List Active) (ls : List Level) → stops came vs (done ++ os) (levels ++ ls) ≡ all_stops parts ++ stops rest vs' os ls
   pub coming : all_coming parts ++ bundles_of cs' rest ≡ bundles_of cs came
   pub going : all_pieces (all_going parts) ≡ pieces_of done
+  pub bundled : all_going parts ≡ bundles
   pub handed : AreHanded areal groups (counts groups []) (counts groups []) parts more
 
 -- where it is a meeting ahead, that isn't left of the column x
@@ -113,7 +124,7 @@ pub record IsGiven (k : Column) : Type 0 where
 -- the edges `gone` and the vertices above `ws` were dealt with, and `done` goes on from them; `rest` is left
 pub record IsWithin (k : Column) (gone done rest : List Active) (ws : List Vertex) (table : List Contact) (odd : List (List Bool)) (more : List Item) : Type 0 where
   pub split : k.came ≡ gone ++ rest
-  pub swept : Swept k.areal k.groups (Some k.x) k.came rest k.contacts (contacts_of table rest) k.vertices ws done more
+  pub swept : Swept k.areal k.groups (Some k.x) k.came rest k.contacts (contacts_of table rest) k.vertices ws done (bundles_of (contacts_of table done) done) more
   pub right : AreParities k.areal k.groups odd (counts k.groups []) done
   pub old : AreParities k.areal k.groups odd (counts k.groups (pieces_of gone)) rest
   pub met : AreMet k.x table done rest
@@ -181,3 +192,43 @@ pub record IsBehindWindow {Content : Type 0} {x : Fraction} {groups : List ℕ} 
   pub not_reached : StopsBefore (is_not_above w.bottom) rest'
   pub whole : order' ≡ done' ++ rest'
   pub place : to ≡ length done'
+
+-- ---- down to the end of a column
+-- the edges above a place of an order were dealt with, and these vertices of the column are left
+pub record IsAt (x : Fraction) (groups : List ℕ) (areal : List Bool) (order : List Active) (table : List Contact) (odd : List (List Bool)) (from : ℕ) (left : List Vertex) : Type 0 where
+  pub pieces : List Piece
+  pub before : Fraction
+  pub came : List Active
+  pub contacts : List Contact
+  pub vertices : List Vertex
+  pub gone : List Active
+  pub done : List Active
+  pub rest : List Active
+  pub more : List Item
+  pub given : IsGiven (column_at x groups areal pieces before came contacts vertices)
+  pub within : IsWithin (column_at x groups areal pieces before came contacts vertices) gone done rest left table odd more
+  pub here : AllByRecursion (λ v. in_column x v ≡ true) left
+  pub falling : Fall left
+  pub whole : order ≡ done ++ rest
+  pub place : from ≡ length done
+
+-- edges further, down to another place, were dealt with, and these vertices are left then
+pub record IsSince {Content : Type 0} {x : Fraction} {groups : List ℕ} {areal : List Bool} {order : List Active} {table : List Contact} {odd : List (List Bool)} {from : ℕ} {left : List Vertex}
+    (s : IsAt x groups areal order table odd from left) (order' : List Active) (table' : List Contact) (odd' : List (List Bool)) (to : ℕ) (left' : List Vertex) (after : Content → Item → Content) (old new : Content) : Type 0 where
+  pub gone' : List Active
+  pub done' : List Active
+  pub rest' : List Active
+  pub then : List Item
+  pub handed : new ≡ fold after old then
+  pub within : IsWithin (column_at x groups areal s.pieces s.before s.came s.contacts s.vertices) gone' done' rest' left' table' odd' (s.more ++ then)
+  pub here : AllByRecursion (λ v. in_column x v ≡ true) left'
+  pub falling : Fall left'
+  pub whole : order' ≡ done' ++ rest'
+  pub place : to ≡ length done'
+
+-- all edges and vertices that were left were dealt with: what the order has then goes on from the column
+pub record IsBehindColumn {Content : Type 0} {x : Fraction} {groups : List ℕ} {areal : List Bool} {order : List Active} {table : List Contact} {odd : List (List Bool)} {from : ℕ} {left : List Vertex}
+    (s : IsAt x groups areal order table odd from left) (order' : List Active) (table' : List Contact) (odd' : List (List Bool)) (after : Content → Item → Content) (old new : Content) : Type 0 where
+  pub then : List Item
+  pub handed : new ≡ fold after old then
+  pub within : IsWithin (column_at x groups areal s.pieces s.before s.came s.contacts s.vertices) s.came order' [] [] table' odd' (s.more ++ then)

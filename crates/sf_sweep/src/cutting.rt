@@ -1,6 +1,6 @@
 //! A window of a column, cut into its levels and handed out with the slab right of it.
 
-ghost use Rattle.std.specs.Prelude.{◌≡◌, ◌<◌, ◌≤◌, ◌+◌, ◌-◌, ◌^◌, [], length, vec_capacity};
+ghost use Rattle.std.specs.Prelude.{◌≡◌, ◌<◌, ◌≤◌, ◌+◌, ◌-◌, ◌^◌, [], length, vec_capacity, IfOk};
 ghost use Rattle.std.specs.List.{All, fold};
 ghost use Rattle.sf_columns.specs.Fronts.{AreApart, AreContacts};
 ghost use Rattle.sf_columns.specs.Levels.{most_onward};
@@ -10,6 +10,7 @@ ghost use Rattle.sf_sweep.specs.Cuts.{HasBenchRoom, IsBalancedWindow, KeepsBench
 use sf_cells::{CellSink, Column, Tallies, hand_part};
 use sf_columns::{Active, Contact, Cut, Strip, Vertex};
 use sf_grid::Frac;
+use std::alloc::{AllocError, Global};
 use std::mem::swap;
 
 /// The room in which a window is cut: before that it has the contacts between the edges that come to
@@ -19,6 +20,27 @@ pub struct Bench {
     pub cut: Cut,
     pub order: Vec<Active>,
     pub contacts: Vec<Contact>,
+}
+
+impl Bench {
+    /// Room for so many levels and edges.
+    pub fn new(alloc: Global, levels: usize, edges: usize) -> Result<Bench, AllocError>
+        ensures { IfOk result (λ b. HasBenchRoom levels edges b) }
+    {
+        let cut = Cut {
+            parts: Vec::with_capacity(alloc, levels)?,
+            order: Vec::with_capacity(alloc, edges)?,
+            contacts: Vec::with_capacity(alloc, edges)?,
+            segment: Vec::with_capacity(alloc, edges)?,
+        };
+        let order = Vec::with_capacity(alloc, edges)?;
+        let contacts = Vec::with_capacity(alloc, edges)?;
+        Ok(Bench {
+            cut,
+            order,
+            contacts,
+        })
+    }
 }
 
 /// Cuts a window of the column `x`, and hands out its cells and those of the slab right of it.

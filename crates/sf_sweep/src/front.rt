@@ -1,6 +1,7 @@
 //! The order of the edges right of the last point of the sweep, changed at one place.
 
-ghost use Rattle.std.specs.Prelude.{◌≡◌, ◌+◌, ◌-◌, ◌≤◌, ◌<◌, ◌++◌, take, drop, length, vec_capacity, vec_len};
+ghost use Rattle.std.specs.Prelude.{◌≡◌, ◌+◌, ◌-◌, ◌≤◌, ◌<◌, ◌++◌, [], take, drop, length, replicate, vec_capacity, vec_len, IfOk};
+ghost use Rattle.sf_columns.specs.declared.contact.Contact.TheVariants.{Never};
 ghost use Rattle.std.specs.List.{All};
 ghost use Rattle.sf_sweep.specs.Settled.{WereSettled, forgotten};
 ghost use Rattle.sf_sweep.specs.Tables.{contacts_of};
@@ -9,6 +10,7 @@ use crate::meetings::Meetings;
 use crate::settle::{forget, settle};
 use sf_columns::{Active, Contact};
 use sf_grid::Frac;
+use std::alloc::{AllocError, Global};
 
 /// The edges from the top, and by pieces what each does with the next one; and room for those below a
 /// place at which they change.
@@ -20,6 +22,24 @@ pub struct Front {
 }
 
 impl Front {
+    /// No edge, and room for one of each of so many pieces.
+    pub fn new(alloc: Global, pieces: usize) -> Result<Front, AllocError>
+        requires few { pieces ≤ 65535 }
+        ensures no_edge { IfOk result (λ f. f.order.items ≡ []) }
+        ensures no_meeting { IfOk result (λ f. f.meetings ≡ replicate pieces Never) }
+        ensures room { IfOk result (λ f. pieces ≤ vec_capacity f.order) }
+        ensures tail_room { IfOk result (λ f. pieces ≤ vec_capacity f.tail) }
+    {
+        let order = Vec::with_capacity(alloc, pieces)?;
+        let meetings = Meetings::new(alloc, pieces)?;
+        let tail = Vec::with_capacity(alloc, pieces)?;
+        Ok(Front {
+            order,
+            meetings,
+            tail,
+        })
+    }
+
     /// Puts edges that go on from the column `x`, with the contacts between them, in the place of those
     /// from one place to another.
     pub fn exchange(
@@ -84,11 +104,24 @@ fn replace(
     ensures room { vec_capacity order.old ≤ vec_capacity order.new }
     ensures tail_room { vec_capacity tail.old ≤ vec_capacity tail.new }
 {
+    if segment.len() == to - from {
+        overwrite(order, from, segment);
+        return;
+    }
     tail.clear();
     extend(tail, order.as_slice().split_at(to).1);
     order.truncate(from);
     extend(order, segment);
     extend(order, tail.as_slice());
+}
+
+/// Puts a segment over as many edges from a place on.
+fn overwrite(order: &mut [Active], from: usize, segment: &[Active])
+    requires within { from + length segment.now ≤ length order.old }
+    ensures { order.new ≡ take from order.old ++ segment.now ++ drop (from + length segment.now) order.old }
+{
+    let (_, lower) = order.split_at_mut(from);
+    lower.split_at_mut(segment.len()).0.copy_from_slice(segment);
 }
 
 /// Puts all of `others` behind what there is; there is room for them.

@@ -1,7 +1,9 @@
-//! A sweep that hands out what an event changes: its parts, from a window of a column to a column.
+//! A sweep that hands out what an event changes: items that represent the cells of pieces.
 #![tactic(auto)]
 
 mod bundle;
+mod classes;
+mod columns;
 mod cutting;
 mod front;
 mod meetings;
@@ -12,3 +14,5 @@ mod repair;
 mod settle;
 mod sides;
 mod window;
+
+pub use classes::sweep;

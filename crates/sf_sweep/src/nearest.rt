@@ -1,14 +1,14 @@
 //! The first of the points ahead at which neighbours meet, kept by pieces, one of which changes at a time.
 
-ghost use Rattle.std.specs.Prelude.{◌≡◌, ℕ, ◌+◌, ◌*◌, ◌≤◌, ◌<◌, length, slice_set};
+ghost use Rattle.std.specs.Prelude.{◌≡◌, ℕ, ◌+◌, ◌*◌, ◌≤◌, ◌<◌, true, length, slice_set};
 ghost use Rattle.sf_sweep.specs.Nearest.{IsTree, earlier, place_at};
 ghost use Rattle.sf_sweep.specs.Tables.{point_before};
 
-use sf_grid::FracPoint;
+use sf_grid::{Frac, FracPoint};
 use std::cmp::Ordering;
 
 /// Puts a point, or none, in a place of the leaves of a tree, and the first of every two on the way
-/// to its root.
+/// to its root, as far as that is another one than before.
 pub fn set(tree: &mut [Option<FracPoint>], count: usize, leaf: usize, point: Option<FracPoint>)
     requires few { count ≤ 65535 }
     requires len { length tree.old ≡ 2 * count }
@@ -24,6 +24,9 @@ pub fn set(tree: &mut [Option<FracPoint>], count: usize, leaf: usize, point: Opt
     while place > 1 {
         place /= 2;
         let first = first_of(tree[2 * place], tree[2 * place + 1]);
+        if are_same(&tree[place], &first) {
+            return;
+        }
         tree[place] = first;
     }
 }
@@ -39,6 +42,33 @@ fn first_of(a: Option<FracPoint>, b: Option<FracPoint>) -> Option<FracPoint>
             Some(q) => { if comes_before(&q, &p) { b } else { a } }
         },
     }
+}
+
+/// Whether both are one point, with the same numbers, or there is neither.
+fn are_same(a: &Option<FracPoint>, b: &Option<FracPoint>) -> bool
+    ensures { result ≡ true → a.now ≡ b.now }
+{
+    match a {
+        None => b.is_none(),
+        Some(p) => match b {
+            None => false,
+            Some(q) => is_same_point(p, q),
+        },
+    }
+}
+
+/// Whether both points have the same numbers.
+fn is_same_point(p: &FracPoint, q: &FracPoint) -> bool
+    ensures { result ≡ true → p.now ≡ q.now }
+{
+    is_same_place(&p.x(), &q.x()) && p.y().num() == q.y().num()
+}
+
+/// Whether both places have the same numbers.
+fn is_same_place(a: &Frac, b: &Frac) -> bool
+    ensures { result ≡ true → a.now ≡ b.now }
+{
+    a.num() == b.num() && a.den() == b.den()
 }
 
 /// Whether a point comes before another: columns from the left, each from the top.

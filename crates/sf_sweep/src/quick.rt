@@ -1,12 +1,13 @@
 //! A sweep over columns that looks only at those places of a column at which something happens.
 
-ghost use Rattle.std.specs.Prelude.{◌≡◌, ◌+◌, ◌≤◌, ◌<◌, ◌++◌, ◌^◌, [], None, take, drop, length, map, vec_capacity, vec_len};
+ghost use Rattle.std.specs.Prelude.{◌≡◌, ◌+◌, ◌≤◌, ◌<◌, ◌++◌, ◌^◌, [], None, take, drop, length, map, vec_capacity, vec_len, IfOk};
 ghost use Rattle.std.specs.List.{All};
 ghost use Rattle.sf_columns.specs.Fronts.{AreApart, AreContacts, pieces_of};
 ghost use Rattle.sf_columns.specs.Levels.{most_onward};
 ghost use Rattle.sf_columns.specs.Vertices.{begins, pieces_with};
 ghost use Rattle.sf_cells.specs.Groups.{counts, group_count};
 ghost use Rattle.sf_sweep.specs.Cuts.{HasBenchRoom, IsBalancedWindow, KeepsBenchRoom, WasWindowHanded};
+ghost use Rattle.sf_sweep.specs.Fresh.{IsFresh};
 ghost use Rattle.sf_sweep.specs.Parities.{AreParities, as_count, parities, stored};
 ghost use Rattle.sf_sweep.specs.Passing.{IsLastApart};
 ghost use Rattle.sf_sweep.specs.Repairs.{IsRepaired};
@@ -23,6 +24,7 @@ use crate::window::Window;
 use sf_cells::{CellSink, Tallies};
 use sf_columns::Vertex;
 use sf_grid::Frac;
+use std::alloc::{AllocError, Global};
 
 /// The edges right of the last point of the sweep; by pieces, the parities of what is above each; and
 /// the room that the sweep works in.
@@ -35,6 +37,30 @@ pub struct Quick {
 }
 
 impl Quick {
+    /// No edge, and room for so many pieces, vertices and groups.
+    pub fn new(
+        alloc: Global,
+        pieces: usize,
+        vertices: usize,
+        groups: usize,
+    ) -> Result<Quick, AllocError>
+        requires few { pieces ≤ 65535 }
+        requires few_vertices { vertices ≤ 131070 }
+        ensures { IfOk result (λ q. IsFresh pieces vertices groups q) }
+    {
+        let front = Front::new(alloc, pieces)?;
+        let odd = Vec::from_elem(alloc, [false; 8], pieces)?;
+        let bench = Bench::new(alloc, pieces + vertices, pieces)?;
+        let on = Vec::from_elem(alloc, 0, groups)?;
+        let above = Vec::from_elem(alloc, 0, groups)?;
+        Ok(Quick {
+            front,
+            odd,
+            bench,
+            tallies: Tallies { on, above },
+        })
+    }
+
     /// Cuts a window of the column `x`: the edges from one place of the order to another, and vertices.
     /// Hands out its cells and those right of it, puts what goes on in the place of what came, and
     /// stores the parities above that. The place behind it.

@@ -1,0 +1,34 @@
+use Rattle.std.proofs.Common.{sym, subst, ap, ◌∙◌, ◌≤◌, length, rules, replicate}
+use Rattle.sf_cells.proofs.CallerLemmas.{counts_none}
+use Rattle.sf_classes.proofs.ClassLaws.{handed-walk}
+use Rattle.sf_slabs.proofs.SweepLaws.{few-number, vertices-few}
+use Rattle.sf_sweep.proofs.MarksLaws.{groups-few}
+use Rattle.sf_sweep.proofs.classes.sweep_marked.Goals as goal
+
+pub are_under_few-requires : goal.are_under_few-requires
+are_under_few-requires g c =
+    record {
+      few = subst (λ vs. length vs ≤ 131070) (sym c.as_slice.ensures.value) (vertices-few c.args.pieces.now c.in_ok-vertices.vertices.items c.requires.few c.in_ok-vertices.ensures.all);
+    }
+
+pub new-requires-clause-few_vertices : goal.new-requires-clause-few_vertices
+new-requires-clause-few_vertices g c =
+    few-number _ _ (length c.in_ok-vertices.vertices.items) c.len.ensures (search rules)
+    (vertices-few c.args.pieces.now c.in_ok-vertices.vertices.items c.requires.few c.in_ok-vertices.ensures.all)
+
+pub run-requires-clause-few_vertices : goal.run-requires-clause-few_vertices
+run-requires-clause-few_vertices g c =
+    subst (λ vs. length vs ≤ 131070) (sym c.as_slice-2.ensures.value)
+    (vertices-few c.args.pieces.now c.in_ok-vertices.vertices.items c.requires.few c.in_ok-vertices.ensures.all)
+
+pub run-requires-clause-few_groups : goal.run-requires-clause-few_groups
+run-requires-clause-few_groups g c = groups-few 8 c.args.groups.now c.requires.few_groups
+
+pub run-requires-clause-none_on : goal.run-requires-clause-none_on
+run-requires-clause-none_on g c = c.in_ok-quick.ensures.none_on ∙ ap (λ n. replicate n 0) c.group_count.ensures ∙ sym (counts_none c.args.groups.now)
+
+pub run-requires-clause-none_above : goal.run-requires-clause-none_above
+run-requires-clause-none_above g c = c.in_ok-quick.ensures.none_above ∙ ap (λ n. replicate n 0) c.group_count.ensures ∙ sym (counts_none c.args.groups.now)
+
+pub returns-then-are_under_few-clause-ok : goal.returns-then-are_under_few-clause-ok
+returns-then-are_under_few-clause-ok g c = handed-walk c.walk.result c.args.pieces.now c.args.groups.now c.args.areal.now _ _ _ c.walk.ensures.ok

@@ -1,0 +1,114 @@
+//! Items that represent the cells of pieces, by a sweep that hands out only what an event changes.
+
+ghost use Rattle.std.specs.Prelude.{◌≡◌, ◌-◌, ◌<◌, ◌≤◌, ◌++◌, false, length, replicate, OnErr, OnOk};
+ghost use Rattle.std.specs.List.{All};
+ghost use Rattle.sf_cells.specs.Groups.{group_count as group_count_of};
+ghost use Rattle.sf_cells.specs.Pieces.{HasLength};
+ghost use Rattle.sf_classes.specs.Classes.{WereHanded};
+
+use crate::quick::Quick;
+use sf_cells::CellSink;
+use sf_columns::{Piece, Role, Vertex, vertices};
+use sf_slabs::walk;
+use std::alloc::{AllocError, Global};
+
+/// How many groups there can be, and how many marks of them: as many as a row of parities has.
+const ROW: usize = 8;
+
+/// How many edges are over a vertex on the average, at most, where `walk` is quicker.
+const FEW: usize = 4;
+
+/// Hands items to the sink that represent the cells of the pieces: for each item there is a cell
+/// of its class with at least its dimension, and for each cell such an item. Items are of one class
+/// if they have the same counts on them and, of each group that `areal` marks, the same parity of
+/// edges above; no more than that parity may be read from the counts above. A group should be
+/// marked only if its edges are closed chains: else the answer is as right, but slow. With more groups
+/// or marks than a row has, and where cells are few, it hands out all cells. Where memory is wanting the
+/// sink is left as it was.
+/// A sink that is full may be handed no further item: those that are left would change nothing in it.
+pub fn sweep<S: CellSink>(
+    alloc: Global,
+    pieces: &[Piece],
+    groups: &[u32],
+    areal: &[bool],
+    sink: &mut S,
+) -> Result<(), AllocError>
+    requires have_length { All HasLength pieces.now }
+    requires few { length pieces.now ≤ 65535 }
+    requires one_group_each { length groups.now ≡ length pieces.now }
+    requires groups_in_range { All (λ g. g < length pieces.now) groups.now }
+    ensures ok { OnOk result (WereHanded pieces.now groups.now areal.now S.after
+        (S.content sink.old) (S.content sink.new)) }
+    ensures err { OnErr result (sink.new ≡ sink.old) }
+{
+    if group_count(groups) > ROW || areal.len() > ROW {
+        return walk(alloc, pieces, groups, sink);
+    }
+    sweep_marked(alloc, pieces, groups, &row_of(areal), sink)
+}
+
+/// The same, where a row has all groups. All room is made before the first item.
+fn sweep_marked<S: CellSink>(
+    alloc: Global,
+    pieces: &[Piece],
+    groups: &[u32],
+    areal: &[bool; 8],
+    sink: &mut S,
+) -> Result<(), AllocError>
+    requires have_length { All HasLength pieces.now }
+    requires few { length pieces.now ≤ 65535 }
+    requires one_group_each { length groups.now ≡ length pieces.now }
+    requires groups_in_range { All (λ g. g < length pieces.now) groups.now }
+    requires few_groups { group_count_of groups.now ≤ 8 }
+    ensures ok { OnOk result (WereHanded pieces.now groups.now areal.now S.after
+        (S.content sink.old) (S.content sink.new)) }
+    ensures err { OnErr result (sink.new ≡ sink.old) }
+{
+    let vertices = vertices(alloc, pieces)?;
+    if are_under_few(vertices.as_slice()) {
+        return walk(alloc, pieces, groups, sink);
+    }
+    let mut quick = Quick::new(alloc, pieces.len(), vertices.len(), group_count(groups))?;
+    quick.run(sink, pieces, groups, areal, vertices.as_slice());
+    Ok(())
+}
+
+/// Whether few edges are over the vertices, on the average. Then there are hardly more cells than events,
+/// and `walk`, which searches nothing, is quicker. It can't be far slower even where all edges cross: of
+/// edges that are over one place each one counts those that began before it.
+fn are_under_few(vertices: &[Vertex]) -> bool
+    requires few { length vertices.now ≤ 131070 }
+{
+    let mut over = 0usize;
+    let mut total = 0usize;
+    for vertex in vertices {
+        match vertex.role {
+            Role::Begin(_) => over = over.saturating_add(1),
+            Role::End => over = over.saturating_sub(1),
+            _ => {}
+        }
+        total = total.saturating_add(over);
+    }
+    total <= FEW * vertices.len()
+}
+
+/// The marks of groups, as many as a row has: those that aren't there aren't asked for.
+fn row_of(areal: &[bool]) -> [bool; 8]
+    requires few { length areal.now ≤ 8 }
+    ensures { result ≡ areal.now ++ replicate (8 - length areal.now) false }
+{
+    let mut row = [false; 8];
+    row.split_at_mut(areal.len()).0.copy_from_slice(areal);
+    row
+}
+
+/// How many groups there are: the greatest number plus one, or 0.
+fn group_count(groups: &[u32]) -> usize
+    ensures { result ≡ group_count_of groups.now }
+{
+    let mut count = 0;
+    for group in groups {
+        count = count.max(*group as usize + 1);
+    }
+    count
+}
