@@ -1206,10 +1206,10 @@ def _feature(row: str) -> Feature:
     found = _ROW.match(row)
     if found is None:
         raise ValueError(f"no feature: {row!r}")
-    return Feature(int(found[1]), found[2], _row_values(row, found.end()))
+    return Feature(int(found[1]), found[2], row_values(row, found.end()))
 
 
-def _row_values(row: str, at: int) -> dict[str, Value]:
+def row_values(row: str, at: int) -> dict[str, Value]:
     """The values that stand in a row of ``show`` from a place on, by their names."""
     values: dict[str, Value] = {}
     while at < len(row):
