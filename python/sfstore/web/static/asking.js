@@ -48,7 +48,7 @@ export class Asking {
     this.app.overlay.show("asked", shape);
     for (const name of layers) {
       const answer = await this.app.run(`${how[0]} ${name} ${how[1]} ${wkt}`, true);
-      if (!answer || answer.refused) break;
+      if (answer.refused) break;
     }
   }
 

@@ -12,11 +12,10 @@ const REST_MILLISECONDS = 120;
 const FAR_PIXELS = 50_000;
 
 export class FeatureMap {
-  constructor(world, view, onShown, onFault) {
+  constructor(world, view, onShown) {
     this.world = world;
     this.view = view;
     this.onShown = onShown;
-    this.onFault = onFault;
     this.layers = [];
     this.origin = null;
     this.seen = null;
@@ -49,19 +48,20 @@ export class FeatureMap {
   follow() {
     this.#place();
     clearTimeout(this.rest);
-    if (!this.#hasAll()) this.rest = setTimeout(() => this.refresh(), REST_MILLISECONDS);
+    if (this.layers.length && !this.#hasAll()) this.rest = setTimeout(() => this.refresh(), REST_MILLISECONDS);
   }
 
   /** Asks for what the window has, and draws it. Further calls meanwhile make one more round. */
   refresh() {
     this.wanted = true;
-    this.running ??= this.#fetch().catch(this.onFault).finally(() => (this.running = null));
+    this.running ??= this.#fetch().finally(() => (this.running = null));
     return this.running;
   }
 
   async #fetch() {
     while (this.wanted) {
       this.wanted = false;
+      const start = performance.now();
       const { scale } = this.view;
       const box = this.#box();
       const shown = this.layers.filter((layer) => layer.shown).map((layer) => layer.name);
@@ -69,6 +69,7 @@ export class FeatureMap {
       this.#show(answer.layers);
       this.seen = { box, scale, most: answer.most };
       this.onShown(this.#words());
+      performance.measure("window", { start });
     }
   }
 

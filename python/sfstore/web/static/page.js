@@ -22,7 +22,7 @@ class App {
     this.steps = { undo: null, redo: null };
     this.view = new View(svg, () => this.#follow());
     this.overlay = new Overlay(byId("overlay"), this.view);
-    this.map = new FeatureMap(byId("world"), this.view, (words) => this.#shown(words), (fault) => this.#fail(fault));
+    this.map = new FeatureMap(byId("world"), this.view, (words) => this.#shown(words));
     this.selection = new Selection(this);
     this.asking = new Asking(this);
     this.hand = new Hand(this);
@@ -39,7 +39,7 @@ class App {
     byId("save").onclick = () => this.run("save");
     byId("zoom-in").onclick = () => this.view.zoom(1.5);
     byId("zoom-out").onclick = () => this.view.zoom(1 / 1.5);
-    byId("fit").onclick = () => this.#guarded(() => this.showAll());
+    byId("fit").onclick = () => this.showAll();
     byId("person").onclick = () => byId("login").showModal();
     byId("refusal").querySelector("button").onclick = () => this.#closeRefusal();
     byId("login").querySelector("form").onsubmit = (event) => {
@@ -53,8 +53,8 @@ class App {
     const name = sessionStorage.getItem(NAME);
     if (name) await this.logIn(name);
     else byId("login").showModal();
-    await this.#guarded(() => this.showAll());
-    listen((event) => this.#guarded(() => this.#hear(event)), () => this.tell("The connection is lost; it is tried again."));
+    await this.showAll();
+    listen((event) => this.#hear(event), () => this.tell("The connection is lost; it is tried again."));
   }
 
   async logIn(name) {
@@ -90,22 +90,21 @@ class App {
     return found;
   }
 
-  /** Has a line carried out, and shows its answer. Gives the answer, or nothing where there is none. */
+  /** Has a line carried out, and shows its answer. */
   async run(line, isFurther = false) {
     let answer;
     try {
       answer = await call("line", { editor: this.editor ?? 0, line });
     } catch (fault) {
-      this.log.add(line, fault.message, "refused");
-      this.#fail(fault);
-      return undefined;
+      if (fault instanceof CallFailed) this.log.add(line, fault.message, "refused");
+      throw fault;
     }
     this.log.addAnswer(line, answer);
     if (answer.refused) this.#tellRefused(answer.refused);
     else {
       this.#closeRefusal();
       if (answer.rows && /^[ \t]*(query|match)[ \t]/.test(line)) this.asking.take(line.trim(), answer, isFurther);
-      else if (answer.answer) await this.#guarded(() => this.#redraw(line));
+      else if (answer.answer) await this.#redraw(line);
     }
     return answer;
   }
@@ -113,7 +112,7 @@ class App {
   /** Adds what was drawn to a layer, and selects it. */
   async draw(layer, wkt) {
     const answer = await this.run(`add ${layer} ${wkt}`);
-    const found = /^ok ([0-9]+)$/.exec(answer?.answer ?? "");
+    const found = /^ok ([0-9]+)$/.exec(answer.answer ?? "");
     if (found) await this.selection.choose({ layer, id: Number(found[1]) });
   }
 
@@ -174,19 +173,6 @@ class App {
     this.overlay.showRefused(null, []);
   }
 
-  async #guarded(work) {
-    try {
-      return await work();
-    } catch (fault) {
-      this.#fail(fault);
-    }
-  }
-
-  #fail(fault) {
-    if (!(fault instanceof CallFailed)) throw fault;
-    this.tell(fault.message);
-  }
-
   #shown(words) {
     this.tell(words);
     for (const note of byId("layers").querySelectorAll("[data-count]")) {
@@ -234,7 +220,7 @@ class App {
       "+": () => view.zoom(1.5),
       "=": () => view.zoom(1.5),
       "-": () => view.zoom(1 / 1.5),
-      0: () => this.#guarded(() => this.showAll()),
+      0: () => this.showAll(),
       " ": () => hand.click({}, middle),
       Enter: () => hand.finish(),
       Backspace: () => hand.takeBack(),
@@ -255,10 +241,10 @@ class App {
   /** Selects the feature that is drawn after or before the one that is selected. */
   #step(by) {
     const all = [...this.map.drawnFeatures()].map(([layer, { id }]) => ({ layer: layer.name, id }));
-    const chosen = this.selection.place;
+    const chosen = this.selection.wanted;
     const at = all.findIndex(({ layer, id }) => layer === chosen?.layer && id === chosen.id);
     const next = all[(at < 0 && by < 0 ? all.length : at) + by] ?? all.at(by > 0 ? 0 : -1);
-    if (next) this.#guarded(() => this.selection.choose(next));
+    if (next) this.selection.choose(next);
   }
 
   #anyKey(event) {
@@ -271,4 +257,10 @@ class App {
   }
 }
 
-new App().begin();
+const app = new App();
+addEventListener("unhandledrejection", (event) => {
+  if (!(event.reason instanceof CallFailed)) return;
+  event.preventDefault();
+  app.tell(event.reason.message);
+});
+app.begin();

@@ -11,6 +11,7 @@ export class Selection {
   constructor(app) {
     this.app = app;
     this.feature = null;
+    this.wanted = null;
     byId("replace").onclick = () => this.#run(`replace ${this.#name()} ${byId("wkt").value.replaceAll("\n", " ")}`);
     byId("delete").onclick = () => this.delete();
     byId("go").onclick = () => app.view.fit(boxOf(this.feature.members));
@@ -30,7 +31,9 @@ export class Selection {
 
   /** Selects a feature, or nothing. */
   async choose(place) {
+    this.wanted = place;
     const found = place && (await call("feature", place));
+    if (this.wanted !== place) return;
     this.feature = found && !found.refused ? found : null;
     this.app.mark();
     this.#tell();
@@ -51,30 +54,32 @@ export class Selection {
     byId("chosen").hidden = !feature;
     byId("chosen-title").textContent = feature ? `${this.#name()}, a ${KINDS[feature.code]}` : "Nothing selected";
     if (!feature) return;
-    byId("wkt").value = feature.wkt;
-    byId("values").replaceChildren(...feature.values.map((value) => this.#row(value)));
+    if (document.activeElement !== byId("wkt")) byId("wkt").value = feature.wkt;
+    const shown = JSON.stringify([feature.layer, feature.id, feature.values.map(({ name, type }) => [name, type])]);
+    // The same fields stay, so that nobody is disturbed who types in one of them.
+    if (shown !== this.shown) byId("values").replaceChildren(...feature.values.map((value) => this.#row(value)));
+    this.shown = shown;
+    feature.values.forEach(fill);
   }
 
-  /** A row of the table: the name of a column, and its value to be edited. */
-  #row({ name, type, value }) {
-    const id = `value-${name}`;
-    const input = element("input", { id, value: value ?? "", autocomplete: "off", spellcheck: false });
-    input.placeholder = value === null ? "no value" : "";
+  /** A row of the table: the name of a column, and a field for its value. */
+  #row({ name, type }) {
+    const input = element("input", { id: `value-${name}`, autocomplete: "off", spellcheck: false });
     if (type === "int") input.inputMode = "numeric";
-    input.onchange = () => this.#set(name, type, input.value);
+    input.onchange = () => this.#set(name, type, input);
     const clear = element("button", { type: "button", ariaLabel: `Clear ${name}`, title: `Clear ${name}` }, "×");
     clear.onclick = () => this.#run(`unset ${this.#name()} ${name}`);
-    clear.disabled = value === null;
-    const label = element("label", { htmlFor: id }, `${name} (${type})`);
+    const label = element("label", { htmlFor: input.id }, `${name} (${type})`);
     return element("tr", {}, element("th", { scope: "row" }, label), element("td", {}, input), element("td", {}, clear));
   }
 
-  async #set(name, type, text) {
-    const value = type === "text" ? `'${text.replaceAll("'", "''")}'` : text.trim();
+  async #set(name, type, input) {
+    const value = type === "text" ? `'${input.value.replaceAll("'", "''")}'` : input.value.trim();
     const isGone = type === "int" && value === "";
-    const line = isGone ? `unset ${this.#name()} ${name}` : `set ${this.#name()} ${name} ${value}`;
-    const answer = await this.#run(line);
-    if (answer?.refused) this.#tell();
+    const before = input.defaultValue;
+    input.defaultValue = input.value;
+    const answer = await this.#run(isGone ? `unset ${this.#name()} ${name}` : `set ${this.#name()} ${name} ${value}`);
+    if (answer.refused) input.value = input.defaultValue = before;
   }
 
   /** Draws a handle for each vertex that is seen, and one between each two. */
@@ -163,6 +168,16 @@ export class Selection {
     const middle = middlesOf(code, members).find((place) => place.part === part && place.ring === ring && place.index === index + 1);
     if (middle) this.#run(`vertex insert ${this.#name()} ${numbers(middle)} ${middle.x} ${middle.y}`);
   }
+}
+
+/** Shows a value in its field, but not over what is being typed there. */
+function fill({ name, value }) {
+  const input = byId(`value-${name}`);
+  const isTyped = input === document.activeElement && input.value !== input.defaultValue;
+  input.defaultValue = value ?? "";
+  if (!isTyped) input.value = input.defaultValue;
+  input.placeholder = value === null ? "no value" : "";
+  input.closest("tr").querySelector("button").disabled = value === null;
 }
 
 const numbers = ({ part, ring, index }) => `${part} ${ring} ${index}`;
