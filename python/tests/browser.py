@@ -42,7 +42,8 @@ def start():
 class Page:
     """A page of a server, in a tab of its own."""
 
-    def __init__(self, driver, serving, name, known=("parcels-2", (180, 0))):
+    def __init__(self, driver, serving, name, known=("parcels-2", (180, 0)), is_there=None):
+        """A page that has come: it draws something, or what `is_there` says of it is so."""
         from selenium.webdriver.common.by import By
         from selenium.webdriver.common.keys import Keys
 
@@ -55,7 +56,7 @@ class Page:
             self.until(lambda: self.one("#login").get_property("open"))
             self.one("#login-name").send_keys(name, Keys.ENTER)
             self.until(lambda: self.text("#person") == name)
-        self.until(self.drawn)
+        self.until(lambda: is_there(self) if is_there else self.drawn(), 60)
 
     def here(self):
         """Goes to the tab of this page."""

@@ -36,6 +36,7 @@ class Mirror:
         self._seconds = seconds
         self._store: Store | None = None
         self._version = 0
+        self._closed = False
         self.values = Values()
         self._thread = ThreadPoolExecutor(1, "mirror")
         self._places = threading.BoundedSemaphore(_WAITING_MAX)
@@ -52,14 +53,17 @@ class Mirror:
             self._places.release()
 
     def close(self) -> None:
-        """Ends the program, also in the middle of a question."""
+        """Ends the program, also in the middle of a question. Those that wait are not asked."""
+        self._closed = True
         store = self._store
         if store is not None:
             store.stop()
-        self._thread.submit(self._drop)
         self._thread.shutdown()
+        self._drop()
 
     def _ask(self, question: Callable[[Store], _T]) -> _T:
+        if self._closed:
+            raise Unavailable("The server ends.")
         store = self._current()
         try:
             with self._limited(store):

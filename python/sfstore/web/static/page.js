@@ -14,6 +14,7 @@ const NAME = "sfstore-name";
 // Edits of these change nothing that is drawn.
 const UNDRAWN = /^[ \t]*(set|unset|column)[ \t]/;
 const PAN_PIXELS = 60;
+const LOST = "The connection is lost. Where sfstore-web was started again, open its new address.";
 
 class App {
   constructor() {
@@ -54,7 +55,7 @@ class App {
     if (name) await this.logIn(name);
     else byId("login").showModal();
     await this.showAll();
-    listen((event) => this.#hear(event), () => this.tell("The connection is lost; it is tried again."));
+    listen((event) => this.#hear(event), () => this.tell(LOST));
   }
 
   async logIn(name) {
@@ -92,9 +93,13 @@ class App {
 
   /** Has a line carried out, and shows its answer. */
   async run(line, isFurther = false) {
+    if (!this.editor) {
+      byId("login").showModal();
+      throw new CallFailed("Log in first.");
+    }
     let answer;
     try {
-      answer = await call("line", { editor: this.editor ?? 0, line });
+      answer = await call("line", { editor: this.editor, line });
     } catch (fault) {
       if (fault instanceof CallFailed) this.log.add(line, fault.message, "refused");
       throw fault;
@@ -166,6 +171,16 @@ class App {
     box.querySelector(".help").textContent = refused.help;
     box.hidden = false;
     this.overlay.showRefused(refused.members ? refused : null, place?.points ?? []);
+    if (place) this.#uncover(place.points[0]);
+  }
+
+  /** Moves the map where the words hide a place that they tell of. */
+  #uncover(point) {
+    const box = byId("refusal").getBoundingClientRect();
+    const frame = this.view.svg.getBoundingClientRect();
+    const [left, top] = this.view.toPixels(...point);
+    const isHidden = left > box.left - frame.left && left < box.right - frame.left && top > 0 && top < box.bottom - frame.top;
+    if (isHidden) this.view.pan(0, box.bottom - frame.top + PAN_PIXELS - top);
   }
 
   #closeRefusal() {
