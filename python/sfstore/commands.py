@@ -2,13 +2,14 @@
 
 from __future__ import annotations
 
-from collections.abc import Callable
+import difflib
+from collections.abc import Callable, Sequence
 from typing import NamedTuple, get_args
 
 from sfstore.geometry import KINDS
 from sfstore.store import Predicate
 
-__all__ = ["COMMANDS", "OWN", "Command", "candidates", "help_text"]
+__all__ = ["COMMANDS", "OWN", "Command", "candidates", "help_text", "near_words"]
 
 
 class Command(NamedTuple):
@@ -95,17 +96,31 @@ _WORDS = {
 }
 
 
-def help_text(word: str) -> str:
-    """The commands that begin with a word, with examples; all of them for an empty word."""
-    found = [command for command in COMMANDS + OWN if command.usage.split(" ")[0] == word]
+def help_text(word: str, own: Sequence[Command] = OWN) -> str:
+    """The commands that begin with a word, with examples; all of them for an empty word.
+
+    ``own`` are those that stand beside the program's.
+    """
+    commands = [*COMMANDS, *own]
+    found = [command for command in commands if command.usage.split(" ")[0] == word]
     if found:
         lines = [f"{usage}\n    {meaning}\n    example: {example}" for usage, meaning, example in found]
     elif word:
         return f"There is no command {word}; `help` lists them."
     else:
-        width = max(len(command.usage) for command in COMMANDS + OWN)
-        lines = [f"{usage:{width}}  {meaning}" for usage, meaning, _ in COMMANDS + OWN]
+        width = max(len(command.usage) for command in commands)
+        lines = [f"{usage:{width}}  {meaning}" for usage, meaning, _ in commands]
     return "\n".join(lines)
+
+
+def near_words(line: str, own: Sequence[Command] = OWN) -> str:
+    """What may have been meant, where the first word is no command, or how it is used."""
+    word = next((word for word in line.split() if not word.startswith("@")), "")
+    known = [command.usage.split(" ")[0] for command in [*COMMANDS, *own]]
+    if word in known:
+        return "It is used so:\n" + help_text(word, own)
+    near = difflib.get_close_matches(word, known, 1)
+    return f"Is `{near[0]}` meant?" if near else ""
 
 
 def candidates(

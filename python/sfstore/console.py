@@ -8,7 +8,6 @@ from __future__ import annotations
 
 import argparse
 import contextlib
-import difflib
 import os
 import pydoc
 import shlex
@@ -23,16 +22,16 @@ from pathlib import Path
 from typing import Protocol
 
 from sfstore import files
-from sfstore.commands import COMMANDS, OWN, candidates, help_text
+from sfstore.commands import candidates, help_text, near_words
 from sfstore.exchange import exporting, importing
 from sfstore.faults import fault_of
-from sfstore.geometry import NotTaken, Shape, read_wkb, read_wkt
 from sfstore.journal import JournalError
+from sfstore.lines import geometry_of
 from sfstore.refusals import words_of
 from sfstore.store import ProgramEnded, Refused, Store
 from sfstore.storefile import fault_words
 
-__all__ = ["Console", "geometry_of", "main"]
+__all__ = ["Console", "main"]
 
 Complete = Callable[[str], "list[str]"]
 
@@ -209,7 +208,7 @@ class Console:
         if place:
             print(f"  {place}")
             print("  (This place is worked out by the console, outside of the proved program.)")
-        near = self._near_words(line) if refused.number == 31 else ""
+        near = near_words(line) if refused.number == 31 else ""
         print(f"  {near or words.help}")
 
     def _place(self, number: int, line: str) -> str:
@@ -218,15 +217,6 @@ class Console:
             return ""
         shape = geometry_of(line, self._store)
         return str(fault_of(number, shape) or "") if shape else ""
-
-    def _near_words(self, line: str) -> str:
-        """What may have been meant, where the first word is no command, or how it is used."""
-        word = next((word for word in line.split() if not word.startswith("@")), "")
-        known = [command.usage.split(" ")[0] for command in COMMANDS + OWN]
-        if word in known:
-            return "It is used so:\n" + help_text(word)
-        near = difflib.get_close_matches(word, known, 1)
-        return f"Is `{near[0]}` meant?" if near else ""
 
     def _complete(self, line: str) -> list[str]:
         return candidates(line, self._layer_names, self._column_names)
@@ -307,40 +297,6 @@ class Console:
         with contextlib.suppress(SystemExit):
             if exporting.main([self._path, *words, f"--program={self._program}"]) == 0:
                 print("It is written.")
-
-
-def geometry_of(line: str, store: Store) -> Shape | None:
-    """The geometry that a refused line would have brought, or none where that is not known."""
-    words = line.split()
-    if words[0].startswith("@"):
-        words = words[1:]
-    given = {"add": 2, "addhex": 2, "replace": 3, "relate": 3, "match": 3, "query": 3}
-    try:
-        if words[0] == "addhex":
-            return read_wkb(bytes.fromhex(words[2]))
-        if words[0] in given:
-            return read_wkt(" ".join(words[given[words[0]] :]))
-        if words[0] == "vertex":
-            shape = read_wkb(bytes.fromhex(store.hex(words[2], int(words[3]))))
-            return _with_vertex(shape, words[1], [int(word.split(".")[0]) for word in words[4:]])
-    except (NotTaken, Refused, ValueError, IndexError):
-        pass
-    return None
-
-
-def _with_vertex(shape: Shape, change: str, numbers: list[int]) -> Shape:
-    """A geometry with a vertex inserted, moved or removed. `IndexError` where it has no such one."""
-    part, ring, index, *place = numbers
-    members = [[list(line) for line in member] for member in shape.members]
-    line = members[part][ring]
-    closes = shape.code in (3, 6)
-    if closes:
-        del line[-2:]
-    until = 2 * index + (0 if change == "insert" else 2)
-    line[2 * index : until] = place
-    if closes:
-        line += line[:2]
-    return Shape(shape.code, [list(member) for member in members])
 
 
 def _terminal(complete: Complete) -> _Terminal:

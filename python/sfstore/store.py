@@ -717,6 +717,23 @@ class Store(Editor):
         else:
             self._program.abort()
 
+    def stop(self) -> None:
+        """Kills the program, from any thread, in the middle of a command that takes too long.
+
+        The command raises `ProgramEnded` in its own thread, and so does each one after it. Nothing
+        is saved; with a journal the next opening has every edit that was answered.
+
+        >>> with Store() as store:
+        ...     store.stop()
+        ...     try:
+        ...         store.layers()
+        ...     except ProgramEnded as ended:
+        ...         ended.status
+        ...     store.close(save=False)
+        -9
+        """
+        self._program.stop()
+
     def save(self) -> None:
         """Saves a store with a journal to its file, and begins a new journal.
 
@@ -749,6 +766,15 @@ class Store(Editor):
         An undo is an edit here, and so is a redo. `RuntimeError` without a journal.
         """
         return self._journaled().unsaved
+
+    @property
+    def unsaved_lines(self) -> list[str]:
+        """The accepted edits that the file does not have, in their order, with their editors.
+
+        A program that loads the file and is given them has the content and the history of the
+        store. `RuntimeError` without a journal.
+        """
+        return self._journaled().unsaved_lines
 
     @property
     def recovered(self) -> Recovered:
@@ -788,6 +814,9 @@ class _Link(Protocol):
 
     def abort(self) -> None:
         """Ends the program, and saves nothing."""
+
+    def stop(self) -> None:
+        """Kills the program, from any thread."""
 
 
 class _Program:
@@ -856,6 +885,10 @@ class _Program:
         if os.getpid() == self._owner and not self._closed:
             self._closed = True
             self._kill()
+
+    def stop(self) -> None:
+        """Kills the program, and leaves the pipes to the thread that reads them."""
+        self._process.kill()
 
     def close_inherited_input(self) -> None:
         """Closes the copy of the input that a forked process has: the program shall see its end."""
@@ -944,6 +977,13 @@ class _Journaled:
     @property
     def unsaved(self) -> int:
         return len(self._journal.lines)
+
+    @property
+    def unsaved_lines(self) -> list[str]:
+        return [line[:-1].decode("utf-8") for line in self._journal.lines]
+
+    def stop(self) -> None:
+        self._program.stop()
 
     def exchange(self, lines: Sequence[bytes]) -> list[Answer | Refused]:
         self._program.check_user()
@@ -1166,10 +1206,10 @@ def _feature(row: str) -> Feature:
     found = _ROW.match(row)
     if found is None:
         raise ValueError(f"no feature: {row!r}")
-    return Feature(int(found[1]), found[2], _row_values(row, found.end()))
+    return Feature(int(found[1]), found[2], row_values(row, found.end()))
 
 
-def _row_values(row: str, at: int) -> dict[str, Value]:
+def row_values(row: str, at: int) -> dict[str, Value]:
     """The values that stand in a row of ``show`` from a place on, by their names."""
     values: dict[str, Value] = {}
     while at < len(row):

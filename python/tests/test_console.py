@@ -20,7 +20,7 @@ from importlib.util import find_spec
 from support import FOLDER, PROGRAM, TestCase
 
 from sfstore import Store, commands
-from sfstore.console import geometry_of
+from sfstore.lines import geometry_of
 
 HAS_TOOLKIT = find_spec("prompt_toolkit") is not None
 HAS_GDAL = find_spec("osgeo") is not None

@@ -1,0 +1,42 @@
+"""What a line of the console would have brought, where the program refused it."""
+
+from __future__ import annotations
+
+from sfstore.geometry import NotTaken, Shape, read_wkb, read_wkt
+from sfstore.store import Editor, Refused
+
+__all__ = ["geometry_of"]
+
+
+def geometry_of(line: str, store: Editor) -> Shape | None:
+    """The geometry that a refused line would have brought, or none where that is not known."""
+    words = line.split()
+    if words[0].startswith("@"):
+        words = words[1:]
+    given = {"add": 2, "addhex": 2, "replace": 3, "relate": 3, "match": 3, "query": 3}
+    try:
+        if words[0] == "addhex":
+            return read_wkb(bytes.fromhex(words[2]))
+        if words[0] in given:
+            return read_wkt(" ".join(words[given[words[0]] :]))
+        if words[0] == "vertex":
+            shape = read_wkb(bytes.fromhex(store.hex(words[2], int(words[3]))))
+            return _with_vertex(shape, words[1], [int(word.split(".")[0]) for word in words[4:]])
+    except (NotTaken, Refused, ValueError, IndexError):
+        pass
+    return None
+
+
+def _with_vertex(shape: Shape, change: str, numbers: list[int]) -> Shape:
+    """A geometry with a vertex inserted, moved or removed. `IndexError` where it has no such one."""
+    part, ring, index, *place = numbers
+    members = [[list(line) for line in member] for member in shape.members]
+    line = members[part][ring]
+    closes = shape.code in (3, 6)
+    if closes:
+        del line[-2:]
+    until = 2 * index + (0 if change == "insert" else 2)
+    line[2 * index : until] = place
+    if closes:
+        line += line[:2]
+    return Shape(shape.code, [list(member) for member in members])

@@ -1,0 +1,231 @@
+"""What a page can ask for and do: each call takes a JSON object and gives one."""
+
+from __future__ import annotations
+
+import os
+from collections.abc import Callable
+from typing import Any
+
+from sfstore.commands import Command, help_text, near_words
+from sfstore.geometry import Shape, read_wkb, write_wkt
+from sfstore.lines import geometry_of
+from sfstore.refusals import words_of
+from sfstore.store import Answer, Refused, Store
+from sfstore.web.editors import Editors
+from sfstore.web.events import Events
+from sfstore.web.keeper import Edit, Keeper
+from sfstore.web.mirror import Mirror
+from sfstore.web.places import place_of
+from sfstore.web.steps import QUESTIONS, Step
+from sfstore.web.windows import ELEMENTS_MAX, GRID_MAX, GRID_MIN, Box, extent_of, window_of
+
+__all__ = ["BadCall", "Calls"]
+
+Body = dict[str, Any]
+"""A JSON object."""
+
+OWN = [
+    Command("help COMMAND", "tells the commands, or one with an example", "help add"),
+    Command("save", "saves the store; the history begins anew", "save"),
+]
+"""The commands of the page beside those of the program."""
+
+# How much of a long answer is sent.
+_ROWS_MAX = ELEMENTS_MAX
+_LETTERS_MAX = 4_000_000
+
+
+class BadCall(Exception):
+    """A call has not the form that it must have. The text says what is wrong."""
+
+
+class Calls:
+    """The calls of pages over one store.
+
+    Lines that change something go to the keeper, all else to second programs: what windows show to
+    one, and what people ask to another, so that a question that takes long delays no map.
+    """
+
+    def __init__(self, path: str, keeper: Keeper, program: str, seconds: float) -> None:
+        self.events = Events()
+        self._title = os.path.basename(path)
+        self._keeper = keeper
+        self._editors = Editors(path)
+        self._looks = Mirror(keeper, program, seconds)
+        self._questions = Mirror(keeper, program, seconds)
+        keeper.follow.append(self._tell_edit)
+        keeper.anew.append(lambda: self.events.tell({"anew": True}))
+        self.by_path: dict[str, Callable[[Body], Body]] = {
+            "/login": self._log_in,
+            "/map": self._map,
+            "/window": self._window,
+            "/feature": self._feature,
+            "/line": self._line,
+        }
+
+    def close(self) -> None:
+        """Ends the second programs."""
+        self._looks.close()
+        self._questions.close()
+
+    def _log_in(self, body: Body) -> Body:
+        number, name = self._editors.log_in(_text(body, "name"))
+        return {"editor": number, "name": name}
+
+    def _map(self, body: Body) -> Body:
+        """The layers with their columns, whose step is next, and how far the map reaches."""
+
+        def question(store: Store) -> Body:
+            layers = [
+                {
+                    "name": layer.name,
+                    "kind": layer.kind,
+                    "columns": [column._asdict() for column in store.columns(layer.name)],
+                }
+                for layer in store.layers()
+            ]
+            return {"layers": layers, "extent": extent_of(store) if body.get("extent") else None}
+
+        version, to_undo, to_redo = self._keeper.steps()
+        steps = {"undo": self._step(to_undo), "redo": self._step(to_redo)}
+        return {"title": self._title, "version": version, **steps, **self._looks.ask(question)}
+
+    def _window(self, body: Body) -> Body:
+        """What a box has of the layers that are named."""
+        box, wanted = _box(body), _names(body)
+
+        def question(store: Store) -> Body:
+            layers = [layer.name for layer in store.layers() if layer.name in wanted]
+            return {"layers": window_of(store, layers, box), "most": ELEMENTS_MAX}
+
+        return self._looks.ask(question)
+
+    def _feature(self, body: Body) -> Body:
+        """A feature with its text, its coordinates and its values."""
+        layer, feature = _text(body, "layer"), _number(body, "id", 0, 2**32 - 1)
+
+        def question(store: Store) -> Body:
+            shape = read_wkb(bytes.fromhex(store.hex(layer, feature)))
+            columns = store.columns(layer)
+            values = self._looks.values.of(store, layer, feature) if columns else {}
+            # As texts: a browser's numbers have 53 bits.
+            told = [
+                {**column._asdict(), "value": str(values[column.name]) if column.name in values else None}
+                for column in columns
+            ]
+            return {"layer": layer, "id": feature, "wkt": write_wkt(shape), "values": told, **_shape(shape)}
+
+        try:
+            return self._looks.ask(question)
+        except Refused as refused:
+            return {"refused": self._refusal(refused, f"hex {layer} {feature}")}
+
+    def _line(self, body: Body) -> Body:
+        """Carries out a line of the console, as the page's editor."""
+        editor, line = _number(body, "editor", 1, 255), _text(body, "line")
+        if not self._editors.is_one(editor):
+            raise BadCall("nobody has logged in under this number")
+        words = line.split()
+        if not words:
+            return {"text": ""}
+        if words[0] == "help":
+            return {"text": help_text(words[1] if len(words) > 1 else "", OWN)}
+        try:
+            if words == ["save"]:
+                return self._save(editor)
+            if words[0] in QUESTIONS:
+                return _answered(self._questions.ask(lambda store: store.run(line)))
+            return _answered(self._keeper.carry_out(editor, line))
+        except Refused as refused:
+            return {"refused": self._refusal(refused, line)}
+        except ValueError as error:
+            raise BadCall(str(error)) from None
+
+    def _save(self, editor: int) -> Body:
+        self._keeper.save()
+        self.events.tell({"saved": self._editors.name_of(editor), "undo": None, "redo": None})
+        return {"text": f"{self._title} is saved. The history begins anew."}
+
+    def _refusal(self, refused: Refused, line: str) -> Body:
+        """A refusal in words: what is wrong, where, and what helps."""
+        words = words_of(refused.number)
+        told: Body = {"number": refused.number, "name": refused.name}
+        told.update(reason=words.reason, help=words.help)
+        if refused.number == 31:
+            told["help"] = near_words(line, OWN) or words.help
+        elif refused.number == 36:
+            _, to_undo, to_redo = self._keeper.steps()
+            told["whose"] = self._step(to_undo if line.split() == ["undo"] else to_redo)
+        else:
+            shape = self._keeper.ask(lambda store: geometry_of(line, store))
+            if shape is not None:
+                told.update(_shape(shape))
+                told["place"] = place_of(refused.number, shape) if 10 <= refused.number <= 17 else None
+        return told
+
+    def _tell_edit(self, edit: Edit) -> None:
+        """Tells all pages of an edit."""
+        self.events.tell(
+            {
+                "version": edit.version,
+                "number": edit.editor,
+                "editor": self._editors.name_of(edit.editor),
+                "line": edit.line[:1_000],
+                "step": edit.step.line,
+                "undo": self._step(edit.to_undo),
+                "redo": self._step(edit.to_redo),
+            }
+        )
+
+    def _step(self, step: Step | None) -> Body | None:
+        if step is None:
+            return None
+        return {"number": step.editor, "editor": self._editors.name_of(step.editor), "line": step.line}
+
+
+def _shape(shape: Shape) -> Body:
+    return {"code": shape.code, "members": [[list(line) for line in member] for member in shape.members]}
+
+
+def _answered(answer: Answer) -> Body:
+    """An answer, and of many rows those that can be sent."""
+    if isinstance(answer, str):
+        return {"answer": answer}
+    rows, room = [], _LETTERS_MAX
+    for row in answer[:_ROWS_MAX]:
+        room -= len(row)
+        if room < 0:
+            break
+        rows.append(row)
+    return {"rows": rows, "count": len(answer)}
+
+
+def _text(body: Body, name: str) -> str:
+    text = body.get(name)
+    if not isinstance(text, str):
+        raise BadCall(f"{name} has to be a text")
+    return text
+
+
+def _number(body: Body, name: str, least: int, most: int) -> int:
+    number = body.get(name)
+    if type(number) is not int or not least <= number <= most:
+        raise BadCall(f"{name} has to be a whole number from {least} to {most}")
+    return number
+
+
+def _names(body: Body) -> set[str]:
+    names = body.get("layers")
+    if not isinstance(names, list) or not all(isinstance(name, str) for name in names):
+        raise BadCall("layers has to be a list of names")
+    return set(names)
+
+
+def _box(body: Body) -> Box:
+    box = body.get("box")
+    if not isinstance(box, list) or len(box) != 4 or not all(type(side) is int for side in box):
+        raise BadCall("box has to be four whole numbers")
+    left, bottom, right, top = box
+    if not (GRID_MIN <= left <= right <= GRID_MAX and GRID_MIN <= bottom <= top <= GRID_MAX):
+        raise BadCall("box has to be on the grid, its least corner first")
+    return left, bottom, right, top

@@ -1,0 +1,163 @@
+"""The store of a file, owned by one thread through which every edit goes."""
+
+from __future__ import annotations
+
+import os
+import warnings
+from collections.abc import Callable
+from concurrent.futures import ThreadPoolExecutor
+from typing import NamedTuple, TypeVar
+
+from sfstore.journal import JournalError
+from sfstore.store import Answer, Editor, ProgramEnded, Refused, Store
+from sfstore.web.steps import Step, Steps, is_edit
+
+__all__ = ["Edit", "Keeper", "Snapshot", "Unavailable"]
+
+_T = TypeVar("_T")
+
+
+class Unavailable(Exception):
+    """What was asked for can't be told now. The text says why, in a sentence."""
+
+
+class Edit(NamedTuple):
+    """An accepted edit, undo or redo."""
+
+    version: int
+    """How many there were since the session began, this one counted."""
+    editor: int
+    line: str
+    """The line, without the editor."""
+    step: Step
+    """The step that it made, or moved."""
+    to_undo: Step | None
+    """The step that an undo would take back now, whoever asks."""
+    to_redo: Step | None
+
+
+class Snapshot(NamedTuple):
+    """What a second program needs to have the content of the store."""
+
+    path: str | None
+    """The file to load, or none where a new store has not been saved yet."""
+    lines: list[str]
+    """The edits behind it."""
+    version: int
+    file: int
+    """A number that is another one whenever the file is."""
+
+
+class Keeper:
+    """The store of a file with its journal, and what all pages have to know of it.
+
+    `follow` is called in the keeper's thread after each accepted edit, `anew` where the store had
+    to be opened again.
+    """
+
+    def __init__(self, path: str, program: str) -> None:
+        self.follow: list[Callable[[Edit], object]] = []
+        self.anew: list[Callable[[], object]] = []
+        self._path = path
+        self._program = program
+        self._store: Store | None = None
+        self._steps = Steps()
+        self._version = 0
+        self._file = 0
+        self._thread = ThreadPoolExecutor(1, "keeper")
+        try:
+            self.recovered = self._thread.submit(self._opened).result().recovered
+        except BaseException:
+            self._thread.shutdown()
+            raise
+
+    def carry_out(self, editor: int, line: str) -> Answer:
+        """The answer of a line. `Refused` where the program refuses it."""
+        return self._do(lambda store: self._carry_out(store, editor, line))
+
+    def ask(self, question: Callable[[Editor], _T]) -> _T:
+        """The answer of a question that takes no time to speak of."""
+        return self._do(question)
+
+    def save(self) -> None:
+        """Saves the store; the history begins anew."""
+        self._do(self._save)
+
+    def snapshot(self) -> Snapshot:
+        """The content as it is now."""
+        return self._do(self._snapshot)
+
+    def steps(self) -> tuple[int, Step | None, Step | None]:
+        """The version, and what an undo and a redo would move."""
+        return self._do(lambda store: (self._version, self._steps.to_undo, self._steps.to_redo))
+
+    def close(self) -> int:
+        """Ends the program, and gives the number of edits that are in the journal alone."""
+        try:
+            return self._thread.submit(self._close).result()
+        finally:
+            self._thread.shutdown()
+
+    def _do(self, job: Callable[[Store], _T]) -> _T:
+        return self._thread.submit(lambda: self._guarded(job)).result()
+
+    def _guarded(self, job: Callable[[Store], _T]) -> _T:
+        """Does a job. Where it ends the program, the store is opened anew by the next one."""
+        try:
+            return job(self._opened())
+        except (Refused, ValueError):
+            raise
+        except (JournalError, ProgramEnded, RuntimeError, OSError) as error:
+            if self._store is not None and not self._is_open(self._store):
+                self._close()
+                for told in self.anew:
+                    told()
+            raise Unavailable(f"{error}. Every edit that was answered is in the journal.") from error
+
+    def _is_open(self, store: Store) -> bool:
+        try:
+            store.layers()
+        except (JournalError, ProgramEnded, RuntimeError):
+            return False
+        return True
+
+    def _opened(self) -> Store:
+        """The store, opened where it is not."""
+        if self._store is None:
+            with warnings.catch_warnings():
+                # A torn record is told by `recovered`.
+                warnings.simplefilter("ignore", RuntimeWarning)
+                self._store = Store(self._path, journal=True, program=self._program)
+            self._steps = Steps(self._store.unsaved_lines)
+            self._version += 1
+            self._file += 1
+        return self._store
+
+    def _carry_out(self, store: Store, editor: int, line: str) -> Answer:
+        answer = (store.editor(editor) if editor else store).run(line)
+        if is_edit(answer):
+            self._version += 1
+            step = self._steps.take(editor, line)
+            steps = self._steps.to_undo, self._steps.to_redo
+            edit = Edit(self._version, editor, line, step, *steps)
+            for told in self.follow:
+                told(edit)
+        return answer
+
+    def _save(self, store: Store) -> None:
+        store.save()
+        self._steps = Steps()
+        self._version += 1
+        self._file += 1
+
+    def _snapshot(self, store: Store) -> Snapshot:
+        path = self._path if os.path.exists(self._path) else None
+        return Snapshot(path, store.unsaved_lines, self._version, self._file)
+
+    def _close(self) -> int:
+        if self._store is None:
+            return 0
+        store, self._store = self._store, None
+        unsaved = store.unsaved
+        store.close(save=False)
+        return unsaved

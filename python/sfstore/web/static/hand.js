@@ -1,0 +1,149 @@
+// What the mouse, a finger or the cross in the middle does on the map, by the tool that is chosen.
+
+import { byId } from "./dom.js";
+import { onGrid, rectangle, wktOf } from "./geometry.js";
+
+// How near, in pixels, a place is to what is meant.
+const REACH_PIXELS = 8;
+const SNAP_PIXELS = 10;
+
+const CODES = { point: 1, line: 2, polygon: 3, "ask-polygon": 3 };
+const LEAST_POINTS = { point: 1, line: 2, polygon: 3, "ask-polygon": 3 };
+
+export class Hand {
+  constructor(app) {
+    this.app = app;
+    this.tool = "select";
+    this.points = [];
+    for (const button of this.#buttons()) button.onclick = () => this.setTool(button.dataset.tool);
+    byId("target").onchange = () => this.setTool(this.tool);
+  }
+
+  #buttons() {
+    return byId("tools").querySelectorAll("button");
+  }
+
+  setTool(tool) {
+    this.tool = tool;
+    this.giveUp();
+    for (const button of this.#buttons()) button.setAttribute("aria-pressed", String(button.dataset.tool === tool));
+    this.app.view.svg.dataset.tool = tool;
+  }
+
+  /** Offers the layers that take what can be drawn. */
+  setLayers(layers) {
+    const target = byId("target");
+    const chosen = target.value;
+    target.replaceChildren(...layers.map(({ name, kind }) => new Option(`${name} (${kind})`, name)));
+    if (layers.some(({ name }) => name === chosen)) target.value = chosen;
+  }
+
+  /** What a drag that begins here is for: a vertex, a box to ask about, or nothing but moving the map. */
+  grab(event, place) {
+    const handle = event.target.closest(".handle");
+    if (handle && this.tool === "select") return this.#dragVertex(handle);
+    return this.tool === "ask-box" ? this.#dragBox(place) : null;
+  }
+
+  #dragVertex(handle) {
+    const { selection } = this.app;
+    return {
+      move: (event, place) => selection.try(handle, this.#meant(event, place, selection.place)),
+      end: () => selection.keep(handle),
+      cancel: () => selection.giveUp(),
+      tap: () => handle.focus(),
+    };
+  }
+
+  #dragBox(from) {
+    const { overlay, view, asking } = this.app;
+    const corners = (place) => {
+      const [[ax, ay], [bx, by]] = [from, place].map((pixel) => onGrid(...view.toPlane(...pixel)));
+      return rectangle([Math.min(ax, bx), Math.min(ay, by), Math.max(ax, bx), Math.max(ay, by)]);
+    };
+    return {
+      move: (event, place) => overlay.show("sketch", ring(corners(place))),
+      end: (event, place) => {
+        overlay.show("sketch", null);
+        asking.askAbout(wktOf("polygon", corners(place)), ring(corners(place)));
+      },
+      cancel: () => overlay.show("sketch", null),
+      tap: (event, place) => {
+        const point = onGrid(...view.toPlane(...place));
+        asking.askAbout(wktOf("point", [point]), { code: 1, members: [[point]] });
+      },
+    };
+  }
+
+  /** The point of the grid that is meant by a pixel. */
+  #meant(event, place, except) {
+    const { map, view } = this.app;
+    const [x, y] = view.toPlane(...place);
+    return event.altKey ? onGrid(x, y) : map.snap(x, y, SNAP_PIXELS / view.scale, except);
+  }
+
+  hover(event, place) {
+    if (!this.points.length) return;
+    this.#sketch(this.#meant(event, place));
+  }
+
+  click(event, place) {
+    const { map, selection, view } = this.app;
+    if (this.tool === "select") {
+      const [x, y] = view.toPlane(...place);
+      selection.choose(map.pick(x, y, REACH_PIXELS / view.scale));
+      return;
+    }
+    if (this.tool === "ask-box") return;
+    this.#add(this.#meant(event, place));
+  }
+
+  #add(point) {
+    const last = this.points.at(-1);
+    const isFirst = same(point, this.points[0]);
+    const isEnd = same(point, last) || (isFirst && CODES[this.tool] === 3);
+    if (isEnd && this.points.length >= LEAST_POINTS[this.tool]) {
+      this.finish();
+      return;
+    }
+    if (!same(point, last)) this.points.push(point);
+    if (this.tool === "point") this.finish();
+    else this.#sketch();
+  }
+
+  #sketch(next) {
+    const points = next ? [...this.points, next] : this.points;
+    if (!points.length) return this.app.overlay.show("sketch", null);
+    const isClosed = CODES[this.tool] === 3 && points.length > 2;
+    this.app.overlay.show("sketch", isClosed ? ring(points) : { code: 2, members: [[points.flat()]] });
+  }
+
+  /** Ends what is drawn: it is added to the layer, or asked about. */
+  finish() {
+    if (this.points.length < (LEAST_POINTS[this.tool] ?? Infinity)) return;
+    const points = this.points;
+    this.giveUp();
+    if (this.tool === "ask-polygon") {
+      this.app.asking.askAbout(wktOf("polygon", points), ring(points));
+      return;
+    }
+    const layer = this.app.map.layer(byId("target").value);
+    if (!layer) return this.app.tell("There is no layer to draw in: type `layer add NAME KIND` at the console.");
+    this.app.draw(layer.name, wktOf(this.tool, points, layer.kind.startsWith("multi")));
+  }
+
+  takeBack() {
+    this.points.pop();
+    this.#sketch();
+  }
+
+  giveUp() {
+    this.points = [];
+    this.app.overlay.show("sketch", null);
+  }
+}
+
+/** A polygon with these points round it. */
+const ring = (points) => ({ code: 3, members: [[[...points, points[0]].flat()]] });
+
+const same = (one, other) => Boolean(one && other && one[0] === other[0] && one[1] === other[1]);

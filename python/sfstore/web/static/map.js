@@ -1,0 +1,199 @@
+// The map: layers in drawing order, and of each what the window has.
+
+import { counted, drawn } from "./dom.js";
+import { boxOf, GRID_MAX, GRID_MIN, isHit, isInBox, KINDS, nearestOnEdge, onGrid, pathOf } from "./geometry.js";
+import { call } from "./server.js";
+
+// How much around the window is asked for, as a part of its sides.
+const MARGIN = 0.25;
+// How long the view rests before what it shows is asked for.
+const REST_MILLISECONDS = 120;
+// How far, in pixels, paths may lie from the point that they count from: browsers draw with single precision.
+const FAR_PIXELS = 50_000;
+
+export class FeatureMap {
+  constructor(world, view, onShown) {
+    this.world = world;
+    this.view = view;
+    this.onShown = onShown;
+    this.layers = [];
+    this.origin = null;
+    this.seen = null;
+    this.chosen = null;
+    this.hits = new Map();
+  }
+
+  /** Takes the layers of the store; those that were hidden stay so. */
+  setLayers(layers) {
+    const before = new Map(this.layers.map((layer) => [layer.name, layer]));
+    this.layers = layers.map((layer, place) => {
+      const known = before.get(layer.name) ?? { shown: true, count: 0, features: new Map(), group: drawn("g") };
+      known.group.setAttribute("class", `layer tint-${place % 8}`);
+      return Object.assign(known, layer);
+    });
+    this.world.replaceChildren(...this.layers.filter((layer) => layer.shown).map((layer) => layer.group));
+  }
+
+  layer(name) {
+    return this.layers.find((layer) => layer.name === name);
+  }
+
+  setShown(name, shown) {
+    this.layer(name).shown = shown;
+    this.setLayers(this.layers);
+    return this.refresh();
+  }
+
+  /** Moves what is drawn along with the view, and asks for what is not there yet. */
+  follow() {
+    this.#place();
+    clearTimeout(this.rest);
+    if (this.layers.length && !this.#hasAll()) this.rest = setTimeout(() => this.refresh(), REST_MILLISECONDS);
+  }
+
+  /** Asks for what the window has, and draws it. Further calls meanwhile make one more round. */
+  refresh() {
+    this.wanted = true;
+    this.running ??= this.#fetch().finally(() => (this.running = null));
+    return this.running;
+  }
+
+  async #fetch() {
+    while (this.wanted) {
+      this.wanted = false;
+      const start = performance.now();
+      const { scale } = this.view;
+      const box = this.#box();
+      const shown = this.layers.filter((layer) => layer.shown).map((layer) => layer.name);
+      const answer = await call("window", { box, layers: shown });
+      this.#show(answer.layers);
+      this.seen = { box, scale, most: answer.most };
+      this.onShown(this.#words());
+      performance.measure("window", { start });
+    }
+  }
+
+  #box() {
+    const kept = (value) => Math.min(GRID_MAX, Math.max(GRID_MIN, value));
+    const [left, bottom, right, top] = this.view.box(MARGIN);
+    return [kept(Math.floor(left)), kept(Math.floor(bottom)), kept(Math.ceil(right)), kept(Math.ceil(top))];
+  }
+
+  /** Whether what the window has is drawn already. */
+  #hasAll() {
+    if (!this.seen || this.layers.some((layer) => layer.shown && layer.isCounted)) return false;
+    const [left, bottom, right, top] = this.view.box();
+    const near = this.view.scale < this.seen.scale * 3;
+    return near && isInBox(this.seen.box, left, bottom, 1) && isInBox(this.seen.box, right, top, 1);
+  }
+
+  #show(layers) {
+    const moved = this.#moveOrigin();
+    for (const { name, count, features } of layers) {
+      const layer = this.layer(name);
+      if (!layer) continue;
+      layer.count = count;
+      layer.isCounted = features === null;
+      this.#showFeatures(layer, features ?? [], moved);
+    }
+    this.#place();
+  }
+
+  #showFeatures(layer, features, moved) {
+    const before = layer.features;
+    layer.features = new Map();
+    for (const [id, code, members] of features) {
+      const known = before.get(id);
+      before.delete(id);
+      const path = known?.path ?? drawn("path", { id: `${layer.name}-${id}` });
+      const feature = { id, code, members, path, box: boxOf(members) };
+      feature.d = pathOf(code, members, (x, y) => [x - this.origin[0], this.origin[1] - y]);
+      if (moved || feature.d !== known?.d) path.setAttribute("d", feature.d);
+      layer.features.set(id, feature);
+      this.#mark(layer, feature);
+    }
+    for (const gone of before.values()) gone.path.remove();
+    const paths = [...layer.features.values()].map((feature) => feature.path);
+    if (paths.some((path, place) => path !== layer.group.children[place])) layer.group.replaceChildren(...paths);
+  }
+
+  /** Has paths count from the middle of the window, where that is far from where they counted from. */
+  #moveOrigin() {
+    const { x, y, scale } = this.view;
+    const far = this.origin && Math.max(Math.abs(x - this.origin[0]), Math.abs(y - this.origin[1])) * scale;
+    if (this.origin && far < FAR_PIXELS) return false;
+    this.origin = onGrid(x, y);
+    return true;
+  }
+
+  #place() {
+    if (!this.origin) return;
+    const { scale } = this.view;
+    const [left, top] = this.view.toPixels(...this.origin);
+    this.world.setAttribute("transform", `matrix(${scale} 0 0 ${scale} ${left} ${top})`);
+  }
+
+  #mark(layer, feature) {
+    const isChosen = this.chosen?.layer === layer.name && this.chosen.id === feature.id;
+    const isFound = this.hits.get(layer.name)?.has(feature.id);
+    const words = `feature ${KINDS[feature.code]}${isFound ? " hit" : ""}${isChosen ? " chosen" : ""}`;
+    if (feature.path.getAttribute("class") !== words) feature.path.setAttribute("class", words);
+  }
+
+  /** Marks what is selected and what was found. The marks stay through every redraw. */
+  mark(chosen, hits) {
+    this.chosen = chosen;
+    this.hits = hits;
+    for (const layer of this.layers) for (const feature of layer.features.values()) this.#mark(layer, feature);
+  }
+
+  /** The features that are drawn, the lowest first. */
+  *drawnFeatures() {
+    for (const layer of this.layers) {
+      if (layer.shown) for (const feature of layer.features.values()) yield [layer, feature];
+    }
+  }
+
+  /** The uppermost feature at a place, or none. */
+  pick(x, y, reach) {
+    let found = null;
+    for (const [layer, feature] of this.drawnFeatures()) {
+      if (isInBox(feature.box, x, y, reach) && isHit(feature.code, feature.members, x, y, reach)) {
+        found = { layer: layer.name, id: feature.id };
+      }
+    }
+    return found;
+  }
+
+  /** The point of the grid that is meant by a place: a vertex that is near, one on an edge, or the nearest. */
+  snap(x, y, reach, except = null) {
+    let best = { far: reach, point: null };
+    let edge = { far: reach, point: null };
+    for (const [layer, feature] of this.drawnFeatures()) {
+      if (!isInBox(feature.box, x, y, reach)) continue;
+      if (except && except.layer === layer.name && except.id === feature.id) continue;
+      for (const line of feature.members.flat()) {
+        for (let at = 0; at < line.length; at += 2) {
+          best = nearer(best, [line[at], line[at + 1]], x, y);
+          edge = nearer(edge, onGrid(...nearestOnEdge(line, at, x, y)), x, y);
+        }
+      }
+    }
+    return best.point ?? edge.point ?? onGrid(x, y);
+  }
+
+  #words() {
+    const shown = this.layers.filter((layer) => layer.shown);
+    const drawnCount = shown.reduce((sum, layer) => sum + layer.features.size, 0);
+    const parts = [`${counted(drawnCount)} features are drawn.`];
+    for (const layer of shown.filter((layer) => layer.isCounted)) {
+      parts.push(`${layer.name} has ${counted(layer.count)} here: zoom in to see them.`);
+    }
+    return parts.join(" ");
+  }
+}
+
+function nearer(best, point, x, y) {
+  const far = Math.hypot(point[0] - x, point[1] - y);
+  return far < best.far ? { far, point } : best;
+}

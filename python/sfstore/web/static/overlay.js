@@ -1,0 +1,45 @@
+// What is drawn over the map: what is being drawn, asked about, refused, and the vertices of what is selected.
+
+import { drawn } from "./dom.js";
+import { pathOf } from "./geometry.js";
+
+export class Overlay {
+  constructor(layer, view) {
+    this.view = view;
+    this.shapes = { asked: null, refused: null, sketch: null };
+    this.paths = {};
+    for (const name of Object.keys(this.shapes)) this.paths[name] = drawn("path", { class: name });
+    this.marks = drawn("g", { class: "fault-marks" });
+    this.handles = drawn("g");
+    layer.append(...Object.values(this.paths), this.marks, this.handles);
+    this.faults = [];
+  }
+
+  /** Draws a shape under a name, or takes it away. */
+  show(name, shape) {
+    this.shapes[name] = shape;
+    this.place();
+  }
+
+  /** Draws a refused geometry, and the places where it breaks its rule. */
+  showRefused(shape, faults) {
+    this.faults = faults;
+    this.marks.replaceChildren(...faults.map(() => drawn("circle", { r: 9, class: "fault-mark" })));
+    this.show("refused", shape);
+  }
+
+  /** Puts everything where the view has it now. */
+  place() {
+    const pixels = (x, y) => this.view.toPixels(x, y).map((value) => Math.round(value * 100) / 100);
+    for (const [name, shape] of Object.entries(this.shapes)) {
+      this.paths[name].setAttribute("d", shape ? pathOf(shape.code, shape.members, pixels) : "");
+    }
+    this.faults.forEach((point, place) => put(this.marks.children[place], pixels(...point)));
+    for (const handle of this.handles.children) put(handle, pixels(handle.vertex.x, handle.vertex.y));
+  }
+}
+
+function put(circle, [left, top]) {
+  circle.setAttribute("cx", left);
+  circle.setAttribute("cy", top);
+}

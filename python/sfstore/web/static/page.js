@@ -1,0 +1,281 @@
+// An editor of a store: this puts the parts of the page together.
+
+import { Asking } from "./asking.js";
+import { byId, counted, element } from "./dom.js";
+import { Hand } from "./hand.js";
+import { Log } from "./log.js";
+import { FeatureMap } from "./map.js";
+import { Overlay } from "./overlay.js";
+import { Selection } from "./selection.js";
+import { call, CallFailed, listen } from "./server.js";
+import { followPointers, View } from "./view.js";
+
+const NAME = "sfstore-name";
+// Edits of these change nothing that is drawn.
+const UNDRAWN = /^[ \t]*(set|unset|column)[ \t]/;
+const PAN_PIXELS = 60;
+const LOST = "The connection is lost. Where sfstore-web was started again, open its new address.";
+
+class App {
+  constructor() {
+    const svg = byId("map");
+    this.editor = null;
+    this.steps = { undo: null, redo: null };
+    this.view = new View(svg, () => this.#follow());
+    this.overlay = new Overlay(byId("overlay"), this.view);
+    this.map = new FeatureMap(byId("world"), this.view, (words) => this.#shown(words));
+    this.selection = new Selection(this);
+    this.asking = new Asking(this);
+    this.hand = new Hand(this);
+    this.log = new Log((line) => this.run(line));
+    followPointers(svg, this.view, this.hand);
+    svg.addEventListener("keydown", (event) => this.#mapKey(event));
+    document.addEventListener("keydown", (event) => this.#anyKey(event));
+    this.#wireButtons();
+  }
+
+  #wireButtons() {
+    byId("undo").onclick = () => this.run("undo");
+    byId("redo").onclick = () => this.run("redo");
+    byId("save").onclick = () => this.run("save");
+    byId("zoom-in").onclick = () => this.view.zoom(1.5);
+    byId("zoom-out").onclick = () => this.view.zoom(1 / 1.5);
+    byId("fit").onclick = () => this.showAll();
+    byId("person").onclick = () => byId("login").showModal();
+    byId("refusal").querySelector("button").onclick = () => this.#closeRefusal();
+    byId("login").querySelector("form").onsubmit = (event) => {
+      event.preventDefault();
+      this.logIn(byId("login-name").value);
+    };
+  }
+
+  /** Begins with the name that this page had before, or asks for one. */
+  async begin() {
+    const name = sessionStorage.getItem(NAME);
+    if (name) await this.logIn(name);
+    else byId("login").showModal();
+    await this.showAll();
+    listen((event) => this.#hear(event), () => this.tell(LOST));
+  }
+
+  async logIn(name) {
+    try {
+      const answer = await call("login", { name });
+      this.editor = answer.editor;
+      sessionStorage.setItem(NAME, answer.name);
+      byId("person").textContent = answer.name;
+      byId("login-error").textContent = "";
+      byId("login").close();
+      this.#tellSteps(this.steps);
+      byId("map").focus();
+    } catch (fault) {
+      byId("login-error").textContent = fault.message;
+    }
+  }
+
+  /** Looks at the layers anew, and shows the whole map. */
+  async showAll() {
+    const { extent } = await this.#readMap(true);
+    if (extent) this.view.fit(extent);
+    await this.map.refresh();
+  }
+
+  async #readMap(extent) {
+    const found = await call("map", { extent });
+    byId("title").textContent = document.title = found.title;
+    this.map.setLayers(found.layers);
+    this.#listLayers();
+    this.hand.setLayers(found.layers);
+    this.asking.setLayers(found.layers);
+    this.#tellSteps(found);
+    return found;
+  }
+
+  /** Has a line carried out, and shows its answer. */
+  async run(line, isFurther = false) {
+    if (!this.editor) {
+      byId("login").showModal();
+      throw new CallFailed("Log in first.");
+    }
+    let answer;
+    try {
+      answer = await call("line", { editor: this.editor, line });
+    } catch (fault) {
+      if (fault instanceof CallFailed) this.log.add(line, fault.message, "refused");
+      throw fault;
+    }
+    this.log.addAnswer(line, answer);
+    if (answer.refused) this.#tellRefused(answer.refused);
+    else {
+      this.#closeRefusal();
+      if (answer.rows && /^[ \t]*(query|match)[ \t]/.test(line)) this.asking.take(line.trim(), answer, isFurther);
+      else if (answer.answer) await this.#redraw(line);
+    }
+    return answer;
+  }
+
+  /** Adds what was drawn to a layer, and selects it. */
+  async draw(layer, wkt) {
+    const answer = await this.run(`add ${layer} ${wkt}`);
+    const found = /^ok ([0-9]+)$/.exec(answer.answer ?? "");
+    if (found) await this.selection.choose({ layer, id: Number(found[1]) });
+  }
+
+  mark() {
+    this.map.mark(this.selection.place, this.asking.hits);
+  }
+
+  tell(words) {
+    byId("status").textContent = words;
+  }
+
+  /** Takes what the server tells all pages. */
+  async #hear(event) {
+    if (event.hello || event.anew) {
+      await this.#readMap(false);
+      await this.map.refresh();
+      await this.selection.refresh();
+      return;
+    }
+    this.#tellSteps(event);
+    if (event.saved) this.log.add("save", "The history begins anew.", "", event.saved);
+    else if (event.number !== this.editor) {
+      const moved = event.line === event.step ? "ok" : event.step;
+      this.log.add(event.line, moved, "other", event.editor);
+      await this.#redraw(event.line);
+    }
+  }
+
+  /** Draws what an edit may have changed. */
+  async #redraw(line) {
+    const first = line.trim().split(/[ \t]+/)[0];
+    if (["layer", "column", "undo", "redo"].includes(first)) await this.#readMap(false);
+    if (!UNDRAWN.test(line)) await this.map.refresh();
+    await this.selection.refresh();
+  }
+
+  #tellSteps({ undo, redo }) {
+    this.steps = { undo, redo };
+    for (const [name, step] of [["undo", undo], ["redo", redo]]) {
+      const whose = step && (step.number === this.editor ? "" : ` (${step.editor}'s)`);
+      byId(name).title = step ? `${step.line.slice(0, 80)}${whose}` : `There is nothing to ${name}`;
+    }
+  }
+
+  #tellRefused(refused) {
+    const box = byId("refusal");
+    box.querySelector("h2").textContent = `Refused (${refused.number} ${refused.name}): ${refused.reason}.`;
+    const { place, whose } = refused;
+    box.querySelector(".reason").textContent = whose ? `The next step is ${whose.editor}'s: ${whose.line}` : "";
+    box.querySelector(".place").textContent = place ? `${place.words} (worked out outside of the proved program).` : "";
+    box.querySelector(".help").textContent = refused.help;
+    box.hidden = false;
+    this.overlay.showRefused(refused.members ? refused : null, place?.points ?? []);
+    if (place) this.#uncover(place.points[0]);
+  }
+
+  /** Moves the map where the words hide a place that they tell of. */
+  #uncover(point) {
+    const box = byId("refusal").getBoundingClientRect();
+    const frame = this.view.svg.getBoundingClientRect();
+    const [left, top] = this.view.toPixels(...point);
+    const isHidden = left > box.left - frame.left && left < box.right - frame.left && top > 0 && top < box.bottom - frame.top;
+    if (isHidden) this.view.pan(0, box.bottom - frame.top + PAN_PIXELS - top);
+  }
+
+  #closeRefusal() {
+    byId("refusal").hidden = true;
+    this.overlay.showRefused(null, []);
+  }
+
+  #shown(words) {
+    this.tell(words);
+    for (const note of byId("layers").querySelectorAll("[data-count]")) {
+      const layer = this.map.layer(note.dataset.count);
+      note.textContent = layer?.shown ? counted(layer.count) : "";
+    }
+    this.selection.showHandles();
+  }
+
+  #listLayers() {
+    byId("layers").replaceChildren(...this.map.layers.map((layer, place) => this.#layerItem(layer, place)));
+  }
+
+  #layerItem({ name, kind, shown }, place) {
+    const box = element("input", { type: "checkbox", checked: shown });
+    box.onchange = () => this.map.setShown(name, box.checked);
+    const swatch = element("span", { className: `swatch tint-${place % 8}`, ariaHidden: "true" });
+    const count = element("span", { className: "note" });
+    count.dataset.count = name;
+    return element("li", {}, element("label", {}, box, swatch, name, element("span", { className: "note" }, kind)), count);
+  }
+
+  #follow() {
+    this.map?.follow();
+    this.overlay?.place();
+  }
+
+  #mapKey(event) {
+    if (event.ctrlKey || event.metaKey) return;
+    const action = this.#mapActions(event.shiftKey)[event.key.length === 1 ? event.key.toLowerCase() : event.key];
+    if (!action) return;
+    event.preventDefault();
+    action();
+  }
+
+  #mapActions(isFine) {
+    const { view, hand, selection } = this;
+    const pan = (x, y) => () => (isFine ? view.panSteps(x, y) : view.pan(-x * PAN_PIXELS, y * PAN_PIXELS));
+    const middle = [view.width / 2, view.height / 2];
+    return {
+      ArrowLeft: pan(-1, 0),
+      ArrowRight: pan(1, 0),
+      ArrowUp: pan(0, 1),
+      ArrowDown: pan(0, -1),
+      "+": () => view.zoom(1.5),
+      "=": () => view.zoom(1.5),
+      "-": () => view.zoom(1 / 1.5),
+      0: () => this.showAll(),
+      " ": () => hand.click({}, middle),
+      Enter: () => hand.finish(),
+      Backspace: () => hand.takeBack(),
+      Escape: () => this.#escape(),
+      Delete: () => selection.delete(),
+      n: () => this.#step(1),
+      p: () => this.#step(-1),
+      v: () => selection.focusFirst(),
+    };
+  }
+
+  #escape() {
+    if (this.hand.points.length) this.hand.giveUp();
+    else if (!byId("refusal").hidden) this.#closeRefusal();
+    else this.hand.setTool("select");
+  }
+
+  /** Selects the feature that is drawn after or before the one that is selected. */
+  #step(by) {
+    const all = [...this.map.drawnFeatures()].map(([layer, { id }]) => ({ layer: layer.name, id }));
+    const chosen = this.selection.wanted;
+    const at = all.findIndex(({ layer, id }) => layer === chosen?.layer && id === chosen.id);
+    const next = all[(at < 0 && by < 0 ? all.length : at) + by] ?? all.at(by > 0 ? 0 : -1);
+    if (next) this.selection.choose(next);
+  }
+
+  #anyKey(event) {
+    if (!(event.ctrlKey || event.metaKey) || event.altKey || event.target.matches("input, textarea")) return;
+    const key = event.key.toLowerCase();
+    const line = key === "y" || (key === "z" && event.shiftKey) ? "redo" : key === "z" ? "undo" : "";
+    if (!line) return;
+    event.preventDefault();
+    this.run(line);
+  }
+}
+
+const app = new App();
+addEventListener("unhandledrejection", (event) => {
+  if (!(event.reason instanceof CallFailed)) return;
+  event.preventDefault();
+  app.tell(event.reason.message);
+});
+app.begin();

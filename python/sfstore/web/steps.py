@@ -1,0 +1,75 @@
+"""The steps that undo and redo would move, and whose they are.
+
+The program refuses an undo of another editor's step, and does not say whose it is. This follows
+the accepted lines, as the program's history does, so that it can be told.
+"""
+
+from __future__ import annotations
+
+import re
+from collections.abc import Iterable
+from typing import NamedTuple
+
+__all__ = ["QUESTIONS", "Step", "Steps", "is_edit"]
+
+QUESTIONS = frozenset(
+    ["layers", "columns", "show", "hex", "box", "simple", "relate", "match", "query"]
+)
+"""The first words of the lines that change nothing."""
+
+_ADDRESS = re.compile(r"[ \t]*@([0-9]{1,3})[ \t]+")
+
+# As much of a line as is kept: enough to tell which edit it was.
+_SHOWN_LETTERS = 200
+
+
+class Step(NamedTuple):
+    """An edit that can be undone, or done again."""
+
+    editor: int
+    """The number of the editor who made it."""
+    line: str
+    """The beginning of its line, without the editor."""
+
+
+def is_edit(answer: object) -> bool:
+    """Whether a line was an edit, an undo or a redo that was accepted."""
+    return isinstance(answer, str) and (answer == "ok" or answer.startswith("ok "))
+
+
+class Steps:
+    """What was done and what was undone, as far as the history of the program goes."""
+
+    def __init__(self, lines: Iterable[str] = ()) -> None:
+        """The steps of accepted lines, each with the number of its editor or without."""
+        self._done: list[Step] = []
+        self._undone: list[Step] = []
+        for line in lines:
+            found = _ADDRESS.match(line)
+            if found is None:
+                self.take(0, line)
+            else:
+                self.take(int(found[1]), line[found.end() :])
+
+    def take(self, editor: int, line: str) -> Step:
+        """Follows an accepted line, and gives the step that it made or moved."""
+        words = line.split()
+        if words == ["undo"]:
+            self._undone.append(self._done.pop())
+            return self._undone[-1]
+        if words == ["redo"]:
+            self._done.append(self._undone.pop())
+            return self._done[-1]
+        self._undone.clear()
+        self._done.append(Step(editor, line.strip()[:_SHOWN_LETTERS]))
+        return self._done[-1]
+
+    @property
+    def to_undo(self) -> Step | None:
+        """The step that an undo would take back, whoever asks."""
+        return self._done[-1] if self._done else None
+
+    @property
+    def to_redo(self) -> Step | None:
+        """The step that a redo would do again, whoever asks."""
+        return self._undone[-1] if self._undone else None

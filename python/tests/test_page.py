@@ -1,0 +1,466 @@
+"""Tests of the page in a browser: what a user does by mouse, touch and keys."""
+
+from __future__ import annotations
+
+import re
+import signal
+import subprocess
+import time
+import unittest
+
+import browser
+from support import FOLDER, PROGRAM, TestCase
+from web_support import TOWN, WebCase
+
+from sfstore import Store
+
+DAY = TOWN.parent / "day.txt"
+SHOWN_WELLS = """\
+rows 4
+1 POINT (450 150) depth=12 label='the old one' inspected='2026-11-23'
+2 POINT (1550 1000) depth=3 label='dry in August'
+3 POINT (3000 2100) depth=31 label='town well'
+4 POINT (4500 150) depth=8"""
+
+
+@unittest.skipIf(browser.IS_MISSING, browser.MISSING)
+class PageCase(WebCase):
+    SECONDS = 300
+
+    @classmethod
+    def setUpClass(cls):
+        cls.driver = browser.start()
+        cls.addClassCleanup(cls.driver.quit)
+        cls.first_tab = cls.driver.current_window_handle
+
+    def setUp(self):
+        super().setUp()
+        self.addCleanup(self.leave)
+        self.make_town()
+
+    def leave(self):
+        """Closes all tabs, and looks whether one of them had an error."""
+        told = [entry for entry in self.driver.get_log("browser") if "ERR_" not in entry["message"]]
+        for tab in self.driver.window_handles:
+            if tab != self.first_tab:
+                self.driver.switch_to.window(tab)
+                self.driver.close()
+        self.driver.switch_to.window(self.first_tab)
+        faults = [entry["message"] for entry in told if not re.search(" (400|403|503) ", entry["message"])]
+        self.assertEqual(faults, [])
+
+    def page(self, serving, name="Ann", **known):
+        return browser.Page(self.driver, serving, name, **known)
+
+    def open(self, name="Ann"):
+        self.serving = self.serve()
+        return self.page(self.serving, name)
+
+
+class Day(PageCase):
+    """The day of the example."""
+
+    def test_the_morning_by_mouse_and_keys(self):
+        page = self.open()
+        self.look(page)
+        self.split(page)
+        self.think_again(page)
+        self.inspect(page)
+        self.assertEqual(self.serving.end(), 0)
+        day = self.folder / "day.sfs"
+        subprocess.run([PROGRAM, f"--load={self.path}", f"--save={day}"], input=DAY.read_bytes(), check=True, stdout=subprocess.DEVNULL)
+        with Store(self.path, journal=True, program=PROGRAM):
+            pass
+        self.assertEqual(self.path.read_bytes(), day.read_bytes())
+
+    def ask(self, page, layer, predicate):
+        page.pick("#ask-layer", layer)
+        page.pick("#ask-predicate", predicate)
+
+    def look(self, page):
+        page.type("layer move streets 0", "ok")
+        names = "return [...document.querySelectorAll('#layers label')].map(e => e.textContent)"
+        page.until(lambda: page.script(names) == ["streetslinestring", "parcelspolygon", "wellspoint"])
+        page.type("layers", "rows 3\nstreets linestring\nparcels polygon\nwells point")
+        page.type("columns parcels", "rows 2\nnumber int\nowner text")
+        self.ask(page, "parcels", "contains")
+        page.tool("ask-box")
+        page.click((450, 150))
+        page.until(lambda: page.hits() == ["parcels-3"])
+        self.ask(page, "parcels", "within")
+        page.drag((990, -30), (2010, 630))
+        page.until(lambda: page.hits() == sorted(f"parcels-{k}" for k in range(11, 21)))
+        self.assertEqual(page.text("#hits-title"), "10 found")
+        page.press(page.keys.ESCAPE)
+        page.choose((270, 150), "parcels 2, a polygon")
+        self.ask(page, "parcels", "")
+        page.script("document.getElementById('ask-pattern').value = '****1****'")
+        page.use("#ask-chosen")
+        page.use("#ask [type=submit]")
+        page.until(lambda: page.hits() == ["parcels-1", "parcels-2", "parcels-3", "parcels-7"])
+        self.assertTrue(page.last().startswith("match parcels ****1**** POLYGON ((180 0, "))
+
+    def split(self, page):
+        page.choose((450, 100), "parcels 3, a polygon")
+        page.use("#go")
+        page.until(lambda: page.script("return document.getElementById('world').getCTM().a") > 1)
+        page.press(page.keys.DELETE)
+        page.logged("delete parcels 3", "ok")
+        page.tool("polygon")
+        page.pick("#target", "parcels")
+        for point in ((360, 0), (450, 0), (450, 300), (360, 300), (360, 0)):
+            page.click(point)
+        page.logged("add parcels POLYGON ((360 0, 450 0, 450 300, 360 300, 360 0))", "ok 201")
+        page.until(lambda: page.text("#chosen-title") == "parcels 201, a polygon")
+        self.fill(page, "parcels 201", number="1201", owner="Dunn")
+        page.tool("polygon")
+        for point in ((450, 0), (540, 0), (540, 300), (450, 300)):
+            page.click(point)
+        page.press(page.keys.ENTER)
+        page.logged("add parcels POLYGON ((450 0, 540 0, 540 300, 450 300, 450 0))", "ok 202")
+        page.until(lambda: page.text("#chosen-title") == "parcels 202, a polygon")
+        self.fill(page, "parcels 202", number="1202", owner="O'Hara")
+
+    def fill(self, page, feature, **values):
+        for name, value in values.items():
+            self.type_into(page, name, value)
+            shown = value if value.isdigit() else "'" + value.replace("'", "''") + "'"
+            page.logged(f"set {feature} {name} {shown}", "ok")
+            page.until(lambda: page.one(f"#value-{name}").get_property("value") == value)
+
+    def type_into(self, page, name, value):
+        page.one(f"#value-{name}").send_keys(page.keys.CONTROL + "a" + page.keys.NULL, value, page.keys.ENTER)
+
+    def think_again(self, page):
+        self.ask(page, "parcels", "contains")
+        page.tool("ask-box")
+        page.click((400, 150))
+        page.until(lambda: page.hits() == ["parcels-201"])
+        page.type("relate parcels 201 POLYGON ((450 0, 540 0, 540 300, 450 300, 450 0))", "FF2F11212")
+        page.tool("select")
+        page.choose((500, 150), "parcels 202, a polygon")
+        page.press("-", page.keys.ARROW_UP)
+        page.drag((540, 0), (540, 400))
+        page.logged("vertex move parcels 202 0 0 1 540 400", "refused 13 RingNotSimple")
+        page.until(lambda: "a ring meets itself" in page.text("#refusal h2"))
+        self.assertEqual(len(page.all(".fault-mark")), 1)
+        page.use("#undo")
+        page.logged("undo", "ok")
+        page.until(lambda: page.one("#value-owner").get_property("value") == "")
+        page.press(page.keys.CONTROL + "z")
+        page.until(lambda: page.one("#value-number").get_property("value") == "")
+        page.press(page.keys.CONTROL + "y")
+        page.until(lambda: page.one("#value-number").get_property("value") == "1202")
+        page.choose((630, 150), "parcels 4, a polygon")
+        page.drag((540, 0), (560, 0))
+        page.logged("vertex move parcels 4 0 0 0 560 0", "ok")
+        page.use("#undo")
+        page.logged("undo", "ok")
+
+    def inspect(self, page):
+        page.type("column add wells inspected text", "ok")
+        page.press("0")
+        page.until(lambda: page.drawn() == 212)
+        page.choose((450, 150), "wells 1, a point")
+        self.fill(page, "wells 1", inspected="2026-11-23")
+        page.type("column drop wells inspected", "ok")
+        page.until(lambda: len(page.all("#values tr")) == 2)
+        page.use("#undo")
+        page.until(lambda: len(page.all("#values tr")) == 3)
+        page.type("show wells", SHOWN_WELLS)
+        self.ask(page, "streets", "crosses")
+        page.one("#ask-wkt").clear()
+        page.one("#ask-wkt").send_keys("LINESTRING (0 660, 5100 660)")
+        page.use("#ask [type=submit]")
+        page.until(lambda: page.hits() == [f"streets-{k}" for k in range(1, 5)])
+        self.ask(page, "streets", "intersects")
+        page.tool("ask-box")
+        page.drag((906, 606), (1194, 696))
+        page.until(lambda: page.hits() == ["streets-1", "streets-5"])
+        page.type("simple streets 1", "true")
+        page.type("box parcels 202", "450 0 540 300")
+
+    def test_a_new_user(self):
+        """Splits a parcel, undoes it, asks for what touches a street, and finds all after a kill."""
+        page = self.open()
+        page.choose((450, 100), "parcels 3, a polygon")
+        page.use("#delete")
+        page.logged("delete parcels 3", "ok")
+        page.type("add parcels POLYGON ((360 0, 450 0, 450 300, 360 300, 360 0))", "ok 201")
+        page.type("add parcels POLYGON ((450 0, 540 0, 540 300, 450 300, 450 0))", "ok 202")
+        page.until(lambda: page.drawn("parcels") == 201)
+        for count in (200, 199, 200):
+            page.use("#undo")
+            page.until(lambda: page.drawn("parcels") == count)
+        page.type("add wells POINT (960 300)", "ok 5")
+        page.type("query wells intersects LINESTRING (960 -60, 960 2820)")
+        page.until(lambda: page.hits() == ["wells-5"])
+        page.choose((960, 500), "streets 1, a linestring")
+        page.pick("#ask-layer", "")
+        page.pick("#ask-predicate", "intersects")
+        page.use("#ask-chosen")
+        page.use("#ask [type=submit]")
+        page.until(lambda: page.hits() == ["streets-1", "streets-5", "streets-6", "streets-7", "wells-5"])
+        self.serving.end(signal.SIGKILL)
+        page = self.page(self.serve(), "Ann")
+        self.assertEqual((page.drawn("parcels"), page.drawn("wells")), (200, 5))
+        page.use("#undo")
+        page.until(lambda: page.drawn("wells") == 4)
+
+
+class Several(PageCase):
+    """Two pages at once, and what ends in the middle."""
+
+    def test_two_people(self):
+        ann = self.open("Ann")
+        ben = self.page(self.serving, "Ben")
+        ben.type("query parcels within POLYGON ((1000 -20, 2000 -20, 2000 620, 1000 620, 1000 -20))")
+        ben.until(lambda: len(ben.hits()) == 10)
+        ann.here().tool("point")
+        ann.pick("#target", "wells")
+        ann.click((1290, 450))
+        ann.until(lambda: ann.last().startswith("add wells POINT ("))
+        added = time.monotonic()
+        line = ann.last()
+        ben.here()
+        ben.until(lambda: ben.drawn("wells") == 5, 5)
+        self.assertLess(time.monotonic() - added, 1.5)
+        self.assertEqual(len(ben.hits()), 10)
+        ben.logged(line)
+        self.assertIn("Ann", ben.text("#log li:last-child"))
+        ben.use("#undo")
+        ben.logged("undo", "refused 36 NotYours")
+        ben.until(lambda: ben.text("#refusal .reason") == f"The next step is Ann's: {line}")
+        ann.here().press(ann.keys.CONTROL + "z")
+        ann.until(lambda: ann.drawn("wells") == 4)
+        ben.here().until(lambda: ben.drawn("wells") == 4)
+        ben.type("layer add trees point", "ok")
+        ann.here().until(lambda: len(ann.all("#layers li")) == 4)
+        ann.tool("select")
+        ann.choose((270, 150), "parcels 2, a polygon")
+        ben.here().type("set parcels 2 owner 'Ito'", "ok")
+        ann.here().until(lambda: ann.one("#value-owner").get_property("value") == "Ito")
+        ben.here().type("delete parcels 2", "ok")
+        ann.here().until(lambda: ann.text("#chosen-title") == "Nothing selected")
+
+    def test_a_reload_keeps_the_name_and_the_steps(self):
+        page = self.open()
+        page.type("add wells POINT (1290 450)", "ok 5")
+        self.driver.refresh()
+        page.until(lambda: page.text("#person") == "Ann" and page.drawn("wells") == 5)
+        page.use("#undo")
+        page.until(lambda: page.drawn("wells") == 4)
+
+    def test_a_crash_is_told_and_nothing_is_lost(self):
+        page = self.open()
+        page.type("add wells POINT (1290 450)", "ok 5")
+        self.serving.end(signal.SIGKILL)
+        page.one("#line-text").send_keys("add wells POINT (1 1)", page.keys.ENTER)
+        page.until(lambda: "does not answer" in page.text("#status"))
+        page = self.page(self.serve(f"--port={self.serving.port}"), "Ann")
+        self.assertEqual(page.drawn("wells"), 5)
+
+    def test_the_program_is_killed_and_the_page_goes_on(self):
+        page = self.open()
+        page.type("add wells POINT (1290 450)", "ok 5")
+        subprocess.run(["pkill", "-KILL", "-P", str(self.serving.process.pid)], check=True)
+        page.one("#line-text").send_keys("add wells POINT (1 1)", page.keys.ENTER)
+        page.until(lambda: "Every edit that was answered is in the journal" in page.text("#status"))
+        page.type("undo", "ok")
+        page.until(lambda: page.drawn("wells") == 4)
+
+
+class Editing(PageCase):
+    """Shapes, vertices and values, by mouse, touch and keys."""
+
+    def test_a_refused_polygon_is_shown_with_its_crossing(self):
+        page = self.open()
+        page.tool("polygon")
+        page.pick("#target", "parcels")
+        # A bow tie of the corners of a parcel.
+        for point in ((180, 0), (360, 300), (360, 0), (180, 300)):
+            page.click(point)
+        page.press(page.keys.ENTER)
+        page.logged("add parcels POLYGON ((180 0, 360 300, 360 0, 180 300, 180 0))", "refused 13 RingNotSimple")
+        page.until(lambda: "Refused (13 RingNotSimple): a ring meets itself." == page.text("#refusal h2"))
+        [mark] = page.all(".fault-mark")
+        frame = page.one("#map").rect
+        at = [float(mark.get_attribute(name)) + frame[side] for name, side in (("cx", "x"), ("cy", "y"))]
+        for found, meant in zip(at, page.place((270, 150))):
+            self.assertAlmostEqual(found, meant, delta=2)
+        self.assertTrue(page.one("#overlay .refused").get_attribute("d"))
+        self.assertIn("edges 0 and 2 of ring 0 meet at (270 150)", page.text("#refusal .place"))
+        page.use("#refusal button")
+        self.assertFalse(page.one("#overlay .refused").get_attribute("d"))
+        self.assertEqual(page.drawn("parcels"), 200)
+
+    def test_a_vertex_is_inserted_and_taken_out(self):
+        page = self.open()
+        page.choose((270, 150), "parcels 2, a polygon")
+        page.use("#go")
+        page.until(lambda: page.script("return document.getElementById('world').getCTM().a") > 1)
+        page.drag((270, 0), (270, -10))
+        page.logged("vertex insert parcels 2 0 0 1 270 -10", "ok")
+        page.until(lambda: "270 -10" in page.one("#wkt").get_property("value"))
+        page.click((270, -10))
+        page.until(lambda: page.script("return document.activeElement.getAttribute('aria-label')") == "Vertex 1 of part 0, ring 0 at 270 -10")
+        page.driver.switch_to.active_element.send_keys(page.keys.DELETE)
+        page.logged("vertex remove parcels 2 0 0 1", "ok")
+        page.until(lambda: "270 -10" not in page.one("#wkt").get_property("value"))
+
+    def test_lines_and_multi_kinds_are_drawn(self):
+        page = self.open()
+        page.type("layer add fences multilinestring", "ok")
+        page.until(lambda: page.script("return [...document.getElementById('target').options].length") == 4)
+        page.tool("line")
+        page.pick("#target", "fences")
+        page.click((360, 0))
+        page.click((900, 300))
+        page.click((1020, 300))
+        page.press(page.keys.BACKSPACE)
+        page.press(page.keys.ENTER)
+        page.logged("add fences MULTILINESTRING ((360 0, 900 300))", "ok 1")
+        page.until(lambda: page.drawn("fences") == 1)
+
+    def test_values_are_edited_and_cleared(self):
+        page = self.open()
+        page.choose((450, 150), "wells 1, a point")
+        keys = page.keys
+        page.one("#value-label").send_keys(keys.CONTROL + "a" + keys.NULL, "<b onclick='x()'>it's</b>", keys.ENTER)
+        page.logged("set wells 1 label '<b onclick=''x()''>it''s</b>'", "ok")
+        page.until(lambda: page.one("#value-label").get_property("value") == "<b onclick='x()'>it's</b>")
+        self.assertEqual(page.all("b"), [])
+        page.use("[aria-label='Clear label']")
+        page.logged("unset wells 1 label", "ok")
+        page.until(lambda: page.one("#value-label").get_property("value") == "")
+        page.one("#value-depth").send_keys(keys.CONTROL + "a" + keys.NULL, "deep", keys.ENTER)
+        page.until(lambda: not page.one("#refusal").get_property("hidden"))
+        page.until(lambda: page.one("#value-depth").get_property("value") == "12")
+        page.script("document.getElementById('wkt').value = 'POINT (460 150)'")
+        page.use("#replace")
+        page.logged("replace wells 1 POINT (460 150)", "ok")
+
+    def test_all_by_keys(self):
+        page = self.open()
+        keys = page.keys
+        page.press("n", "n")
+        page.until(lambda: page.text("#chosen-title") == "parcels 2, a polygon")
+        page.press("p", "p")
+        page.until(lambda: page.text("#chosen-title") == "wells 4, a point")
+        page.press("v")
+        held = lambda: page.driver.switch_to.active_element
+        page.until(lambda: held().get_attribute("aria-label") == "Vertex 0 of part 0, ring 0 at 4500 150")
+        held().send_keys(keys.ARROW_RIGHT, keys.ARROW_UP, keys.SHIFT + keys.ARROW_UP, keys.ENTER)
+        page.logged("vertex move wells 4 0 0 0 4501 161", "ok")
+        page.until(lambda: held().get_attribute("aria-label") == "Vertex 0 of part 0, ring 0 at 4501 161")
+        page.press(keys.DELETE)
+        page.logged("delete wells 4", "ok")
+        page.press(keys.CONTROL + "z")
+        page.until(lambda: page.drawn("wells") == 4)
+        self.draw_by_keys(page)
+
+    def draw_by_keys(self, page):
+        keys = page.keys
+        page.one("[data-tool=line]").send_keys(keys.ENTER)
+        page.one("#target").send_keys("streets")
+        page.press("0", " ", keys.ARROW_RIGHT * 3, " ", keys.ENTER)
+        page.until(lambda: page.last().startswith("add streets LINESTRING ("))
+        page.until(lambda: page.drawn("streets") == 8)
+        page.press(keys.ESCAPE, "+", "+", "-", keys.ARROW_LEFT, keys.SHIFT + keys.ARROW_DOWN)
+        page.one("[data-tool=point]").send_keys(keys.SPACE)
+        page.one("#target").send_keys("wells")
+        page.press(" ")
+        page.until(lambda: page.last().startswith("add wells POINT ("))
+
+    def test_touch_moves_and_zooms(self):
+        page = self.open()
+        matrix = lambda: [page.script(f"return document.getElementById('world').getCTM().{part}") for part in "aef"]
+        before = matrix()
+        self.touch([[(400, 300)], [(420, 310)], [(450, 330)]])
+        after = page.until(lambda: (found := matrix()) != before and found)
+        self.assertEqual([round(b - a) for a, b in zip(before, after)], [0, 50, 30])
+        self.touch([[page.place((270, 150))]])
+        page.until(lambda: page.text("#chosen-title") == "parcels 2, a polygon")
+        self.touch([[(400, 300), (500, 300)], [(380, 300), (520, 300)], [(350, 300), (550, 300)]])
+        page.until(lambda: abs(matrix()[0] / after[0] - 2) < 0.01)
+
+    def touch(self, moves):
+        for kind, points in (("touchStart", moves[0]), *(("touchMove", move) for move in moves[1:]), ("touchEnd", [])):
+            touches = [{"x": x, "y": y, "id": finger} for finger, (x, y) in enumerate(points)]
+            self.driver.execute_cdp_cmd("Input.dispatchTouchEvent", {"type": kind, "touchPoints": touches})
+
+    def test_layers_are_turned_off_and_on(self):
+        page = self.open()
+        page.use("#layers li:nth-child(1) input")
+        page.until(lambda: page.drawn("parcels") == 0)
+        self.assertEqual(page.drawn(), 11)
+        page.use("#layers li:nth-child(1) input")
+        page.until(lambda: page.drawn("parcels") == 200)
+        order = page.script("return [...document.querySelectorAll('#world > g')].map(g => g.firstChild.id)")
+        self.assertEqual(order, ["parcels-1", "streets-1", "wells-1"])
+
+
+class Large(PageCase):
+    def test_a_map_that_is_too_large_is_counted_and_drawn_where_it_is_zoomed(self):
+        points = "".join(f"add w POINT ({k % 200 * 10} {k // 200 * 10})\n" for k in range(30_000))
+        self.make(f"layer add w point\n{points}layer add v point\nadd v POINT (5 5)\n".encode())
+        page = self.page(self.serve(), "Ann", known=("v-1", (5, 5)))
+        self.assertIn("w has 30,000 here: zoom in to see them.", page.text("#status"))
+        self.assertEqual(page.drawn(), 1)
+        page.choose((5, 5), "v 1, a point")
+        page.use("#go")
+        page.until(lambda: page.drawn("w") > 0)
+        for _ in range(8):
+            page.use("#zoom-out")
+        page.until(lambda: 1_000 < page.drawn("w") < 20_000)
+        spans = page.script("return performance.getEntriesByName('window').map(e => e.duration)")
+        self.assertLess(min(spans), 2_000)
+
+
+class Reading(TestCase):
+    """That all can be read, and all has a name."""
+
+    def colours(self):
+        """The colours of the light and of the dark page, by their names."""
+        text = (FOLDER / "sfstore" / "web" / "static" / "page.css").read_text()
+        light, dark = text.split("@media (prefers-color-scheme: dark)")
+        return [dict(re.findall(r"--([a-z0-9-]+): #([0-9a-f]{6});", part)) for part in (light, dark)]
+
+    def brightness(self, colour):
+        parts = [int(colour[at : at + 2], 16) / 255 for at in (0, 2, 4)]
+        parts = [part / 12.92 if part <= 0.04045 else ((part + 0.055) / 1.055) ** 2.4 for part in parts]
+        return sum(weight * part for weight, part in zip((0.2126, 0.7152, 0.0722), parts))
+
+    def contrast(self, one, other):
+        low, high = sorted((self.brightness(one), self.brightness(other)))
+        return (high + 0.05) / (low + 0.05)
+
+    def test_contrast(self):
+        for colours in self.colours():
+            self.assertEqual(len(colours), 20)
+            pairs = [(ink, page) for ink in ("ink", "faint", "accent", "bad") for page in ("page", "panel")]
+            pairs += [("bad", "bad-page"), ("ink", "bad-page"), ("page", "accent")]
+            for ink, page in pairs:
+                self.assertGreaterEqual(self.contrast(colours[ink], colours[page]), 4.5, (ink, page))
+            for ink in ("hit", "chosen", *(f"tint-{k}" for k in range(8))):
+                self.assertGreaterEqual(self.contrast(colours[ink], colours["map"]), 3, ink)
+
+
+class Names(PageCase):
+    def test_everything_that_takes_keys_has_a_name(self):
+        page = self.open()
+        page.choose((450, 150), "wells 1, a point")
+        self.driver.execute_cdp_cmd("Accessibility.enable", {})
+        nodes = self.driver.execute_cdp_cmd("Accessibility.getFullAXTree", {})["nodes"]
+        found = []
+        for node in nodes:
+            properties = {entry["name"]: entry["value"].get("value") for entry in node.get("properties", [])}
+            role = node.get("role", {}).get("value")
+            if properties.get("focusable") and not node.get("ignored") and role != "RootWebArea":
+                found.append((role, node.get("name", {}).get("value", "")))
+        self.assertGreater(len(found), 30)
+        self.assertEqual([entry for entry in found if not entry[1]], [])
+
+
+if __name__ == "__main__":
+    unittest.main()

@@ -1,0 +1,720 @@
+"""Tests of the server of the page without a browser: its calls, and what it does not answer."""
+
+from __future__ import annotations
+
+import http.client
+import json
+import os
+import random
+import signal
+import socket
+import subprocess
+import sys
+import threading
+import time
+import unittest
+
+import test_sfstore
+from support import PROGRAM, TestCase
+from web_support import Serving, WebCase
+
+from sfstore import JournalError, Refused, Store, storefile
+from sfstore.geometry import read_wkt
+from sfstore.refusals import words_of
+from sfstore.web.places import place_of
+from sfstore.web.steps import Steps
+from sfstore.web.windows import ELEMENTS_MAX, extent_of, rectangle
+
+CROSSED = "POLYGON ((0 0, 10 10, 10 0, 0 10, 0 0))"
+WHOLE = [-8388608, -8388608, 8388607, 8388607]
+
+# A program that does as the real one, but is slow to tell whether a geometry is simple.
+SLOW = """\
+#!{python}
+import subprocess, sys, time
+child = subprocess.Popen([{program!r}, *sys.argv[1:]], stdin=subprocess.PIPE, stdout=subprocess.PIPE)
+for line in sys.stdin.buffer:
+    if line.startswith(b"simple"):
+        time.sleep(60)
+    child.stdin.write(line)
+    child.stdin.flush()
+    told = child.stdout.readline()
+    count = int(told[5:]) if told.startswith(b"rows ") else 0
+    sys.stdout.buffer.write(told + b"".join(child.stdout.readline() for _ in range(count)))
+    sys.stdout.buffer.flush()
+child.stdin.close()
+sys.exit(child.wait())
+"""
+
+
+class Listening:
+    """A page that hears what happens."""
+
+    def __init__(self, serving):
+        self.connection = http.client.HTTPConnection("127.0.0.1", serving.port, timeout=30)
+        cookie = {"Cookie": f"sfstore-{serving.port}={serving.token}"}
+        self.connection.request("GET", "/events", headers=cookie)
+        self.answer = self.connection.getresponse()
+
+    def next(self):
+        """The next thing that is told."""
+        while True:
+            line = self.answer.readline()
+            if line.startswith(b"data: "):
+                return json.loads(line[6:])
+            if not line:
+                return None
+
+    def close(self):
+        self.answer.close()
+        self.connection.close()
+
+
+class Lines(WebCase):
+    """Lines of the console, with their answers and refusals."""
+
+    def test_every_command(self):
+        expected = [
+            ("layer add w any", {"answer": "ok"}),
+            ("layer add p polygon", {"answer": "ok"}),
+            ("layer move p 0", {"answer": "ok"}),
+            ("layer rename p plots", {"answer": "ok"}),
+            ("layers", {"rows": ["plots polygon", "w any"], "count": 2}),
+            ("column add w n int", {"answer": "ok"}),
+            ("column add w t text", {"answer": "ok"}),
+            ("column drop w n", {"answer": "ok"}),
+            ("columns w", {"rows": ["t text"], "count": 1}),
+            ("add w LINESTRING (0 0, 4 4)", {"answer": "ok 1"}),
+            ("addhex w 0101000000000000000000f03f0000000000000040", {"answer": "ok 2"}),
+            ("replace w 1 LINESTRING (0 0, 5 7)", {"answer": "ok"}),
+            ("vertex insert w 1 0 0 1 9 9", {"answer": "ok"}),
+            ("vertex move w 1 0 0 1 8 9", {"answer": "ok"}),
+            ("vertex remove w 1 0 0 1", {"answer": "ok"}),
+            ("set w 1 t 'it''s'", {"answer": "ok"}),
+            ("show w", {"rows": ["1 LINESTRING (0 0, 5 7) t='it''s'", "2 POINT (1 2)"], "count": 2}),
+            ("unset w 1 t", {"answer": "ok"}),
+            ("hex w 2", {"answer": "0101000000000000000000f03f0000000000000040"}),
+            ("box w 1", {"answer": "0 0 5 7"}),
+            ("simple w 1", {"answer": "true"}),
+            ("relate w 2 POINT (1 2)", {"answer": "0FFFFFFF2"}),
+            ("match w T******** POINT (1 2)", {"rows": ["2"], "count": 1}),
+            ("query w intersects POINT (5 7)", {"rows": ["1"], "count": 1}),
+            ("delete w 1", {"answer": "ok"}),
+            ("undo", {"answer": "ok"}),
+            ("redo", {"answer": "ok"}),
+            ("layer drop plots", {"answer": "ok"}),
+            (" \t", {"text": ""}),
+            ("save", {"text": "town.sfs is saved. The history begins anew."}),
+        ]
+        ann = self.serve().log_in("Ann")
+        for line, answer in expected:
+            with self.subTest(line=line):
+                self.assertEqual(ann.line(line), answer)
+        self.assertIn("adds a feature", ann.line("help add")["text"])
+        self.assertIn("save", ann.line("help")["text"])
+        self.assertNotIn("quit", ann.line("help")["text"])
+
+    def test_each_refusal_in_words(self):
+        ann = self.serve().log_in("Ann")
+        for line in test_sfstore.Refusals.PREPARED:
+            self.assertIn("ok", ann.answer(line))
+        for number, name, line in test_sfstore.Refusals.EXPECTED:
+            with self.subTest(number=number, line=line[:60]):
+                refused = ann.refused(line)
+                self.assertEqual((refused["number"], refused["name"]), (number, name))
+                self.assertEqual(refused["reason"], words_of(number).reason)
+                self.assertTrue(refused["help"])
+                if 10 <= number <= 17:
+                    self.assertTrue(refused["place"]["points"], refused)
+
+    def test_refusals_of_the_history_and_of_what_is_used_up(self):
+        layer = storefile.FileLayer("w", 1, 4294967295, 65535)
+        with open(self.path, "wb") as file:
+            storefile.write(file, [layer])
+        ann = self.serve().log_in("Ann")
+        for line, number in (("undo", 29), ("add w POINT (1 1)", 27), ("column add w c int", 28)):
+            self.assertEqual(ann.refused(line)["number"], number)
+
+    def test_the_geometry_and_the_place_of_a_refused_edit(self):
+        ann = self.serve().log_in("Ann")
+        ann.line("layer add p polygon")
+        refused = ann.refused(f"add p {CROSSED}")
+        self.assertEqual(refused["members"], [[[0, 0, 10, 10, 10, 0, 0, 10, 0, 0]]])
+        self.assertEqual(refused["place"]["points"], [[5, 5]])
+        self.assertIn("edges 0 and 2 of ring 0 meet at (5 5)", refused["place"]["words"])
+        ann.line("add p POLYGON ((0 0, 10 0, 10 10, 0 10, 0 0))")
+        refused = ann.refused("vertex move p 1 0 0 2 5 -5")
+        self.assertEqual(refused["members"], [[[0, 0, 10, 0, 5, -5, 0, 10, 0, 0]]])
+        self.assertEqual(len(refused["place"]["points"]), 1)
+
+    def test_what_may_have_been_meant(self):
+        ann = self.serve().log_in("Ann")
+        self.assertEqual(ann.refused("qery w")["help"], "Is `query` meant?")
+        self.assertIn("layer add NAME KIND", ann.refused("layer add")["help"])
+
+    def test_nobody_speaks_for_another_by_a_line(self):
+        serving = self.serve()
+        ann, ben = serving.log_in("Ann"), serving.log_in("Ben")
+        ann.line("layer add w point")
+        self.assertEqual(ben.refused("@1 undo")["number"], 31)
+
+    def test_long_answers_are_cut_and_counted(self):
+        count = ELEMENTS_MAX + 5
+        points = (f"add w POINT ({k} 0)\n" for k in range(count))
+        self.make("".join(["layer add w point\n", *points]).encode())
+        answer = self.serve().log_in("Ann").line("show w")
+        self.assertEqual((len(answer["rows"]), answer["count"]), (ELEMENTS_MAX, count))
+
+
+class People(WebCase):
+    """Several people, each with their own steps."""
+
+    def test_each_undoes_their_own_and_is_told_whose_step_is_next(self):
+        serving = self.serve()
+        ann, ben = serving.log_in("Ann"), serving.log_in("Ben")
+        ann.line("layer add w point")
+        ann.line("add w POINT (1 1)")
+        ben.line("add w POINT (2 2)")
+        refused = ann.refused("undo")
+        self.assertEqual((refused["number"], refused["name"]), (36, "NotYours"))
+        whose = {"number": ben.editor, "editor": "Ben", "line": "add w POINT (2 2)"}
+        self.assertEqual(refused["whose"], whose)
+        self.assertEqual(ben.answer("undo"), "ok")
+        self.assertEqual(ann.refused("redo")["whose"], whose)
+        self.assertEqual(ann.answer("undo"), "ok")
+
+    def test_a_name_is_a_number_for_good(self):
+        serving = self.serve()
+        ann, ben = serving.log_in("Ann"), serving.log_in(" Ben  Ito ")
+        self.assertEqual(serving.log_in("Ben Ito").editor, ben.editor)
+        ben.line("layer add w point")
+        serving.end(signal.SIGKILL)
+        serving = self.serve()
+        self.assertIn("1 edits from the journal", serving.said)
+        ben, ann = serving.log_in("Ben Ito"), serving.log_in("Ann")
+        self.assertEqual(ann.refused("undo")["whose"]["editor"], "Ben Ito")
+        self.assertEqual(ben.answer("undo"), "ok")
+
+    def test_what_is_no_name(self):
+        serving = self.serve()
+        for name in ("", "  ", "x" * 41, "a\0b", "\ud800", 5, None, ["Ann"]):
+            body = json.dumps({"name": name}).encode()
+            self.assertEqual(serving.request("POST", "/login", body)[0], 400, name)
+        for editor in (1, 0, -1, 256, "1", 1.0, True, None):
+            body = json.dumps({"editor": editor, "line": "layer add w point"}).encode()
+            self.assertEqual(serving.request("POST", "/line", body)[0], 400, editor)
+        self.assertEqual(serving.call("/map")["layers"], [])
+
+    def test_there_is_room_for_255(self):
+        serving = self.serve()
+        for number in range(1, 256):
+            self.assertEqual(serving.log_in(f"person {number}").editor, number)
+        self.assertEqual(serving.request("POST", "/login", b'{"name": "one more"}')[0], 400)
+
+    def test_all_hear_of_an_edit_within_a_second(self):
+        serving = self.serve()
+        ann = serving.log_in("Ann")
+        pages = [Listening(serving), Listening(serving)]
+        for page in pages:
+            self.addCleanup(page.close)
+            self.assertEqual(page.next(), {"hello": True})
+        began = time.monotonic()
+        ann.line("layer add w point")
+        for page in pages:
+            told = page.next()
+            self.assertEqual((told["editor"], told["line"]), ("Ann", "layer add w point"))
+        self.assertLess(time.monotonic() - began, 1)
+        ann.line("undo")
+        told = pages[0].next()
+        self.assertEqual((told["line"], told["step"]), ("undo", "layer add w point"))
+        self.assertEqual((told["undo"], told["redo"]["line"]), (None, "layer add w point"))
+        ann.line("save")
+        self.assertEqual(pages[0].next()["saved"], "Ann")
+
+    def test_someone_at_the_console(self):
+        with Store(self.path, journal=True, program=PROGRAM) as store:
+            store.add_layer("w", "point")
+            store.close(save=False)
+        serving = self.serve()
+        refused = serving.log_in("Ann").refused("undo")
+        self.assertEqual(refused["whose"]["editor"], "someone at the console")
+
+
+class Maps(WebCase):
+    """What windows show, and what is told of features."""
+
+    def window(self, serving, box, *layers):
+        return serving.call("/window", box=box, layers=list(layers))["layers"]
+
+    def test_a_window_has_what_meets_it_in_drawing_order(self):
+        self.make(
+            b"layer add p polygon\nlayer add w any\nlayer move w 0\n"
+            b"add p POLYGON ((0 0, 10 0, 10 10, 0 10, 0 0), (2 2, 2 4, 4 4, 2 2))\n"
+            b"add w POINT (10 10)\nadd w POINT (11 11)\n"
+            b"add w MULTILINESTRING ((-5 5, 20 5), (30 30, 31 31))\n"
+        )
+        serving = self.serve()
+        shown = self.window(serving, [0, 0, 10, 10], "p", "w", "gone")
+        square = [[0, 0, 10, 0, 10, 10, 0, 10, 0, 0], [2, 2, 2, 4, 4, 4, 2, 2]]
+        points, lines = [1, 1, [[[10, 10]]]], [3, 5, [[[-5, 5, 20, 5]], [[30, 30, 31, 31]]]]
+        self.assertEqual(shown[0], {"name": "w", "count": 2, "features": [points, lines]})
+        self.assertEqual(shown[1], {"name": "p", "count": 1, "features": [[1, 3, [square]]]})
+        self.assertEqual(self.window(serving, [10, 10, 10, 10], "w")[0]["features"], [points])
+        self.assertEqual(self.window(serving, [-5, 5, -3, 5], "w")[0]["features"], [lines])
+
+    def test_only_so_much_is_drawn_and_the_rest_counted(self):
+        points = (f"add w POINT ({k} 0)\n" for k in range(ELEMENTS_MAX))
+        self.make("".join(["layer add w point\nlayer add v point\nadd v POINT (5 5)\n", *points]).encode())
+        serving = self.serve()
+        w, v = self.window(serving, WHOLE, "w", "v")
+        self.assertEqual((w["count"], w["features"]), (ELEMENTS_MAX, None))
+        self.assertEqual(v["features"], [[1, 1, [[[5, 5]]]]])
+        [w] = self.window(serving, WHOLE, "w")
+        self.assertEqual(len(w["features"]), ELEMENTS_MAX)
+        w, _ = self.window(serving, [0, 0, 9, 9], "w", "v")
+        self.assertEqual(w["count"], len(w["features"]), 10)
+
+    def test_boxes_that_are_none(self):
+        serving = self.serve()
+        for box in ([0, 0, 1], [1, 0, 0, 0], [0, 0, 1, 8388608], [0, 0, 1, 1.0], "0 0 1 1", None, [0, 0, True, 1]):
+            body = json.dumps({"box": box, "layers": []}).encode()
+            self.assertEqual(serving.request("POST", "/window", body)[0], 400, box)
+
+    def test_how_far_a_map_reaches(self):
+        serving = self.serve()
+        ann = serving.log_in("Ann")
+        self.assertIsNone(serving.call("/map", extent=True)["extent"])
+        for line, extent in (
+            ("layer add w any", None),
+            ("add w POINT (-8388608 3)", [-8388608, 3, -8388608, 3]),
+            ("add w LINESTRING (5 8388607, 6 0)", [-8388608, 0, 6, 8388607]),
+            ("delete w 1", [5, 0, 6, 8388607]),
+            ("layer add v any", [5, 0, 6, 8388607]),
+            ("add v POINT (0 -8388608)", [0, -8388608, 6, 8388607]),
+        ):
+            ann.line(line)
+            self.assertEqual(serving.call("/map", extent=True)["extent"], extent, line)
+
+    def test_how_far_reaches_what_is_scattered(self):
+        rng = random.Random(37)
+        with Store(program=PROGRAM) as store:
+            store.add_layer("w", "point")
+            places = [(int(rng.gauss(0, 90_000)), int(rng.gauss(9, 90_000))) for _ in range(3_000)]
+            store.run_all(f"add w POINT ({x} {y})" for x, y in places)
+            xs, ys = zip(*places)
+            self.assertEqual(extent_of(store), (min(xs), min(ys), max(xs), max(ys)))
+            store.run_all(f"delete w {1 << power}" for power in range(12))
+            kept = [place for k, place in enumerate(places, 1) if k & (k - 1)]
+            xs, ys = zip(*kept)
+            self.assertEqual(extent_of(store), (min(xs), min(ys), max(xs), max(ys)))
+
+    def test_rectangles_without_an_area(self):
+        self.assertEqual(rectangle((1, 2, 1, 2)), "POINT (1 2)")
+        self.assertEqual(rectangle((1, 2, 1, 5)), "LINESTRING (1 2, 1 5)")
+        self.assertEqual(rectangle((1, 2, 3, 4)), "POLYGON ((1 2, 3 2, 3 4, 1 4, 1 2))")
+
+
+class Values(WebCase):
+    """The values of a feature, through whatever changes them."""
+
+    def setUp(self):
+        super().setUp()
+        self.make(
+            b"layer add w point\ncolumn add w n int\ncolumn add w t text\nadd w POINT (1 1)\nadd w POINT (2 2)\n"
+            b"set w 1 n 12\nset w 1 t 'a=b ''c'' d=''e'\n"
+        )
+        self.serving = self.serve()
+        self.ann = self.serving.log_in("Ann")
+
+    def values(self, feature=1, layer="w"):
+        told = self.serving.call("/feature", layer=layer, id=feature)["values"]
+        return {column["name"]: column["value"] for column in told}
+
+    def test_a_feature(self):
+        told = self.serving.call("/feature", layer="w", id=1)
+        self.assertEqual((told["wkt"], told["code"], told["members"]), ("POINT (1 1)", 1, [[[1, 1]]]))
+        values = [{"name": "n", "type": "int", "value": "12"}, {"name": "t", "type": "text", "value": "a=b 'c' d='e"}]
+        self.assertEqual(told["values"], values)
+        self.assertEqual(self.values(2), {"n": None, "t": None})
+
+    def test_what_changes_them(self):
+        text = "a=b 'c' d='e"
+        for line, values in (
+            ("set w 1 n +013", {"n": "13", "t": text}),
+            ("set w 1 n  -9223372036854775808 ", {"n": "-9223372036854775808", "t": text}),
+            ("undo", {"n": "13", "t": text}),
+            ("unset w 1 n", {"n": None, "t": text}),
+            ("set w 1 t ''", {"n": None, "t": ""}),
+            ("vertex move w 1 0 0 0 7 7", {"n": None, "t": ""}),
+            ("column drop w n", {"t": ""}),
+            ("column add w n text", {"t": "", "n": None}),
+            ("set w 1 n 'né'", {"t": "", "n": "né"}),
+            ("delete w 2", {"t": "", "n": "né"}),
+            ("save", {"t": "", "n": "né"}),
+        ):
+            self.ann.line(line)
+            self.assertEqual(self.values(), values, line)
+        self.ann.line("layer rename w v")
+        self.ann.line("layer add w point")
+        self.ann.line("add w POINT (1 1)")
+        self.assertEqual(self.values(), {})
+        self.assertEqual(self.values(layer="v"), {"t": "", "n": "né"})
+
+    def test_a_feature_that_is_deleted_and_comes_back(self):
+        self.values()
+        self.ann.line("delete w 1")
+        self.assertEqual(self.serving.call("/feature", layer="w", id=1)["refused"]["number"], 21)
+        self.ann.line("undo")
+        self.assertEqual(self.values()["n"], "12")
+
+    def test_what_is_no_feature(self):
+        self.assertEqual(self.serving.call("/feature", layer="v", id=1)["refused"]["number"], 18)
+        for layer, feature in (("w 1\nundo", 1), ("\ud800", 1), (None, 1), ("w", "1"), ("w", -1), ("w", 2**32)):
+            body = json.dumps({"layer": layer, "id": feature}).encode()
+            self.assertEqual(self.serving.request("POST", "/feature", body)[0], 400, (layer, feature))
+
+
+class Programs(WebCase):
+    """The programs behind: one with the store, and others that are only asked."""
+
+    def slow_program(self):
+        return self.script(SLOW.format(python=sys.executable, program=PROGRAM))
+
+    def test_a_question_that_takes_long_stops_neither_the_store_nor_the_map(self):
+        serving = self.serve("--seconds", "3", program=self.slow_program())
+        ann, ben = serving.log_in("Ann"), serving.log_in("Ben")
+        ann.line("layer add w point")
+        ann.line("add w POINT (1 1)")
+        ended = []
+
+        def ask():
+            body = json.dumps({"editor": ben.editor, "line": "simple w 1"}).encode()
+            ended.append(serving.request("POST", "/line", body))
+
+        asking = threading.Thread(target=ask)
+        began = time.monotonic()
+        asking.start()
+        time.sleep(0.5)
+        self.assertEqual(ann.answer("add w POINT (2 2)"), "ok 2")
+        shown = serving.call("/window", box=[0, 0, 9, 9], layers=["w"])["layers"]
+        self.assertEqual(shown[0]["count"], 2)
+        self.assertLess(time.monotonic() - began, 3)
+        asking.join()
+        [(status, _, data)] = ended
+        self.assertEqual(status, 503)
+        self.assertIn("more than 3 seconds", json.loads(data)["error"])
+        self.assertEqual(ben.line("query w intersects POINT (2 2)")["rows"], ["2"])
+        self.assertEqual(ann.answer("undo"), "ok")
+        self.assertEqual(ben.line("show w")["rows"], ["1 POINT (1 1)"])
+
+    def programs(self, serving):
+        said = subprocess.run(["pgrep", "-P", str(serving.process.pid)], capture_output=True, text=True)
+        return list(map(int, said.stdout.split()))
+
+    @unittest.skipUnless(sys.platform == "linux", "looks at processes")
+    def test_programs_that_are_killed_are_begun_anew(self):
+        serving = self.serve()
+        ann = serving.log_in("Ann")
+        ann.line("layer add w point")
+        ann.line("add w POINT (1 1)")
+        ann.line("show w")
+        page = Listening(serving)
+        self.addCleanup(page.close)
+        page.next()
+        children = self.programs(serving)
+        # The store, and the second program of the one question that was asked.
+        self.assertEqual(len(children), 2)
+        for child in children:
+            os.kill(child, signal.SIGKILL)
+        body = json.dumps({"editor": ann.editor, "line": "add w POINT (2 2)"}).encode()
+        self.assertEqual(serving.request("POST", "/line", body)[0], 503)
+        self.assertEqual(page.next(), {"anew": True})
+        self.assertEqual(ann.line("show w")["rows"], ["1 POINT (1 1)"])
+        self.assertEqual(ann.answer("add w POINT (2 2)"), "ok 2")
+        self.assertEqual(ann.line("show w")["count"], 2)
+        self.assertEqual([ann.answer("undo") for _ in range(3)], ["ok"] * 3)
+
+    def test_second_programs_follow_through_saves_and_undoing(self):
+        serving = self.serve()
+        ann = serving.log_in("Ann")
+        ann.line("layer add w point")
+        rng = random.Random(5)
+        for k in range(60):
+            line = rng.choice(["add w POINT (1 1)", "undo", "redo", "save" if k % 7 == 0 else "undo"])
+            ann.line(line)
+            rows = ann.line("show w")
+            shown = serving.call("/window", box=WHOLE, layers=["w"])["layers"]
+            count = shown[0]["count"] if shown else None
+            self.assertEqual(rows.get("count"), count)
+        serving.end()
+        with Store(self.path, journal=True, program=PROGRAM) as store:
+            kept = [len(store.show(layer.name)) for layer in store.layers()]
+        self.assertEqual(kept, [] if count is None else [count])
+
+    def test_the_steps_are_those_of_the_program(self):
+        rng = random.Random(36)
+        with Store(program=PROGRAM) as store:
+            steps = Steps(["@9 layer add w point"])
+            store.editor(9).add_layer("w", "point")
+            for k in range(600):
+                editor = rng.randrange(3)
+                line = rng.choice(["undo", "redo", f"add w POINT ({k} 0)"])
+                next_step = {"undo": steps.to_undo, "redo": steps.to_redo}.get(line)
+                try:
+                    (store.editor(editor) if editor else store).run(line)
+                except Refused as refused:
+                    wanted = 36 if next_step else {"undo": 29, "redo": 30}[line]
+                    self.assertEqual(refused.number, wanted)
+                    self.assertNotEqual(next_step and next_step.editor, editor)
+                    continue
+                moved = steps.take(editor, line)
+                self.assertEqual(moved.editor, editor)
+                self.assertIn(next_step, (None, moved))
+
+    def test_steps_of_a_journal(self):
+        steps = Steps(["layer add w point", "@2 add w POINT (1 1)", " @03\tadd w POINT (2 2)", "@3 undo"])
+        self.assertEqual(steps.to_undo, (2, "add w POINT (1 1)"))
+        self.assertEqual(steps.to_redo, (3, "add w POINT (2 2)"))
+
+
+class Ending(WebCase):
+    """How it begins and ends, and what is kept."""
+
+    def test_ctrl_c_ends_it_and_everything_is_in_the_journal(self):
+        for number in (signal.SIGINT, signal.SIGTERM):
+            serving = self.serve()
+            page = Listening(serving)
+            page.next()
+            ann = serving.log_in("Ann")
+            ann.line(f"layer add w{number} point")
+            ann.line("show w")
+            self.assertEqual((serving.end(number), serving.errors), (0, ""))
+            self.assertIn(f"edits are in {self.path}.journal", serving.said)
+            page.close()
+        with Store(self.path, journal=True, program=PROGRAM) as store:
+            self.assertEqual([layer.name for layer in store.layers()], ["w2", "w15"])
+
+    def test_nothing_answered_is_lost_by_a_kill(self):
+        for k in range(5):
+            serving = self.serve()
+            ann = serving.log_in("Ann")
+            if k == 0:
+                ann.line("layer add w point")
+            self.assertEqual(ann.answer(f"add w POINT ({k} {k})"), f"ok {k + 1}")
+            serving.end(signal.SIGKILL)
+        serving = self.serve()
+        self.assertIn("6 edits from the journal", serving.said)
+        self.assertEqual(serving.log_in("Ann").line("show w")["count"], 5)
+
+    def failed(self, path, *words):
+        words = [sys.executable, "-m", "sfstore.web.command", str(path), f"--program={PROGRAM}", "--no-browser", *words]
+        ended = subprocess.run(words, env=self.environment(), capture_output=True, text=True, timeout=60)
+        self.assertEqual((ended.returncode, ended.stdout), (3, ""))
+        return ended.stderr
+
+    def environment(self):
+        return {**os.environ, "PYTHONPATH": str(test_sfstore.FOLDER)}
+
+    def test_what_does_not_open(self):
+        self.path.write_bytes(b"nothing of the kind")
+        self.assertIn("does not load: place 0", self.failed(self.path))
+        self.assertIn("No such file", self.failed(self.folder / "no" / "such.sfs"))
+        other = self.folder / "other.sfs"
+        serving = self.serve(path=other)
+        self.assertIn("is open in another session", self.failed(other))
+        third = self.folder / "third.sfs"
+        self.assertIn("Address already in use", self.failed(third, f"--port={serving.port}"))
+        (self.folder / "third.sfs.editors").write_text("{")
+        self.assertIn("third.sfs.editors can't be read", self.failed(third))
+        with self.assertRaises(JournalError):
+            Store(other, journal=True, program=PROGRAM)
+
+    def test_help(self):
+        words = [sys.executable, "-m", "sfstore.web.command", "--help"]
+        said = subprocess.run(words, env=self.environment(), capture_output=True, text=True, check=True)
+        self.assertIn("usage: sfstore-web", said.stdout)
+
+
+class Guards(WebCase):
+    """What is not answered, or not carried out, whoever asks."""
+
+    def setUp(self):
+        super().setUp()
+        self.serving = self.serve()
+        self.ann = self.serving.log_in("Ann")
+        self.body = json.dumps({"editor": self.ann.editor, "line": "layer add w point"}).encode()
+
+    def tearDown(self):
+        self.assertEqual(self.serving.call("/map")["layers"], [])
+
+    def status(self, method, path, body=None, **changed):
+        status, headers, data = self.serving.request(method, path, body, **changed)
+        self.assertIn("default-src 'none'", headers["Content-Security-Policy"])
+        if status != 200:
+            self.assertNotIn(self.serving.token.encode(), data)
+        return status
+
+    def test_the_address_gives_the_cookie_once_and_leads_to_the_page(self):
+        serving = self.serving
+        status, headers, _ = serving.request("GET", f"/?token={serving.token}", Cookie=None, Origin=None)
+        self.assertEqual((status, headers["Location"]), (303, "/"))
+        cookie = headers["Set-Cookie"]
+        self.assertEqual(cookie, f"sfstore-{serving.port}={serving.token}; HttpOnly; SameSite=Strict; Path=/")
+        self.assertEqual(serving.request("GET", "/", Origin=None)[0], 200)
+        for query in ("token=", "token=x", f"token={serving.token}x", f"tokens={serving.token}", "%ff=%ff"):
+            self.assertEqual(self.status("GET", f"/?{query}", Cookie=None), 403, query)
+
+    def test_without_the_cookie(self):
+        port, token = self.serving.port, self.serving.token
+        for cookie in (None, "", "x", f"sfstore-{port}=", f"sfstore-{port}=x", f"sfstore={token}", token, "é=ü"):
+            for method, path, body in (("GET", "/", None), ("GET", "/events", None), ("POST", "/line", self.body)):
+                status = self.status(method, path, body, Cookie=cookie)
+                self.assertEqual(status, 403, (cookie, path))
+        self.assertEqual(self.status("POST", "/line?token=" + token, self.body, Cookie=None), 403)
+        self.assertEqual(self.status("POST", "/line", self.body, Cookie=None, Authorization=f"Bearer {token}"), 403)
+
+    def test_of_another_host_or_page(self):
+        port = self.serving.port
+        for host in ("evil.example", f"evil.example:{port}", "127.0.0.1", f"127.0.0.1:{port}.evil.example", "", None):
+            for method, path in (("GET", "/"), ("POST", "/line"), ("GET", f"/?token={self.serving.token}")):
+                body = self.body if method == "POST" else None
+                self.assertEqual(self.status(method, path, body, Host=host), 403, (host, path))
+        for origin in ("http://evil.example", "null", f"https://127.0.0.1:{port}", f"http://localhost:{port}", ""):
+            self.assertEqual(self.status("POST", "/line", self.body, Origin=origin), 403, origin)
+            self.assertEqual(self.status("GET", "/page.js", Origin=origin), 403, origin)
+        self.assertEqual(self.status("POST", "/line", self.body, Origin=None), 403)
+        host = f"localhost:{port}"
+        self.assertEqual(self.status("GET", "/", Host=host, Origin=f"http://{host}"), 200)
+
+    def test_it_listens_on_the_loopback_alone(self):
+        addresses = {found[4][0] for found in socket.getaddrinfo(socket.gethostname(), None, socket.AF_INET)}
+        for address in addresses - {"127.0.0.1"}:
+            if address.startswith("127."):
+                continue
+            with self.assertRaises(OSError):
+                socket.create_connection((address, self.serving.port), timeout=5).close()
+
+    def test_no_path_names_a_file(self):
+        for path in ("/../town.sfs", "/town.sfs", "/%2e%2e/town.sfs", "//etc/passwd", "/page.html", "/server.py", "/.", "*"):
+            self.assertEqual(self.status("GET", path), 404, path)
+            self.assertEqual(self.status("POST", path, b"{}"), 404, path)
+        for path in ("/page.js?x", "/page.js/", "http://evil.example/page.js", "/line", "/static/page.js"):
+            self.assertEqual(self.status("GET", path), 404, path)
+
+    def test_other_methods(self):
+        for method in ("PUT", "DELETE", "OPTIONS", "TRACE", "CONNECT", "PATCH", "HEAD"):
+            self.assertEqual(self.status(method, "/line"), 501, method)
+
+    def test_calls_that_are_none(self):
+        for body in (b"", b"{", b"[]", b'"x"', b"\xff", b"1" * 5_000, b"[" * 100_000, b"{}", b'{"editor": 1}', b'{"editor": 1, "line": 5}'):
+            self.assertEqual(self.status("POST", "/line", body), 400, body[:20])
+        lines = ["layer add w point\nlayer add v point", "\ud800", "layer add w point\n"]
+        for line in lines:
+            body = json.dumps({"editor": self.ann.editor, "line": line}).encode()
+            self.assertEqual(self.status("POST", "/line", body), 400, line)
+        for kind in (None, "text/plain", "application/x-www-form-urlencoded", "multipart/form-data"):
+            self.assertEqual(self.status("POST", "/line", self.body, Content_Type=kind), 415, kind)
+
+    def test_the_size_of_a_call(self):
+        too_long = b" " * (1 << 19) + self.body
+        self.assertEqual(self.status("POST", "/line", b"", Content_Length=str(len(too_long))), 413)
+        self.assertEqual(self.status("POST", "/line", b"", Content_Length="9" * 5_000), 413)
+        for length in ("-1", "x", "", "１", "0x10", "1 1"):
+            self.assertEqual(self.raw(length), b"411", length)
+        self.assertEqual(self.status("POST", "/line", b"", Transfer_Encoding="chunked", Content_Length="1"), 411)
+
+    def raw(self, length):
+        """The status of a call with a length that no client would send."""
+        head = (
+            f"POST /line HTTP/1.1\r\nHost: {self.serving.host}\r\nOrigin: http://{self.serving.host}\r\n"
+            f"Cookie: sfstore-{self.serving.port}={self.serving.token}\r\n"
+            f"Content-Type: application/json\r\nContent-Length: {length}\r\n\r\n"
+        )
+        return self.sent(head.encode() + self.body).split(b" ")[1]
+
+    def sent(self, data):
+        """What is answered to bytes."""
+        with socket.create_connection(("127.0.0.1", self.serving.port), timeout=30) as connection:
+            connection.sendall(data)
+            connection.shutdown(socket.SHUT_WR)
+            found = b""
+            while part := connection.recv(65536):
+                found += part
+        return found
+
+    def test_bytes_that_are_no_request(self):
+        host = self.serving.host.encode()
+        for data in (
+            b"\0\1\2\3\r\n\r\n",
+            b"\x16\x03\x01\x02\x00\x01\x00\x01\xfc\x03\x03" + bytes(200),
+            b"GET\r\n\r\n",
+            b"GET / HTTP/9.9\r\n\r\n",
+            b"GET / HTTP/1.1\r\n" + b"X: y\r\n" * 200 + b"\r\n",
+            b"GET /" + b"x" * 70_000 + b" HTTP/1.1\r\n\r\n",
+            b"GET / HTTP/1.1\r\nHost: " + host + b"\r\nHost: " + host + b"\r\n\r\n",
+            b"GET / HTTP/1.1\r\nHost: " + host + b"\r\nOrigin: http://" + host + b"\r\nOrigin: x\r\n\r\n",
+            b"GET <script>alert(1)</script> HTTP/1.1\r\n\r\n",
+        ):
+            found = self.sent(data)
+            self.assertNotIn(b" 200 ", found.partition(b"\n")[0], data[:40])
+            self.assertNotIn(b"text/html", found)
+        self.assertEqual(self.sent(b""), b"")
+
+    def test_two_requests_in_one(self):
+        # What is behind a request that is refused is not read as another one.
+        inner = f"POST /line HTTP/1.1\r\nHost: {self.serving.host}\r\n\r\n".encode()
+        head = f"POST /line HTTP/1.1\r\nHost: evil.example\r\nContent-Length: {len(inner)}\r\n\r\n".encode()
+        found = self.sent(head + inner)
+        self.assertEqual(found.count(b"HTTP/1.1 "), 1)
+        self.assertIn(b" 403 ", found)
+
+    def test_many_connections_that_say_nothing(self):
+        held = []
+        for _ in range(300):
+            connection = socket.create_connection(("127.0.0.1", self.serving.port), timeout=30)
+            self.addCleanup(connection.close)
+            held.append(connection)
+        for connection in held:
+            connection.close()
+        deadline = time.monotonic() + 20
+        while True:
+            try:
+                self.assertEqual(self.status("GET", "/"), 200)
+                return
+            except (OSError, http.client.HTTPException):
+                self.assertLess(time.monotonic(), deadline)
+                time.sleep(0.1)
+
+    def test_nothing_of_the_page_is_inline_or_from_elsewhere(self):
+        _, headers, page = self.serving.request("GET", "/")
+        policy = headers["Content-Security-Policy"]
+        self.assertNotIn("unsafe", policy)
+        self.assertNotIn("http", policy)
+        for text in (b"<style", b"style=", b"onclick", b"http://", b"https://", b"javascript:"):
+            self.assertNotIn(text, page)
+        folder = test_sfstore.FOLDER / "sfstore" / "web" / "static"
+        for script in folder.glob("*.js"):
+            text = script.read_text()
+            for word in ("innerHTML", "outerHTML", "insertAdjacentHTML", "document.write", "eval(", "Function("):
+                self.assertNotIn(word, text, script)
+
+
+class Places(TestCase):
+    def test_a_place_is_looked_for_for_some_time_only(self):
+        # A comb of 2,000 teeth over one of as many that lie across: all their edges cross.
+        def comb(count, turned):
+            points = [(8 * k + 4 * (end in (1, 2)), 8 * count * (k % 2)) for k in range(count) for end in (0,)]
+            return ", ".join(f"{y} {x}" if turned else f"{x} {y}" for x, y in points)
+
+        crossed = read_wkt(f"LINESTRING ({comb(2000, False)}, {comb(2000, True)})")
+        began = time.monotonic()
+        ring = [[*crossed.members[0][0], *crossed.members[0][0][:2]]]
+        place_of(16, crossed._replace(code=6, members=[ring, ring]))
+        self.assertLess(time.monotonic() - began, 10)
+
+    def test_no_place(self):
+        self.assertIsNone(place_of(16, read_wkt("POINT (1 1)")))
+
+
+if __name__ == "__main__":
+    unittest.main()
