@@ -13,6 +13,7 @@ import sys
 import threading
 import time
 import unittest
+from unittest import mock
 
 import test_sfstore
 from support import PROGRAM, TestCase
@@ -703,16 +704,10 @@ class Guards(WebCase):
 
 class Places(TestCase):
     def test_a_place_is_looked_for_for_some_time_only(self):
-        # A comb of 2,000 teeth over one of as many that lie across: all their edges cross.
-        def comb(count, turned):
-            points = [(8 * k + 4 * (end in (1, 2)), 8 * count * (k % 2)) for k in range(count) for end in (0,)]
-            return ", ".join(f"{y} {x}" if turned else f"{x} {y}" for x, y in points)
-
-        crossed = read_wkt(f"LINESTRING ({comb(2000, False)}, {comb(2000, True)})")
-        began = time.monotonic()
-        ring = [[*crossed.members[0][0], *crossed.members[0][0][:2]]]
-        place_of(16, crossed._replace(code=6, members=[ring, ring]))
-        self.assertLess(time.monotonic() - began, 10)
+        crossed = read_wkt(CROSSED)
+        self.assertEqual(place_of(13, crossed)["points"], [[5, 5]])
+        with mock.patch("sfstore.web.places._SECONDS", 0.001):
+            self.assertIsNone(place_of(13, crossed))
 
     def test_no_place(self):
         self.assertIsNone(place_of(16, read_wkt("POINT (1 1)")))
