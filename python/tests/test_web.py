@@ -17,7 +17,7 @@ from unittest import mock
 
 import test_sfstore
 from support import PROGRAM, TestCase
-from web_support import Serving, WebCase
+from web_support import WebCase
 
 from sfstore import JournalError, Refused, Store, storefile
 from sfstore.geometry import read_wkt
