@@ -39,7 +39,8 @@ for (let k = 0; k < 24; k++) map.dispatchEvent(new KeyboardEvent("keydown", { ke
 const look = () => {
   if (windows().length === before) return requestAnimationFrame(look);
   const last = windows().at(-1);
-  requestAnimationFrame(() => requestAnimationFrame(() => done([last.duration, performance.now() - last.startTime])));
+  const count = document.querySelectorAll(".feature").length;
+  requestAnimationFrame(() => requestAnimationFrame(() => done([last.duration, performance.now() - last.startTime, count])));
 };
 look();
 """
@@ -101,11 +102,12 @@ def measure(driver, serving, count: int) -> None:
     pages = []
     print(f"page, all counted: {spent(lambda: pages.append(open_page(driver, serving, 'Ann'))):.1f} s")
     ann = pages[0]
-    print(f"a feature found, selected and shown: {spent(lambda: zoom_in(ann, count // 2 + 300)):.1f} s (with values)")
+    print(f"a feature found, selected and shown: {spent(lambda: zoom_in(ann, count // 2 + 50)):.1f} s (with values)")
     driver.set_script_timeout(60)
     times = [driver.execute_async_script(MOVE) for _ in range(WINDOWS)]
-    drawn, painted = ([round(one) for one in kind] for kind in zip(*times))
-    print(f"windows of {ann.drawn()} features: drawn in {statistics.median(drawn)} ms ({min(drawn)} to {max(drawn)}),", end=" ")
+    drawn, painted, counts = ([round(one) for one in kind] for kind in zip(*times))
+    print(f"windows of {min(counts)} to {max(counts)} features:", end=" ")
+    print(f"drawn in {statistics.median(drawn)} ms ({min(drawn)} to {max(drawn)}),", end=" ")
     print(f"painted in {statistics.median(painted)} ms ({min(painted)} to {max(painted)})")
     body = {"layer": "parcels", "id": 7}
     print(f"a further feature with its values: {1000 * spent(lambda: serving.call('/feature', **body)):.0f} ms")
@@ -113,12 +115,11 @@ def measure(driver, serving, count: int) -> None:
     line = f"set parcels {count // 2} number 5"
     print(f"a value set: {1000 * spent(lambda: ben.line(line)):.0f} ms; values after it: ", end="")
     print(f"{1000 * spent(lambda: serving.call('/feature', **body)):.0f} ms")
-    there = f"parcels-{count + 1}"
     before = len(ann.log())
     began = time.monotonic()
-    ben.line(f"add parcels {parcel(count // 2 + 300)}")
+    ben.line(f"add parcels {parcel(count // 2 + 50)}")
     ann.until(lambda: len(ann.log()) > before)
-    print(f"an edit of another page told after {1000 * (time.monotonic() - began):.0f} ms ({there})")
+    print(f"an edit of another page told after {1000 * (time.monotonic() - began):.0f} ms")
     print(resident(serving.process.pid))
 
 

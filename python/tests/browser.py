@@ -19,6 +19,10 @@ WORDS = (
     "--window-size=1300,900",
 )
 
+LOG = """
+return [...document.querySelectorAll("#log li")].map(e => ["code", "pre"].map(name => e.querySelector(name).textContent));
+"""
+
 # Where a point of the plane is drawn, told by the first vertex of a feature that is drawn.
 PLACE = """
 const path = document.getElementById(arguments[0]), first = path.getPointAtLength(0), matrix = path.getScreenCTM();
@@ -87,13 +91,13 @@ class Page:
             except StaleElementReferenceException:
                 pass
             if time.monotonic() > end:
-                raise AssertionError(f"it did not come; the status is {self.text('#status')!r}, the log {self.log()[-3:]}")
+                seen = f"the status is {self.text('#status')!r}, the log {self.log()[-3:]}"
+                raise AssertionError(f"it did not come; {seen}")
             time.sleep(0.02)
 
     def log(self):
         """The lines of the console with their answers."""
-        text = "return [...document.querySelectorAll('#log li')].map(e => [e.querySelector('code').textContent, e.querySelector('pre').textContent])"
-        return list(map(tuple, self.script(text)))
+        return list(map(tuple, self.script(LOG)))
 
     def last(self):
         """The last line of the console, an empty text where there is none."""

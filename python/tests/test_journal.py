@@ -100,6 +100,31 @@ class Sessions(JournalCase):
             store.redo()
         self.assertEqual(self.wkts(), ["POINT (1 1)"])
 
+    def test_unsaved_lines_make_the_same_store_with_its_history(self):
+        with self.assertRaises(RuntimeError), Store(PROGRAM) as plain:
+            self.assertIsNone(plain.unsaved_lines)
+        with journaled(self.path) as store:
+            store.editor(2).add_layer("w", "point")
+            store.run_all([POINT.format(1, 1), "show w", "add w POINT", "undo"])
+            lines = ["@2 layer add w point", POINT.format(1, 1), "undo"]
+            self.assertEqual(store.unsaved_lines, lines)
+            with Store(PROGRAM) as other:
+                other.run_all(store.unsaved_lines)
+                other.redo()
+                self.assertEqual(other.show("w")[0].wkt, "POINT (1 1)")
+            store.save()
+            self.assertEqual(store.unsaved_lines, [])
+
+    def test_a_stopped_store_has_all_that_was_answered(self):
+        store = journaled(self.path)
+        store.add_layer("w", "point")
+        store.stop()
+        with self.assertRaises(ProgramEnded):
+            store.layers()
+        store.close(save=False)
+        with journaled(self.path) as store:
+            self.assertEqual([layer.name for layer in store.layers()], ["w"])
+
     def test_edits_of_all_editors_are_recovered_as_theirs(self):
         store = journaled(self.path)
         ann, ben = store.editor(1), store.editor(2)

@@ -68,7 +68,8 @@ class Day(PageCase):
         self.inspect(page)
         self.assertEqual(self.serving.end(), 0)
         day = self.folder / "day.sfs"
-        subprocess.run([PROGRAM, f"--load={self.path}", f"--save={day}"], input=DAY.read_bytes(), check=True, stdout=subprocess.DEVNULL)
+        words = [PROGRAM, f"--load={self.path}", f"--save={day}"]
+        subprocess.run(words, input=DAY.read_bytes(), check=True, stdout=subprocess.DEVNULL)
         with Store(self.path, journal=True, program=PROGRAM):
             pass
         self.assertEqual(self.path.read_bytes(), day.read_bytes())
@@ -303,7 +304,8 @@ class Editing(PageCase):
         page.logged("vertex insert parcels 2 0 0 1 270 -10", "ok")
         page.until(lambda: "270 -10" in page.one("#wkt").get_property("value"))
         page.click((270, -10))
-        page.until(lambda: page.script("return document.activeElement.getAttribute('aria-label')") == "Vertex 1 of part 0, ring 0 at 270 -10")
+        held = "return document.activeElement.getAttribute('aria-label')"
+        page.until(lambda: page.script(held) == "Vertex 1 of part 0, ring 0 at 270 -10")
         page.driver.switch_to.active_element.send_keys(page.keys.DELETE)
         page.logged("vertex remove parcels 2 0 0 1", "ok")
         page.until(lambda: "270 -10" not in page.one("#wkt").get_property("value"))

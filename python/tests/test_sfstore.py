@@ -887,6 +887,15 @@ class Users(TestCase):
                 self.assertIn("thread", str(error))
             self.assertEqual(store.layers(), [])
 
+    def test_another_thread_stops_a_command_that_takes_too_long(self):
+        store = Store(self.program("line()\ntime.sleep(100)"))
+        stopping = threading.Timer(0.2, store.stop)
+        stopping.start()
+        self.assert_ended(-9, "", store.layers)
+        self.assert_ended(-9, "", store.layers)
+        stopping.join()
+        store.close(save=False)
+
     def test_a_thread_of_its_own(self):
         def body():
             with Store() as store:

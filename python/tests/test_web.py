@@ -13,10 +13,11 @@ import sys
 import threading
 import time
 import unittest
+from unittest import mock
 
 import test_sfstore
 from support import PROGRAM, TestCase
-from web_support import Serving, WebCase
+from web_support import WebCase
 
 from sfstore import JournalError, Refused, Store, storefile
 from sfstore.geometry import read_wkt
@@ -595,7 +596,8 @@ class Guards(WebCase):
                 socket.create_connection((address, self.serving.port), timeout=5).close()
 
     def test_no_path_names_a_file(self):
-        for path in ("/../town.sfs", "/town.sfs", "/%2e%2e/town.sfs", "//etc/passwd", "/page.html", "/server.py", "/.", "*"):
+        paths = ("/../town.sfs", "/town.sfs", "/%2e%2e/town.sfs", "//etc/passwd", "/page.html", "/server.py", "/.", "*")
+        for path in paths:
             self.assertEqual(self.status("GET", path), 404, path)
             self.assertEqual(self.status("POST", path, b"{}"), 404, path)
         for path in ("/page.js?x", "/page.js/", "http://evil.example/page.js", "/line", "/static/page.js"):
@@ -606,7 +608,8 @@ class Guards(WebCase):
             self.assertEqual(self.status(method, "/line"), 501, method)
 
     def test_calls_that_are_none(self):
-        for body in (b"", b"{", b"[]", b'"x"', b"\xff", b"1" * 5_000, b"[" * 100_000, b"{}", b'{"editor": 1}', b'{"editor": 1, "line": 5}'):
+        bodies = [b"", b"{", b"[]", b'"x"', b"\xff", b"1" * 5_000, b"[" * 100_000, b"{}", b'{"editor": 1}']
+        for body in [*bodies, b'{"editor": 1, "line": 5}']:
             self.assertEqual(self.status("POST", "/line", body), 400, body[:20])
         lines = ["layer add w point\nlayer add v point", "\ud800", "layer add w point\n"]
         for line in lines:
@@ -701,16 +704,10 @@ class Guards(WebCase):
 
 class Places(TestCase):
     def test_a_place_is_looked_for_for_some_time_only(self):
-        # A comb of 2,000 teeth over one of as many that lie across: all their edges cross.
-        def comb(count, turned):
-            points = [(8 * k + 4 * (end in (1, 2)), 8 * count * (k % 2)) for k in range(count) for end in (0,)]
-            return ", ".join(f"{y} {x}" if turned else f"{x} {y}" for x, y in points)
-
-        crossed = read_wkt(f"LINESTRING ({comb(2000, False)}, {comb(2000, True)})")
-        began = time.monotonic()
-        ring = [[*crossed.members[0][0], *crossed.members[0][0][:2]]]
-        place_of(16, crossed._replace(code=6, members=[ring, ring]))
-        self.assertLess(time.monotonic() - began, 10)
+        crossed = read_wkt(CROSSED)
+        self.assertEqual(place_of(13, crossed)["points"], [[5, 5]])
+        with mock.patch("sfstore.web.places._SECONDS", 0.001):
+            self.assertIsNone(place_of(13, crossed))
 
     def test_no_place(self):
         self.assertIsNone(place_of(16, read_wkt("POINT (1 1)")))

@@ -31,7 +31,7 @@ export class FeatureMap {
       known.group.setAttribute("class", `layer tint-${place % 8}`);
       return Object.assign(known, layer);
     });
-    this.world.replaceChildren(...this.layers.filter((layer) => layer.shown).map((layer) => layer.group));
+    setChildren(this.world, this.layers.filter((layer) => layer.shown).map((layer) => layer.group));
   }
 
   layer(name) {
@@ -112,9 +112,7 @@ export class FeatureMap {
       layer.features.set(id, feature);
       this.#mark(layer, feature);
     }
-    for (const gone of before.values()) gone.path.remove();
-    const paths = [...layer.features.values()].map((feature) => feature.path);
-    if (paths.some((path, place) => path !== layer.group.children[place])) layer.group.replaceChildren(...paths);
+    setChildren(layer.group, [...layer.features.values()].map((feature) => feature.path));
   }
 
   /** Has paths count from the middle of the window, where that is far from where they counted from. */
@@ -191,6 +189,12 @@ export class FeatureMap {
     }
     return parts.join(" ");
   }
+}
+
+/** Gives an element children, where they are not the same already. */
+function setChildren(parent, children) {
+  const isSame = parent.children.length === children.length && children.every((child, place) => child === parent.children[place]);
+  if (!isSame) parent.replaceChildren(...children);
 }
 
 function nearer(best, point, x, y) {

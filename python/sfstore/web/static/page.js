@@ -84,9 +84,14 @@ class App {
     const found = await call("map", { extent });
     byId("title").textContent = document.title = found.title;
     this.map.setLayers(found.layers);
-    this.#listLayers();
-    this.hand.setLayers(found.layers);
-    this.asking.setLayers(found.layers);
+    const listed = JSON.stringify(found.layers.map(({ name, kind }) => [name, kind]));
+    // The same lists stay, so that nobody is disturbed who chooses from one.
+    if (listed !== this.listed) {
+      this.#listLayers();
+      this.hand.setLayers(found.layers);
+      this.asking.setLayers(found.layers);
+    }
+    this.listed = listed;
     this.#tellSteps(found);
     return found;
   }
