@@ -28,7 +28,7 @@ from sfstore.geometry import Shape, write_wkb  # noqa: E402
 
 # How far the corners of neighbours are apart, and how many parcels stand in a row.
 STEP, ROW = 10, 1_000
-WINDOWS = 15
+WINDOWS = 11
 
 # Moves the map by more than a window, and tells the milliseconds until what is there is drawn, and painted.
 MOVE = """

@@ -10,7 +10,7 @@ from sfstore.commands import Command, help_text, near_words
 from sfstore.geometry import Shape, read_wkb, write_wkt
 from sfstore.lines import geometry_of
 from sfstore.refusals import words_of
-from sfstore.store import Answer, Refused, Store
+from sfstore.store import Answer, Column, Refused, Store
 from sfstore.web.editors import Editors
 from sfstore.web.events import Events
 from sfstore.web.keeper import Edit, Keeper
@@ -29,6 +29,9 @@ OWN = [
     Command("save", "saves the store; the history begins anew", "save"),
 ]
 """The commands of the page beside those of the program."""
+
+# How many times as long as a question the values of a large layer may take, when they are first read.
+_VALUES_TIMES = 6
 
 # How much of a long answer is sent.
 _ROWS_MAX = ELEMENTS_MAX
@@ -104,21 +107,26 @@ class Calls:
         """A feature with its text, its coordinates and its values."""
         layer, feature = _text(body, "layer"), _number(body, "id", 0, 2**32 - 1)
 
-        def question(store: Store) -> Body:
-            shape = read_wkb(bytes.fromhex(store.hex(layer, feature)))
-            columns = store.columns(layer)
-            values = self._looks.values.of(store, layer, feature) if columns else {}
-            # As texts: a browser's numbers have 53 bits.
-            told = [
-                {**column._asdict(), "value": str(values[column.name]) if column.name in values else None}
-                for column in columns
-            ]
-            return {"layer": layer, "id": feature, "wkt": write_wkt(shape), "values": told, **_shape(shape)}
+        def look(store: Store) -> tuple[Shape, list[Column]]:
+            return read_wkb(bytes.fromhex(store.hex(layer, feature))), store.columns(layer)
 
         try:
-            return self._looks.ask(question)
+            shape, columns = self._looks.ask(look)
         except Refused as refused:
             return {"refused": self._refusal(refused, f"hex {layer} {feature}")}
+        told = {"layer": layer, "id": feature, "wkt": write_wkt(shape), **_shape(shape)}
+        return {**told, "values": self._values(layer, feature, columns)}
+
+    def _values(self, layer: str, feature: int, columns: list[Column]) -> list[Body]:
+        """The values of a feature, as texts: a browser's numbers have 53 bits."""
+        if not columns:
+            return []
+        asked = self._questions
+        values = asked.ask(lambda store: asked.values.of(store, layer, feature), _VALUES_TIMES)
+        return [
+            {**column._asdict(), "value": str(values[name]) if (name := column.name) in values else None}
+            for column in columns
+        ]
 
     def _line(self, body: Body) -> Body:
         """Carries out a line of the console, as the page's editor."""

@@ -43,12 +43,15 @@ class Mirror:
         keeper.follow.append(lambda edit: self._thread.submit(self._follow, edit))
         keeper.anew.append(lambda: self._thread.submit(self._drop))
 
-    def ask(self, question: Callable[[Store], _T]) -> _T:
-        """The answer of a question. `Unavailable` where it takes too long."""
+    def ask(self, question: Callable[[Store], _T], times: int = 1) -> _T:
+        """The answer of a question. `Unavailable` where it takes too long.
+
+        It may take so many times as long as others.
+        """
         if not self._places.acquire(blocking=False):
             raise Unavailable("Too many questions wait: ask again later.")
         try:
-            return self._thread.submit(lambda: self._ask(question)).result()
+            return self._thread.submit(lambda: self._ask(question, times * self._seconds)).result()
         finally:
             self._places.release()
 
@@ -61,19 +64,19 @@ class Mirror:
         self._thread.shutdown()
         self._drop()
 
-    def _ask(self, question: Callable[[Store], _T]) -> _T:
+    def _ask(self, question: Callable[[Store], _T], seconds: float) -> _T:
         if self._closed:
             raise Unavailable("The server ends.")
         store = self._current()
         try:
-            with self._limited(store):
+            with self._limited(store, seconds):
                 return question(store)
         except ProgramEnded as ended:
             self._drop()
             raise Unavailable(f"{ended}. Ask again.") from ended
 
     @contextmanager
-    def _limited(self, store: Store) -> Iterator[None]:
+    def _limited(self, store: Store, seconds: float) -> Iterator[None]:
         """Stops the program where the body takes too long. `Unavailable` says so."""
         stopped = threading.Event()
 
@@ -81,7 +84,7 @@ class Mirror:
             stopped.set()
             store.stop()
 
-        timer = threading.Timer(self._seconds, stop)
+        timer = threading.Timer(seconds, stop)
         timer.start()
         try:
             yield
@@ -95,7 +98,7 @@ class Mirror:
                 self._drop()
         if stopped.is_set():
             raise Unavailable(
-                f"That took more than {self._seconds:g} seconds and was stopped: ask for less."
+                f"That took more than {seconds:g} seconds and was stopped: ask for less."
             )
 
     def _follow(self, edit: Edit) -> None:
