@@ -38,14 +38,19 @@ class Shape(NamedTuple):
 
 def read_wkb(data: bytes) -> Shape:
     """The geometry of a well-known binary of either order. `NotTaken` for any but the six kinds."""
-    return _read(data, 0)[0]
+    try:
+        return _read(data, 0, None)[0]
+    except (struct.error, IndexError) as fault:
+        raise NotTaken("a binary that ends too early") from fault
 
 
-def _read(data: bytes, at: int) -> tuple[Shape, int]:
-    """The geometry at a place, and the place behind it."""
+def _read(data: bytes, at: int, wanted: int | None) -> tuple[Shape, int]:
+    """The geometry at a place, of the wanted kind where one is, and the place behind it."""
     order = "<" if data[at] else ">"
     (code,) = struct.unpack_from(order + "I", data, at + 1)
     _check_code(code)
+    if wanted not in (None, code):
+        raise NotTaken("a geometry with members of another kind")
     at += 5
     if code == 1:
         point = struct.unpack_from(order + "2d", data, at)
@@ -67,7 +72,7 @@ def _read(data: bytes, at: int) -> tuple[Shape, int]:
         return Shape(3, [rings]), at
     members = []
     for _ in range(count):
-        member, at = _read(data, at)
+        member, at = _read(data, at, code - 3)
         members += member.members
     return Shape(code, members), at
 

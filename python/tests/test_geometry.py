@@ -110,6 +110,10 @@ class Geometries(TestCase):
             (struct.pack("<BII", 1, 3, 0), "empty"),
             (struct.pack("<BIII", 1, 3, 1, 0), "empty"),
             (struct.pack(">BII", 0, 6, 0), "empty"),
+            (b"", "ends too early"),
+            (struct.pack("<BI", 1, 1), "ends too early"),
+            (struct.pack("<BII", 1, 2, 0xFFFFFFFF), "ends too early"),
+            (struct.pack("<BII", 1, 4, 1) * 9999, "members of another kind"),
         ):
             with self.assertRaisesRegex(NotTaken, reason):
                 read_wkb(binary)

@@ -606,8 +606,12 @@ class Child:
         self.process = subprocess.Popen(
             [sys.executable, "-c", code], stdout=subprocess.PIPE, stderr=subprocess.DEVNULL
         )
-        # By this no other process is killed, whatever numbers are given anew.
-        self.program = os.pidfd_open(int(self.process.stdout.readline()))
+        # By this no other process is killed, whatever numbers are given anew. Where a save has put another
+        # program in its place already, there is none to kill.
+        number = int(self.process.stdout.readline())
+        self.program = None
+        with contextlib.suppress(ProcessLookupError):
+            self.program = os.pidfd_open(number)
         self.seen = 0
 
     def acknowledged(self, count):
@@ -622,14 +626,16 @@ class Child:
 
     def kill_program(self):
         """Kills the program that it began with, and gives how many moves were acknowledged."""
-        with contextlib.suppress(ProcessLookupError):
-            signal.pidfd_send_signal(self.program, signal.SIGKILL)
+        if self.program is not None:
+            with contextlib.suppress(ProcessLookupError):
+                signal.pidfd_send_signal(self.program, signal.SIGKILL)
         # A save may have put another program in its place, and goes on.
         threading.Timer(0.5, self.process.kill).start()
         return self.ended()
 
     def ended(self):
-        os.close(self.program)
+        if self.program is not None:
+            os.close(self.program)
         rest = self.process.stdout.read()
         self.process.stdout.close()
         self.process.wait()

@@ -266,7 +266,7 @@ class Several(PageCase):
         page.type("add wells POINT (1290 450)", "ok 5")
         subprocess.run(["pkill", "-KILL", "-P", str(self.serving.process.pid)], check=True)
         page.one("#line-text").send_keys("add wells POINT (1 1)", page.keys.ENTER)
-        page.until(lambda: "Every edit that was answered is in the journal" in page.text("#status"))
+        page.until(lambda: "Every edit that was answered is in the journal" in page.log()[-1][1])
         page.type("undo", "ok")
         page.until(lambda: page.drawn("wells") == 4)
 
