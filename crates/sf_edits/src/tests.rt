@@ -1,6 +1,7 @@
 //! All edits in a row, each taken back after those behind it, done again and taken back.
 
-ghost use Rattle.std.specs.Prelude.{◌≡◌, IsOk, OnOk};
+ghost use Rattle.std.specs.Prelude.{◌≡◌, Ok, IfOk, IsOk, OnOk};
+ghost use Rattle.sf_steps.specs.Inverses.{Carries, Fits, Restores, Reverts, described};
 ghost use Rattle.sf_steps.specs.Steps.{step};
 
 use super::*;
@@ -135,6 +136,14 @@ fn feature_edit(alloc: Global, step: u8) -> Result<Edit, Fail> {
     }
 }
 
+/// The edit of a step.
+fn edit_of_step(alloc: Global, step: u8) -> Result<Edit, Fail> {
+    match layer_edit(alloc, step).or(value_edit(alloc, step)) {
+        Some(edit) => Ok(edit),
+        None => feature_edit(alloc, step),
+    }
+}
+
 /// How many layers there are; of the first one the columns, the features, the next identifier and
 /// the next column number; and the number of values of its feature 1.
 type Counts = [usize; 6];
@@ -212,28 +221,48 @@ fn shows(store: &Store, want: &(Counts, i64, (i32, i32))) -> bool {
     counts(store) == want.0 && number(store) == want.1 && vertex(store) == want.2
 }
 
-/// Carries out an edit and takes it back.
-fn edit_and_back(
-    alloc: Global,
-    store: &mut Store,
-    edit: Edit,
-    want: &(Counts, i64, (i32, i32)),
-) -> Result<(), Fail>
-    ensures { OnOk result (store.new ≡ store.old) }
+/// Carries out an edit.
+fn carried_out(alloc: Global, store: &mut Store, edit: Edit) -> Result<Inverse, Fail>
+    ensures { IfOk result (λ inverse. Carries store.old edit (Ok inverse) store.new) }
 {
-    let Ok(inverse) = apply(alloc, store, edit) else {
-        return Err(Fail::from("an edit was refused"));
-    };
-    if !shows(store, want) {
-        return Err(Fail::from("an edit shows something else"));
+    match apply(alloc, store, edit) {
+        Ok(inverse) => Ok(inverse),
+        Err(_) => Err(Fail::from("an edit was refused")),
     }
+}
+
+/// Takes an edit back.
+fn taken_back(alloc: Global, store: &mut Store, inverse: Inverse) -> Result<Reverted, Fail>
+    requires { Fits store.old inverse }
+    ensures { IfOk result (λ edit. Reverts store.old inverse edit store.new) }
+{
     match revert(alloc, store, inverse) {
-        Ok(_) => Ok(()),
+        Ok(reverted) => Ok(reverted),
         Err(_) => Err(Fail::from("no memory")),
     }
 }
 
-/// Does what was taken back again, and takes it back; then carries it out as any other edit, and takes it back.
+/// Carries out an edit again.
+fn done_again(alloc: Global, store: &mut Store, reverted: Reverted) -> Result<Inverse, Fail>
+    requires { IsOk (step store.old reverted) }
+    ensures { IfOk result (λ inverse. Carries store.old reverted (Ok inverse) store.new) }
+{
+    match reapply(alloc, store, reverted) {
+        Ok(inverse) => Ok(inverse),
+        Err(_) => Err(Fail::from("no memory")),
+    }
+}
+
+/// Fails where the readers show something else.
+fn must_show(store: &Store, want: &(Counts, i64, (i32, i32))) -> Result<(), Fail> {
+    if shows(store, want) {
+        Ok(())
+    } else {
+        Err(Fail::from("the store shows something else"))
+    }
+}
+
+/// Does what was taken back again, and takes it back.
 fn again_and_back(
     alloc: Global,
     store: &mut Store,
@@ -243,16 +272,42 @@ fn again_and_back(
     requires { IsOk (step store.old reverted) }
     ensures { OnOk result (store.new ≡ store.old) }
 {
-    let Ok(inverse) = reapply(alloc, store, reverted) else {
-        return Err(Fail::from("no memory"));
-    };
-    if !shows(store, want) {
-        return Err(Fail::from("an edit that is done again shows something else"));
-    }
-    let Ok(reverted) = revert(alloc, store, inverse) else {
-        return Err(Fail::from("no memory"));
-    };
-    edit_and_back(alloc, store, reverted.into_edit(), want)
+    let inverse = done_again(alloc, store, reverted)?;
+    must_show(store, want)?;
+    let reverted = taken_back(alloc, store, inverse)?;
+    drop(reverted.into_edit());
+    Ok(())
+}
+
+/// Carries out the edit of a step, after which the readers show this.
+fn shown_edit(
+    alloc: Global,
+    store: &mut Store,
+    step: u8,
+    want: &(Counts, i64, (i32, i32)),
+) -> Result<Inverse, Fail>
+    ensures { IfOk result (λ inverse. Restores store.new inverse store.old) }
+{
+    let edit = edit_of_step(alloc, step)?;
+    let inverse = carried_out(alloc, store, edit)?;
+    must_show(store, want)?;
+    Ok(inverse)
+}
+
+/// Takes an edit back, does it again and takes it back.
+fn back_and_again(
+    alloc: Global,
+    store: &mut Store,
+    inverse: Inverse,
+    before: &(Counts, i64, (i32, i32)),
+    after: &(Counts, i64, (i32, i32)),
+) -> Result<(), Fail>
+    requires { Fits store.old inverse }
+    ensures { OnOk result (store.new ≡ described store.old inverse) }
+{
+    let reverted = taken_back(alloc, store, inverse)?;
+    must_show(store, before)?;
+    again_and_back(alloc, store, reverted, after)
 }
 
 /// Carries out the edit of a step, then those after it, and takes it back once they are taken back; does it again,
@@ -269,24 +324,9 @@ fn there_and_back(
         return Ok(());
     };
     let before = (counts(store), number(store), vertex(store));
-    let edit = match layer_edit(alloc, step).or(value_edit(alloc, step)) {
-        Some(edit) => edit,
-        None => feature_edit(alloc, step)?,
-    };
-    let Ok(inverse) = apply(alloc, store, edit) else {
-        return Err(Fail::from("an edit was refused"));
-    };
-    if !shows(store, want) {
-        return Err(Fail::from("an edit shows something else"));
-    }
+    let inverse = shown_edit(alloc, store, step, want)?;
     there_and_back(alloc, store, step.wrapping_add(1), later)?;
-    let Ok(reverted) = revert(alloc, store, inverse) else {
-        return Err(Fail::from("no memory"));
-    };
-    if !shows(store, &before) {
-        return Err(Fail::from("an edit was not taken back"));
-    }
-    again_and_back(alloc, store, reverted, want)
+    back_and_again(alloc, store, inverse, &before, want)
 }
 
 #[test]
@@ -323,10 +363,8 @@ fn edit_builds_index(alloc: Global) -> Result<bool, Fail> {
         name: text(alloc, "depth"),
         column_type: ColumnType::Int,
     };
-    match apply(alloc, &mut store, column) {
-        Ok(_) => Ok(is_indexed(&store)),
-        Err(_) => Err(Fail::from("an edit was refused")),
-    }
+    carried_out(alloc, &mut store, column)?;
+    Ok(is_indexed(&store))
 }
 
 /// Whether the undo of an edit that names the layer does.
@@ -335,13 +373,9 @@ fn undo_builds_index(alloc: Global) -> Result<bool, Fail> {
     let dropped = Edit::DropLayer {
         name: text(alloc, "wells"),
     };
-    let Ok(inverse) = apply(alloc, &mut store, dropped) else {
-        return Err(Fail::from("an edit was refused"));
-    };
-    match revert(alloc, &mut store, inverse) {
-        Ok(_) => Ok(is_indexed(&store)),
-        Err(_) => Err(Fail::from("no memory")),
-    }
+    let inverse = carried_out(alloc, &mut store, dropped)?;
+    taken_back(alloc, &mut store, inverse)?;
+    Ok(is_indexed(&store))
 }
 
 #[test]
