@@ -1,0 +1,163 @@
+"""Connections to PostgreSQL that never wait without a limit, and that never cancel a commit."""
+
+from __future__ import annotations
+
+import importlib
+import select
+import time
+from collections.abc import Callable, Sequence
+from typing import Any
+
+try:
+    psycopg2: Any = importlib.import_module("psycopg2")
+except ImportError:
+    # `check_driver` tells it.
+    psycopg2 = None
+
+__all__ = ["Link", "LinkLost", "LogRefused", "check_driver", "servers_of"]
+
+_CONNECT_SECONDS = 3.0
+_TICK_SECONDS = 1.0
+
+# So that a machine that went away is noticed within some ten seconds, where the login's own words do not say otherwise.
+_WATCH = {
+    "keepalives_idle": "5",
+    "keepalives_interval": "2",
+    "keepalives_count": "2",
+    "tcp_user_timeout": "9000",
+    "application_name": "sfstore-replica",
+}
+
+# A server that ends, starts, or is a standby now: class 25 has writes refused where only reading is allowed.
+_READ_ONLY = "25006"
+
+
+class LinkLost(Exception):
+    """The server is not there any more, or does not answer in time: what was asked may have happened or not."""
+
+
+class LogRefused(Exception):
+    """The server refused what was asked, and nothing was changed."""
+
+    code: str
+    """The SQLSTATE, such as ``SF101``."""
+
+    def __init__(self, code: str, text: str) -> None:
+        super().__init__(text)
+        self.code = code
+
+
+def check_driver() -> None:
+    """`ModuleNotFoundError` in one clear sentence where psycopg2 is missing."""
+    if psycopg2 is None:
+        raise ModuleNotFoundError("replicas need psycopg2 for Python (Debian's package python3-psycopg2)")
+
+
+def servers_of(dsn: str) -> list[str]:
+    """The words of connection to each single server that some words name: hosts and ports go by pairs.
+
+    >>> servers_of("host=a,b port=1,2 dbname=town")
+    ['dbname=town host=a port=1', 'dbname=town host=b port=2']
+    """
+    words = psycopg2.extensions.parse_dsn(dsn)
+    hosts = words.pop("host", "").split(",")
+    ports = words.pop("port", "").split(",")
+    if len(ports) == 1:
+        ports *= len(hosts)
+    if len(ports) != len(hosts):
+        raise ValueError(f"{len(hosts)} hosts, but {len(ports)} ports")
+    places = ({"host": host, "port": port} for host, port in zip(hosts, ports))
+    return [
+        str(psycopg2.extensions.make_dsn(**words, **{key: it for key, it in place.items() if it}))
+        for place in places
+    ]
+
+
+class Link:
+    """A connection to one server, of which each statement is a transaction.
+
+    `LinkLost` where it can't be reached within three seconds, or refuses the login.
+    """
+
+    def __init__(self, dsn: str) -> None:
+        self.dsn = dsn
+        given = psycopg2.extensions.parse_dsn(dsn)
+        watch = {key: value for key, value in _WATCH.items() if key not in given}
+        try:
+            self._raw: Any = psycopg2.connect(dsn, async_=1, **watch)
+            self._wait(_CONNECT_SECONDS, None)
+        except psycopg2.Error as error:
+            raise LinkLost(_first_line(error)) from error
+
+    def ask(
+        self,
+        words: str,
+        values: Sequence[object] = (),
+        seconds: float = 10.0,
+        tick: Callable[[], object] | None = None,
+    ) -> list[Any]:
+        """The rows that a statement gives.
+
+        `LinkLost` where it takes longer than some seconds: the connection is dropped then, and the
+        statement goes on by itself or not. ``tick`` is called about every second meanwhile; what it
+        raises drops the connection too. `LogRefused` where the server refuses the statement.
+        """
+        try:
+            cursor = self._raw.cursor()
+            cursor.execute(words, list(values) or None)
+            self._wait(seconds, tick)
+            return list(cursor.fetchall()) if cursor.description else []
+        except (psycopg2.OperationalError, psycopg2.InterfaceError) as error:
+            self.close()
+            raise LinkLost(_first_line(error)) from error
+        except psycopg2.Error as error:
+            if error.pgcode is None or error.pgcode == _READ_ONLY:
+                self.close()
+                raise LinkLost(_first_line(error)) from error
+            raise LogRefused(error.pgcode, _first_line(error)) from error
+        except BaseException:
+            self.close()
+            raise
+
+    def heard(self) -> bool:
+        """Whether the server has told of something since this was asked last. `LinkLost` where it has gone."""
+        try:
+            self._raw.poll()
+        except psycopg2.Error as error:
+            self.close()
+            raise LinkLost(_first_line(error)) from error
+        told = bool(self._raw.notifies)
+        self._raw.notifies.clear()
+        return told
+
+    def fileno(self) -> int:
+        """The socket, which can be read where the server has told of something."""
+        return int(self._raw.fileno())
+
+    def close(self) -> None:
+        """Drops the connection. A statement that the server carries out is not cancelled."""
+        self._raw.close()
+
+    def _wait(self, seconds: float, tick: Callable[[], object] | None) -> None:
+        """Waits until the connection has nothing to do any more."""
+        until = time.monotonic() + seconds
+        ticked = time.monotonic()
+        while True:
+            state = self._raw.poll()
+            if state == psycopg2.extensions.POLL_OK:
+                return
+            now = time.monotonic()
+            if now > until:
+                self.close()
+                raise LinkLost(f"no answer within {seconds:g} seconds")
+            if tick is not None and now > ticked + _TICK_SECONDS:
+                ticked = now
+                tick()
+            reading = [self._raw] if state == psycopg2.extensions.POLL_READ else []
+            writing = [self._raw] if state == psycopg2.extensions.POLL_WRITE else []
+            select.select(reading, writing, [], min(_TICK_SECONDS, until - now + 0.001))
+
+
+def _first_line(error: Exception) -> str:
+    """What the server says, without where in its functions it was said."""
+    return str(error).strip().partition("\n")[0] or type(error).__name__

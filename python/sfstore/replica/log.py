@@ -1,0 +1,364 @@
+"""The log of a store's lines, on whichever of its servers is the primary now."""
+
+from __future__ import annotations
+
+import hashlib
+import time
+from collections.abc import Callable, Sequence
+from pathlib import Path
+from typing import Any, NamedTuple, TypeVar
+
+from sfstore import files
+from sfstore.replica.links import Link, LinkLost, LogRefused, servers_of
+
+__all__ = ["Entry", "Fence", "Following", "LogUnreachable", "Standing", "Writing", "chained"]
+
+_T = TypeVar("_T")
+
+# How often another server is looked for that has taken over.
+_LOOK_SECONDS = 3.0
+_RETRY_SECONDS = 0.1
+# How long standbys may take before the server is made to write out what it holds back.
+_NUDGE_SECONDS = 0.02
+# How long they may take before nothing is given, so that questions are answered meanwhile.
+_KEPT_SECONDS = 0.5
+
+_STANDING = """
+    SELECT CASE WHEN pg_is_in_recovery() THEN '' ELSE pg_walfile_name(pg_current_wal_insert_lsn()) END,
+      head.at, head.chain, head.start
+    FROM sfstore.head
+"""
+
+
+class LogUnreachable(Exception):
+    """No server of the log could be used in the time that was given. The text has the reason for each."""
+
+
+class Entry(NamedTuple):
+    """An entry of the log."""
+
+    at: int
+    """Its place, from 1 on, without gaps."""
+    key: str
+    """By which its writer knows it."""
+    editor: int
+    """The number of the editor whose login put it down; 0 for a cut."""
+    cut: bool
+    line: str
+    """The line without its editor."""
+    chain: bytes
+    """SHA-256 over the chain before and this entry."""
+
+    def sent(self) -> str:
+        """The line as the program is given it."""
+        return f"@{self.editor} {self.line}"
+
+
+def chained(chain: bytes, entry: Entry) -> bytes:
+    """The chain behind an entry, of the one before it."""
+    return hashlib.sha256(chain + f"{entry.editor} {entry.cut:d} {entry.line}".encode()).digest()
+
+
+class Standing(NamedTuple):
+    """What a server of the log says of itself."""
+
+    timeline: int
+    """Counted up by each promotion; 0 where it is a standby."""
+    at: int
+    """The last place of its log."""
+    chain: bytes
+    """The chain there."""
+    start: bytes
+    """The chain before the first place, which no other log has."""
+
+
+class Fence:
+    """Keeps an old primary from being followed: what was seen of the log so far.
+
+    The highest timeline is in a file, where one is given, so that it outlives the process.
+    """
+
+    def __init__(self, path: Path | None = None) -> None:
+        self._path = path
+        self.timeline = int(path.read_text()) if path is not None and path.exists() else 0
+        self.at = 0
+        """The last place that was applied here."""
+        self.chain = b""
+        """The chain there; empty where nothing is applied yet."""
+
+    def objection(self, standing: Standing) -> str:
+        """Why a server of this standing is not to be used; empty where it is."""
+        if not standing.timeline:
+            return "is a standby"
+        if standing.timeline < self.timeline:
+            return (
+                f"is of timeline {standing.timeline}, and {self.timeline} was seen: "
+                "an old primary is not followed"
+            )
+        if standing.at < self.at:
+            return f"ends at place {standing.at}, and {self.at} was applied: it has not the log"
+        if standing.at == self.at and self.chain and standing.chain != self.chain:
+            return f"has another log than the one that was applied up to place {self.at}"
+        return ""
+
+    def admit(self, timeline: int) -> None:
+        """Takes note of a timeline, before anything of it is used."""
+        if timeline <= self.timeline:
+            return
+        self.timeline = timeline
+        if self._path is not None:
+            with files.whole_file(str(self._path)) as beside:
+                Path(beside).write_text(f"{timeline}\n")
+
+
+class _Servers:
+    """The servers of a log, of which one is used, and another one when that is lost."""
+
+    def __init__(self, dsn: str, fence: Fence, tell: Callable[[str], object]) -> None:
+        self._servers = servers_of(dsn)
+        self._fence = fence
+        self._tell = tell
+        self._link: Link | None = None
+        self._timeline = 0
+        self._looked = time.monotonic()
+        self.standing = Standing(0, 0, b"", b"")
+        """What the server said that was reached last."""
+
+    def close(self) -> None:
+        if self._link is not None:
+            self._link.close()
+            self._link = None
+
+    def sums(self, place: int, until: float = 0.0) -> dict[str, str]:
+        """What the files of the replicas were at a cut, by their logins."""
+        words = "SELECT replica, sum FROM sfstore.sums WHERE at = %s"
+        return dict(self._on_link(lambda link: link.ask(words, (place,)), until))
+
+    def _prepare(self, link: Link) -> None:
+        """What a new connection is to be told."""
+
+    def _on_link(self, task: Callable[[Link], _T], until: float) -> _T:
+        """Has a task done over a connection, from its beginning again on another one where that is lost.
+
+        A server is looked for once at least, and else until some moment. `LogUnreachable` then.
+        """
+        while True:
+            was_there = self._link is not None
+            try:
+                if self._link is None:
+                    self._link = self._reached()
+                return task(self._link)
+            except LinkLost as lost:
+                self.close()
+                if was_there:
+                    continue
+                if time.monotonic() > until:
+                    raise LogUnreachable(str(lost)) from lost
+                self._tell(str(lost))
+                time.sleep(_RETRY_SECONDS)
+
+    def _reached(self) -> Link:
+        """A connection to the primary: of those that say they are one, to that of the highest timeline."""
+        reasons: list[str] = []
+        best: Link | None = None
+        for dsn in self._servers:
+            try:
+                link, standing = _looked_at(dsn)
+            except (LinkLost, LogRefused) as error:
+                reasons.append(f"{_place(dsn)}: {error}")
+                continue
+            objection = self._fence.objection(standing)
+            if objection or (best is not None and standing.timeline <= self._timeline):
+                reasons.append(f"{_place(dsn)} {objection}")
+                link.close()
+                continue
+            if best is not None:
+                best.close()
+            best, self._timeline, self.standing = link, standing.timeline, standing
+        if best is None:
+            raise LinkLost("; ".join(reasons))
+        self._fence.admit(self._timeline)
+        self._prepare(best)
+        return best
+
+    def look_around(self, link: Link) -> None:
+        """`LinkLost` where another server has taken over from the one of a connection; looked at seldom."""
+        if time.monotonic() < self._looked + _LOOK_SECONDS:
+            return
+        for dsn in self._servers:
+            if dsn == link.dsn:
+                continue
+            try:
+                other, standing = _looked_at(dsn)
+            except (LinkLost, LogRefused):
+                continue
+            other.close()
+            if standing.timeline > self._timeline:
+                raise LinkLost(f"{_place(dsn)} has taken over from {_place(link.dsn)}")
+        self._looked = time.monotonic()
+
+
+class Following(_Servers):
+    """The log as a replica follows it: only what is on as many standbys as the log wants."""
+
+    def _prepare(self, link: Link) -> None:
+        # What is written over this connection are sums, which are put down again where they are lost.
+        link.ask("SET synchronous_commit = local")
+        link.ask("LISTEN sfstore_log")
+
+    def reach(self, until: float) -> Standing:
+        """What the primary says of itself."""
+        self._on_link(lambda link: None, until)
+        return self.standing
+
+    def last(self, until: float = 0.0) -> int:
+        """The last place of the log, kept by standbys or not."""
+        [(at,)] = self._on_link(lambda link: link.ask("SELECT at FROM sfstore.head"), until)
+        return int(at)
+
+    def behind(self, place: int, until: float = 0.0) -> list[Entry]:
+        """Entries behind a place, as many as are had at once, and none that is not kept by standbys.
+
+        Where standbys are late, nothing is given after half a second, and it is told why.
+        """
+        return self._on_link(lambda link: self._behind(link, place), until)
+
+    def chain_at_cut(self, place: int, until: float = 0.0) -> bytes | None:
+        """The chain at a cut; none where the log has no such cut, or not any more."""
+        words = "SELECT chain FROM sfstore.cuts WHERE at = %s"
+        rows = self._on_link(lambda link: link.ask(words, (place,)), until)
+        return bytes(rows[0][0]) if rows else None
+
+    def put_sum(self, place: int, total: str, until: float = 0.0) -> bool:
+        """Puts down what the own file is at a cut. False where the login is not that of a replica."""
+        words = "SELECT sfstore.put_sum(%s, %s)"
+        try:
+            self._on_link(lambda link: link.ask(words, (place, total)), until)
+        except LogRefused as refused:
+            if refused.code == "42501":
+                return False
+            raise
+        return True
+
+    def login(self, until: float = 0.0) -> str:
+        """The login of the connection."""
+        [(name,)] = self._on_link(lambda link: link.ask("SELECT session_user"), until)
+        return str(name)
+
+    def heard(self) -> bool:
+        """Whether something was put down since this was asked last. True where the server is lost."""
+        if self._link is None:
+            return True
+        try:
+            return self._link.heard()
+        except LinkLost:
+            self.close()
+            return True
+
+    def look(self) -> None:
+        """Drops a server from which another one has taken over. Done now and then while nothing comes."""
+        if self._link is not None:
+            try:
+                self.look_around(self._link)
+            except LinkLost as lost:
+                self._tell(str(lost))
+                self.close()
+
+    def fileno(self) -> int | None:
+        """The socket on which news come; none without a connection."""
+        return None if self._link is None else self._link.fileno()
+
+    def _behind(self, link: Link, place: int) -> list[Entry]:
+        words = "SELECT at, key, editor, cut, line, chain, goal FROM sfstore.behind(%s)"
+        rows = link.ask(words, (place,), seconds=30.0)
+        if not rows or not self._is_kept(link, rows[0][6]):
+            return []
+        return [Entry(at, key, editor, cut, line, bytes(chain)) for at, key, editor, cut, line, chain, _ in rows]
+
+    def _is_kept(self, link: Link, goal: str) -> bool:
+        """Waits for a moment for standbys to have all up to a point. The point is one of this connection's server."""
+        begun = time.monotonic()
+        pause, nudged = 0.0002, False
+        while True:
+            [(kept, wanted)] = link.ask("SELECT kept, wanted FROM sfstore.kept(%s)", (goal,))
+            waited = time.monotonic() - begun
+            if kept >= wanted:
+                self._tell("")
+                return True
+            if waited > _KEPT_SECONDS:
+                self._tell(f"{kept} of {wanted} standbys have the last lines: none is given out before")
+                self.look_around(link)
+                return False
+            if waited > _NUDGE_SECONDS and not nudged:
+                # A small commit: the server may hold back what stands between the last line and the point.
+                link.ask("SELECT pg_current_xact_id()")
+                nudged = True
+            time.sleep(pause)
+            pause = min(2 * pause, 0.05)
+
+
+class Writing(_Servers):
+    """The log as an editor or its owner writes it."""
+
+    def own_number(self, until: float = 0.0) -> int | None:
+        """The editor's number of the login; none where it is no editor's."""
+        try:
+            [(number,)] = self._on_link(lambda link: link.ask("SELECT sfstore.own_number()"), until)
+        except LogRefused as refused:
+            if refused.code == "42501":
+                return None
+            raise
+        return None if number is None else int(number)
+
+    def append(self, keys: Sequence[str], lines: Sequence[str], until: float) -> list[int]:
+        """Has lines put down as one, each once however often it is tried with its key, and gives their places.
+
+        A place is no acknowledgement: a line is kept where `Following.behind` gives it. Where no
+        server takes the lines by some moment, `LogUnreachable`: it is not known whether they stand.
+        """
+        rows = self._patiently("SELECT sfstore.append(%s::uuid[], %s)", (list(keys), list(lines)), until)
+        return list(rows[0][0])
+
+    def cut(self, key: str, until: float) -> int:
+        """Puts a cut down, and gives its place."""
+        [(place,)] = self._patiently("SELECT sfstore.cut(%s)", (key,), until)
+        return int(place)
+
+    def drop_before(self, place: int, replicas: int, age: str, until: float) -> int:
+        """Drops all up to a cut of which so many replicas have the same file; how many entries those were."""
+        words = "SELECT sfstore.drop_before(%s, %s, %s::interval)"
+        [(dropped,)] = self._patiently(words, (place, replicas, age), until)
+        return int(dropped)
+
+    def _patiently(self, words: str, values: Sequence[object], until: float) -> list[Any]:
+        """Asks what waits for standbys. The wait is never cancelled, which would show a line that is not kept."""
+        begun = time.monotonic()
+
+        def task(link: Link) -> list[Any]:
+            def tick() -> None:
+                waited = time.monotonic() - begun
+                self._tell(f"the log has not taken what was written for {waited:.0f} seconds")
+                self.look_around(link)
+
+            return link.ask(words, values, seconds=max(0.1, until - time.monotonic()), tick=tick)
+
+        rows = self._on_link(task, until)
+        self._tell("")
+        return rows
+
+
+def _looked_at(dsn: str) -> tuple[Link, Standing]:
+    """A connection to a server, and its standing."""
+    link = Link(dsn)
+    try:
+        [(file, at, chain, start)] = link.ask(_STANDING, seconds=3.0)
+    except BaseException:
+        link.close()
+        raise
+    return link, Standing(int(file[:8], 16) if file else 0, at, bytes(chain), bytes(start))
+
+
+def _place(dsn: str) -> str:
+    """Where a server is, without the login's secrets."""
+    words = dict(word.split("=", 1) for word in dsn.split(" ") if "=" in word)
+    return f"the server {words.get('host', 'here')}:{words.get('port', '5432')}"

@@ -1,0 +1,473 @@
+"""A replica: a store that carries out the lines of a log, in its order, and answers questions itself."""
+
+from __future__ import annotations
+
+import os
+import time
+import uuid
+from collections import Counter
+from collections.abc import Callable, Iterable, Sequence
+from pathlib import Path
+from types import TracebackType
+from typing import Union
+
+from sfstore import files
+from sfstore.journal import locked
+from sfstore.replica.lines import LINE_MAX, Asked, asked
+from sfstore.replica.links import check_driver
+from sfstore.replica.log import Entry, Fence, Following, LogUnreachable, Writing, chained
+from sfstore.replica.snapshots import Snapshot, Snapshots
+from sfstore.store import Answer, ProgramEnded, Refused, Store
+
+__all__ = ["AnswerGone", "NotAcknowledged", "Outcome", "Replica", "ReplicaStopped"]
+
+Outcome = Union[Answer, Refused]
+"""What a line is answered with."""
+
+# How often a replica begins again without getting any further.
+_TRIES = 3
+# How often it looks whether its file is that of the others, in seconds.
+_COMPARE_SECONDS = 1.0
+# How long a replica waits, in seconds, for others whose file differs, where as many are for it as against it.
+_DOUBT_SECONDS = 30.0
+# How many lines are put down as one, and of how many bytes but for one line.
+_GROUP_LINES, _GROUP_BYTES = 1000, 1_000_000
+# From how many entries on a replica tells how far it is.
+_PROGRESS_FROM = 2000
+# Of how many lines of the own editor the answers are kept, for those that are tried again.
+_ANSWERS = 10_000
+
+
+class NotAcknowledged(Exception):
+    """It is not known whether lines stand in the log: the log could not be reached, or no standby has them.
+
+    Written again with the same keys they stand once.
+    """
+
+    keys: list[str]
+    """The keys of the lines, in their order."""
+
+    def __init__(self, keys: list[str], reason: str) -> None:
+        super().__init__(reason)
+        self.keys = keys
+
+    def __str__(self) -> str:
+        return f"{len(self.keys)} lines are not acknowledged: {self.args[0]}"
+
+
+class AnswerGone(Exception):
+    """A line that was tried again stands in the log, but its answer is not known here any more."""
+
+
+class ReplicaStopped(Exception):
+    """The replica can't go on: a person has to look. The text says why, and what helps."""
+
+
+class _GivenUp(Exception):
+    """The store here can't be trusted any more: it begins again from its file."""
+
+
+class Replica:
+    """The store of a log in a folder of its own, which one process at a time has.
+
+    ``log`` are the words of connection of PostgreSQL, with as many hosts as there are servers.
+    ``editor`` are those by which lines are put down, where they are of another login.
+    ``begin_from`` is the file of another replica, for a folder that has none. ``patience`` is
+    how long a line is tried, and how long servers are looked for at the beginning, in seconds.
+    ``tell`` is told in a sentence what keeps the replica waiting, and nothing (an empty text) where
+    nothing does any more; ``progress`` how far it is, and how far the log goes.
+
+    It begins from its newest file, and has all of the log when it is there. `LogUnreachable` where
+    no server can be used, `JournalError` where another process has the folder, `ReplicaStopped`
+    where the files here and the log do not fit.
+    """
+
+    def __init__(
+        self,
+        folder: str | os.PathLike[str],
+        log: str,
+        *,
+        editor: str | None = None,
+        program: str | os.PathLike[str] = "sfstore",
+        begin_from: str | os.PathLike[str] | None = None,
+        patience: float = 60.0,
+        tell: Callable[[str], object] = lambda text: None,
+        progress: Callable[[int, int], object] = lambda at, last: None,
+    ) -> None:
+        check_driver()
+        self._folder = Path(folder)
+        self._program = os.fsdecode(program)
+        self._patience = patience
+        self._progress = progress
+        self._teller = _Teller(tell)
+        self._folder.mkdir(parents=True, exist_ok=True)
+        self._lock = locked(str(self._folder / "replica"))
+        try:
+            self._snapshots = Snapshots(self._folder)
+            self._fence = Fence(self._folder / "timeline")
+            self._following = Following(log, self._fence, self._teller.tell)
+            self._writing = Writing(editor or log, self._fence, self._teller.tell)
+            self._open(begin_from)
+        except BaseException:
+            self._lock.close()
+            raise
+
+    def __enter__(self) -> Replica:
+        return self
+
+    def __exit__(
+        self,
+        error_type: type[BaseException] | None,
+        error: BaseException | None,
+        traceback: TracebackType | None,
+    ) -> None:
+        self.close()
+
+    def close(self) -> None:
+        """Ends the program and the connections. The next opening goes on from the newest file."""
+        self._store.close(save=False)
+        self._following.close()
+        self._writing.close()
+        self._lock.close()
+
+    @property
+    def at(self) -> int:
+        """The place of the log up to which the store here has it."""
+        return self._fence.at
+
+    @property
+    def restarts(self) -> int:
+        """How often the store was given up, and begun again from its file."""
+        return self._restarts
+
+    def fileno(self) -> int:
+        """A socket that can be read when something was put down; -1 while no server is connected."""
+        number = self._following.fileno()
+        return -1 if number is None else number
+
+    def follow(self) -> None:
+        """Carries out what is new in the log, and has been kept by standbys.
+
+        `LogUnreachable` where no server can be used now: what is here can be asked nevertheless.
+        """
+        if not self._following.heard():
+            self._following.look()
+        while self._step():
+            pass
+        if time.monotonic() > self._compared + _COMPARE_SECONDS:
+            try:
+                self._compare()
+            except _GivenUp as reason:
+                self._begin_again(str(reason))
+
+    def run(self, line: str) -> Answer:
+        """The answer of a line. `Refused` where it is refused; else as `run_all`."""
+        [outcome] = self.run_all([line])
+        if isinstance(outcome, Refused):
+            raise outcome
+        return outcome
+
+    def run_all(self, lines: Iterable[str]) -> list[Outcome]:
+        """The answers of lines in their order: questions by the store here, edits by way of the log.
+
+        `ValueError` where a line has a line feed or is blank, before any is carried out, and
+        `NotAcknowledged` where an edit could not be put down and kept in time.
+        """
+        taken = [asked(_checked(line)) for line in lines]
+        outcomes: list[Outcome] = []
+        edits: list[Asked] = []
+        for line in taken:
+            refusal = self._refusal(line)
+            is_edit = line.is_edit and refusal is None
+            if edits and (not is_edit or len(edits) == _GROUP_LINES or _size(edits) > _GROUP_BYTES):
+                outcomes += self.write([edit.line for edit in edits])
+                edits = []
+            if is_edit:
+                edits.append(line)
+            else:
+                outcomes.append(refusal or self._answer(line.line))
+        if edits:
+            outcomes += self.write([edit.line for edit in edits])
+        return outcomes
+
+    def write(self, lines: Sequence[str], keys: Sequence[str] | None = None) -> list[Outcome]:
+        """Has edits put down as one, and gives the answers that the store here has for them.
+
+        They are given when the lines are on the standbys, and carried out here. With the keys of a
+        `NotAcknowledged` they are tried again. `LogRefused` where the log takes none of them,
+        `ValueError` where they are more than 1,000.
+        """
+        keys = [str(uuid.uuid4()) for _ in lines] if keys is None else list(keys)
+        if len(lines) > _GROUP_LINES:
+            raise ValueError(f"{_GROUP_LINES} lines can be put down at once, not {len(lines)}")
+        until = time.monotonic() + self._patience
+        try:
+            places = self._writing.append(keys, lines, until)
+            self._catch_up(max(places, default=0), until)
+        except LogUnreachable as error:
+            raise NotAcknowledged(keys, str(error)) from error
+        for key, place in zip(keys, places):
+            if key not in self._answers:
+                raise AnswerGone(f"place {place} of the log was carried out before it was asked for here")
+        return [self._answers[key] for key in keys]
+
+    # What a line is answered with
+
+    def _refusal(self, line: Asked) -> Refused | None:
+        """Why a line gets to no store; none where it does."""
+        if not line.is_edit:
+            return None if line.is_question else Refused(31, "BadCommand", line.line)
+        if len(line.line.encode()) > LINE_MAX:
+            return Refused(33, "LineTooLong", line.line)
+        if self._own_number is None:
+            return Refused(102, "NoEditor", line.line)
+        if line.editor not in (None, self._own_number):
+            return Refused(101, "OtherEditor", line.line)
+        return None
+
+    def _answer(self, question: str) -> Outcome:
+        """The answer of a question, by a store that has all that was ever shown here."""
+        for _ in range(_TRIES):
+            self._catch_up(self._seen, time.monotonic() + self._patience)
+            try:
+                return self._store.run(question)
+            except Refused as refused:
+                return refused
+            except ProgramEnded as ended:
+                self._begin_again(str(ended))
+        raise ReplicaStopped(f"the program ended {_TRIES} times over a question: {question[:200]}")
+
+    # Beginning, and beginning again
+
+    def _open(self, begin_from: str | os.PathLike[str] | None) -> None:
+        self._seen = 0
+        self._restarts = 0
+        self._failures = 0
+        self._failed_at = -1
+        self._differed_at = -1
+        self._compared = 0.0
+        self._answers: dict[str, Outcome] = {}
+        self._sum = ""
+        self._votes = True
+        self._start = b""
+        self._go_to_newest()
+        until = time.monotonic() + self._patience
+        self._start = self._following.reach(until).start
+        self._login = self._following.login()
+        self._own_number = self._writing.own_number(until)
+        if begin_from is not None:
+            self._bring(Path(begin_from))
+        self._load()
+        try:
+            self._catch_up(self._following.last(until), until)
+        except BaseException:
+            self._store.close(save=False)
+            raise
+
+    def _go_to_newest(self) -> None:
+        """Goes to the place of the newest file, or before the first place."""
+        self._snapshot: Snapshot | None = self._snapshots.newest()
+        self._fence.at, self._fence.chain = 0, self._start
+        if self._snapshot is not None:
+            self._fence.at, self._fence.chain = self._snapshot.at, self._snapshot.chain
+
+    def _bring(self, given: Path) -> None:
+        """Takes the file of another replica, after a look at what the log has of it."""
+        brought = self._snapshots.bring(given)
+        total = files.digest(str(brought.path))
+        sums = set(self._following.sums(brought.at).values())
+        if self._following.chain_at_cut(brought.at) != brought.chain or sums != {total}:
+            self._snapshots.put_aside(brought)
+            raise ReplicaStopped(
+                f"{given} is not what all replicas had at place {brought.at}: begin from another one's file"
+            )
+
+    def _load(self) -> None:
+        """Begins from the newest file, or from nothing."""
+        self._snapshots.clear()
+        self._go_to_newest()
+        if self._snapshot is None:
+            self._store = Store(self._program, save=self._new_aside())
+            return
+        self._check_chain(self._snapshot)
+        self._store = Store(self._program, load=self._snapshot.path, save=self._new_aside())
+        self._sum = files.digest(str(self._snapshot.path))
+        self._vote()
+
+    def _check_chain(self, snapshot: Snapshot) -> None:
+        """`ReplicaStopped` where a file is not one of this log."""
+        chain = self._following.chain_at_cut(snapshot.at, time.monotonic() + self._patience)
+        if chain not in (None, snapshot.chain):
+            raise ReplicaStopped(f"{snapshot.path} is of another log than this one: take it away")
+
+    def _new_aside(self) -> Path:
+        self._aside = self._snapshots.aside()
+        return self._aside
+
+    def _begin_again(self, reason: str) -> None:
+        """Gives the store up, and loads the newest file. `ReplicaStopped` where that was done in vain."""
+        self._seen = max(self._seen, self._fence.at)
+        self._failures = self._failures + 1 if self._seen <= self._failed_at else 1
+        self._failed_at = self._seen
+        self._store.close(save=False)
+        if self._failures > _TRIES:
+            raise ReplicaStopped(f"begun again {_TRIES} times behind place {self._seen}: {reason}")
+        self._restarts += 1
+        self._teller.tell(f"the store is given up at place {self._fence.at}, and begins again from its file: {reason}")
+        self._load()
+
+    # Carrying out
+
+    def _catch_up(self, place: int, until: float) -> None:
+        """Carries the log out up to a place, and to all that was seen. `LogUnreachable` where that takes too long."""
+        begun = self._fence.at
+        while self._fence.at < max(place, self._seen):
+            try:
+                moved = self._step()
+            except LogUnreachable as error:
+                moved = False
+                self._teller.tell(str(error))
+            last = max(place, self._seen)
+            if last - begun > _PROGRESS_FROM:
+                self._progress(self._fence.at, last)
+            if not moved:
+                if time.monotonic() > until:
+                    raise LogUnreachable(self._teller.last or f"place {place} of the log does not come")
+                time.sleep(0.0005 if not self._teller.last else 0.1)
+
+    def _step(self) -> bool:
+        """Carries out the next entries. False where there are none that standbys have kept."""
+        entries = self._following.behind(self._fence.at)
+        if not entries:
+            return False
+        if entries[0].at != self._fence.at + 1:
+            raise ReplicaStopped(
+                f"the log begins at place {entries[0].at}, and the file here ends at {self._fence.at}: "
+                "begin from the file of another replica"
+            )
+        try:
+            self._apply(entries)
+        except (_GivenUp, ProgramEnded) as error:
+            self._begin_again(str(error))
+        return True
+
+    def _apply(self, entries: Sequence[Entry]) -> None:
+        """Carries entries out: the lines between cuts all at once, with nothing seen outside before."""
+        lines: list[Entry] = []
+        for entry in entries:
+            if entry.cut:
+                self._carry_out(lines)
+                lines = []
+                self._go_to(entry)
+                self._cut()
+            else:
+                lines.append(entry)
+        self._carry_out(lines)
+
+    def _carry_out(self, entries: Sequence[Entry]) -> None:
+        if not entries:
+            return
+        outcomes = self._store.run_all(entry.sent() for entry in entries)
+        for entry, outcome in zip(entries, outcomes):
+            if isinstance(outcome, Refused) and outcome.number == 1:
+                raise _GivenUp(f"place {entry.at} was answered: refused 1 Memory")
+        for entry, outcome in zip(entries, outcomes):
+            self._go_to(entry)
+            if entry.editor == self._own_number:
+                self._note(entry, outcome)
+
+    def _note(self, entry: Entry, outcome: Outcome) -> None:
+        """Keeps the answer of a line of the own editor for a while."""
+        if isinstance(outcome, Refused):
+            outcome = Refused(outcome.number, outcome.name, entry.line)
+        self._answers[entry.key] = outcome
+        if len(self._answers) > _ANSWERS:
+            del self._answers[next(iter(self._answers))]
+
+    def _go_to(self, entry: Entry) -> None:
+        """Goes to the place of an entry. `ReplicaStopped` where it does not follow what was carried out here."""
+        if entry.at != self._fence.at + 1 or chained(self._fence.chain, entry) != entry.chain:
+            raise ReplicaStopped(
+                f"place {entry.at} of the log does not follow what was carried out here: another log"
+            )
+        self._fence.at, self._fence.chain = entry.at, entry.chain
+
+    # Cuts
+
+    def _cut(self) -> None:
+        """Saves the store and loads it again, as every replica does at this place."""
+        self._store.close()
+        try:
+            self._snapshot = self._snapshots.keep(self._aside, self._fence.at, self._fence.chain)
+        except OSError as error:
+            raise _GivenUp(f"the file could not be kept: {error}") from error
+        self._store = Store(self._program, load=self._snapshot.path, save=self._new_aside())
+        self._sum = files.digest(str(self._snapshot.path))
+        self._vote()
+        self._compare()
+
+    def _vote(self) -> None:
+        """Puts down what the newest file is, where the login is that of a replica and the log has the cut still."""
+        if self._snapshot is None or not self._votes:
+            return
+        try:
+            if self._following.chain_at_cut(self._snapshot.at) is not None:
+                self._votes = self._following.put_sum(self._snapshot.at, self._sum)
+        except LogUnreachable as error:
+            self._teller.tell(str(error))
+
+    def _compare(self) -> None:
+        """`_GivenUp` where the newest file is not that of the most replicas; it is set aside then.
+
+        `ReplicaStopped` where it was the same again after that.
+        """
+        self._compared = time.monotonic()
+        if self._snapshot is None:
+            return
+        sums = self._following.sums(self._snapshot.at)
+        if sums.pop(self._login, None) != self._sum:
+            self._vote()
+        others = Counter(sums.values())
+        for_it = others.pop(self._sum, 0) + 1
+        against = max(others.values(), default=0)
+        if against >= for_it:
+            self._differ(self._snapshot, for_it, against)
+
+    def _differ(self, snapshot: Snapshot, for_it: int, against: int) -> None:
+        """What is done about a file that others have not."""
+        reason = f"at the cut {snapshot.at} {for_it} replicas have the file that is here, and {against} another one"
+        if self._differed_at != snapshot.at:
+            self._differed_at, self._doubt_until = snapshot.at, self._compared + _DOUBT_SECONDS
+            self._snapshots.put_aside(snapshot)
+            raise _GivenUp(reason)
+        if against > for_it or self._compared > self._doubt_until:
+            raise ReplicaStopped(f"{reason}; carried out again it was the same")
+        self._teller.tell(f"{reason}; the others are waited for")
+
+
+class _Teller:
+    """Tells what keeps a replica waiting, each reason once."""
+
+    def __init__(self, tell: Callable[[str], object]) -> None:
+        self._tell = tell
+        self.last = ""
+
+    def tell(self, text: str) -> None:
+        if text != self.last:
+            self.last = text
+            self._tell(text)
+
+
+def _checked(line: str) -> str:
+    """A line, where it is one that gets an answer. `ValueError` else."""
+    if "\n" in line or "\0" in line:
+        raise ValueError("a line feed or a NUL stands in the line")
+    if not line.removesuffix("\r").strip(" \t"):
+        raise ValueError("the line is blank")
+    line.encode()
+    return line
+
+
+def _size(edits: Sequence[Asked]) -> int:
+    """About how many bytes some lines have."""
+    return sum(len(edit.line) for edit in edits)

@@ -1,0 +1,82 @@
+"""The files of a replica: each is the store at a cut of the log, and says in its name where that is.
+
+    00000000000000001042-CHAIN.sfs          place and chain
+    00000000000000001042-CHAIN.sfs.wrong    one that was found to differ, kept to be looked at
+    aside-RANDOM                            one that is being saved
+
+There is no other note of a replica's place: whatever ends it, it goes on from its newest file.
+"""
+
+from __future__ import annotations
+
+import os
+import re
+import shutil
+import uuid
+from pathlib import Path
+from typing import NamedTuple
+
+from sfstore import files
+
+__all__ = ["Snapshot", "Snapshots"]
+
+_NAME = re.compile("([0-9]{20})-([0-9a-f]{64})[.]sfs")
+_KEPT = 2
+
+
+class Snapshot(NamedTuple):
+    """A store's file at a cut."""
+
+    at: int
+    chain: bytes
+    path: Path
+
+
+class Snapshots:
+    """The files in a replica's folder, which one process alone has at a time."""
+
+    def __init__(self, folder: Path) -> None:
+        self._folder = folder
+
+    def clear(self) -> None:
+        """Takes away what was not saved to its end."""
+        for leftover in self._folder.glob("aside-*"):
+            leftover.unlink()
+
+    def newest(self) -> Snapshot | None:
+        """The file to begin from."""
+        return max(self._all(), default=None)
+
+    def aside(self) -> Path:
+        """Where a program is to save. The name is new: one that was left alone may save to its own still."""
+        return self._folder / f"aside-{uuid.uuid4().hex}"
+
+    def keep(self, aside: Path, at: int, chain: bytes) -> Snapshot:
+        """Makes a file that was saved the newest one: whole and on the disk, or not at all."""
+        files.sync(str(aside))
+        kept = Snapshot(at, chain, self._folder / f"{at:020}-{chain.hex()}.sfs")
+        files.replace(str(aside), str(kept.path))
+        for old in sorted(self._all())[:-_KEPT]:
+            old.path.unlink()
+        return kept
+
+    def put_aside(self, wrong: Snapshot) -> None:
+        """Takes a file out that was found to differ."""
+        files.replace(str(wrong.path), f"{wrong.path}.wrong")
+
+    def bring(self, given: Path) -> Snapshot:
+        """Copies the file of another replica. `ValueError` where its name is not that of one."""
+        found = _NAME.fullmatch(given.name)
+        if found is None:
+            raise ValueError(f"{given} is no file of a replica: its name has to say place and chain")
+        aside = self.aside()
+        shutil.copyfile(given, aside)
+        return self.keep(aside, int(found[1]), bytes.fromhex(found[2]))
+
+    def _all(self) -> list[Snapshot]:
+        found = ((_NAME.fullmatch(name), name) for name in os.listdir(self._folder))
+        return [
+            Snapshot(int(match[1]), bytes.fromhex(match[2]), self._folder / name)
+            for match, name in found
+            if match is not None
+        ]
