@@ -49,17 +49,22 @@ class Person:
         self._words += ["--program", program, "--patience", "600"]
         self._said = folder / f"{login}.said"
         self._writes = threading.Event()
+        self._rests = threading.Event()
         self._ends = False
         self._process = self._started()
         self._thread = threading.Thread(target=self._write, daemon=True)
         self._thread.start()
 
-    def write(self, on: bool) -> None:
-        """Has the person go on writing, or rest."""
-        if on:
-            self._writes.set()
-        else:
-            self._writes.clear()
+    def write(self) -> None:
+        """Has the person go on writing."""
+        self._rests.clear()
+        self._writes.set()
+
+    def rest(self) -> None:
+        """Has the person stop writing, and waits until the last line is answered."""
+        self._writes.clear()
+        if not self._rests.wait(_WAIT_SECONDS):
+            raise TimeoutError(f"{self.login} has no answer: {self.said[-1000:]}")
 
     def kill(self) -> None:
         """Kills the replica's process; another one goes on in its folder."""
@@ -71,7 +76,7 @@ class Person:
         self._writes.set()
         self._thread.join(_WAIT_SECONDS)
         self._process.kill()
-        self._process.wait()
+        self._reap()
 
     @property
     def said(self) -> str:
@@ -103,6 +108,8 @@ class Person:
 
     def _write(self) -> None:
         for count in range(1 << 20):
+            if not self._writes.is_set():
+                self._rests.set()
             self._writes.wait()
             if self._ends:
                 return
@@ -112,8 +119,13 @@ class Person:
                 self.answered.append((line, answer))
             elif not self._ends:
                 self.doubtful.append(line)
-                self._process.wait()
+                self._reap()
                 self._process = self._started()
+
+    def _reap(self) -> None:
+        """Waits for the end of a process, and closes its pipes."""
+        with self._process:
+            pass
 
     def _answer(self, line: str) -> str:
         """The answer of a line; empty where the process ends instead."""
@@ -167,10 +179,15 @@ class Trial:
         self.pair.close()
         self._folder.cleanup()
 
-    def write(self, on: bool) -> None:
-        """Has all people go on writing, or rest."""
+    def write(self) -> None:
+        """Has all people go on writing."""
         for person in self.people:
-            person.write(on)
+            person.write()
+
+    def rest(self) -> None:
+        """Has all people rest, when their last lines are answered."""
+        for person in self.people:
+            person.rest()
 
     @property
     def acknowledged(self) -> int:
@@ -200,7 +217,7 @@ class Trial:
 
     def claims(self) -> list[Claim]:
         """Has all rest, cuts the log, and looks at what has to hold."""
-        self.write(False)
+        self.rest()
         cut = owning.cut(self.pair.dsn("postgres"), len(self.people), _WAIT_SECONDS)
         link = Link(self.pair.primary.dsn())
         rows = link.ask("SELECT at, editor, line FROM sfstore.log WHERE at <= %s ORDER BY at", (cut.at,))
@@ -249,7 +266,7 @@ def demonstrate(program: str, kills: int, seed: int) -> int:
     trial = Trial(program)
     try:
         print("Three replicas begin, each with a writer.", flush=True)
-        trial.write(True)
+        trial.write()
         for count in range(1, kills + 1):
             trial.wait_for(50)
             time.sleep(dice.random())

@@ -3,6 +3,7 @@
 from __future__ import annotations
 
 import importlib
+import re
 import select
 import time
 from collections.abc import Callable, Sequence
@@ -30,6 +31,9 @@ _WATCH = {
 
 # A server that ends, starts, or is a standby now: class 25 has writes refused where only reading is allowed.
 _READ_ONLY = "25006"
+
+
+_WHERE = re.compile("^connection to server .* failed: ")
 
 
 class LinkLost(Exception):
@@ -159,5 +163,6 @@ class Link:
 
 
 def _first_line(error: Exception) -> str:
-    """What the server says, without where in its functions it was said."""
-    return str(error).strip().partition("\n")[0] or type(error).__name__
+    """What the server says, or why it is not there, without where it was looked for."""
+    line = str(error).strip().partition("\n")[0]
+    return _WHERE.sub("", line) or type(error).__name__

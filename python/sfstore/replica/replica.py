@@ -152,13 +152,13 @@ class Replica:
         """
         if not self._following.heard():
             self._following.look()
-        while self._step():
-            pass
+        self._step_on()
         if time.monotonic() > self._compared + _COMPARE_SECONDS:
             try:
                 self._compare()
             except _GivenUp as reason:
                 self._begin_again(str(reason))
+                self._step_on()
 
     def run(self, line: str) -> Answer:
         """The answer of a line. `Refused` where it is refused; else as `run_all`."""
@@ -334,6 +334,11 @@ class Replica:
                 if time.monotonic() > until:
                     raise LogUnreachable(self._teller.last or f"place {place} of the log does not come")
                 time.sleep(0.0005 if not self._teller.last else 0.1)
+
+    def _step_on(self) -> None:
+        """Carries out all that standbys have kept."""
+        while self._step():
+            pass
 
     def _step(self) -> bool:
         """Carries out the next entries. False where there are none that standbys have kept."""

@@ -77,7 +77,9 @@ class Server:
     def start(self, standbys: str) -> None:
         """Starts it, and waits until it lets logins in. While it is a primary its commits wait for some standbys."""
         words = ["postgres", "-D", str(self.data), "-k", str(self._folder), "-h", "", "-p", "5432"]
-        for option in (f"synchronous_standby_names={standbys}", "log_min_messages=fatal", *self._options):
+        # A standby that is to take over looks for its primary again after so long.
+        retry = "wal_retrieve_retry_interval=100ms"
+        for option in (f"synchronous_standby_names={standbys}", "log_min_messages=fatal", retry, *self._options):
             words += ["-c", option]
         with open(self._folder / "log", "ab") as log:
             words[0] = str(self._bin / words[0])

@@ -1,0 +1,97 @@
+"""What the tests of replicas have in common: two servers for all of them, and a log in a database for each test."""
+
+from __future__ import annotations
+
+import itertools
+import os
+import pwd
+import re
+import unittest
+from importlib.util import find_spec
+
+from support import PROGRAM, TestCase
+
+from sfstore.replica import Replica, owning, servers
+from sfstore.replica.links import Link, LogRefused
+
+
+def missing():
+    """Why replicas can't be tried here; empty where they can."""
+    if servers.binaries() is None:
+        return "no PostgreSQL (Debian's package postgresql)"
+    if not find_spec("psycopg2"):
+        return "no psycopg2 (Debian's package python3-psycopg2)"
+    if os.getuid() == 0 and not any(user.pw_name == "postgres" for user in pwd.getpwall()):
+        return "no user postgres, as whom root could run servers"
+    return ""
+
+
+# A kill leaves what was written in the system's memory: what these tests try needs no sync.
+OPTIONS = ["fsync=off"]
+
+_databases = itertools.count(1)
+
+
+@unittest.skipIf(missing(), missing())
+class ReplicaCase(TestCase):
+    """A test with a log of its own on a primary and a standby, which all tests of a class share."""
+
+    @classmethod
+    def setUpClass(cls):
+        cls.pair = servers.Pair(OPTIONS)
+        cls.addClassCleanup(cls.pair.close)
+
+    def setUp(self):
+        super().setUp()
+        self.told = []
+        self.database = f"town{next(_databases)}"
+        self.ask("CREATE DATABASE " + self.database, database="postgres")
+        self.owner = self.pair.primary.dsn(database=self.database)
+        owning.set_up(self.owner, 1)
+        for login in ("ann", "ben", "cleo"):
+            owning.add_login(self.owner, login, is_editor=True, is_replica=True)
+        owning.add_login(self.owner, "rita", is_editor=False, is_replica=False)
+
+    def ask(self, words, values=(), login="postgres", database=None):
+        """The rows that the primary gives for a statement."""
+        link = Link(self.pair.primary.dsn(login, database or self.database))
+        try:
+            return link.ask(words, values)
+        finally:
+            link.close()
+
+    def dsn(self, login):
+        return self.pair.dsn(login, self.database)
+
+    def replica(self, login, program=PROGRAM, **changed):
+        """A replica of a login, which ends with the test."""
+        words = {"patience": 30.0, "tell": self.told.append, **changed}
+        folder = words.pop("folder", self.folder / login)
+        replica = Replica(folder, words.pop("log", self.dsn(login)), program=program, **words)
+        self.addCleanup(replica.close)
+        return replica
+
+    def town(self, *logins, **changed):
+        """Replicas of a store with a layer of points."""
+        replicas = [self.replica(login, **changed) for login in logins]
+        replicas[0].run("layer add w point")
+        return replicas
+
+    def cut(self, *replicas):
+        """Cuts the log, has replicas follow, and gives the place and their files."""
+        at = owning.cut(self.owner, 0, 10).at
+        for replica in replicas:
+            replica.follow()
+        return at, [self.file(replica, at) for replica in replicas]
+
+    def file(self, replica, at):
+        [path] = replica._folder.glob(f"{at:020}-*.sfs")
+        return path.read_bytes()
+
+    def assert_denied(self, login, words, code="42501"):
+        with self.assertRaises(LogRefused) as caught:
+            self.ask(words, login=login)
+        self.assertEqual(caught.exception.code, code, words)
+
+    def assert_told(self, pattern):
+        self.assertTrue([text for text in self.told if re.search(pattern, text)], f"{pattern}: {self.told}")

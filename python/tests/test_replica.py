@@ -1,0 +1,848 @@
+"""Tests of replicas over a log: rights, cuts, divergence, want of memory, kills, and servers that fail."""
+
+from __future__ import annotations
+
+import hashlib
+import os
+import random
+import re
+import resource
+import shutil
+import signal
+import subprocess
+import sys
+import textwrap
+import threading
+import time
+import unittest
+import uuid
+from pathlib import Path
+
+from replica_support import OPTIONS, ReplicaCase, missing
+from support import FOLDER, PROGRAM, TestCase
+
+from sfstore import JournalError, Refused, Store
+from sfstore.replica import LogUnreachable, NotAcknowledged, Replica, ReplicaStopped, owning
+from sfstore.replica.demo import Trial
+from sfstore.replica.lines import EDITS, QUESTIONS, asked
+from sfstore.replica.links import Link, LinkLost, LogRefused
+from sfstore.replica.servers import Server
+
+SCHEMA = (FOLDER / "sfstore" / "replica" / "log.sql").read_text()
+APPEND = "SELECT sfstore.append(ARRAY[gen_random_uuid()], ARRAY[%s])"
+
+
+def refused(number, name, line):
+    return f"{number} {name}: {line}"
+
+
+def shown(outcomes):
+    """Answers, with refusals as texts that can be compared."""
+    return [str(it) if isinstance(it, Refused) else it for it in outcomes]
+
+
+class Lines(TestCase):
+    def test_lines_are_taken_apart_as_the_console_does(self):
+        for line, editor, word, rest in [
+            ("undo", None, "undo", "undo"),
+            ("\t add w  POINT (1 1) \r", None, "add", "add w  POINT (1 1) "),
+            ("@007\tshow w", 7, "show", "show w"),
+            ("@256 undo", 256, "", "undo"),
+            ("@0 undo", 0, "", "undo"),
+            ("@7", None, "@7", "@7"),
+            ("@7undo", None, "@7undo", "@7undo"),
+            ("und\xa0o", None, "und\xa0o", "und\xa0o"),
+        ]:
+            self.assertEqual(asked(line), (editor, word, rest))
+
+    def test_the_log_takes_the_edits_of_the_module(self):
+        [words] = re.findall(r"\^\[ \\t\]\*\(([a-z|]+)\)", SCHEMA)
+        self.assertEqual(set(words.split("|")), EDITS)
+
+    def test_edits_and_questions_are_all_words_of_the_console(self):
+        lines = [f"{word} a b c d e f g h" for word in sorted(EDITS | QUESTIONS)]
+        with Store(PROGRAM) as store:
+            store.run_all(["layer add w point"])
+            outcomes = store.run_all(["layer drop v", "column drop v a", "add w x", "undo", *lines])
+        self.assertEqual([str(it) for it in outcomes[:2]], ["18 NoLayer: layer drop v", "18 NoLayer: column drop v a"])
+
+
+@unittest.skipIf(missing(), missing())
+class Commands(TestCase):
+    def test_a_missing_driver_is_told_in_a_sentence(self):
+        said = self.command("state", "dbname=x", modules="import sys; sys.modules['psycopg2'] = None\n")
+        self.assertEqual((said.returncode, said.stdout), (3, ""))
+        self.assertEqual(
+            said.stderr,
+            "sfstore-replica: replicas need psycopg2 for Python (Debian's package python3-psycopg2)\n",
+        )
+
+    def test_no_server(self):
+        said = self.command("state", f"host={self.folder} dbname=x")
+        self.assertEqual(said.returncode, 3)
+        self.assertRegex(said.stderr, "^sfstore-replica: .*No such file or directory\n$")
+
+    def command(self, *words, modules=""):
+        lines = f"{modules}import sys\nfrom sfstore.replica.command import main\nsys.exit(main({list(words)!r}))"
+        return subprocess.run(
+            [sys.executable, "-c", lines],
+            env={**os.environ, "PYTHONPATH": str(FOLDER)},
+            capture_output=True,
+            text=True,
+        )
+
+
+class Rights(ReplicaCase):
+    def test_readers_do_not_append_and_editors_do_not_cut(self):
+        for login in ("rita", "ann"):
+            for words in (
+                "SELECT sfstore.cut(gen_random_uuid())",
+                "SELECT sfstore.put(ARRAY[gen_random_uuid()], ARRAY['undo'], 1, false)",
+                "SELECT sfstore.drop_before(1, 0)",
+                "INSERT INTO sfstore.log VALUES (1, gen_random_uuid(), 1, false, 'undo', now(), '')",
+                "UPDATE sfstore.head SET at = 9",
+                "DELETE FROM sfstore.log",
+                "TRUNCATE sfstore.cuts",
+                "INSERT INTO sfstore.editors VALUES ('rita', 9)",
+                "INSERT INTO sfstore.sums VALUES (1, 'x', 'y')",
+            ):
+                self.assert_denied(login, words)
+        self.assert_denied("rita", APPEND.replace("%s", "'undo'"))
+        self.assert_denied("rita", "SELECT sfstore.put_sum(1, repeat('0', 64))")
+
+    def test_sums_are_those_of_replicas_alone(self):
+        self.ask("CREATE ROLE eva LOGIN; GRANT sfstore_editor TO eva")
+        self.addCleanup(self.ask, "DROP ROLE eva", database="postgres")
+        self.assert_denied("eva", "SELECT sfstore.put_sum(1, repeat('0', 64))")
+        # An editor by its role alone has no number.
+        self.assert_denied("eva", APPEND.replace("%s", "'undo'"), "SF102")
+
+    def test_a_line_that_names_another_editor_is_not_put_down(self):
+        [ann] = self.town("ann")
+        before = self.ask("SELECT at FROM sfstore.head")
+        number = self.ask("SELECT number FROM sfstore.editors WHERE login = 'ann'")[0][0]
+        for line in ("@9 undo", " @09\tundo", "@256 undo", "@1", "@ undo", "@1undo", "@1 @1 undo"):
+            with self.assertRaises(LogRefused) as caught:
+                self.ask(APPEND, (line,), login="ann")
+            self.assertIn(caught.exception.code, ("SF101", "23514"), line)
+        self.assertEqual(number, 1)
+        self.assertEqual(shown(ann.run_all(["@9 undo"])), [refused(101, "OtherEditor", "undo")])
+        self.assertEqual(self.ask("SELECT at FROM sfstore.head"), before)
+        self.assertEqual(shown(ann.run_all(["@001 undo", "@1\tredo"])), ["ok", "ok"])
+
+    def test_lines_that_edit_nothing_are_not_put_down(self):
+        self.town("ann")
+        for line in ("", " \t", "\r", "undo\nundo", "show w", "layers", "nonsense", "undone", "add w " + "9" * 131_062):
+            with self.assertRaises(LogRefused) as caught:
+                self.ask(APPEND, (line,), login="ann")
+            self.assertEqual(caught.exception.code, "23514", line[:20])
+
+    def test_a_reader_asks_and_can_not_write(self):
+        [ann] = self.town("ann")
+        ann.run("add w POINT (3 4)")
+        rita = self.replica("rita")
+        self.assertEqual(rita.run("show w"), ["1 POINT (3 4)"])
+        self.assertEqual(shown(rita.run_all(["undo"])), [refused(102, "NoEditor", "undo")])
+        self.cut(ann, rita)
+        [cut] = owning.state(self.owner).cuts
+        self.assertEqual(list(cut.sums), ["ann"])
+
+    def test_a_reader_may_write_by_another_login(self):
+        self.town("ann")
+        rita = self.replica("rita", editor=self.dsn("ben"))
+        self.assertEqual(rita.run("add w POINT (3 4)"), "ok 1")
+        self.assertEqual(self.ask("SELECT editor FROM sfstore.log WHERE at = 2"), [(2,)])
+
+    def test_a_log_is_made_once(self):
+        with self.assertRaisesRegex(LogRefused, "already exists"):
+            owning.set_up(self.owner, 1)
+        with self.assertRaisesRegex(owning.LoginExists, "ann is an editor already"):
+            owning.add_login(self.owner, "ann", is_editor=True, is_replica=False)
+
+
+class Writing(ReplicaCase):
+    def test_the_answers_of_the_console(self):
+        [ann] = self.town("ann")
+        lines = ["add w POINT (3 4)", "add w POINT (3.5 4)", "show w", "undo", "undo", "undo", "redo", "layers", "nonsense"]
+        lines += ["@1 redo", "show w", "show v", "@9 show w"]
+        with Store(PROGRAM) as store:
+            store.editor(1).run("layer add w point")
+            wanted = store.run_all(line if line.startswith("@") else "@1 " + line for line in lines)
+        wanted = [Refused(it.number, it.name, it.line.partition(" ")[2]) if isinstance(it, Refused) else it for it in wanted]
+        self.assertEqual(shown(ann.run_all(lines)), shown(wanted))
+        for line in ("", "\r", "a\nb", "a\0b"):
+            with self.assertRaises(ValueError):
+                ann.run(line)
+        long = "add w " + "9" * 131_062
+        self.assertEqual(ann.run_all([long])[0].number, 33)
+
+    def test_editors_see_one_another_and_move_their_own_steps(self):
+        ann, ben = self.town("ann", "ben")
+        ann.run("add w POINT (1 1)")
+        self.assertEqual(ben.run("add w POINT (2 2)"), "ok 2")
+        ann.follow()
+        self.assertEqual(ann.run("show w"), ["1 POINT (1 1)", "2 POINT (2 2)"])
+        self.assert_refused(36, "NotYours", ann.run, "undo")
+        self.assertEqual(ben.run("undo"), "ok")
+        self.assertEqual(ann.run("undo"), "ok")
+
+    def test_each_line_once_however_often_it_is_tried(self):
+        [ann] = self.town("ann")
+        keys = [str(uuid.uuid4()) for _ in range(3)]
+        lines = ["add w POINT (1 1)", "add w POINT (2 2)", "add w POINT (3 3)"]
+        self.assertEqual(ann.write(lines[:2], keys[:2]), ["ok 1", "ok 2"])
+        self.assertEqual(ann.write(lines, keys), ["ok 1", "ok 2", "ok 3"])
+        self.assertEqual(ann.write(lines, keys), ["ok 1", "ok 2", "ok 3"])
+        self.assertEqual(len(ann.run("show w")), 3)
+        for login, line in (("ann", "undo"), ("ben", lines[0])):
+            replica = ann if login == "ann" else self.replica(login)
+            with self.assertRaises(LogRefused) as caught:
+                replica.write([line], keys[:1])
+            self.assertEqual(caught.exception.code, "SF103")
+        ann.close()
+        # Another process finds the answers of its own editor again.
+        self.assertEqual(self.replica("ann").write(lines[:1], keys[:1]), ["ok 1"])
+
+    def test_many_lines_and_progress(self):
+        [ann] = self.town("ann")
+        count = 4_500
+        outcomes = ann.run_all([f"add w POINT ({k} 0)" for k in range(count)])
+        self.assertEqual(outcomes, [f"ok {k + 1}" for k in range(count)])
+        seen = []
+        ben = self.replica("ben", progress=lambda at, last: seen.append((at, last)))
+        self.assertEqual(len(ben.run("show w")), count)
+        self.assertEqual(seen[-1], (count + 1, count + 1))
+        self.assertGreater(len(seen), 1)
+        with self.assertRaises(ValueError):
+            ann.write(["undo"] * 1001)
+
+    def test_long_lines_come_in_parts(self):
+        [ann] = self.town("ann")
+        line = "add w POINT (" + " " * 131_000 + "1 1)"
+        self.assertEqual(ann.run_all([line] * 70), [f"ok {k + 1}" for k in range(70)])
+        self.assertEqual(len(self.replica("ben").run("show w")), 70)
+
+    def test_one_process_has_a_folder(self):
+        self.town("ann")
+        with self.assertRaisesRegex(JournalError, "open in another session"):
+            self.replica("ann")
+
+    def test_writers_at_once(self):
+        self.town("ann")
+        answers = []
+
+        def write(login):
+            with Replica(self.folder / f"{login}-own", self.dsn(login), program=PROGRAM) as replica:
+                answers.extend(replica.run(f"add w POINT ({k} 1)") for k in range(60))
+
+        threads = [threading.Thread(target=write, args=(login,)) for login in ("ann", "ben", "cleo")]
+        for thread in threads:
+            thread.start()
+        for thread in threads:
+            thread.join()
+        self.assertEqual(sorted(answers), sorted(f"ok {k + 1}" for k in range(180)))
+        places = [at for (at,) in self.ask("SELECT at FROM sfstore.log ORDER BY at")]
+        self.assertEqual(places, list(range(1, 182)))
+
+
+class Sessions(ReplicaCase):
+    def session(self, login, lines, *words):
+        return subprocess.run(
+            [sys.executable, "-m", "sfstore.replica.command", "run", str(self.folder / login), self.dsn(login)]
+            + ["--program", PROGRAM, *words],
+            input=lines,
+            env={**os.environ, "PYTHONPATH": str(FOLDER)},
+            capture_output=True,
+        )
+
+    def command(self, *words):
+        said = subprocess.run(
+            [sys.executable, "-m", "sfstore.replica.command", *words],
+            env={**os.environ, "PYTHONPATH": str(FOLDER)},
+            capture_output=True,
+            text=True,
+        )
+        return said.returncode, said.stdout, said.stderr
+
+    def test_lines_and_answers(self):
+        lines = b"layer add w point\n\n \t\nadd w POINT (3 4)\r\n\xff\xfe\nshow w\na\0b\n@9 undo\n" + b"9" * 140_000 + b"\nundo"
+        said = self.session("ann", lines)
+        answers = b"ok\nok 1\nrefused 31 BadCommand\nrows 1\n1 POINT (3 4)\nrefused 31 BadCommand\n"
+        answers += b"refused 101 OtherEditor\nrefused 33 LineTooLong\nok\n"
+        self.assertEqual((said.stdout, said.stderr, said.returncode), (answers, b"", 0))
+
+    def test_the_store_of_the_module_over_a_session(self):
+        script = f"#!/bin/sh\nexec env PYTHONPATH={FOLDER} {sys.executable} -m sfstore.replica.command run "
+        script += f"{self.folder / 'ann'} '{self.dsn('ann')}' --program {PROGRAM}\n"
+        with Store(self.script(script)) as store:
+            store.add_layer("w", "point")
+            self.assertEqual(store.add("w", "POINT (3 4)"), 1)
+            self.assertEqual(store.show("w")[0].wkt, "POINT (3 4)")
+            self.assert_refused(101, "OtherEditor", store.editor(9).undo)
+
+    def test_the_owner(self):
+        self.session("ann", b"layer add w point\nadd w POINT (3 4)\n")
+        status, said, _ = self.command("cut", self.owner)
+        self.assertEqual((status, said), (0, "cut at place 3\n"))
+        self.session("ann", b"")
+        total = hashlib.sha256(next((self.folder / "ann").glob("*3-*.sfs")).read_bytes()).hexdigest()
+        wanted = f"places 1 to 3\nstandby {self.pair.standby.name}: sync, 0 bytes behind\n1 of 1 standbys\n"
+        wanted += f"cut at place 3\n  ann {total}\n"
+        self.assertEqual(self.command("state", self.owner), (0, wanted, ""))
+        status, _, said = self.command("drop", self.owner, "3", "--alike", "1")
+        self.assertEqual((status, said), (3, "sfstore-replica: the cut 3 is not older than 01:00:00\n"))
+        status, _, said = self.command("drop", self.owner, "3", "--alike", "2", "--older", "0")
+        self.assertEqual(status, 3)
+        self.assertIn("1 different files of 1 replicas; one file of 2 is wanted", said)
+        self.assertEqual(self.command("drop", self.owner, "3", "--alike", "1", "--older", "0")[:2], (0, "3 entries are dropped.\n"))
+        self.assertEqual(self.session("ann", b"show w\nundo\n").stdout, b"rows 1\n1 POINT (3 4)\nrefused 29 NothingToUndo\n")
+        status, said, _ = self.command("login", self.owner, "dora", "--editor", "--replica")
+        self.addCleanup(self.ask, "DROP ROLE dora", database="postgres")
+        self.assertEqual((status, said), (0, "dora follows the log, and is its editor 4.\n"))
+        self.assertEqual(self.session("dora", b"show w\n").returncode, 5)
+        file = next((self.folder / "ann").glob("*3-*.sfs"))
+        self.assertEqual(self.session("dora", b"show w\n", "--from", file).stdout, b"rows 1\n1 POINT (3 4)\n")
+
+    def test_the_set_up_by_its_command(self):
+        self.ask("CREATE DATABASE other", database="postgres")
+        self.addCleanup(self.ask, "DROP DATABASE other", database="postgres")
+        other = self.pair.primary.dsn(database="other")
+        self.assertEqual(self.command("setup", other), (0, "The log is made.\n", ""))
+        self.assertEqual(self.command("state", other)[:2][1].splitlines()[0], "places 1 to 0")
+
+    def test_questions_while_no_server_is_there(self):
+        self.town("ann")[0].close()
+        process = subprocess.Popen(
+            [sys.executable, "-m", "sfstore.replica.command", "run", str(self.folder / "ann"), self.dsn("ann")]
+            + ["--program", PROGRAM, "--patience", "60"],
+            stdin=subprocess.PIPE,
+            stdout=subprocess.PIPE,
+            stderr=subprocess.PIPE,
+            env={**os.environ, "PYTHONPATH": str(FOLDER)},
+            bufsize=0,
+        )
+        self.addCleanup(process.kill)
+
+        def answer(line):
+            process.stdin.write(line)
+            return process.stdout.readline()
+
+        self.assertEqual(answer(b"add w POINT (3 4)\n"), b"ok 1\n")
+        self.pair.primary.kill()
+        time.sleep(0.3)
+        self.assertEqual(answer(b"box w 1\n" if not PROGRAM.endswith(".py") else b"layers\n")[:4], b"3 4 " if not PROGRAM.endswith(".py") else b"rows")
+        self.pair.fail_over()
+        self.pair.renew_standby()
+        if PROGRAM.endswith(".py"):
+            process.stdout.readline()
+        self.assertEqual(answer(b"add w POINT (5 5)\n"), b"ok 2\n")
+        _, said = process.communicate()
+        self.assertIn(b"the log is not there, and what is here is place 2", said)
+
+
+class Cuts(ReplicaCase):
+    def test_a_cut_ends_the_history_of_all_at_one_line(self):
+        ann, ben = self.town("ann", "ben")
+        ann.run("add w POINT (1 1)")
+        at, files = self.cut(ann, ben)
+        self.assertEqual(files[0], files[1])
+        self.assert_refused(29, "NothingToUndo", ann.run, "undo")
+        ben.follow()
+        # One that comes later goes through the same cut.
+        cleo = self.replica("cleo")
+        self.assertEqual(self.file(cleo, at), files[0])
+        self.assert_refused(29, "NothingToUndo", cleo.run, "undo")
+        cut = owning.state(self.owner).cuts[-1]
+        self.assertEqual((cut.at, cut.alike), (at, 3))
+
+    def test_a_cut_that_is_tried_again(self):
+        key = str(uuid.uuid4())
+        places = {self.ask("SELECT sfstore.cut(%s)", (key,))[0][0] for _ in range(2)}
+        self.assertEqual(places, {1})
+
+    def test_two_files_are_kept(self):
+        [ann] = self.town("ann")
+        for _ in range(4):
+            at, _ = self.cut(ann)
+        self.assertEqual(len(list((self.folder / "ann").glob("*.sfs"))), 2)
+        self.assertEqual(ann.at, at)
+
+    def test_the_log_is_dropped_where_files_are_alike(self):
+        ann, ben = self.town("ann", "ben")
+        ann.run("add w POINT (1 1)")
+        at, files = self.cut(ann, ben)
+        ann.run("add w POINT (2 2)")
+        with self.assertRaisesRegex(LogRefused, "one file of 3 is wanted"):
+            owning.drop_before(self.owner, at, 3, "0", 5)
+        self.assertEqual(owning.drop_before(self.owner, at, 2, "0", 5), at)
+        with self.assertRaisesRegex(ReplicaStopped, "begin from the file of another replica"):
+            self.replica("cleo")
+        shutil.rmtree(self.folder / "cleo")
+        [file] = (self.folder / "ann").glob(f"{at:020}-*.sfs")
+        cleo = self.replica("cleo", begin_from=file)
+        self.assertEqual(cleo.run("show w"), ["1 POINT (1 1)", "2 POINT (2 2)"])
+        self.assertEqual(self.file(cleo, at), files[0])
+        at, files = self.cut(ann, ben, cleo)
+        self.assertEqual(len(set(files)), 1)
+
+    def test_a_file_to_begin_from_that_is_not_that_of_the_others(self):
+        ann, ben = self.town("ann", "ben")
+        at, _ = self.cut(ann, ben)
+        [file] = (self.folder / "ann").glob(f"{at:020}-*.sfs")
+        other = self.folder / file.name
+        other.write_bytes(file.read_bytes() + b"x")
+        with self.assertRaisesRegex(ReplicaStopped, "is not what all replicas had"):
+            self.replica("cleo", begin_from=other)
+        with self.assertRaisesRegex(ValueError, "no file of a replica"):
+            self.replica("cleo", begin_from=self.folder / "x.sfs")
+
+    def test_a_folder_of_another_log(self):
+        [ann] = self.town("ann")
+        self.cut(ann)
+        ann.close()
+        self.ask("CREATE DATABASE twin", database="postgres")
+        self.addCleanup(self.ask, "DROP DATABASE twin WITH (FORCE)", database="postgres")
+        twin = self.pair.primary.dsn(database="twin")
+        owning.set_up(twin, 1)
+        owning.add_login(twin, "ann", is_editor=True, is_replica=True)
+        log = self.pair.dsn("ann", "twin")
+        # Shorter, as long, and longer than what was applied.
+        for lines in (0, 2, 1):
+            link = Link(self.pair.primary.dsn("ann", "twin"))
+            for _ in range(lines):
+                link.ask(APPEND, ("layer add w point",))
+            link.close()
+            with self.assertRaisesRegex((ReplicaStopped, LogUnreachable), "another log|has not the log"):
+                self.replica("ann", log=log, patience=0.5)
+
+
+class Divergence(ReplicaCase):
+    WRONG = """\
+        import subprocess, sys, os
+        flag = {flag!r}
+        wrong = os.path.exists(flag)
+        if wrong and {once}: os.unlink(flag)
+        program = subprocess.Popen([{program!r}, *sys.argv[1:]], stdin=subprocess.PIPE, bufsize=0)
+        for line in sys.stdin.buffer:
+            program.stdin.write(line.replace(b"POINT (7 3)", b"POINT (7 4)") if wrong else line)
+        program.stdin.close()
+        sys.exit(program.wait())
+        """
+
+    def wrong_program(self, once):
+        """A program that stores another point than it is given, on its first start or on each one."""
+        (self.folder / "flag").touch()
+        text = textwrap.dedent(self.WRONG).format(flag=str(self.folder / "flag"), once=once, program=PROGRAM)
+        return self.script(f"#!{sys.executable}\n{text}")
+
+    def test_a_replica_that_differs_once_begins_again(self):
+        ann, ben = self.town("ann", "ben")
+        cleo = self.replica("cleo", program=self.wrong_program(True))
+        ann.run("add w POINT (7 3)")
+        cleo.follow()
+        self.assertEqual(cleo.run("show w"), ["1 POINT (7 4)"])
+        at, files = self.cut(ann, ben, cleo)
+        self.assertEqual(len(set(files)), 1)
+        self.assertEqual((ann.restarts, ben.restarts, cleo.restarts), (0, 0, 1))
+        self.assert_told(f"at the cut {at} 1 replicas have the file that is here, and 2 another one")
+        self.assertEqual(cleo.run("show w"), ["1 POINT (7 3)"])
+        self.assertEqual(len(list((self.folder / "cleo").glob("*.wrong"))), 1)
+        self.assertEqual(owning.state(self.owner).cuts[-1].alike, 3)
+
+    def test_a_replica_that_differs_again_stops(self):
+        ann, ben = self.town("ann", "ben")
+        cleo = self.replica("cleo", program=self.wrong_program(False))
+        ann.run("add w POINT (7 3)")
+        with self.assertRaisesRegex(ReplicaStopped, "carried out again it was the same"):
+            self.cut(ann, ben, cleo)
+        at = self.ask("SELECT max(at) FROM sfstore.cuts")[0][0]
+        with self.assertRaisesRegex(LogRefused, "2 different files of 3 replicas"):
+            owning.drop_before(self.owner, at, 2, "0", 5)
+        # The others are right, and go on.
+        self.assertEqual(ann.run("add w POINT (1 1)"), "ok 2")
+        self.assertEqual((ann.restarts, ben.restarts), (0, 0))
+
+    def test_the_first_one_at_a_cut_finds_out_later(self):
+        cleo, ann, ben = self.town("cleo", "ann", "ben", program=PROGRAM)
+        cleo.close()
+        cleo = self.replica("cleo", program=self.wrong_program(True))
+        ann.run("add w POINT (7 3)")
+        at, _ = self.cut(cleo)
+        self.assertEqual(cleo.restarts, 0)
+        ann.follow()
+        ben.follow()
+        cleo._compared = 0.0
+        cleo.follow()
+        self.assertEqual(cleo.restarts, 1)
+        self.assertEqual(self.file(cleo, at), self.file(ann, at))
+
+    def test_a_file_that_was_changed_on_the_disk(self):
+        ann, ben, cleo = self.town("ann", "ben", "cleo")
+        ann.run("add w POINT (7 3)")
+        self.cut(ann, ben, cleo)
+        at, files = self.cut(ann, ben, cleo)
+        cleo.close()
+        [path] = (self.folder / "cleo").glob(f"{at:020}-*.sfs")
+        with Store(PROGRAM, save=path) as other:
+            other.add_layer("other", "point")
+        cleo = self.replica("cleo")
+        cleo.follow()
+        self.assertEqual(cleo.run("show w"), ["1 POINT (7 3)"])
+        self.assertEqual(self.file(cleo, at), files[0])
+
+
+class Memory(ReplicaCase):
+    SCARCE = """\
+        import subprocess, sys, os
+        flag = {flag!r}
+        scarce = os.path.exists(flag)
+        if scarce and {once}: os.unlink(flag)
+        program = subprocess.Popen([{program!r}, *sys.argv[1:]], stdin=subprocess.PIPE, stdout=subprocess.PIPE, bufsize=0)
+        for line in sys.stdin.buffer:
+            if scarce and b"POINT (7 3)" in line:
+                sys.stdout.buffer.write(b"refused 1 Memory\\n")
+            else:
+                program.stdin.write(line)
+                answer = program.stdout.readline()
+                rows = int(answer[5:]) if answer.startswith(b"rows ") else 0
+                sys.stdout.buffer.write(answer + b"".join(program.stdout.readline() for _ in range(rows)))
+            sys.stdout.buffer.flush()
+        program.stdin.close()
+        sys.exit(program.wait())
+        """
+
+    def scarce_program(self, once):
+        (self.folder / "flag").touch()
+        text = textwrap.dedent(self.SCARCE).format(flag=str(self.folder / "flag"), once=once, program=PROGRAM)
+        return self.script(f"#!{sys.executable}\n{text}")
+
+    LINES = ["add w POINT (1 1)", "add w POINT (7 3)", "add w POINT (2 2)", "delete w 2", "undo"]
+
+    def test_a_line_without_memory_begins_again_from_the_file(self):
+        [ann] = self.town("ann")
+        ann.run("add w POINT (9 9)")
+        ben = self.replica("ben", program=self.scarce_program(True))
+        (self.folder / "flag").touch()
+        self.cut(ann, ben)
+        ann.run_all(self.LINES)
+        ben.follow()
+        self.assertEqual(ben.run("show w"), ann.run("show w"))
+        self.assertEqual(ben.restarts, 1)
+        self.assert_told("given up at place 3, .* place 5 was answered: refused 1 Memory")
+        _, files = self.cut(ann, ben)
+        self.assertEqual(files[0], files[1])
+
+    def test_an_own_line_is_answered_when_there_is_memory(self):
+        self.town("ann")
+        ben = self.replica("ben", program=self.scarce_program(True))
+        self.assertEqual(ben.run_all(self.LINES), ["ok 1", "ok 2", "ok 3", "ok", "ok"])
+        self.assertEqual(ben.restarts, 1)
+
+    def test_no_memory_again_and_again(self):
+        [ann] = self.town("ann")
+        ben = self.replica("ben", program=self.scarce_program(False))
+        ann.run_all(self.LINES)
+        with self.assertRaisesRegex(ReplicaStopped, "begun again 3 times .*refused 1 Memory"):
+            ben.follow()
+
+    def test_a_program_that_is_killed(self):
+        ann, ben = self.town("ann", "ben")
+        ann.run("add w POINT (1 1)")
+        ben.follow()
+        for _ in range(5):
+            os.kill(ben._store._program._process.pid, signal.SIGKILL)
+            self.assertEqual(ben.run("show w"), ann.run("show w"))
+            os.kill(ben._store._program._process.pid, signal.SIGKILL)
+            ann.run("add w POINT (1 1)")
+            ben.follow()
+        self.assertEqual(ben.run("show w"), ann.run("show w"))
+
+
+class Kills(ReplicaCase):
+    """A replica's process is killed; another one goes on in its folder."""
+
+    CHILD = """\
+        import os, signal, sys
+        from sfstore import files
+        from sfstore.replica import Replica, replica, snapshots
+        name, skipped, after = sys.argv[1], int(sys.argv[2]), sys.argv[3] == "after"
+        module, _, function = name.rpartition(".")
+        holder = {"files": files, "os": os, "Snapshots": snapshots.Snapshots, "Following": replica.Following}[module]
+        whole = getattr(holder, function)
+        def deadly(*words, **more):
+            global skipped
+            if skipped:
+                skipped -= 1
+                return whole(*words, **more)
+            if after:
+                whole(*words, **more)
+            os.kill(os.getpid(), signal.SIGKILL)
+        with Replica(sys.argv[4], sys.argv[5], program=sys.argv[6]) as ben:
+            setattr(holder, function, deadly)
+            print("ready", flush=True)
+            sys.stdin.read(1)
+            ben.follow()
+        """
+
+    STEPS = ["Snapshots.keep", "files.sync", "os.replace", "os.fsync", "Following.put_sum", "Following.sums"]
+
+    def test_kills_around_the_rename_of_a_file(self):
+        [ann] = self.town("ann")
+        ann.run("add w POINT (1 1)")
+        self.cut(ann)
+        for step in self.STEPS:
+            for moment in ("before", "after"):
+                ann.run("add w POINT (2 2)")
+                child = subprocess.Popen(
+                    [sys.executable, "-c", textwrap.dedent(self.CHILD), step, "0", moment]
+                    + [str(self.folder / "ben"), self.dsn("ben"), PROGRAM],
+                    stdin=subprocess.PIPE,
+                    stdout=subprocess.PIPE,
+                    env={**os.environ, "PYTHONPATH": str(FOLDER)},
+                )
+                self.assertEqual(child.stdout.readline(), b"ready\n")
+                at, [wanted] = self.cut(ann)
+                child.communicate(b"g")
+                self.assertEqual(child.returncode, -signal.SIGKILL, (step, moment))
+                with Replica(self.folder / "ben", self.dsn("ben"), program=PROGRAM) as ben:
+                    self.assertEqual(self.file(ben, at), wanted, (step, moment))
+                    self.assertEqual(ben.run("show w"), ann.run("show w"))
+                self.assertEqual(owning.state(self.owner).cuts[-1].alike, 2)
+
+    def test_kills_at_any_moment(self):
+        [ann] = self.town("ann")
+        for part in range(8):
+            ann.run_all([f"add w POINT ({k} {part})" for k in range(1000)])
+            at, [wanted] = self.cut(ann)
+        dice = random.Random(38)
+        words = [sys.executable, "-m", "sfstore.replica.command", "run", str(self.folder / "ben"), self.dsn("ben")]
+        for _ in range(12):
+            child = subprocess.Popen(
+                [*words, "--program", PROGRAM],
+                stdin=subprocess.PIPE,
+                stderr=subprocess.DEVNULL,
+                env={**os.environ, "PYTHONPATH": str(FOLDER)},
+            )
+            time.sleep(0.15 + dice.random() * 0.6)
+            child.kill()
+            child.communicate()
+        with Replica(self.folder / "ben", self.dsn("ben"), program=PROGRAM) as ben:
+            self.assertEqual(self.file(ben, at), wanted)
+        self.assertFalse(list((self.folder / "ben").glob("*.wrong")))
+
+
+class Servers(ReplicaCase):
+    """Servers that stall, are lost, come back, or have no room."""
+
+    def tearDown(self):
+        # The next test finds both servers as they have to be.
+        if self.pair.standby.is_running():
+            self.pair.standby.stall(signal.SIGCONT)
+        else:
+            self.pair.renew_standby()
+        super().tearDown()
+
+    def stuck(self, line, options=""):
+        """Has an append of ann's wait for a standby, and gives its connection."""
+        link = Link(self.pair.primary.dsn("ann", self.database))
+        self.addCleanup(link.close)
+        words = f"BEGIN; SELECT sfstore.append(ARRAY[gen_random_uuid()], ARRAY['{line}']); {options} COMMIT"
+        try:
+            link.ask(words, seconds=0.5)
+        except LinkLost as lost:
+            self.assertIn("no answer", str(lost))
+
+    def raw(self):
+        """What anybody can read of the log on the primary."""
+        return [line for (line,) in self.ask("SELECT line FROM sfstore.log ORDER BY at", login="rita")]
+
+    def test_nobody_sees_a_line_before_a_stalled_standby_has_it(self):
+        ann, ben = self.town("ann", "ben")
+        ben.follow()
+        self.pair.standby.stall()
+        self.stuck("add w POINT (1 1)")
+        self.assertEqual(self.raw(), ["layer add w point"])
+        ben.follow()
+        self.assertEqual((ben.at, ben.run("show w")), (1, []))
+        # Where the wait is cancelled the server shows the line. A replica does not carry it out.
+        self.ask("SELECT pg_cancel_backend(pid) FROM pg_stat_activity WHERE wait_event = 'SyncRep'")
+        until = time.monotonic() + 10
+        while len(self.raw()) < 2 and time.monotonic() < until:
+            time.sleep(0.01)
+        self.assertEqual(len(self.raw()), 2)
+        ben.follow()
+        self.assertEqual((ben.at, ben.run("show w")), (1, []))
+        self.assert_told("0 of 1 standbys have the last lines: none is given out before")
+        # The same where an editor does not wait for standbys.
+        self.stuck("add w POINT (2 2)", "SET LOCAL synchronous_commit = off;")
+        self.assertEqual(len(self.raw()), 3)
+        ben.follow()
+        self.assertEqual(ben.at, 1)
+        self.pair.standby.stall(signal.SIGCONT)
+        ann._catch_up(3, time.monotonic() + 20)
+        ben.follow()
+        self.assertEqual(ben.run("show w"), ["1 POINT (1 1)", "2 POINT (2 2)"])
+
+    def test_a_line_that_no_standby_had_is_gone_with_its_primary_and_nobody_saw_it(self):
+        ann, ben = self.town("ann", "ben")
+        self.pair.standby.stall()
+        self.stuck("add w POINT (1 1)")
+        self.ask("SELECT pg_cancel_backend(pid) FROM pg_stat_activity WHERE wait_event = 'SyncRep'")
+        ben.follow()
+        self.assertEqual(ben.run("show w") if ben.at > 0 else [], [])
+        # The bytes that wait in the standby's socket go with the machine.
+        for pid in self.pair.standby.processes()[1:]:
+            if b"walreceiver" in Path(f"/proc/{pid}/cmdline").read_bytes():
+                os.kill(pid, signal.SIGKILL)
+        self.pair.primary.kill()
+        self.pair.standby.stall(signal.SIGCONT)
+        time.sleep(0.5)
+        self.pair.fail_over()
+        self.pair.renew_standby()
+        self.assertEqual(ann.run("add w POINT (5 5)"), "ok 1")
+        ben.follow()
+        self.assertEqual(ben.run("show w"), ["1 POINT (5 5)"])
+        _, files = self.cut_on_primary(ann, ben)
+        self.assertEqual(files[0], files[1])
+
+    def cut_on_primary(self, *replicas):
+        self.owner = self.pair.primary.dsn(database=self.database)
+        return self.cut(*replicas)
+
+    def test_writes_stop_where_the_standby_is_lost_and_say_so(self):
+        ann, ben = self.town("ann", "ben", patience=3.0)
+        self.pair.standby.kill()
+        line = "add w POINT (1 1)"
+        with self.assertRaisesRegex(NotAcknowledged, "1 lines are not acknowledged") as caught:
+            ann.run(line)
+        self.assert_told("the log has not taken what was written for [0-9]+ seconds")
+        ben.follow()
+        self.assertEqual(ben.run("show w") if ben.at else [], [])
+        self.assertEqual(owning.state(self.pair.primary.dsn(database=self.database)).standbys, [])
+        self.pair.renew_standby()
+        # Tried again it stands once, with the answer.
+        self.assertEqual(ann.write([line], caught.exception.keys), ["ok 1"])
+        ben.follow()
+        self.assertEqual(ben.run("show w"), ["1 POINT (1 1)"])
+
+    def old_primary(self):
+        """Has the standby take over, and gives the server that was the primary, in a folder of its own."""
+        name, standby = self.pair.primary.name, self.pair.standby.name
+        was = self.pair.primary.data.parent
+        old = was.with_name("old")
+        self.pair.fail_over()
+        shutil.move(was, old)
+        server = Server(old.parent, "old", OPTIONS)
+        server.start(standby)
+        self.addCleanup(shutil.rmtree, old, True)
+        self.addCleanup(server.kill)
+        self.assertNotEqual(name, standby)
+        return server
+
+    def test_an_old_primary_that_comes_back_is_not_followed(self):
+        ann, ben = self.town("ann", "ben")
+        ben.follow()
+        self.pair.standby.stall()
+        self.stuck("add w POINT (1 1)")
+        self.pair.primary.kill()
+        self.pair.standby.kill()
+        self.pair.standby.start(self.pair.primary.name)
+        old = self.old_primary()
+        # It has a line that nobody was given, and shows it now.
+        alone = old.dsn("ann", self.database)
+        link = Link(alone)
+        self.assertEqual(link.ask("SELECT line FROM sfstore.log WHERE at = 2"), [("add w POINT (1 1)",)])
+        link.close()
+        # One who knows of no other server is given no line, and can't write.
+        with self.assertRaisesRegex(LogUnreachable, "0 of 1 standbys"):
+            self.replica("cleo", log=old.dsn("cleo", self.database), patience=2.0)
+        self.pair.renew_standby()
+        host = re.search("host=([^ ]+)", self.dsn("ann"))[1]
+        all_three = self.dsn("ann").replace(host, f"{old.data.parent},{host}").replace("port=5432", "port=5432,5432")
+        ann.close()
+        ann = self.replica("ann", log=all_three)
+        self.assertEqual(ann.run("add w POINT (5 5)"), "ok 1")
+        ben.follow()
+        self.assertEqual(ben.run("show w"), ["1 POINT (5 5)"])
+        # One who has seen the other one does not go back.
+        ann.close()
+        with self.assertRaisesRegex(LogUnreachable, "an old primary is not followed"):
+            self.replica("ann", log=alone, patience=1.0)
+        self.assertEqual(self.replica("ann").run("show w"), ["1 POINT (5 5)"])
+
+    def test_a_primary_that_stands_still_is_left_when_another_one_takes_over(self):
+        ann, ben = self.town("ann", "ben")
+        old = self.pair.primary
+        old.stall()
+        answers = []
+        writer = threading.Thread(target=lambda: answers.append(self.written(["add w POINT (1 1)"])))
+        writer.start()
+        time.sleep(0.5)
+        self.pair.fail_over()
+        moved = self.pair.standby.data.parent
+        shutil.move(moved, moved.with_name("still"))
+        self.addCleanup(shutil.rmtree, moved.with_name("still"), True)
+        self.pair.standby._process, process = None, self.pair.standby._process
+        self.pair.renew_standby()
+        writer.join(60)
+        self.assertEqual(answers, [["ok 1"]])
+        ben.follow()
+        self.assertEqual(ben.run("show w"), ["1 POINT (1 1)"])
+        os.kill(int((moved.with_name("still") / "data" / "postmaster.pid").read_text().split("\n")[0]), signal.SIGKILL)
+        process.wait(30)
+
+    def written(self, lines):
+        with Replica(self.folder / "cleo", self.dsn("cleo"), program=PROGRAM) as replica:
+            return replica.run_all(lines)
+
+    def test_a_small_disk_of_a_replica(self):
+        disk = self.mounted("100k")
+        ann, ben = self.town("ann", "ben")
+        cleo = self.replica("cleo", folder=disk / "cleo")
+        count = 4000
+        for at in range(0, count, 1000):
+            ann.run_all([f"add w POINT ({k} 0)" for k in range(at, at + 1000)])
+        with self.assertRaisesRegex(ReplicaStopped, "begun again 3 times .*fault save Write"):
+            self.cut(ann, ben, cleo)
+        cleo.close()
+        subprocess.run(["mount", "-o", "remount,size=4m", disk], check=True)
+        cleo = self.replica("cleo", folder=disk / "cleo")
+        self.assertEqual(self.file(cleo, cleo.at), self.file(ann, ann.at))
+        cleo.close()
+
+    def mounted(self, size):
+        disk = self.folder / "disk"
+        disk.mkdir()
+        mounted = subprocess.run(
+            ["mount", "-t", "tmpfs", "-o", f"size={size}", "sfstore-test", disk], capture_output=True
+        )
+        if mounted.returncode:
+            self.skipTest("a small disk can't be mounted here")
+        self.addCleanup(subprocess.run, ["umount", "-l", disk], check=True)
+        return disk
+
+
+@unittest.skipIf(missing(), missing())
+class Failovers(TestCase):
+    SECONDS = 240
+
+    def test_twenty_kills_by_seed(self):
+        dice = random.Random(38)
+        trial = Trial(PROGRAM, OPTIONS)
+        try:
+            trial.write()
+            for count in range(20):
+                trial.wait_for(dice.randrange(1, 40))
+                time.sleep(dice.random() * 0.05)
+                if count % 4 == 3:
+                    trial.people[dice.randrange(3)].kill()
+                trial.fail_over()
+            claims = trial.claims()
+        finally:
+            trial.close()
+        self.assertEqual([claim.text for claim in claims if not claim.holds], [])
+        self.assertGreater(trial.acknowledged, 20)
+
+
+if __name__ == "__main__":
+    unittest.main()
