@@ -26,7 +26,7 @@ from sfstore.replica import LogUnreachable, NotAcknowledged, Replica, ReplicaSto
 from sfstore.replica.demo import Trial
 from sfstore.replica.lines import EDITS, QUESTIONS, asked
 from sfstore.replica.links import Link, LinkLost, LogRefused
-from sfstore.replica.servers import Server
+from sfstore.replica.servers import Pair, Server
 
 SCHEMA = (FOLDER / "sfstore" / "replica" / "log.sql").read_text()
 APPEND = "SELECT sfstore.append(ARRAY[gen_random_uuid()], ARRAY[%s])"
@@ -418,11 +418,12 @@ class Cuts(ReplicaCase):
 
 class Divergence(ReplicaCase):
     WRONG = """\
-        import subprocess, sys, os
+        import ctypes, subprocess, sys, os
         flag = {flag!r}
         wrong = os.path.exists(flag)
         if wrong and {once}: os.unlink(flag)
-        program = subprocess.Popen([{program!r}, *sys.argv[1:]], stdin=subprocess.PIPE, bufsize=0)
+        def follow(): ctypes.CDLL(None).prctl(1, 9)  # the program is killed with this one
+        program = subprocess.Popen([{program!r}, *sys.argv[1:]], stdin=subprocess.PIPE, bufsize=0, preexec_fn=follow)
         for line in sys.stdin.buffer:
             program.stdin.write(line.replace(b"POINT (7 3)", b"POINT (7 4)") if wrong else line)
         program.stdin.close()
@@ -493,11 +494,14 @@ class Divergence(ReplicaCase):
 
 class Memory(ReplicaCase):
     SCARCE = """\
-        import subprocess, sys, os
+        import ctypes, subprocess, sys, os
         flag = {flag!r}
         scarce = os.path.exists(flag)
         if scarce and {once}: os.unlink(flag)
-        program = subprocess.Popen([{program!r}, *sys.argv[1:]], stdin=subprocess.PIPE, stdout=subprocess.PIPE, bufsize=0)
+        def follow(): ctypes.CDLL(None).prctl(1, 9)  # the program is killed with this one
+        program = subprocess.Popen(
+            [{program!r}, *sys.argv[1:]], stdin=subprocess.PIPE, stdout=subprocess.PIPE, bufsize=0, preexec_fn=follow
+        )
         for line in sys.stdin.buffer:
             if scarce and b"POINT (7 3)" in line:
                 sys.stdout.buffer.write(b"refused 1 Memory\\n")
@@ -809,6 +813,44 @@ class Servers(ReplicaCase):
         cleo = self.replica("cleo", folder=disk / "cleo")
         self.assertEqual(self.file(cleo, cleo.at), self.file(ann, ann.at))
         cleo.close()
+
+    def test_a_full_disk_of_the_servers(self):
+        disk = self.mounted("300m")
+        # The servers' user has to reach it.
+        self.folder.chmod(0o711)
+        disk.chmod(0o755)
+        with Pair([*OPTIONS, "max_wal_size=32MB", "min_wal_size=32MB"], disk) as pair:
+            owner = pair.primary.dsn()
+            owning.set_up(owner, 1)
+            owning.add_login(owner, "ann", is_editor=True, is_replica=True)
+            with self.replica("ann", log=pair.dsn("ann"), folder=self.folder / "full", patience=3.0) as ann:
+                ann.run("layer add w point")
+                free = shutil.disk_usage(disk).free
+                (disk / "other").write_bytes(bytes(free - 2_000_000))
+                count, keys = self.until_full(ann)
+                (disk / "other").unlink()
+                for server in (pair.primary, pair.standby):
+                    if not server.is_running():
+                        server.start({"a": "b", "b": "a"}[server.name])
+                pair.primary.wait_for_standbys(1)
+                outcome = ann.write([self.wide(count)], keys)
+                self.assertEqual(outcome, [f"ok {count + 1}"])
+                self.assertEqual(len(ann.run("show w")), count + 1)
+                with Replica(self.folder / "new", pair.dsn("ann"), program=PROGRAM) as new:
+                    self.assertEqual(new.run("show w"), ann.run("show w"))
+
+    def wide(self, count):
+        """A long line."""
+        return f"add w POINT ({' ' * 100_000}{count} 1)"
+
+    def until_full(self, replica):
+        """Writes until a line is not acknowledged: how many were, and its key."""
+        for count in range(1 << 20):
+            try:
+                self.assertEqual(replica.run(self.wide(count)), f"ok {count + 1}")
+            except NotAcknowledged as error:
+                self.assert_told("No space left on device|has not taken")
+                return count, error.keys
 
     def mounted(self, size):
         disk = self.folder / "disk"

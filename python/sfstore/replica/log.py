@@ -132,7 +132,7 @@ class _Servers:
     def sums(self, place: int, until: float = 0.0) -> dict[str, str]:
         """What the files of the replicas were at a cut, by their logins."""
         words = "SELECT replica, sum FROM sfstore.sums WHERE at = %s"
-        return dict(self._on_link(lambda link: link.ask(words, (place,)), until))
+        return dict(self._ask(words, (place,), until))
 
     def _prepare(self, link: Link) -> None:
         """What a new connection is to be told."""
@@ -181,6 +181,16 @@ class _Servers:
         self._prepare(best)
         return best
 
+    def _ask(
+        self, words: str, values: Sequence[object] = (), until: float = 0.0, seconds: float = 10.0
+    ) -> list[Any]:
+        """The rows of a statement, from whichever server is the primary."""
+        return self._on_link(lambda link: self._asked(link, words, values, seconds), until)
+
+    def _asked(self, link: Link, words: str, values: Sequence[object] = (), seconds: float = 10.0) -> list[Any]:
+        """The rows of a statement over a connection, which is given up where another server takes over meanwhile."""
+        return link.ask(words, values, seconds, lambda: self.look_around(link))
+
     def look_around(self, link: Link) -> None:
         """`LinkLost` where another server has taken over from the one of a connection; looked at seldom."""
         if time.monotonic() < self._looked + _LOOK_SECONDS:
@@ -213,7 +223,7 @@ class Following(_Servers):
 
     def last(self, until: float = 0.0) -> int:
         """The last place of the log, kept by standbys or not."""
-        [(at,)] = self._on_link(lambda link: link.ask("SELECT at FROM sfstore.head"), until)
+        [(at,)] = self._ask("SELECT at FROM sfstore.head", until=until)
         return int(at)
 
     def behind(self, place: int, until: float = 0.0) -> list[Entry]:
@@ -226,14 +236,14 @@ class Following(_Servers):
     def chain_at_cut(self, place: int, until: float = 0.0) -> bytes | None:
         """The chain at a cut; none where the log has no such cut, or not any more."""
         words = "SELECT chain FROM sfstore.cuts WHERE at = %s"
-        rows = self._on_link(lambda link: link.ask(words, (place,)), until)
+        rows = self._ask(words, (place,), until)
         return bytes(rows[0][0]) if rows else None
 
     def put_sum(self, place: int, total: str, until: float = 0.0) -> bool:
         """Puts down what the own file is at a cut. False where the login is not that of a replica."""
         words = "SELECT sfstore.put_sum(%s, %s)"
         try:
-            self._on_link(lambda link: link.ask(words, (place, total)), until)
+            self._ask(words, (place, total), until)
         except LogRefused as refused:
             if refused.code == "42501":
                 return False
@@ -242,7 +252,7 @@ class Following(_Servers):
 
     def login(self, until: float = 0.0) -> str:
         """The login of the connection."""
-        [(name,)] = self._on_link(lambda link: link.ask("SELECT session_user"), until)
+        [(name,)] = self._ask("SELECT session_user", until=until)
         return str(name)
 
     def heard(self) -> bool:
@@ -270,7 +280,7 @@ class Following(_Servers):
 
     def _behind(self, link: Link, place: int) -> list[Entry]:
         words = "SELECT at, key, editor, cut, line, chain, goal FROM sfstore.behind(%s)"
-        rows = link.ask(words, (place,), seconds=30.0)
+        rows = self._asked(link, words, (place,), seconds=30.0)
         if not rows or not self._is_kept(link, rows[0][6]):
             return []
         return [Entry(at, key, editor, cut, line, bytes(chain)) for at, key, editor, cut, line, chain, _ in rows]
@@ -280,7 +290,7 @@ class Following(_Servers):
         begun = time.monotonic()
         pause, nudged = 0.0002, False
         while True:
-            [(kept, wanted)] = link.ask("SELECT kept, wanted FROM sfstore.kept(%s)", (goal,))
+            [(kept, wanted)] = self._asked(link, "SELECT kept, wanted FROM sfstore.kept(%s)", (goal,))
             waited = time.monotonic() - begun
             if kept >= wanted:
                 self._tell("")
@@ -291,7 +301,7 @@ class Following(_Servers):
                 return False
             if waited > _NUDGE_SECONDS and not nudged:
                 # A small commit: the server may hold back what stands between the last line and the point.
-                link.ask("SELECT pg_current_xact_id()")
+                self._asked(link, "SELECT pg_current_xact_id()")
                 nudged = True
             time.sleep(pause)
             pause = min(2 * pause, 0.05)
@@ -303,7 +313,7 @@ class Writing(_Servers):
     def own_number(self, until: float = 0.0) -> int | None:
         """The editor's number of the login; none where it is no editor's."""
         try:
-            [(number,)] = self._on_link(lambda link: link.ask("SELECT sfstore.own_number()"), until)
+            [(number,)] = self._ask("SELECT sfstore.own_number()", until=until)
         except LogRefused as refused:
             if refused.code == "42501":
                 return None
