@@ -95,7 +95,7 @@ class Package(unittest.TestCase):
         )
 
     def test_the_commands_of_the_module(self):
-        for name in ("sfstore-import", "sfstore-export", "sfstore-console", "sfstore-web"):
+        for name in ("sfstore-import", "sfstore-export", "sfstore-console", "sfstore-web", "sfstore-replica"):
             self.assertTrue(os.access(self.root / "usr/bin" / name, os.X_OK))
             said = self.command(name, "--help")
             self.assertEqual((said.returncode, said.stderr), (0, ""))
@@ -130,7 +130,7 @@ class Package(unittest.TestCase):
         for name in ("docs/CONSOLE.md", "docs/FORMAT.md", "docs/PICTURE.md", "examples/town.svg"):
             self.assertIn(f"({name})", (self.documents / "README.md").read_text())
             self.assertTrue((self.documents / name).is_file())
-        for name in ("docs/EXCHANGE.md", "docs/JOURNAL.md", "docs/PAGE.md", "docs/page.png", "docs/page-dark.png"):
+        for name in ("docs/EXCHANGE.md", "docs/JOURNAL.md", "docs/PAGE.md", "docs/page.png", "docs/page-dark.png", "docs/REPLICAS.md"):
             self.assertTrue((self.documents / name).is_file())
 
     def test_the_version_stands_in_one_place(self):

@@ -14,7 +14,7 @@ from support import FOLDER, PROGRAM, TestCase
 
 TOP = FOLDER.parent
 PIP = ("pip", "setuptools", "wheel")
-OPTIONAL = ("osgeo", "prompt_toolkit", "rich")
+OPTIONAL = ("osgeo", "prompt_toolkit", "psycopg2", "rich")
 
 
 class Project(TestCase):
@@ -36,7 +36,7 @@ class Project(TestCase):
         words += ["--no-index", "--disable-pip-version-check", "--target", str(target), str(checkout)]
         said = subprocess.run(words, capture_output=True, text=True)
         self.assertEqual(said.returncode, 0, said.stdout + said.stderr)
-        for name in ("sfstore-import", "sfstore-export", "sfstore-console", "sfstore-web"):
+        for name in ("sfstore-import", "sfstore-export", "sfstore-console", "sfstore-web", "sfstore-replica"):
             said = subprocess.run(
                 [sys.executable, target / "bin" / name, "--help"],
                 env={**os.environ, "PYTHONPATH": str(target)},
@@ -46,6 +46,7 @@ class Project(TestCase):
             self.assertEqual((said.returncode, said.stderr), (0, ""))
             self.assertIn(f"usage: {name}", said.stdout)
         self.assertTrue((target / "sfstore" / "py.typed").exists())
+        self.assertTrue((target / "sfstore" / "replica" / "log.sql").exists())
         for file in (FOLDER / "sfstore" / "web" / "static").iterdir():
             self.assertTrue((target / "sfstore" / "web" / "static" / file.name).exists(), file)
 
@@ -56,7 +57,7 @@ class Project(TestCase):
             for name in {OPTIONAL!r}:
                 sys.modules[name] = None
             import sfstore, sfstore.console, sfstore.exchange.importing, sfstore.exchange.exporting
-            import sfstore.web.command
+            import sfstore.replica.command, sfstore.web.command
             with sfstore.Store({PROGRAM!r}) as store:
                 print(store.layers())
             """

@@ -184,7 +184,7 @@ $$;
 -- How many standbys that commits wait for have all up to a point on their disks, and how many are wanted.
 CREATE FUNCTION sfstore.kept(goal pg_lsn, OUT kept int, OUT wanted int)
 LANGUAGE sql VOLATILE SECURITY DEFINER SET search_path = pg_catalog, pg_temp AS $$
-  SELECT (SELECT count(*) FROM pg_stat_replication WHERE sync_state IN ('sync', 'quorum') AND flush_lsn >= goal),
+  SELECT (SELECT count(*) FROM pg_stat_get_wal_senders() WHERE sync_state IN ('sync', 'quorum') AND flush_lsn >= goal),
     (SELECT standbys FROM sfstore.head)
 $$;
 
