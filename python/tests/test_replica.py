@@ -304,10 +304,12 @@ class Sessions(ReplicaCase):
         self.assertEqual(self.session("dora", b"show w\n", "--from", file).stdout, b"rows 1\n1 POINT (3 4)\n")
 
     def test_the_set_up_by_its_command(self):
-        self.ask("CREATE DATABASE other", database="postgres")
-        self.addCleanup(self.ask, "DROP DATABASE other", database="postgres")
-        other = self.pair.primary.dsn(database="other")
-        self.assertEqual(self.command("setup", other), (0, "The log is made.\n", ""))
+        other = self.pair.primary.dsn(database="Another town")
+        self.addCleanup(self.ask, 'DROP DATABASE "Another town"', database="postgres")
+        self.assertEqual(self.command("setup", other)[0], 3)
+        self.assertEqual(self.command("setup", "--create", other), (0, "The log is made.\n", ""))
+        status, _, said = self.command("setup", "--create", other)
+        self.assertEqual((status, "already exists" in said), (3, True))
         self.assertEqual(self.command("state", other)[:2][1].splitlines()[0], "places 1 to 0")
 
     def test_questions_while_no_server_is_there(self):

@@ -10,6 +10,7 @@ from collections.abc import Callable
 
 from sfstore.journal import JournalError
 from sfstore.replica import owning
+from sfstore.replica.demo import demonstrate
 from sfstore.replica.links import LinkLost, LogRefused, check_driver
 from sfstore.replica.log import LogUnreachable
 from sfstore.replica.replica import AnswerGone, NotAcknowledged, Replica, ReplicaStopped
@@ -61,7 +62,9 @@ def _parser() -> argparse.ArgumentParser:
     commands = parser.add_subparsers(required=True, metavar="COMMAND")
     _add_run(commands.add_parser("run", help="follows the log, and answers lines of the console's language"))
     _add_owning(commands)
-    demo = commands.add_parser("demo", help="starts two servers and three replicas here, kills, and prints what held")
+    demo = commands.add_parser(
+        "demo", help="starts two servers and three replicas here, kills, and prints what held"
+    )
     demo.add_argument("--kills", type=int, default=3, help="how often the primary is killed; 3 if not given")
     demo.add_argument("--seed", type=int, default=1, help="of the moments of the kills; 1 if not given")
     _add_program(demo)
@@ -89,7 +92,10 @@ def _add_run(run: argparse.ArgumentParser) -> None:
 def _add_owning(commands: argparse._SubParsersAction[argparse.ArgumentParser]) -> None:
     """The commands of who owns the log."""
     set_up = commands.add_parser("setup", help="makes the log in a database, as a superuser")
-    set_up.add_argument("--standbys", type=int, default=1, help="how many standbys have a line before it is given out; 1")
+    set_up.add_argument("--create", action="store_true", help="make the database, where it is missing")
+    set_up.add_argument(
+        "--standbys", type=int, default=1, metavar="N", help="N standbys have a line before it is given out; 1"
+    )
     set_up.set_defaults(carry_out=_set_up)
     login = commands.add_parser("login", help="lets a login follow the log; it is made where it is missing")
     login.add_argument("--editor", action="store_true", help="it puts lines down, with a number of its own")
@@ -101,7 +107,7 @@ def _add_owning(commands: argparse._SubParsersAction[argparse.ArgumentParser]) -
     cut.set_defaults(carry_out=_cut)
     drop = commands.add_parser("drop", help="drops all up to a cut of which replicas have the same file")
     drop.add_argument("--alike", type=int, required=True, metavar="N", help="how many replicas have to have it")
-    drop.add_argument("--older", default="1 hour", metavar="AGE", help="than which the cut has to be; 1 hour if not given")
+    drop.add_argument("--older", default="1 hour", metavar="AGE", help="the least age of the cut; 1 hour")
     drop.set_defaults(carry_out=_drop)
     state = commands.add_parser("state", help="prints how the log, its standbys and its cuts are")
     state.set_defaults(carry_out=_state)
@@ -150,6 +156,8 @@ class _Progress:
 
 
 def _set_up(asked: argparse.Namespace) -> int:
+    if asked.create:
+        owning.create_database(asked.log)
     owning.set_up(asked.log, asked.standbys)
     print("The log is made.")
     return 0
@@ -198,8 +206,6 @@ def _print_cut(cut: owning.Cut, wanted: int) -> int:
 
 
 def _demo(asked: argparse.Namespace) -> int:
-    from sfstore.replica.demo import demonstrate
-
     return demonstrate(os.fsdecode(asked.program), asked.kills, asked.seed)
 
 

@@ -222,10 +222,11 @@ class Trial:
         link = Link(self.pair.primary.dsn())
         rows = link.ask("SELECT at, editor, line FROM sfstore.log WHERE at <= %s ORDER BY at", (cut.at,))
         link.close()
+        places = [at for at, _, _ in rows]
         files = [person.file(cut.at) for person in self.people]
         return [
             *self._claims_of_lines([line for _, _, line in rows]),
-            Claim(f"the places go from 1 to {len(rows)} without gaps", [at for at, _, _ in rows] == list(range(1, len(rows) + 1))),
+            Claim(f"the places go from 1 to {len(rows)} without gaps", places == list(range(1, len(rows) + 1))),
             Claim("all replicas have the same bytes", len(set(files)) == 1 and cut.alike == len(files)),
             Claim(
                 "one program, given the lines of the log, saves the same bytes",

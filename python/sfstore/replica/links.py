@@ -15,12 +15,12 @@ except ImportError:
     # `check_driver` tells it.
     psycopg2 = None
 
-__all__ = ["Link", "LinkLost", "LogRefused", "check_driver", "servers_of"]
+__all__ = ["Link", "LinkLost", "LogRefused", "check_driver", "database_of", "servers_of"]
 
 _CONNECT_SECONDS = 3.0
 _TICK_SECONDS = 1.0
 
-# So that a machine that went away is noticed within some ten seconds, where the login's own words do not say otherwise.
+# So that a machine that went away is noticed within some ten seconds. Words of connection go before.
 _WATCH = {
     "keepalives_idle": "5",
     "keepalives_interval": "2",
@@ -29,7 +29,7 @@ _WATCH = {
     "application_name": "sfstore-replica",
 }
 
-# A server that ends, starts, or is a standby now: class 25 has writes refused where only reading is allowed.
+# A server that is a standby refuses what writes so.
 _READ_ONLY = "25006"
 
 
@@ -75,6 +75,12 @@ def servers_of(dsn: str) -> list[str]:
         str(psycopg2.extensions.make_dsn(**words, **{key: it for key, it in place.items() if it}))
         for place in places
     ]
+
+
+def database_of(dsn: str) -> tuple[str, str]:
+    """The name of the database of some words of connection, and the words for the one that each server has."""
+    name = psycopg2.extensions.parse_dsn(dsn).get("dbname", "postgres")
+    return str(name), str(psycopg2.extensions.make_dsn(dsn, dbname="postgres"))
 
 
 class Link:

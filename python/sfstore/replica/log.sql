@@ -37,7 +37,8 @@ CREATE TABLE sfstore.head (
 );
 
 -- Whether a line is one that edits a store. The console takes 131,072 bytes; `@255 ` goes before the line.
-CREATE FUNCTION sfstore.is_edit(line text) RETURNS bool LANGUAGE sql IMMUTABLE SET search_path = pg_catalog, pg_temp AS $$
+CREATE FUNCTION sfstore.is_edit(line text) RETURNS bool
+LANGUAGE sql IMMUTABLE SET search_path = pg_catalog, pg_temp AS $$
   SELECT octet_length(line) <= 131067 AND position(E'\n' IN line) = 0
     AND line ~ '^[ \t]*(layer|column|add|addhex|delete|replace|vertex|set|unset|undo|redo)([ \t]|\r?$)'
 $$;

@@ -7,13 +7,30 @@ import uuid
 from pathlib import Path
 from typing import NamedTuple
 
-from sfstore.replica.links import Link
+from sfstore.replica.links import Link, database_of
 from sfstore.replica.log import Fence, Writing
 
-__all__ = ["Cut", "LoginExists", "State", "add_login", "cut", "drop_before", "set_up", "state"]
+__all__ = [
+    "Cut",
+    "LoginExists",
+    "State",
+    "add_login",
+    "create_database",
+    "cut",
+    "drop_before",
+    "set_up",
+    "state",
+]
 
 _SCHEMA = Path(__file__).with_name("log.sql")
 _EDITORS = 255
+
+# The chain before the first place is random: no other log has it.
+_HEAD = """
+    INSERT INTO sfstore.head (at, chain, start, standbys)
+    SELECT 0, id, id, {standbys:d}
+    FROM (SELECT sha256(convert_to(gen_random_uuid()::text || gen_random_uuid(), 'UTF8')) AS id) AS new
+"""
 
 
 class LoginExists(Exception):
@@ -48,6 +65,19 @@ class State(NamedTuple):
     """The cuts, the newest last."""
 
 
+def create_database(dsn: str) -> None:
+    """Makes the database of some words of connection in UTF-8, where it is missing."""
+    name, elsewhere = database_of(dsn)
+    link = Link(elsewhere)
+    try:
+        words = "SELECT quote_ident(%s), EXISTS (SELECT FROM pg_database WHERE datname = %s)"
+        [(quoted, is_there)] = link.ask(words, (name, name))
+        if not is_there:
+            link.ask(f"CREATE DATABASE {quoted} ENCODING 'UTF8' TEMPLATE template0", seconds=60.0)
+    finally:
+        link.close()
+
+
 def set_up(dsn: str, standbys: int) -> None:
     """Makes the schema and the roles of a log in a database, as a superuser of it. All of it or nothing.
 
@@ -59,9 +89,7 @@ def set_up(dsn: str, standbys: int) -> None:
         [(encoding,)] = link.ask("SHOW server_encoding")
         if encoding != "UTF8":
             raise ValueError(f"the database has the encoding {encoding}: a log wants UTF8")
-        first = "INSERT INTO sfstore.head (at, chain, start, standbys) SELECT 0, id, id, "
-        first += f"{standbys:d} FROM (SELECT sha256(convert_to(gen_random_uuid()::text || gen_random_uuid(), 'UTF8')) AS id) new"
-        link.ask(f"BEGIN; {_SCHEMA.read_text()} {first}; COMMIT", seconds=60.0)
+        link.ask(f"BEGIN; {_SCHEMA.read_text()} {_HEAD.format(standbys=standbys)}; COMMIT", seconds=60.0)
     finally:
         link.close()
 
@@ -74,7 +102,8 @@ def add_login(dsn: str, login: str, *, is_editor: bool, is_replica: bool) -> int
     """
     link = Link(dsn)
     try:
-        [(name, is_there)] = link.ask("SELECT quote_ident(%s), EXISTS (SELECT FROM pg_roles WHERE rolname = %s)", (login, login))
+        words = "SELECT quote_ident(%s), EXISTS (SELECT FROM pg_roles WHERE rolname = %s)"
+        [(name, is_there)] = link.ask(words, (login, login))
         if not is_there:
             link.ask(f"CREATE ROLE {name} LOGIN")
         roles = ["sfstore_reader", *["sfstore_editor"] * is_editor, *["sfstore_replica"] * is_replica]
@@ -135,7 +164,9 @@ def state(dsn: str) -> State:
             "SELECT application_name, sync_state, coalesce(pg_current_wal_lsn() - flush_lsn, -1)::bigint "
             "FROM pg_stat_replication WHERE sync_state IS NOT NULL ORDER BY 1"
         )
-        sums = link.ask("SELECT cuts.at, replica, sum FROM sfstore.cuts LEFT JOIN sfstore.sums USING (at) ORDER BY 1, 2")
+        sums = link.ask(
+            "SELECT cuts.at, replica, sum FROM sfstore.cuts LEFT JOIN sfstore.sums USING (at) ORDER BY 1, 2"
+        )
     finally:
         link.close()
     cuts: dict[int, dict[str, str]] = {}

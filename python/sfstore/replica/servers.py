@@ -59,7 +59,7 @@ class Server:
 
     def dsn(self, login: str = _OWNER, database: str = "postgres") -> str:
         """The words of connection to this server."""
-        return f"host={self._folder} port=5432 user={login} dbname={database}"
+        return f"host={self._folder} port=5432 user={login} dbname='{database}'"
 
     def make(self) -> None:
         """Makes it with nothing in it."""
@@ -91,7 +91,8 @@ class Server:
     def wait_for_standbys(self, count: int) -> None:
         """Waits until so many standbys are waited for by commits."""
         link = Link(self.dsn())
-        words = "SELECT count(*) FROM pg_stat_replication WHERE state = 'streaming' AND sync_state IN ('sync', 'quorum')"
+        words = "SELECT count(*) FROM pg_stat_replication "
+        words += "WHERE state = 'streaming' AND sync_state IN ('sync', 'quorum')"
         until = time.monotonic() + _START_SECONDS
         while link.ask(words)[0][0] < count:
             if time.monotonic() > until:
