@@ -7,6 +7,7 @@ import os
 import sys
 import time
 from collections.abc import Callable
+from pathlib import Path
 
 from sfstore.journal import JournalError
 from sfstore.replica import owning
@@ -14,7 +15,8 @@ from sfstore.replica.demo import demonstrate
 from sfstore.replica.links import LinkLost, LogRefused, check_driver
 from sfstore.replica.log import LogUnreachable
 from sfstore.replica.replica import AnswerGone, NotAcknowledged, Replica, ReplicaStopped
-from sfstore.replica.session import serve
+from sfstore.replica.session import listen, serve
+from sfstore.replica.telling import Teller
 from sfstore.store import ProgramEnded
 
 __all__ = ["main"]
@@ -83,6 +85,11 @@ def _add_run(run: argparse.ArgumentParser) -> None:
     run.add_argument("--editor", metavar="LOG", help="the login by which lines are put down, where it is another one")
     run.add_argument("--from", dest="begin_from", metavar="FILE", help="the file of another replica to begin from")
     run.add_argument(
+        "--listen",
+        action="store_true",
+        help="answer all programs of this user that come to the socket in the folder, in the place of standard input",
+    )
+    run.add_argument(
         "--patience", type=float, default=60.0, help="for how many seconds a line is tried; 60 if not given"
     )
     _add_program(run)
@@ -122,6 +129,7 @@ def _add_program(parser: argparse.ArgumentParser) -> None:
 
 
 def _run(asked: argparse.Namespace) -> int:
+    teller = Teller(_tell)
     with Replica(
         asked.folder,
         asked.log,
@@ -129,10 +137,13 @@ def _run(asked: argparse.Namespace) -> int:
         program=asked.program,
         begin_from=asked.begin_from,
         patience=asked.patience,
-        tell=_tell,
+        tell=teller.tell,
         progress=_Progress().tell,
     ) as replica:
-        serve(replica, sys.stdin.fileno(), sys.stdout.fileno(), _tell)
+        if asked.listen:
+            listen(replica, Path(asked.folder) / "socket", teller.tell)
+        else:
+            serve(replica, sys.stdin.fileno(), sys.stdout.fileno(), teller.tell)
     return 0
 
 

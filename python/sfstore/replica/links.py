@@ -15,7 +15,16 @@ except ImportError:
     # `check_driver` tells it.
     psycopg2 = None
 
-__all__ = ["Link", "LinkLost", "LogRefused", "check_driver", "database_of", "servers_of"]
+__all__ = [
+    "Link",
+    "LinkLost",
+    "LogRefused",
+    "NoAnswer",
+    "check_driver",
+    "database_of",
+    "primary_of",
+    "servers_of",
+]
 
 _CONNECT_SECONDS = 3.0
 _TICK_SECONDS = 1.0
@@ -38,6 +47,10 @@ _WHERE = re.compile("^connection to server .* failed: ")
 
 class LinkLost(Exception):
     """The server is not there any more, or does not answer in time: what was asked may have happened or not."""
+
+
+class NoAnswer(LinkLost):
+    """The server has not answered in the time that it was given."""
 
 
 class LogRefused(Exception):
@@ -75,6 +88,11 @@ def servers_of(dsn: str) -> list[str]:
         str(psycopg2.extensions.make_dsn(**words, **{key: it for key, it in place.items() if it}))
         for place in places
     ]
+
+
+def primary_of(dsn: str) -> str:
+    """Words of connection by which PostgreSQL itself chooses a server that takes writes."""
+    return str(psycopg2.extensions.make_dsn(dsn, target_session_attrs="read-write"))
 
 
 def database_of(dsn: str) -> tuple[str, str]:
@@ -140,6 +158,10 @@ class Link:
         self._raw.notifies.clear()
         return told
 
+    def has_news(self) -> bool:
+        """Whether `heard` would tell of something without asking the server."""
+        return bool(self._raw.notifies)
+
     def fileno(self) -> int:
         """The socket, which can be read where the server has told of something."""
         return int(self._raw.fileno())
@@ -159,7 +181,7 @@ class Link:
             now = time.monotonic()
             if now > until:
                 self.close()
-                raise LinkLost(f"no answer within {seconds:g} seconds")
+                raise NoAnswer(f"no answer within {seconds:.3g} seconds")
             if tick is not None and now > ticked + _TICK_SECONDS:
                 ticked = now
                 tick()

@@ -9,7 +9,7 @@ from pathlib import Path
 from typing import Any, NamedTuple, TypeVar
 
 from sfstore import files
-from sfstore.replica.links import Link, LinkLost, LogRefused, servers_of
+from sfstore.replica.links import Link, LinkLost, LogRefused, NoAnswer, servers_of
 
 __all__ = ["Entry", "Fence", "Following", "LogUnreachable", "Standing", "Writing", "chained"]
 
@@ -150,7 +150,7 @@ class _Servers:
                 return task(self._link)
             except LinkLost as lost:
                 self.close()
-                if was_there:
+                if was_there and not isinstance(lost, NoAnswer):
                     continue
                 if time.monotonic() > until:
                     raise LogUnreachable(str(lost)) from lost
@@ -265,6 +265,10 @@ class Following(_Servers):
             self.close()
             return True
 
+    def has_news(self) -> bool:
+        """Whether something was put down that the socket does not tell of any more."""
+        return self._link is not None and self._link.has_news()
+
     def look(self) -> None:
         """Drops a server from which another one has taken over. Done now and then while nothing comes."""
         if self._link is not None:
@@ -342,19 +346,47 @@ class Writing(_Servers):
 
     def _patiently(self, words: str, values: Sequence[object], until: float) -> list[Any]:
         """Asks what waits for standbys. The wait is never cancelled, which would show a line that is not kept."""
-        begun = time.monotonic()
+        waiting = _Waiting(self._tell)
 
         def task(link: Link) -> list[Any]:
             def tick() -> None:
-                waited = time.monotonic() - begun
-                self._tell(f"the log has not taken what was written for {waited:.0f} seconds")
+                waiting.tick(link.dsn)
                 self.look_around(link)
 
-            return link.ask(words, values, seconds=max(0.1, until - time.monotonic()), tick=tick)
+            return link.ask(words, values, max(0.1, until - time.monotonic()), tick)
 
-        rows = self._on_link(task, until)
+        try:
+            rows = self._on_link(task, until)
+        except LogUnreachable as error:
+            raise LogUnreachable(waiting.reason or str(error)) from error
         self._tell("")
         return rows
+
+
+class _Waiting:
+    """Tells seldomer and seldomer how long something waits to be put down, and how many standbys there are."""
+
+    def __init__(self, tell: Callable[[str], object]) -> None:
+        self._tell = tell
+        self._begun = time.monotonic()
+        self._next = 0.0
+        self.reason = ""
+
+    def tick(self, dsn: str) -> None:
+        """Has a look over another connection to the server, since the first one waits."""
+        waited = time.monotonic() - self._begun
+        if waited < self._next:
+            return
+        self._next = 2 * waited
+        try:
+            link = Link(dsn)
+            [(kept, wanted)] = link.ask("SELECT kept, wanted FROM sfstore.kept('0/0')", seconds=3.0)
+            link.close()
+            self.reason = f"{kept} of {wanted} standbys are there"
+        except (LinkLost, LogRefused) as error:
+            self.reason = str(error)
+        self.reason = f"the log has taken nothing for {waited:.0f} seconds: {self.reason}"
+        self._tell(self.reason)
 
 
 def _looked_at(dsn: str) -> tuple[Link, Standing]:

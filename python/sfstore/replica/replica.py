@@ -17,6 +17,7 @@ from sfstore.replica.lines import LINE_MAX, Asked, asked
 from sfstore.replica.links import check_driver
 from sfstore.replica.log import Entry, Fence, Following, LogUnreachable, Writing, chained
 from sfstore.replica.snapshots import Snapshot, Snapshots
+from sfstore.replica.telling import Teller
 from sfstore.store import Answer, ProgramEnded, Refused, Store
 
 __all__ = ["AnswerGone", "NotAcknowledged", "Outcome", "Replica", "ReplicaStopped"]
@@ -46,10 +47,13 @@ class NotAcknowledged(Exception):
 
     keys: list[str]
     """The keys of the lines, in their order."""
+    answered: list[Outcome]
+    """The answers of the lines before them, where `Replica.run_all` was given more."""
 
     def __init__(self, keys: list[str], reason: str) -> None:
         super().__init__(reason)
         self.keys = keys
+        self.answered = []
 
     def __str__(self) -> str:
         return f"{len(self.keys)} lines are not acknowledged: {self.args[0]}"
@@ -99,7 +103,7 @@ class Replica:
         self._program = os.fsdecode(program)
         self._patience = patience
         self._progress = progress
-        self._teller = _Teller(tell)
+        self._teller = Teller(tell)
         self._folder.mkdir(parents=True, exist_ok=True)
         self._lock = locked(str(self._folder / "replica"))
         try:
@@ -145,20 +149,25 @@ class Replica:
         number = self._following.fileno()
         return -1 if number is None else number
 
-    def follow(self) -> None:
+    def has_news(self) -> bool:
+        """Whether the server has told of something new that no socket tells of any more."""
+        return self._following.has_news()
+
+    def follow(self, seconds: float = 60.0) -> None:
         """Carries out what is new in the log, and has been kept by standbys.
 
-        `LogUnreachable` where no server can be used now: what is here can be asked nevertheless.
+        While others go on writing it ends after some seconds at most. `LogUnreachable` where no server can be used now: what is here can be asked nevertheless.
         """
         if not self._following.heard():
             self._following.look()
-        self._step_on()
+        until = time.monotonic() + seconds
+        self._step_on(until)
         if time.monotonic() > self._compared + _COMPARE_SECONDS:
             try:
                 self._compare()
             except _GivenUp as reason:
                 self._begin_again(str(reason))
-                self._step_on()
+                self._step_on(until)
 
     def run(self, line: str) -> Answer:
         """The answer of a line. `Refused` where it is refused; else as `run_all`."""
@@ -180,15 +189,23 @@ class Replica:
             refusal = self._refusal(line)
             is_edit = line.is_edit and refusal is None
             if edits and (not is_edit or len(edits) == _GROUP_LINES or _size(edits) > _GROUP_BYTES):
-                outcomes += self.write([edit.line for edit in edits])
+                self._write_behind(outcomes, edits)
                 edits = []
             if is_edit:
                 edits.append(line)
             else:
                 outcomes.append(refusal or self._answer(line.line))
         if edits:
-            outcomes += self.write([edit.line for edit in edits])
+            self._write_behind(outcomes, edits)
         return outcomes
+
+    def _write_behind(self, outcomes: list[Outcome], edits: Sequence[Asked]) -> None:
+        """Has edits put down, and their answers behind those that there are."""
+        try:
+            outcomes += self.write([edit.line for edit in edits])
+        except NotAcknowledged as error:
+            error.answered = outcomes
+            raise
 
     def write(self, lines: Sequence[str], keys: Sequence[str] | None = None) -> list[Outcome]:
         """Has edits put down as one, and gives the answers that the store here has for them.
@@ -335,9 +352,9 @@ class Replica:
                     raise LogUnreachable(self._teller.last or f"place {place} of the log does not come")
                 time.sleep(0.0005 if not self._teller.last else 0.1)
 
-    def _step_on(self) -> None:
-        """Carries out all that standbys have kept."""
-        while self._step():
+    def _step_on(self, until: float) -> None:
+        """Carries out all that standbys have kept, until some moment at most."""
+        while self._step() and time.monotonic() < until:
             pass
 
     def _step(self) -> bool:
@@ -448,19 +465,6 @@ class Replica:
         if against > for_it or self._compared > self._doubt_until:
             raise ReplicaStopped(f"{reason}; carried out again it was the same")
         self._teller.tell(f"{reason}; the others are waited for")
-
-
-class _Teller:
-    """Tells what keeps a replica waiting, each reason once."""
-
-    def __init__(self, tell: Callable[[str], object]) -> None:
-        self._tell = tell
-        self.last = ""
-
-    def tell(self, text: str) -> None:
-        if text != self.last:
-            self.last = text
-            self._tell(text)
 
 
 def _checked(line: str) -> str:

@@ -1,58 +1,137 @@
-"""Lines from one stream and answers to another one, in the console's language, over a replica."""
+"""Lines and answers in the console's language, over a replica: from one stream, or from many at a socket."""
 
 from __future__ import annotations
 
+import contextlib
 import os
 import select
+import socket
 import time
 from collections.abc import Callable, Iterator
+from pathlib import Path
 
 from sfstore.replica.log import LogUnreachable
-from sfstore.replica.replica import Outcome, Replica
+from sfstore.replica.replica import NotAcknowledged, Outcome, Replica
 from sfstore.store import Refused
 
-__all__ = ["serve"]
+__all__ = ["listen", "serve"]
 
-# The console's most, with its line feed.
+# The console's most, without its line feed.
 _LINE_BYTES = 131_072
 _READ_BYTES = 1 << 16
 _IDLE_SECONDS = 1.0
+# How long lines may wait while others write.
+_FOLLOW_SECONDS = 0.2
+# How long one who asks may let answers lie, while others wait.
+_SEND_SECONDS = 5.0
+
+
+class _Peer:
+    """Who sends lines, and gets their answers."""
+
+    def __init__(self, read: Callable[[int], bytes], send: Callable[[bytes], object]) -> None:
+        self._read = read
+        self._send = send
+        self._rest = b""
+
+    def answer(self, replica: Replica) -> bool:
+        """Answers the lines that are there, which are put down together. False where no more come.
+
+        A last line without a line feed counts. Where a line is not acknowledged, those before it
+        are answered.
+        """
+        data = self._read(_READ_BYTES)
+        *lines, self._rest = (self._rest + data).split(b"\n")
+        if not data and self._rest:
+            lines, self._rest = [self._rest], b""
+        # A line that is too long is refused whatever comes: its front is enough.
+        self._rest = self._rest[: _LINE_BYTES + 1]
+        written: list[bytes] = []
+        try:
+            for answer in _answers(replica, lines):
+                written.append(answer)
+        except NotAcknowledged as error:
+            written += map(_written, error.answered)
+            raise
+        finally:
+            self._send(b"".join(written))
+        return bool(data)
 
 
 def serve(replica: Replica, given: int, answers: int, tell: Callable[[str], object]) -> None:
-    """Answers each line of a stream, and follows the log meanwhile, until the stream ends.
+    """Answers the lines of a stream, and follows the log meanwhile, until the stream ends.
 
-    Lines that are there at once are put down together. A last line without a line feed counts.
     `NotAcknowledged`, `ReplicaStopped` and `OSError` end it.
     """
-    rest = b""
-    while True:
-        if not _is_ready(replica, given):
-            _follow(replica, tell)
-            continue
-        data = os.read(given, _READ_BYTES)
-        *whole, rest = (rest + data).split(b"\n")
-        if not data and rest:
-            whole, rest = [rest], b""
-        _write(answers, b"".join(_answers(replica, whole)))
-        if len(rest) > _LINE_BYTES:
-            # It is refused whatever comes: its front is enough.
-            rest = rest[: _LINE_BYTES + 1]
-        if not data:
-            return
+    peer = _Peer(lambda size: os.read(given, size), lambda data: _write(answers, data))
+    is_open = True
+    while is_open:
+        if _ready(replica, [given], tell):
+            is_open = peer.answer(replica)
 
 
-def _is_ready(replica: Replica, given: int) -> bool:
-    """Waits for lines or for news of the log. Whether lines came."""
-    sockets = [number for number in (replica.fileno(),) if number >= 0]
-    ready, _, _ = select.select([given, *sockets], [], [], _IDLE_SECONDS)
-    return given in ready
+def listen(replica: Replica, path: Path, tell: Callable[[str], object]) -> None:
+    """Answers all who come to a socket, which this user alone can open, and follows the log meanwhile.
+
+    Who leaves answers lying, or has a line that is not acknowledged, is sent away. `ReplicaStopped`
+    ends it, and so does an interrupt.
+    """
+    with _door(path) as door, contextlib.ExitStack() as connections:
+        peers: dict[int, tuple[_Peer, socket.socket]] = {}
+        while True:
+            for number in _ready(replica, [door.fileno(), *peers], tell):
+                if number == door.fileno():
+                    connection = connections.enter_context(door.accept()[0])
+                    connection.settimeout(_SEND_SECONDS)
+                    peers[connection.fileno()] = _Peer(connection.recv, connection.sendall), connection
+                elif not _is_answered(replica, peers[number][0], tell):
+                    peers.pop(number)[1].close()
+
+
+def _is_answered(replica: Replica, peer: _Peer, tell: Callable[[str], object]) -> bool:
+    """Answers the lines of one of many. False where this one goes, or is sent away."""
+    try:
+        return peer.answer(replica)
+    except NotAcknowledged as error:
+        tell(str(error))
+    except OSError:
+        # The connection is gone.
+        pass
+    return False
+
+
+@contextlib.contextmanager
+def _door(path: Path) -> Iterator[socket.socket]:
+    """A socket in the file system, in the place of one that was left there."""
+    path.unlink(missing_ok=True)
+    with socket.socket(socket.AF_UNIX) as door:
+        before = os.umask(0o077)
+        try:
+            door.bind(str(path))
+        finally:
+            os.umask(before)
+        door.listen()
+        try:
+            yield door
+        finally:
+            path.unlink(missing_ok=True)
+
+
+def _ready(replica: Replica, given: list[int], tell: Callable[[str], object]) -> list[int]:
+    """Waits for lines or for news of the log, which is followed. Which of the streams have lines."""
+    news = [number for number in (replica.fileno(),) if number >= 0]
+    seconds = 0.0 if replica.has_news() else _IDLE_SECONDS
+    ready, _, _ = select.select([*given, *news], [], [], seconds)
+    lines = [number for number in ready if number in given]
+    if not lines or len(lines) < len(ready) or replica.has_news():
+        _follow(replica, tell)
+    return lines
 
 
 def _follow(replica: Replica, tell: Callable[[str], object]) -> None:
     """Carries out what is new. Where no server is there, what is here can be asked nevertheless."""
     try:
-        replica.follow()
+        replica.follow(_FOLLOW_SECONDS)
     except LogUnreachable as error:
         tell(f"the log is not there, and what is here is place {replica.at}: {error}")
         time.sleep(0.1)
