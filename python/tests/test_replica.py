@@ -540,6 +540,30 @@ class Divergence(ReplicaCase):
         self.assertEqual(self.file(cleo, at), files[0])
 
 
+    def test_a_file_that_does_not_load(self):
+        ann, cleo = self.town("ann", "cleo")
+        self.cut(ann, cleo)
+        ann.run("add w POINT (7 3)")
+        at, files = self.cut(ann, cleo)
+        cleo.close()
+        [path] = (self.folder / "cleo").glob(f"{at:020}-*.sfs")
+        path.write_bytes(files[0][:-1])
+        cleo = self.replica("cleo")
+        self.assert_told("is damaged, and the one before is taken")
+        self.assertEqual(cleo.run("show w"), ["1 POINT (7 3)"])
+        self.assertEqual(self.file(cleo, at), files[0])
+
+    def test_a_log_whose_lines_were_changed(self):
+        ann, ben = self.town("ann", "ben")
+        ann.run_all(["add w POINT (1 1)", "add w POINT (2 2)"])
+        self.ask("UPDATE sfstore.log SET line = 'add w POINT (2 3)' WHERE at = 3")
+        before = ben.at
+        with self.assertRaisesRegex(ReplicaStopped, "place 3 of the log does not follow"):
+            ben.follow()
+        # Nothing of it was carried out.
+        self.assertEqual((ben.at, ben.run("show w") if before else []), (before, []))
+
+
 class Memory(ReplicaCase):
     SCARCE = """\
         import ctypes, subprocess, sys, os

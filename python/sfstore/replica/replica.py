@@ -106,13 +106,15 @@ class Replica:
         self._teller = Teller(tell)
         self._folder.mkdir(parents=True, exist_ok=True)
         self._lock = locked(str(self._folder / "replica"))
+        self._snapshots = Snapshots(self._folder)
+        self._fence = Fence(self._folder / "timeline")
+        self._following = Following(log, self._fence, self._teller.tell)
+        self._writing = Writing(editor or log, self._fence, self._teller.tell)
         try:
-            self._snapshots = Snapshots(self._folder)
-            self._fence = Fence(self._folder / "timeline")
-            self._following = Following(log, self._fence, self._teller.tell)
-            self._writing = Writing(editor or log, self._fence, self._teller.tell)
             self._open(begin_from)
         except BaseException:
+            self._following.close()
+            self._writing.close()
             self._lock.close()
             raise
 
@@ -156,7 +158,8 @@ class Replica:
     def follow(self, seconds: float = 60.0) -> None:
         """Carries out what is new in the log, and has been kept by standbys.
 
-        While others go on writing it ends after some seconds at most. `LogUnreachable` where no server can be used now: what is here can be asked nevertheless.
+        While others go on writing it ends after some seconds at most. `LogUnreachable` where no
+        server can be used now: what is here can be asked nevertheless.
         """
         if not self._following.heard():
             self._following.look()
@@ -179,8 +182,9 @@ class Replica:
     def run_all(self, lines: Iterable[str]) -> list[Outcome]:
         """The answers of lines in their order: questions by the store here, edits by way of the log.
 
-        `ValueError` where a line has a line feed or is blank, before any is carried out, and
-        `NotAcknowledged` where an edit could not be put down and kept in time.
+        `ValueError` where a line has a line feed or is blank, before any is carried out,
+        `NotAcknowledged` where an edit could not be put down and kept in time, and `LogUnreachable`
+        where a store that begins again can't get to the place in time that was shown before.
         """
         taken = [asked(_checked(line)) for line in lines]
         outcomes: list[Outcome] = []
@@ -274,6 +278,7 @@ class Replica:
         self._own_number = self._writing.own_number(until)
         if begin_from is not None:
             self._bring(Path(begin_from))
+        self._check_chain()
         self._load()
         try:
             self._catch_up(self._following.last(until), until)
@@ -300,26 +305,36 @@ class Replica:
             )
 
     def _load(self) -> None:
-        """Begins from the newest file, or from nothing."""
+        """Begins from the newest file that loads, or from nothing."""
         self._snapshots.clear()
-        self._go_to_newest()
-        if self._snapshot is None:
-            self._store = Store(self._program, save=self._new_aside())
-            return
-        self._check_chain(self._snapshot)
-        self._store = Store(self._program, load=self._snapshot.path, save=self._new_aside())
-        self._sum = files.digest(str(self._snapshot.path))
-        self._vote()
+        while True:
+            self._go_to_newest()
+            try:
+                self._begin()
+                return
+            except ProgramEnded as ended:
+                if self._snapshot is None or not ended.last_line.startswith("fault load BadFile"):
+                    raise ReplicaStopped(f"the program does not begin: {ended}") from ended
+                self._teller.tell(f"{self._snapshot.path} is damaged, and the one before is taken: {ended}")
+                self._snapshots.put_aside(self._snapshot)
 
-    def _check_chain(self, snapshot: Snapshot) -> None:
-        """`ReplicaStopped` where a file is not one of this log."""
-        chain = self._following.chain_at_cut(snapshot.at, time.monotonic() + self._patience)
-        if chain not in (None, snapshot.chain):
-            raise ReplicaStopped(f"{snapshot.path} is of another log than this one: take it away")
-
-    def _new_aside(self) -> Path:
+    def _begin(self) -> None:
+        """Has a program begin from the file of this place."""
         self._aside = self._snapshots.aside()
-        return self._aside
+        path = None if self._snapshot is None else self._snapshot.path
+        self._store = Store(self._program, load=path, save=self._aside)
+        if path is not None:
+            self._sum = files.digest(str(path))
+            self._vote()
+
+    def _check_chain(self) -> None:
+        """`ReplicaStopped` where the newest file is not one of this log."""
+        newest = self._snapshots.newest()
+        if newest is None:
+            return
+        chain = self._following.chain_at_cut(newest.at, time.monotonic() + self._patience)
+        if chain not in (None, newest.chain):
+            raise ReplicaStopped(f"{newest.path} is of another log than this one: take it away")
 
     def _begin_again(self, reason: str) -> None:
         """Gives the store up, and loads the newest file. `ReplicaStopped` where that was done in vain."""
@@ -375,12 +390,13 @@ class Replica:
 
     def _apply(self, entries: Sequence[Entry]) -> None:
         """Carries entries out: the lines between cuts all at once, with nothing seen outside before."""
+        self._check_order(entries)
         lines: list[Entry] = []
         for entry in entries:
             if entry.cut:
                 self._carry_out(lines)
                 lines = []
-                self._go_to(entry)
+                self._fence.at, self._fence.chain = entry.at, entry.chain
                 self._cut()
             else:
                 lines.append(entry)
@@ -394,9 +410,9 @@ class Replica:
             if isinstance(outcome, Refused) and outcome.number == 1:
                 raise _GivenUp(f"place {entry.at} was answered: refused 1 Memory")
         for entry, outcome in zip(entries, outcomes):
-            self._go_to(entry)
             if entry.editor == self._own_number:
                 self._note(entry, outcome)
+        self._fence.at, self._fence.chain = entries[-1].at, entries[-1].chain
 
     def _note(self, entry: Entry, outcome: Outcome) -> None:
         """Keeps the answer of a line of the own editor for a while."""
@@ -406,13 +422,15 @@ class Replica:
         if len(self._answers) > _ANSWERS:
             del self._answers[next(iter(self._answers))]
 
-    def _go_to(self, entry: Entry) -> None:
-        """Goes to the place of an entry. `ReplicaStopped` where it does not follow what was carried out here."""
-        if entry.at != self._fence.at + 1 or chained(self._fence.chain, entry) != entry.chain:
-            raise ReplicaStopped(
-                f"place {entry.at} of the log does not follow what was carried out here: another log"
-            )
-        self._fence.at, self._fence.chain = entry.at, entry.chain
+    def _check_order(self, entries: Sequence[Entry]) -> None:
+        """`ReplicaStopped` where entries do not follow what was carried out here, before any of them is."""
+        at, chain = self._fence.at, self._fence.chain
+        for entry in entries:
+            at, chain = at + 1, chained(chain, entry)
+            if (entry.at, entry.chain) != (at, chain):
+                raise ReplicaStopped(
+                    f"place {entry.at} of the log does not follow what was carried out here: another log"
+                )
 
     # Cuts
 
@@ -423,9 +441,7 @@ class Replica:
             self._snapshot = self._snapshots.keep(self._aside, self._fence.at, self._fence.chain)
         except OSError as error:
             raise _GivenUp(f"the file could not be kept: {error}") from error
-        self._store = Store(self._program, load=self._snapshot.path, save=self._new_aside())
-        self._sum = files.digest(str(self._snapshot.path))
-        self._vote()
+        self._begin()
         self._compare()
 
     def _vote(self) -> None:
