@@ -36,6 +36,7 @@ _WATCH = {
     "keepalives_count": "2",
     "tcp_user_timeout": "9000",
     "application_name": "sfstore-replica",
+    "client_encoding": "UTF8",
 }
 
 # A server that is a standby refuses what writes so.

@@ -37,8 +37,7 @@ CREATE TABLE sfstore.head (
 );
 
 -- Whether a line is one that edits a store. The console takes 131,072 bytes; `@255 ` goes before the line.
-CREATE FUNCTION sfstore.is_edit(line text) RETURNS bool
-LANGUAGE sql IMMUTABLE SET search_path = pg_catalog, pg_temp AS $$
+CREATE FUNCTION sfstore.is_edit(line text) RETURNS bool LANGUAGE sql IMMUTABLE AS $$
   SELECT octet_length(line) <= 131067 AND position(E'\n' IN line) = 0
     AND line ~ '^[ \t]*(layer|column|add|addhex|delete|replace|vertex|set|unset|undo|redo)([ \t]|\r?$)'
 $$;
@@ -67,13 +66,45 @@ CREATE TABLE sfstore.sums (
   PRIMARY KEY (at, replica)
 );
 
--- Puts lines down as one, each once however often it is tried, and gives the place of each.
-CREATE FUNCTION sfstore.put(keys uuid[], lines text[], number int, is_cut bool) RETURNS bigint[]
+-- Puts lines down as one, and gives the place of each. Those that were tried before are looked for where that is said;
+-- else it is a violation of their keys.
+CREATE FUNCTION sfstore.put_down(keys uuid[], lines text[], number int, is_cut bool, tried_before bool) RETURNS bigint[]
 LANGUAGE plpgsql SET search_path = pg_catalog, pg_temp AS $$
 DECLARE
   last sfstore.head;
   old sfstore.log;
+  wanted record;
   places bigint[] := '{}';
+  chains bytea[] := '{}';
+BEGIN
+  SELECT * INTO last FROM sfstore.head FOR UPDATE;
+  FOR wanted IN SELECT * FROM unnest(keys, lines) WITH ORDINALITY AS given (key, line, nth) ORDER BY nth LOOP
+    IF tried_before THEN
+      SELECT * INTO old FROM sfstore.log WHERE key = wanted.key;
+    END IF;
+    IF old.at IS NULL THEN
+      last.at := last.at + 1;
+      last.chain := sha256(last.chain || convert_to(format('%s %s %s', number, is_cut::int, wanted.line), 'UTF8'));
+      places := places || last.at;
+      chains := chains || last.chain;
+    ELSIF (old.editor, old.cut, old.line) = (number, is_cut, wanted.line) THEN
+      places := places || old.at;
+      chains := chains || NULL::bytea;
+    ELSE
+      RAISE 'the key % is that of another line', wanted.key USING ERRCODE = 'SF103';
+    END IF;
+  END LOOP;
+  INSERT INTO sfstore.log (at, key, editor, cut, line, chain)
+    SELECT given.at, given.key, number, is_cut, given.line, given.chain
+    FROM unnest(places, keys, lines, chains) AS given (at, key, line, chain) WHERE given.chain IS NOT NULL;
+  UPDATE sfstore.head SET at = last.at, chain = last.chain;
+  NOTIFY sfstore_log;
+  RETURN places;
+END $$;
+
+-- Puts lines down as one, each once however often it is tried, and gives the place of each.
+CREATE FUNCTION sfstore.put(keys uuid[], lines text[], number int, is_cut bool) RETURNS bigint[]
+LANGUAGE plpgsql SET search_path = pg_catalog, pg_temp AS $$
 BEGIN
   IF cardinality(keys) <> cardinality(lines) THEN
     RAISE 'as many keys as lines are wanted';
@@ -81,24 +112,11 @@ BEGIN
   IF current_setting('synchronous_commit') IN ('off', 'local', 'remote_write') THEN
     PERFORM set_config('synchronous_commit', 'on', true);
   END IF;
-  SELECT * INTO last FROM sfstore.head FOR UPDATE;
-  FOR i IN 1 .. cardinality(lines) LOOP
-    SELECT * INTO old FROM sfstore.log WHERE key = keys[i];
-    IF old.at IS NULL THEN
-      last.at := last.at + 1;
-      last.chain := sha256(last.chain || convert_to(format('%s %s %s', number, is_cut::int, lines[i]), 'UTF8'));
-      INSERT INTO sfstore.log (at, key, editor, cut, line, chain)
-        VALUES (last.at, keys[i], number, is_cut, lines[i], last.chain);
-      places := places || last.at;
-    ELSIF (old.editor, old.cut, old.line) = (number, is_cut, lines[i]) THEN
-      places := places || old.at;
-    ELSE
-      RAISE 'the key % is that of another line', keys[i] USING ERRCODE = 'SF103';
-    END IF;
-  END LOOP;
-  UPDATE sfstore.head SET at = last.at, chain = last.chain;
-  NOTIFY sfstore_log;
-  RETURN places;
+  BEGIN
+    RETURN sfstore.put_down(keys, lines, number, is_cut, false);
+  EXCEPTION WHEN unique_violation THEN
+    RETURN sfstore.put_down(keys, lines, number, is_cut, true);
+  END;
 END $$;
 
 -- The editor's number of whoever asks; none where the login is no editor.
@@ -119,10 +137,13 @@ BEGIN
     RAISE 'the login % is no editor', session_user USING ERRCODE = 'SF102';
   END IF;
   FOREACH line IN ARRAY lines LOOP
-    bare := bare || regexp_replace(line, format('^[ \t]*@0{0,%s}%s[ \t]+', 3 - length(own::text), own), '');
-    IF bare[cardinality(bare)] ~ '^[ \t]*@' THEN
-      RAISE 'a line names another editor than %', own USING ERRCODE = 'SF101';
+    IF line ~ '^[ \t]*@' THEN
+      line := regexp_replace(line, format('^[ \t]*@0{0,%s}%s[ \t]+', 3 - length(own::text), own), '');
+      IF line ~ '^[ \t]*@' THEN
+        RAISE 'a line names another editor than %', own USING ERRCODE = 'SF101';
+      END IF;
     END IF;
+    bare := bare || line;
   END LOOP;
   RETURN sfstore.put(keys, bare, own, false);
 END $$;
