@@ -56,15 +56,32 @@ def appended(pair: Pair) -> None:
     links[0].ask(APPEND, ([str(uuid.uuid4())], ["layer add w point"]))
     for name, count, group in (("one by one", 1000, 1), ("by 100", 10_000, 100), ("by 1,000", 50_000, 1000)):
         row(f"put down {name}", count, seconds_of(lambda c=count, g=group: put(links[0], c, g)))
-    threads = [threading.Thread(target=put, args=(link, 500, 1)) for link in links]
+    row("put down one by one by four editors at once", 2000, together(links, 500, 1))
+    second = pair.primary.dsn(database="second")
+    make_log(second)
+    both = [links[0], Link(pair.primary.dsn("ann", "second"))]
+    both[1].ask(APPEND, ([str(uuid.uuid4())], ["layer add w point"]))
+    row("put down one by one in two logs at once, together", 1000, together(both, 500, 1))
+    row("put down by 1,000 in two logs at once, together", 40_000, together(both, 20_000, 1000))
 
-    def together() -> None:
-        for thread in threads:
-            thread.start()
-        for thread in threads:
-            thread.join()
 
-    row("put down one by one by four editors at once", 2000, seconds_of(together))
+def together(links: list[Link], count: int, group: int) -> float:
+    """How many seconds it is until all have appended so many points each."""
+    threads = [threading.Thread(target=put, args=(link, count, group)) for link in links]
+    begun = time.perf_counter()
+    for thread in threads:
+        thread.start()
+    for thread in threads:
+        thread.join()
+    return time.perf_counter() - begun
+
+
+def make_log(owner: str) -> None:
+    """Makes a log with its editors."""
+    owning.create_database(owner)
+    owning.set_up(owner, 1)
+    for login in LOGINS:
+        owning.add_login(owner, login, is_editor=True, is_replica=True)
 
 
 def own_lines(replica: Replica) -> None:
@@ -129,9 +146,7 @@ def main() -> None:
     features, kills, seed = (int(it) for it in [*sys.argv[2:], *("1000000", "20", "1")[len(sys.argv) - 2 :]])
     print("| | |\n|---|---|")
     with Pair() as pair, tempfile.TemporaryDirectory() as name:
-        owning.set_up(pair.primary.dsn(), 1)
-        for login in LOGINS:
-            owning.add_login(pair.primary.dsn(), login, is_editor=True, is_replica=True)
+        make_log(pair.primary.dsn())
         appended(pair)
         with Replica(Path(name) / "ann", pair.dsn("ann"), program=program) as replica:
             own_lines(replica)

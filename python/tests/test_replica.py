@@ -252,6 +252,17 @@ class Writing(ReplicaCase):
         self.assertEqual(places, list(range(1, 182)))
 
 
+    def test_a_transaction_that_is_left_open_holds_others_up_for_seconds(self):
+        [ann] = self.town("ann")
+        link = Link(self.pair.primary.dsn("ben", self.database))
+        self.addCleanup(link.close)
+        link.ask("BEGIN; " + APPEND, ("add w POINT (9 9)",))
+        begun = time.monotonic()
+        self.assertEqual(ann.run("add w POINT (1 1)"), "ok 1")
+        self.assertGreater(time.monotonic() - begun, 2)
+        self.assertEqual(ann.run("show w"), ["1 POINT (1 1)"])
+
+
 class Sessions(ReplicaCase):
     def session(self, login, lines, *words):
         return subprocess.run(

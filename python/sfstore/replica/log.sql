@@ -112,6 +112,8 @@ BEGIN
   IF current_setting('synchronous_commit') IN ('off', 'local', 'remote_write') THEN
     PERFORM set_config('synchronous_commit', 'on', true);
   END IF;
+  -- A transaction that is left open holds all others up.
+  PERFORM set_config('idle_in_transaction_session_timeout', '5s', true);
   BEGIN
     RETURN sfstore.put_down(keys, lines, number, is_cut, false);
   EXCEPTION WHEN unique_violation THEN
