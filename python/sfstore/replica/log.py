@@ -125,6 +125,7 @@ class _Servers:
         """What the server said that was reached last."""
 
     def close(self) -> None:
+        """Drops the connection; the next call makes another one."""
         if self._link is not None:
             self._link.close()
             self._link = None

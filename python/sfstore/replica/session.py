@@ -10,6 +10,7 @@ import time
 from collections.abc import Callable, Iterator
 from pathlib import Path
 
+from sfstore.replica.links import LogRefused
 from sfstore.replica.log import LogUnreachable
 from sfstore.replica.replica import NotAcknowledged, Outcome, Replica
 from sfstore.store import Refused
@@ -73,8 +74,9 @@ def serve(replica: Replica, given: int, answers: int, tell: Callable[[str], obje
 def listen(replica: Replica, path: Path, tell: Callable[[str], object]) -> None:
     """Answers all who come to a socket, which this user alone can open, and follows the log meanwhile.
 
-    Who leaves answers lying, or has a line that is not acknowledged, is sent away. `ReplicaStopped`
-    ends it, and so does an interrupt.
+    They are answered in turn: while a line of one waits for a standby, the others wait. Who leaves
+    answers lying, or has a line that is not acknowledged, is sent away. `ReplicaStopped` ends it,
+    and so does an interrupt.
     """
     with _door(path) as door, contextlib.ExitStack() as connections:
         peers: dict[int, tuple[_Peer, socket.socket]] = {}
@@ -92,7 +94,7 @@ def _is_answered(replica: Replica, peer: _Peer, tell: Callable[[str], object]) -
     """Answers the lines of one of many. False where this one goes, or is sent away."""
     try:
         return peer.answer(replica)
-    except NotAcknowledged as error:
+    except (NotAcknowledged, LogUnreachable, LogRefused) as error:
         tell(str(error))
     except OSError:
         # The connection is gone.
