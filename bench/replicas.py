@@ -50,6 +50,18 @@ def put(link: Link, count: int, group: int) -> None:
         link.ask(APPEND, ([str(uuid.uuid4()) for _ in lines], lines), seconds=600.0)
 
 
+def synced(folder: Path) -> None:
+    """How long the disk takes for a sync, which each commit waits for twice."""
+    with open(folder / "synced", "wb", buffering=0) as file:
+
+        def sync() -> None:
+            file.write(b"x" * 100)
+            os.fdatasync(file.fileno())
+
+        times = sorted(seconds_of(sync) * 1000 for _ in range(300))
+    print(f"| a sync of the disk | median {times[150]:.2f} ms, 99 of 100 in {times[297]:.2f} ms |", flush=True)
+
+
 def appended(pair: Pair) -> None:
     """What the log takes, without any replica."""
     links = [Link(pair.primary.dsn(login)) for login in LOGINS]
@@ -147,6 +159,7 @@ def main() -> None:
     print("| | |\n|---|---|")
     with Pair() as pair, tempfile.TemporaryDirectory() as name:
         make_log(pair.primary.dsn())
+        synced(Path(name))
         appended(pair)
         with Replica(Path(name) / "ann", pair.dsn("ann"), program=program) as replica:
             own_lines(replica)

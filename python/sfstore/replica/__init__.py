@@ -1,7 +1,7 @@
 """Replicas of a store on several machines, over one log of lines that PostgreSQL keeps.
 
     >>> from sfstore.replica import Replica
-    >>> with Replica("town", "host=first,second dbname=town") as replica:  # doctest: +SKIP
+    >>> with Replica("town", "host=alpha,beta dbname=town") as replica:  # doctest: +SKIP
     ...     replica.run("add wells POINT (3 4)")
     'ok 1'
 

@@ -26,7 +26,7 @@ _PROGRESS_SECONDS = 1.0
 _DESCRIPTION = (
     "A store on several machines: the lines that edit it stand in one log, which PostgreSQL keeps, "
     "and each replica carries them out. docs/REPLICAS.md says what is promised. LOG are PostgreSQL's "
-    "words of connection, such as 'host=first,second dbname=town'; passwords belong into ~/.pgpass."
+    "words of connection, such as 'host=alpha,beta dbname=town'; passwords belong into ~/.pgpass."
 )
 
 
