@@ -918,21 +918,20 @@ class Servers(ReplicaCase):
                     if not server.is_running():
                         server.start({"a": "b", "b": "a"}[server.name])
                 pair.primary.wait_for_standbys(1)
-                outcome = ann.write([self.wide(count)], keys)
-                self.assertEqual(outcome, [f"ok {count + 1}"])
+                self.assertEqual(ann.write(self.wide(count), keys)[0], f"ok {count + 1}")
                 self.assertEqual(len(ann.run("show w")), count + 1)
                 with Replica(self.folder / "new", pair.dsn("ann"), program=PROGRAM) as new:
                     self.assertEqual(new.run("show w"), ann.run("show w"))
 
     def wide(self, count):
-        """A long line."""
-        return f"add w POINT ({' ' * 100_000}{count} 1)"
+        """A line, and one that is long and not made smaller by the server. It is refused, and kept as all are."""
+        return [f"add w POINT ({count} 1)", f"add w {random.Random(count).randbytes(60_000).hex()}"]
 
     def until_full(self, replica):
-        """Writes until a line is not acknowledged: how many were, and its key."""
+        """Writes until lines are not acknowledged: how many were, and their keys."""
         for count in range(1 << 20):
             try:
-                self.assertEqual(replica.run(self.wide(count)), f"ok {count + 1}")
+                self.assertEqual(replica.run_all(self.wide(count))[0], f"ok {count + 1}")
             except NotAcknowledged as error:
                 self.assertRegex(str(error), "No space left on device|standbys")
                 return count, error.keys
