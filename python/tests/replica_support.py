@@ -1,4 +1,4 @@
-"""What the tests of replicas have in common: two servers for all of them, and a log in a database for each test."""
+"""What the tests of replicas have in common: two servers, and a log in a database of its own for each test."""
 
 from __future__ import annotations
 
@@ -30,16 +30,19 @@ def missing():
 OPTIONS = ["fsync=off"]
 
 _databases = itertools.count(1)
+_shared = []
 
 
 @unittest.skipIf(missing(), missing())
 class ReplicaCase(TestCase):
-    """A test with a log of its own on a primary and a standby, which all tests of a class share."""
+    """A test with a log of its own on a primary and a standby, which all tests of a module share."""
 
     @classmethod
     def setUpClass(cls):
-        cls.pair = servers.Pair(OPTIONS)
-        cls.addClassCleanup(cls.pair.close)
+        if not _shared:
+            _shared.append(servers.Pair(OPTIONS))
+            unittest.addModuleCleanup(lambda: _shared.pop().close())
+        cls.pair = _shared[0]
 
     def setUp(self):
         super().setUp()

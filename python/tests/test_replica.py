@@ -719,7 +719,12 @@ class Kills(ReplicaCase):
 
 
 class Servers(ReplicaCase):
-    """Servers that stall, are lost, come back, or have no room."""
+    """Servers that stall, are lost, come back, or have no room: two of their own."""
+
+    @classmethod
+    def setUpClass(cls):
+        cls.pair = Pair(OPTIONS)
+        cls.addClassCleanup(cls.pair.close)
 
     def tearDown(self):
         # The next test finds both servers as they have to be.
