@@ -2,11 +2,11 @@
 
 from __future__ import annotations
 
+import contextlib
 import hashlib
 import os
 import random
 import re
-import resource
 import shutil
 import signal
 import socket
@@ -867,6 +867,8 @@ class Servers(ReplicaCase):
     def test_a_primary_that_stands_still_is_left_when_another_one_takes_over(self):
         ann, ben = self.town("ann", "ben")
         old = self.pair.primary
+        stalled = old.processes()
+        self.addCleanup(self.end, stalled)
         old.stall()
         answers = []
         writer = threading.Thread(target=lambda: answers.append(self.written(["add w POINT (1 1)"])))
@@ -882,8 +884,13 @@ class Servers(ReplicaCase):
         self.assertEqual(answers, [["ok 1"]])
         ben.follow()
         self.assertEqual(ben.run("show w"), ["1 POINT (1 1)"])
-        os.kill(int((moved.with_name("still") / "data" / "postmaster.pid").read_text().split("\n")[0]), signal.SIGKILL)
+        self.end(stalled)
         process.wait(30)
+
+    def end(self, processes):
+        for pid in processes:
+            with contextlib.suppress(ProcessLookupError):
+                os.kill(pid, signal.SIGKILL)
 
     def written(self, lines):
         with Replica(self.folder / "cleo", self.dsn("cleo"), program=PROGRAM) as replica:
