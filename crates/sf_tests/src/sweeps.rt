@@ -68,9 +68,7 @@ impl CellSink for Greatest {
 fn class_of(areal: &[bool; MARKS], on: &[u32], above: &[u32]) -> usize {
     let mut class = 0usize;
     for group in 0..GROUPS {
-        class = class
-            .wrapping_mul(COUNTS)
-            .wrapping_add(count_of(on, group));
+        class = class.wrapping_mul(COUNTS).wrapping_add(count_of(on, group));
     }
     for (group, marked) in areal.iter().take(GROUPS).enumerate() {
         let odd = *marked && count_of(above, group) % 2 == 1;
@@ -257,7 +255,10 @@ const STAR: &[[i32; 4]] = &[
 #[test]
 fn hard_sets(rt: HostRuntime) -> Result<(), Fail> {
     for (name, pieces) in [
-        ("edges through one point, and a dot there", THROUGH_ONE_POINT),
+        (
+            "edges through one point, and a dot there",
+            THROUGH_ONE_POINT,
+        ),
         ("edges on one line", ON_ONE_LINE),
         ("edges of one slope, a dot on one, upright ends", PARALLEL),
         ("upright edges on one another", UPRIGHT),
@@ -266,7 +267,10 @@ fn hard_sets(rt: HostRuntime) -> Result<(), Fail> {
         ("a star", STAR),
     ] {
         for bits in 0..8 {
-            assert!(rt; does_agree(rt.alloc(), pieces, marks(bits))?, "{name}, {bits}");
+            assert!(rt;
+                does_agree(rt.alloc(), pieces, marks(bits))?,
+                "{name}, {bits}"
+            );
         }
     }
     Ok(())
