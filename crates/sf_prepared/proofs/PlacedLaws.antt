@@ -1,23 +1,21 @@
 -- Where a geometry lies in another one whose edges have no point of its box.
-use Rattle.std.proofs.Common.{◌≡◌, ◌≢◌, ℕ, ◌<◌, refl, ap, sym, ◌∙◌, subst, ℤ, pos, ◌*ℤ◌, ◌<ℤ◌, ◌≤ℤ◌, arith, lit<, Bool, true, false, ◌&&◌, ◌||◌, not, List, [], ◌∷◌, ◌++◌, Option, Some, inl, inr}
+use Rattle.std.proofs.Common.{◌≡◌, ℕ, ◌<◌, refl, ap, sym, ◌∙◌, subst, ℤ, pos, ◌*ℤ◌, ◌≤ℤ◌, arith, lit<, Bool, true, false, ◌&&◌, not, List, [], ◌∷◌, Option, Some, inl, inr}
 use Rattle.std.specs.Prelude.{int_le}
 use Rattle.std.specs.List.{AllByRecursion, flat_map, list_any}
 use Rattle.std.proofs.lemmas.Bool.{and_from, and_parts, both_ways, false_from_ne_true, or_cases, or_from, or_left, or_parts}
 use Rattle.std.proofs.lemmas.Int.{ints}
 use Rattle.sf_grid.specs.Plane.{Coordinates, IsPoint, Point as PlanePoint, grid_point, x_of, y_of}
 use Rattle.sf_grid.specs.Edge.{Edge as Line, edge_above, on_edge, within}
-use Rattle.sf_grid.specs.EvenOdd.{edges_above, is_odd}
 use Rattle.sf_grid.proofs.CallerLemmas.{le_from_mul, le_from_test, test_from_le}
-use Rattle.sf_slabs.proofs.CallerLemmas.{each-map, each-parts}
+use Rattle.sf_slabs.proofs.CallerLemmas.{each-parts}
 use Rattle.sf_geometry.specs.declared.extent.Extent.{Extent}
 use Rattle.sf_geometry.specs.declared.geometry.Geometry.{Geometry}
 use Rattle.sf_geometry.specs.declared.geometry.Geometry.TheVariants.{LineString, MultiLineString, MultiPoint, MultiPolygon, Point, Polygon}
 use Rattle.sf_geometry.specs.Envelope.{envelope_of}
 use Rattle.sf_geometry.specs.Lists.{edges_of as edges_of_list, ends_of, is_closed}
-use Rattle.sf_geometry.specs.Parts.{HasClosedRings, edges_of, joined, rings_of}
+use Rattle.sf_geometry.specs.Parts.{edges_of, joined}
 use Rattle.sf_geometry.specs.PointSets.{in_boundary, in_exterior, in_interior, is_among, on_line, on_polygon}
 use Rattle.sf_geometry.specs.Vertices.{vertex_of}
-use Rattle.sf_interiors.proofs.ChainLaws.{IsBalanced}
 use Rattle.sf_interiors.proofs.InsideLaws.{IsInside, IsOff}
 use Rattle.sf_interiors.proofs.ParityLaws.{odd-append, on-edges}
 use Rattle.sf_interiors.proofs.RingLaws.{balanced-rings, ring-chain}
@@ -26,10 +24,10 @@ use Rattle.sf_paths.specs.Paths.{IsOffBox, parity}
 use Rattle.sf_paths.proofs.PathLaws.{box_has_one_parity}
 use Rattle.sf_plane.specs.Boxes.{Box, in_box}
 use Rattle.sf_rules.specs.Validity.{IsValid}
-use Rattle.sf_relate.specs.Contact.{SharePoint, box_of_extent, in_extent, is_in}
+use Rattle.sf_relate.specs.Contact.{box_of_extent, in_extent, is_in}
 use Rattle.sf_relate.specs.declared.place.Place.{Place}
 use Rattle.sf_relate.specs.declared.place.Place.TheVariants.{Boundary, Exterior, Interior}
-use Rattle.sf_relate.specs.declared.shape.Shape.TheVariants.{Areas, Lines, Points}
+use Rattle.sf_relate.specs.declared.shape.Shape.TheVariants.{Areas, Lines}
 use Rattle.sf_relate.specs.Locating.{area_place, edges_place, place_by_tests}
 use Rattle.sf_relate.specs.Matrices.{both}
 use Rattle.sf_relate.specs.Places.{IsPlaceOf, is_place, shape_of}

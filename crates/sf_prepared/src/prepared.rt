@@ -45,34 +45,23 @@ impl Prepared {
 
     /// The matrix of a geometry with the one that was prepared, where no edge of that one has its box in the
     /// way; else None.
-    ///
-    /// # Errors
-    ///
-    /// Want of memory alone.
-    pub fn matrix_told(
-        &self,
-        alloc: Global,
-        geometry: &Valid,
-        given: &Valid,
-    ) -> Result<Option<Matrix>, AllocError>
+    pub fn matrix_told(&self, geometry: &Valid, given: &Valid) -> Option<Matrix>
         requires { AreBoxesOf given.now self.now }
-        ensures { IfOk result (λ told. IfSome told (λ matrix.
-            matrix.0 ≡ matrix_of geometry.now given.now)) }
+        ensures { IfSome result (λ matrix. matrix.0 ≡ matrix_of geometry.now given.now) }
     {
         let extent = geometry.geometry().envelope();
-        if self.is_clear(alloc, &extent)? {
-            Ok(told_by_place(geometry, given, extent))
+        if self.is_clear(&extent) {
+            told_by_place(geometry, given, extent)
         } else {
-            Ok(None)
+            None
         }
     }
 
     /// Whether no edge's box shares a point with the box.
-    fn is_clear(&self, alloc: Global, extent: &Extent) -> Result<bool, AllocError>
-        ensures { IfOk result (λ clear. (given : _) → AreBoxesOf given self.now → IsTrue clear → AreClear extent.now (edges_of given)) }
+    fn is_clear(&self, extent: &Extent) -> bool
+        ensures { (given : _) → AreBoxesOf given self.now → IsTrue result → AreClear extent.now (edges_of given) }
     {
-        let near = self.boxes.meeting(alloc, extent)?;
-        Ok(near.as_slice().is_empty())
+        !self.boxes.has_meeting(extent)
     }
 }
 

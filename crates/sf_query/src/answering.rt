@@ -53,15 +53,14 @@ pub(crate) fn is_asked_prepared(
     requires { IfSome prepared.now (AreBoxesOf given.now) }
     ensures { IfOk result (λ answer. answer ≡ is_asked ask.now geometry.now given.now) }
 {
-    match told_by_prepared(alloc, geometry, given, prepared) {
+    match told_by_prepared(geometry, given, prepared) {
         Some(matrix) => Ok(is_answered(ask, geometry, given, &matrix)),
         None => is_asked(alloc, ask, geometry, given),
     }
 }
 
-/// The matrix, where what was made of the given geometry tells it, and memory for that is found.
+/// The matrix, where what was made of the given geometry tells it.
 fn told_by_prepared(
-    alloc: Global,
     geometry: &Valid,
     given: &Valid,
     prepared: &Option<Prepared>,
@@ -70,10 +69,7 @@ fn told_by_prepared(
     ensures { IfSome result (λ matrix. matrix.0 ≡ matrix_of geometry.now given.now) }
 {
     match prepared {
-        Some(prepared) => match prepared.matrix_told(alloc, geometry, given) {
-            Ok(told) => told,
-            Err(_) => None,
-        },
+        Some(prepared) => prepared.matrix_told(geometry, given),
         None => None,
     }
 }
