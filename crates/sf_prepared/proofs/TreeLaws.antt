@@ -1,5 +1,5 @@
 -- Numbered boxes of edges: they rise by number, and where none meets a box no edge has a point of it.
-use Rattle.std.proofs.Common.{◌≡◌, ℕ, ◌+◌, ◌<◌, ◌≤◌, arith, refl, ap, sym, ◌∙◌, subst, ℤ, pos, ◌*ℤ◌, Bool, true, false, ◌&&◌, not, List, [], ◌∷◌, ◌++◌, length, map}
+use Rattle.std.proofs.Common.{◌≡◌, ℕ, ◌+◌, ◌<◌, ◌≤◌, arith, refl, ap, sym, ◌∙◌, ℤ, pos, ◌*ℤ◌, Bool, true, false, ◌&&◌, not, List, [], ◌∷◌, ◌++◌, length, map}
 use Rattle.std.specs.Prelude.{◌^◌, int_le}
 use Rattle.std.specs.Int.{int_max, int_min}
 use Rattle.std.specs.Cmp.{nat_cmp_is}
@@ -80,9 +80,8 @@ pub none-said : (met : Bool) → not met ≡ true → met ≡ false
 none-said true h = absurd (both_ways false refl h)
 none-said false h = refl
 
-pub clear-from : (geometry : Geometry) (boxes : Boxes) (extent : Extent) → AreBoxesOf geometry boxes → list_any (λ entry. extents_meet entry.1 extent) boxes ≡ false → AreClear extent (edges_of geometry)
-clear-from geometry boxes extent are none =
-    subst (AreClear extent) are.edges (none-near extent 0 are.pairs (ap (λ bs. list_any (λ entry. extents_meet entry.1 extent) bs) (sym are.same) ∙ none))
+pub clear-from : (pairs : List (Coordinates × Coordinates)) (boxes : Boxes) (extent : Extent) → AreBoxesOf pairs boxes → list_any (λ entry. extents_meet entry.1 extent) boxes ≡ false → AreClear extent (map edge_of pairs)
+clear-from pairs boxes extent are none = none-near extent 0 pairs (ap (λ bs. list_any (λ entry. extents_meet entry.1 extent) bs) (sym are.same) ∙ none)
 
 -- ---- edges are no more than points
 few-lists : (lists : List (List Coordinates)) → length (flat_map edges_of_list lists) ≤ length (joined lists)
