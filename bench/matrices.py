@@ -7,8 +7,10 @@ The edges of both geometries are cut at each other in exact fractions. A place i
 vertices, in the middle of each of the pieces, and at either side of these: so one in each part of the
 plane. Where it lies in either geometry is told by the definitions of interior, boundary and exterior.
 The matrices of all pairs of `GEOMETRIES` are printed as the rows of the tests' table; with a program
-they are compared with what its `relate` answers, and so are those of random pairs.
+they are compared with what its `relate` answers, and so are those of random pairs, and of dense ones:
+many edges over each place, so that they are swept.
 """
+import math
 import random
 import re
 import subprocess
@@ -189,6 +191,41 @@ def random_text(rng):
     return f"MULTIPOLYGON (({ring()}), ({ring()}))"
 
 
+def star_ring(rng, turns, center, radii):
+    """A ring that goes out and in by turns, closed."""
+    corners = [
+        (
+            center[0] + round(radii[k % 2] * math.cos(math.pi * k / turns)),
+            center[1] + round(radii[k % 2] * math.sin(math.pi * k / turns)),
+        )
+        for k in range(2 * turns)
+    ]
+    first = rng.randrange(len(corners))
+    corners = corners[first:] + corners[: first + 1]
+    return "(" + ", ".join(f"{x} {y}" for x, y in corners) + ")"
+
+
+def dense_text(rng):
+    """A text of many edges over one place; some are not valid."""
+
+    def chain(count):
+        return "(" + ", ".join(f"{rng.randint(-9, 9)} {rng.randint(-9, 9)}" for _ in range(count)) + ")"
+
+    center = (rng.randint(-6, 6), rng.randint(-6, 6))
+    turns = rng.randint(5, 9)
+    kind = rng.randrange(5)
+    if kind == 0:
+        return "LINESTRING " + chain(rng.randint(9, 16))
+    if kind == 1:
+        return "MULTILINESTRING (" + ", ".join(chain(rng.randint(4, 7)) for _ in range(3)) + ")"
+    if kind == 2:
+        return f"POLYGON ({star_ring(rng, turns, center, (20, 9))})"
+    if kind == 3:
+        return f"POLYGON ({star_ring(rng, turns, center, (20, 11))}, {star_ring(rng, turns, center, (8, 4))})"
+    aside = (center[0] + rng.randint(18, 30), center[1])
+    return f"MULTIPOLYGON (({star_ring(rng, turns, center, (16, 7))}), ({star_ring(rng, turns, aside, (16, 6))}))"
+
+
 def answers(program, lines):
     done = subprocess.run([program], input="\n".join(lines) + "\n", capture_output=True, text=True, check=True)
     return done.stdout.splitlines()
@@ -224,8 +261,10 @@ def main():
         table = [(a, b) for a in GEOMETRIES for b in GEOMETRIES]
         print("%d compared, %d wrong" % compare(program, table))
         rng = random.Random(1)
-        pairs = [(random_text(rng), random_text(rng)) for _ in range(10_000)]
+        pairs = [(random_text(rng), random_text(rng)) for _ in range(34_000)]
         print("%d compared, %d wrong" % compare(program, pairs))
+        dense = [(dense_text(rng), dense_text(rng)) for _ in range(600)]
+        print("dense: %d compared, %d wrong" % compare(program, dense))
 
 
 if __name__ == "__main__":

@@ -5,6 +5,7 @@ from __future__ import annotations
 import hashlib
 import json
 import os
+import re
 import shutil
 import subprocess
 import sys
@@ -126,12 +127,11 @@ class Package(unittest.TestCase):
         self.assertRegex(said, "gate: [0-9]+ passed, [0-9]+ failed\n")
         self.assertIn("toolchain: rattle-kit", said)
 
-    def test_the_links_of_the_readme_lead_to_its_documents(self):
-        for name in ("docs/CONSOLE.md", "docs/FORMAT.md", "docs/PICTURE.md", "examples/town.svg"):
-            self.assertIn(f"({name})", (self.documents / "README.md").read_text())
-            self.assertTrue((self.documents / name).is_file())
-        for name in ("docs/EXCHANGE.md", "docs/JOURNAL.md", "docs/PAGE.md", "docs/page.png", "docs/page-dark.png", "docs/REPLICAS.md"):
-            self.assertTrue((self.documents / name).is_file())
+    def test_the_links_of_the_pages_lead_to_documents(self):
+        links = [(page, link) for page in self.documents.rglob("*.md") for link in re.findall(r"\]\(([^)#:]+)\)", page.read_text())]
+        self.assertGreater(len(links), 20)
+        for page, link in links:
+            self.assertTrue((page.parent / link).exists(), f"{page.name}: {link}")
 
     def test_the_version_stands_in_one_place(self):
         version = (TOP / "package" / "VERSION").read_text().strip()

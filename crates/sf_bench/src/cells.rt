@@ -4,6 +4,7 @@
 use crate::shape::{Comb, Place, Ring, Shape};
 use crate::sinks::{Census, Folded};
 use sf_slabs::{CellSink, are_in_range, have_length, walk};
+use sf_sweep::walk_classes;
 use std::alloc::{AllocError, Global};
 use std::io;
 use std::time::{Duration, Instant};
@@ -94,6 +95,22 @@ fn comb(alloc: Global, comb: &Comb) -> Result<Shape, AllocError> {
     shape.teeth(comb)?;
     shape.lines(comb)?;
     Ok(shape)
+}
+
+/// One sweep over the classes of a shape's cells, folded into one word, or none where it isn't what a
+/// sweep requires. The groups of rings are marked.
+pub(crate) fn sweep_once(alloc: Global, shape: &Shape, areal: &[bool]) -> Result<u64, AllocError> {
+    let mut folded = Folded { word: 0 };
+    let pieces = shape.pieces.as_slice();
+    let groups = shape.groups.as_slice();
+    if pieces.len() > 65535 || groups.len() != pieces.len() {
+        return Ok(0);
+    }
+    if !have_length(pieces) || !are_in_range(groups, pieces.len()) {
+        return Ok(0);
+    }
+    walk_classes(alloc, pieces, groups, areal, &mut folded)?;
+    Ok(folded.word)
 }
 
 /// One walk over a shape, or none where it isn't what a walk requires.

@@ -1,6 +1,7 @@
-//! Times of the calls of `sf_grid`, of walks over the cells of large rings and combs, of the checks of
-//! validity and simplicity, of matrices, and of reading and writing text and binary. The first argument
-//! chooses: `grid`, `cells`, `validity`, `matrices` or `texts`. The second one is the number of rounds.
+//! Times of the calls of `sf_grid`, of walks over the cells of large rings and combs, of sweeps over their
+//! classes, of the checks of validity and simplicity, of matrices, and of reading and writing text and
+//! binary. The first argument chooses: `grid`, `cells`, `classes`, `validity`, `matrices` or `texts`. The
+//! second one is the number of rounds.
 #![tactic(auto)]
 
 mod cells;
@@ -11,6 +12,7 @@ mod relating;
 mod shape;
 mod sinks;
 mod sized;
+mod sweeping;
 mod texts;
 mod timing;
 mod validity;
@@ -22,6 +24,7 @@ use std::{env, io};
 enum Choice {
     Grid,
     Cells,
+    Classes,
     Validity,
     Matrices,
     Texts,
@@ -34,6 +37,7 @@ fn main(rt: HostRuntime) -> io::Result<()> {
         match word.as_str() {
             "grid" => choice = Choice::Grid,
             "cells" => choice = Choice::Cells,
+            "classes" => choice = Choice::Classes,
             "validity" => choice = Choice::Validity,
             "matrices" => choice = Choice::Matrices,
             "texts" => choice = Choice::Texts,
@@ -47,6 +51,7 @@ fn main(rt: HostRuntime) -> io::Result<()> {
     match choice {
         Choice::Grid => grid::run(&rt, rounds),
         Choice::Cells => cells::run(&rt, rounds),
+        Choice::Classes => sweeping::run(&rt, rounds),
         Choice::Validity => validity::run(&rt, rounds),
         Choice::Matrices => relating::run(&rt, rounds),
         Choice::Texts => texts::run(&rt, rounds),

@@ -68,7 +68,7 @@ impl Shape {
     }
 
     /// Adds an edge, unless an end is off the grid or both are one.
-    fn edge(&mut self, group: u32, a: Place, b: Place) -> Result<(), AllocError> {
+    pub(crate) fn edge(&mut self, group: u32, a: Place, b: Place) -> Result<(), AllocError> {
         if let Some(piece) = piece(a, b) {
             self.pieces.push(piece)?;
             self.groups.push(group)?;
@@ -76,8 +76,17 @@ impl Shape {
         Ok(())
     }
 
+    /// Adds a point, unless it is off the grid.
+    pub(crate) fn dot(&mut self, group: u32, at: Place) -> Result<(), AllocError> {
+        if let Some(at) = point(at) {
+            self.pieces.push(Piece::Dot(at))?;
+            self.groups.push(group)?;
+        }
+        Ok(())
+    }
+
     /// Adds the edges from each place to the next one.
-    fn path(&mut self, places: &[Place]) -> Result<(), AllocError> {
+    pub(crate) fn path(&mut self, places: &[Place]) -> Result<(), AllocError> {
         let mut from = None;
         for place in places {
             if let Some(from) = from {

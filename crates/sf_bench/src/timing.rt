@@ -1,6 +1,6 @@
 //! Calls that are timed, and the least of their times.
 
-use crate::cells::walk_often;
+use crate::cells::{sweep_once, walk_often};
 use crate::shape::Shape;
 use crate::sized::SizedGeometry;
 use sf_geometry::Geometry;
@@ -23,6 +23,8 @@ pub(crate) enum Work {
     Relate(Valid, Valid),
     /// A walk with a sink that folds the cells.
     Walk(Shape),
+    /// A sweep over the classes of cells with a sink that folds them, and which groups are of rings.
+    Sweep(Shape, &'static [bool]),
     /// Reading well-known text.
     ReadText(String),
     /// Writing well-known text.
@@ -123,7 +125,8 @@ impl Work {
             Work::Check(geometry) => checked(alloc, geometry),
             Work::IsSimple(valid) => asked(alloc, valid),
             Work::Relate(first, second) => related(alloc, first, second),
-            Work::Walk(shape) => walked(alloc, shape),
+            Work::Walk(shape) => folded(walk_often(alloc, shape, 1)),
+            Work::Sweep(shape, areal) => folded(sweep_once(alloc, shape, areal)),
             Work::ReadText(text) => answer_of(sf_wkt::read(alloc, text.as_str())),
             Work::WriteText(geometry) => text_written(alloc, geometry),
             Work::ReadBinary(bytes) => answer_of(sf_wkb::read(alloc, bytes.as_slice())),
@@ -263,8 +266,9 @@ fn related(alloc: Global, first: &Valid, second: &Valid) -> Answer {
     }
 }
 
-fn walked(alloc: Global, shape: &Shape) -> Answer {
-    match walk_often(alloc, shape, 1) {
+/// The word of a walk or of a sweep.
+fn folded(word: Result<u64, AllocError>) -> Answer {
+    match word {
         Ok(word) => Answer::Folded(word),
         Err(_) => Answer::Refused(Refusal::Memory),
     }

@@ -1,6 +1,8 @@
 //! Where the map of a picture lies, and how large the picture is.
-ghost use Rattle.std.specs.Prelude.{◌≤◌};
+ghost use Rattle.std.specs.Prelude.{◌≡◌, ◌+◌, ◌*◌, ◌≤◌, IfSome, min};
 ghost use Rattle.sf_layers.specs.WellFormed.{layers_max};
+ghost use Rattle.sf_map.specs.Pictures.{row_height};
+ghost use Rattle.sf_map.specs.Views.{IsFrameOf, IsOver, framing_height, share as share_of, shown_count, side as side_of};
 
 use super::choice::Choice;
 use sf_geometry::Extent;
@@ -47,18 +49,23 @@ pub struct View {
 impl View {
     /// The view of what is shown of a store: the window where there is one, else the least box with
     /// all that is shown, with a margin of a twentieth of its greater side and at least one grid step.
-    pub fn of(store: &Store, choice: &Choice, width: u32) -> View {
-        let (extent, margin) = match choice.window() {
-            Some(window) => (window, 0),
-            None => with_margin(extent_shown(store, choice)),
-        };
-        let wide = side(extent.min_x, extent.max_x, margin);
-        let high = side(extent.min_y, extent.max_y, margin);
+    pub fn of(store: &Store, choice: &Choice, width: u32) -> View
+        ensures window { IfSome choice.now.window (λ window. IsOver window result) }
+        ensures width { result.width ≡ width }
+        ensures height { result.height ≡ result.map_height + framing_height + row_height * shown_count choice.now store.now }
+        ensures bar { result.bar_pixels ≡ min (share_of result.bar_steps result.wide width) width }
+    {
+        let Frame {
+            left,
+            top,
+            wide,
+            high,
+        } = frame_shown(store, choice);
         let bar_steps = bar_length(wide / 4);
         let map_height = share(high, wide, width.into()).clamp(1, MAP_HEIGHT_MAX);
         View {
-            left: extent.min_x.saturating_sub_unsigned(margin),
-            top: extent.max_y.saturating_add_unsigned(margin),
+            left,
+            top,
             wide,
             high,
             width,
@@ -67,6 +74,42 @@ impl View {
             bar_steps,
             bar_pixels: share(bar_steps, wide, width.into()).min(width.into()) as u32,
         }
+    }
+}
+
+/// Where a map lies, in grid steps.
+struct Frame {
+    left: i32,
+    top: i32,
+    wide: u64,
+    high: u64,
+}
+
+/// The frame of what is shown: the window where there is one.
+fn frame_shown(store: &Store, choice: &Choice) -> Frame
+    ensures { IfSome choice.now.window (λ window. IsFrameOf window result) }
+{
+    match choice.window() {
+        Some(window) => frame_of(window, 0),
+        None => {
+            let (extent, margin) = with_margin(extent_shown(store, choice));
+            frame_of(extent, margin)
+        }
+    }
+}
+
+/// The frame of a box, with a margin.
+fn frame_of(extent: Extent, margin: u32) -> Frame
+    ensures wide { result.wide ≡ side_of extent.min_x extent.max_x margin }
+    ensures high { result.high ≡ side_of extent.min_y extent.max_y margin }
+    ensures left { margin ≡ 0 → result.left ≡ extent.min_x }
+    ensures top { margin ≡ 0 → result.top ≡ extent.max_y }
+{
+    Frame {
+        left: extent.min_x.saturating_sub_unsigned(margin),
+        top: extent.max_y.saturating_add_unsigned(margin),
+        wide: side(extent.min_x, extent.max_x, margin),
+        high: side(extent.min_y, extent.max_y, margin),
     }
 }
 
@@ -84,12 +127,16 @@ fn with_margin(extent: Option<Extent>) -> (Extent, u32) {
 }
 
 /// How long a side from one coordinate to another is with a margin at either end, at least one step.
-fn side(min: i32, max: i32, margin: u32) -> u64 {
+fn side(min: i32, max: i32, margin: u32) -> u64
+    ensures { result ≡ side_of min max margin }
+{
     (u64::from(min.abs_diff(max)) + 2 * u64::from(margin)).max(1)
 }
 
 /// As large a part of a length as some steps are of a whole, which is at least one.
-fn share(steps: u64, whole: u64, length: u64) -> u64 {
+fn share(steps: u64, whole: u64, length: u64) -> u64
+    ensures { result ≡ share_of steps whole length }
+{
     steps.saturating_mul(length) / whole.max(1)
 }
 
@@ -106,7 +153,8 @@ fn bar_length(limit: u64) -> u64 {
 
 /// How many layers are shown.
 fn layers_shown(store: &Store, choice: &Choice) -> u64
-    ensures { result ≤ layers_max }
+    ensures value { result ≡ shown_count choice.now store.now }
+    ensures few { result ≤ layers_max }
 {
     let mut shown = 0;
     for place in 0..store.layer_count() {

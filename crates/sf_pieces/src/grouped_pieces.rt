@@ -5,8 +5,9 @@ ghost use Rattle.sf_cells.specs.Pieces.{HasLength};
 ghost use Rattle.sf_geometry.specs.Lists.{edges_of};
 ghost use Rattle.sf_pieces.specs.Marked.{HasGroups, groups_of, marked, piece_of, pieces_of};
 
-use sf_classes::{CellSink, Piece, walk_classes};
+use sf_classes::{CellSink, Piece};
 use sf_grid::GridPoint;
+use sf_sweep::walk_classes;
 use std::alloc::{AllocError, Global};
 use std::marker::Model;
 

@@ -1,3 +1,4 @@
+pub mod AboveLaws
 pub mod NearLaws
 pub mod PlacedLaws
 pub mod TreeLaws

@@ -1,13 +1,11 @@
 -- Right above a grid point inside closed chains lies a triangle inside them.
-use Rattle.std.proofs.Common.{◌≡◌, ℕ, suc, ◌+◌, ◌*◌, ◌<◌, arith, lit<, refl, ap, sym, ◌∙◌, subst, ℤ, pos, ◌+ℤ◌, ◌-ℤ◌, ◌*ℤ◌, ◌<ℤ◌, ◌≤ℤ◌, unsigned_abs, true, List, [], ◌∷◌}
+use Rattle.std.proofs.Common.{◌≡◌, ℕ, suc, ◌+◌, ◌*◌, ◌<◌, arith, lit<, refl, ap, sym, ◌∙◌, subst, ℤ, pos, ◌+ℤ◌, ◌-ℤ◌, ◌*ℤ◌, ◌<ℤ◌, unsigned_abs, true, List, [], ◌∷◌}
 use Rattle.std.specs.List.{AllByRecursion}
 use Rattle.std.proofs.lemmas.Int.{ints}
-use Rattle.sf_grid.specs.Fraction.{whole}
 use Rattle.sf_grid.specs.Plane.{Coordinates, IsPoint, Point, grid_point}
 use Rattle.sf_grid.specs.Edge.{Edge as Line}
 use Rattle.sf_grid.proofs.CallerLemmas.{dif, mul, num, ring, sum, var}
-use Rattle.sf_slabs.proofs.CallerLemmas.{each-append, each-parts}
-use Rattle.sf_plane.proofs.FormLaws.{ArePositive, Form, Positive, growths, inside_in, nudged, nudged-point, nudged_in, value}
+use Rattle.sf_plane.proofs.FormLaws.{ArePositive, Form, growths, inside_in, nudged, nudged-point, nudged_in, value}
 use Rattle.sf_plane.specs.Dimension.{HasTriangle, PointSet, area}
 use Rattle.sf_interiors.proofs.ChainLaws.{IsBalanced}
 use Rattle.sf_interiors.proofs.InsideLaws.{IsInside, stays}

@@ -1,5 +1,5 @@
 -- Where a geometry lies in another one whose edges have no point of its box.
-use Rattle.std.proofs.Common.{◌≡◌, ◌≢◌, ℕ, ◌<◌, refl, ap, sym, ◌∙◌, subst, ℤ, pos, ◌*ℤ◌, ◌<ℤ◌, ◌≤ℤ◌, arith, lit<, Bool, true, false, ◌&&◌, ◌||◌, not, List, [], ◌∷◌, ◌++◌, Option, Some, inl, inr}
+use Rattle.std.proofs.Common.{◌≡◌, ℕ, ◌<◌, refl, ap, sym, ◌∙◌, subst, ℤ, pos, ◌*ℤ◌, ◌≤ℤ◌, arith, lit<, Bool, true, false, ◌&&◌, not, List, [], ◌∷◌, map, Option, Some, inl, inr}
 use Rattle.std.specs.Prelude.{int_le}
 use Rattle.std.specs.List.{AllByRecursion, flat_map, list_any}
 use Rattle.std.proofs.lemmas.Bool.{and_from, and_parts, both_ways, false_from_ne_true, or_cases, or_from, or_left, or_parts}
@@ -8,16 +8,15 @@ use Rattle.sf_grid.specs.Plane.{Coordinates, IsPoint, Point as PlanePoint, grid_
 use Rattle.sf_grid.specs.Edge.{Edge as Line, edge_above, on_edge, within}
 use Rattle.sf_grid.specs.EvenOdd.{edges_above, is_odd}
 use Rattle.sf_grid.proofs.CallerLemmas.{le_from_mul, le_from_test, test_from_le}
-use Rattle.sf_slabs.proofs.CallerLemmas.{each-map, each-parts}
+use Rattle.sf_slabs.proofs.CallerLemmas.{each-parts}
 use Rattle.sf_geometry.specs.declared.extent.Extent.{Extent}
 use Rattle.sf_geometry.specs.declared.geometry.Geometry.{Geometry}
 use Rattle.sf_geometry.specs.declared.geometry.Geometry.TheVariants.{LineString, MultiLineString, MultiPoint, MultiPolygon, Point, Polygon}
 use Rattle.sf_geometry.specs.Envelope.{envelope_of}
 use Rattle.sf_geometry.specs.Lists.{edges_of as edges_of_list, ends_of, is_closed}
-use Rattle.sf_geometry.specs.Parts.{HasClosedRings, edges_of, joined, rings_of}
+use Rattle.sf_geometry.specs.Parts.{edge_of, edges_of, joined}
 use Rattle.sf_geometry.specs.PointSets.{in_boundary, in_exterior, in_interior, is_among, on_line, on_polygon}
 use Rattle.sf_geometry.specs.Vertices.{vertex_of}
-use Rattle.sf_interiors.proofs.ChainLaws.{IsBalanced}
 use Rattle.sf_interiors.proofs.InsideLaws.{IsInside, IsOff}
 use Rattle.sf_interiors.proofs.ParityLaws.{odd-append, on-edges}
 use Rattle.sf_interiors.proofs.RingLaws.{balanced-rings, ring-chain}
@@ -26,10 +25,10 @@ use Rattle.sf_paths.specs.Paths.{IsOffBox, parity}
 use Rattle.sf_paths.proofs.PathLaws.{box_has_one_parity}
 use Rattle.sf_plane.specs.Boxes.{Box, in_box}
 use Rattle.sf_rules.specs.Validity.{IsValid}
-use Rattle.sf_relate.specs.Contact.{SharePoint, box_of_extent, in_extent, is_in}
+use Rattle.sf_relate.specs.Contact.{box_of_extent, in_extent, is_in}
 use Rattle.sf_relate.specs.declared.place.Place.{Place}
 use Rattle.sf_relate.specs.declared.place.Place.TheVariants.{Boundary, Exterior, Interior}
-use Rattle.sf_relate.specs.declared.shape.Shape.TheVariants.{Areas, Lines, Points}
+use Rattle.sf_relate.specs.declared.shape.Shape.TheVariants.{Areas, Lines}
 use Rattle.sf_relate.specs.Locating.{area_place, edges_place, place_by_tests}
 use Rattle.sf_relate.specs.Matrices.{both}
 use Rattle.sf_relate.specs.Places.{IsPlaceOf, is_place, shape_of}
@@ -40,6 +39,7 @@ use Rattle.sf_relate.proofs.PlaceLaws.{end-on, odd-some-count}
 use Rattle.sf_relate.proofs.TestedPlaces.{tests_tell_places}
 use Rattle.sf_relate.proofs.ToldLaws.{beyond, exterior-from}
 use Rattle.sf_relate.proofs.FirstLaws.{first_point_is_in}
+use Rattle.sf_prepared.specs.Boxes.{AreEdgesOf}
 use Rattle.sf_prepared.specs.Places.{ApartByPoint, ApartFromLines, AreClear, WithinByPoint}
 use Rattle.sf_prepared.proofs.NearLaws.{triangle-near}
 
@@ -256,3 +256,26 @@ apart-told a b found extent vertex p place v w s e clear f first some at is =
 
 pub lines-told : (a b : Geometry) (extent : Extent) → IsValid a → IsValid b → shape_of b ≡ Lines → extent ≡ envelope_of a → AreClear extent (edges_of b) → ShareNone a b
 lines-told a b extent v w s e clear = apart_from_lines a b v w s (subst (λ x. AreClear x (edges_of b)) e clear)
+
+-- where the first point lies no edge is
+pub first-off : (a b found : Geometry) (extent : Extent) (vertex : Option Coordinates) (p : Coordinates) → IsValid a → extent ≡ envelope_of a → AreClear extent (edges_of b) → found ≡ a →
+    vertex ≡ vertex_of found 0 0 0 → vertex ≡ Some p → list_any (λ e. on_edge e (grid_point p)) (edges_of b) ≡ false
+first-off a b found extent vertex p v e clear f first some =
+    none-on (box_of_extent (envelope_of a)) (edges_of b) (grid_point p) (subst (λ x. AreClear x (edges_of b)) e clear) (record { positive = lit< tt })
+    (boxed a (grid_point p) v (record { positive = lit< tt }) (first-in a found vertex p v f first some))
+
+-- a point that no edge of an area has lies there by the edges above
+pub place-by-parity : (b : Geometry) (pairs : List (Coordinates × Coordinates)) (p : Coordinates) (odd : Bool) (place : Place) → IsValid b → shape_of b ≡ Areas → AreEdgesOf b pairs →
+    list_any (λ e. on_edge e (grid_point p)) (edges_of b) ≡ false → odd ≡ is_odd (edges_above (grid_point p) (map edge_of pairs)) → place ≡ area_place false odd → IsPlaceOf b (grid_point p) place
+place-by-parity b pairs p odd place v s are off counted is =
+    subst (IsPlaceOf b (grid_point p))
+    (r.places (grid_point p)
+    ∙ ap (λ es. edges_place es (grid_point p)) (sym r.edges)
+    ∙ ap (λ t. area_place t (parity (edges_of b) (grid_point p))) off
+    ∙ ap (λ es. area_place false (parity es (grid_point p))) (sym are)
+    ∙ ap (area_place false) (sym counted)
+    ∙ sym is)
+    (tests_tell_places b (grid_point p) v (record { positive = lit< tt }))
+  where
+    r : HasRings b
+    r = has-rings b v s

@@ -1,19 +1,18 @@
 -- Numbered boxes of edges: they rise by number, and where none meets a box no edge has a point of it.
-use Rattle.std.proofs.Common.{◌≡◌, ℕ, suc, ◌+◌, ◌*◌, ◌<◌, ◌≤◌, arith, lit<, refl, ap, sym, ◌∙◌, subst, ℤ, pos, ◌*ℤ◌, ◌≤ℤ◌, Bool, true, false, ◌&&◌, List, [], ◌∷◌, ◌++◌, drop, length, map, filter}
-use Rattle.std.specs.Prelude.{◌^◌, if◌then◌else◌, int_le, nat_eq}
+use Rattle.std.proofs.Common.{◌≡◌, ℕ, ◌+◌, ◌<◌, ◌≤◌, arith, refl, ap, sym, ◌∙◌, ℤ, pos, ◌*ℤ◌, Bool, true, false, ◌&&◌, not, List, [], ◌∷◌, ◌++◌, length, map}
+use Rattle.std.specs.Prelude.{◌^◌, int_le}
 use Rattle.std.specs.Int.{int_max, int_min}
 use Rattle.std.specs.Cmp.{nat_cmp_is}
 use Rattle.std.specs.declared.cmp.Ordering.TheVariants.{Less}
-use Rattle.std.specs.List.{AllByRecursion, flat_map}
+use Rattle.std.specs.List.{AllByRecursion, flat_map, list_any}
 use Rattle.std.specs.List.Sorted.{IsStrictlySortedBy}
 use Rattle.std.specs.Map.{keys_of}
 use Rattle.std.specs.Ordering.{nat_cmp}
-use Rattle.std.proofs.lemmas.Bool.{and_from, both_ways}
+use Rattle.std.proofs.lemmas.Bool.{and_from, both_ways, or_parts}
 use Rattle.std.proofs.lemmas.Int.{clamps, ints}
-use Rattle.std.proofs.lemmas.Bool.Decides.{nat_tests}
 use Rattle.std.proofs.lemmas.List.{append_assoc, length-append, length-map}
-use Rattle.sf_grid.specs.Plane.{Coordinates, IsPoint, Point, grid_point, x_of, y_of}
-use Rattle.sf_grid.specs.Edge.{Edge as Line, IsOnEdge, within}
+use Rattle.sf_grid.specs.Plane.{Coordinates, grid_point, x_of, y_of}
+use Rattle.sf_grid.specs.Edge.{Edge as Line, within}
 use Rattle.sf_grid.proofs.CallerLemmas.{test_from_le}
 use Rattle.sf_geometry.specs.declared.extent.Extent.{Extent}
 use Rattle.sf_geometry.specs.declared.geometry.Geometry.{Geometry}
@@ -23,10 +22,10 @@ use Rattle.sf_geometry.specs.Lists.{edges_of as edges_of_list}
 use Rattle.sf_geometry.specs.Parts.{edge_of, edges_of, joined, points_of}
 use Rattle.sf_geometry.specs.Size.{IsSized}
 use Rattle.sf_paths.specs.Paths.{IsOffBox}
-use Rattle.sf_plane.specs.Boxes.{HasEnds, in_box}
+use Rattle.sf_plane.specs.Boxes.{HasEnds}
 use Rattle.sf_plane.proofs.BoxLaws.{common_point_meets, edge_in_box}
 use Rattle.sf_polygons.proofs.SizeLaws.{few-edges}
-use Rattle.sf_rtree.specs.Indexes.{Boxes, ids_meeting}
+use Rattle.sf_rtree.specs.Indexes.{Boxes}
 use Rattle.sf_relate.specs.Contact.{box_of_extent}
 use Rattle.sf_prepared.specs.Boxes.{AreBoxesOf, boxes_from, extent_of_edge}
 use Rattle.sf_prepared.specs.Places.{AreClear}
@@ -71,24 +70,18 @@ off-box extent pair apart p i in_it on =
     both_ways (extents_meet (extent_of_edge pair) extent) apart
     (common_point_meets (box_of_extent (extent_of_edge pair)) (box_of_extent extent) p i (edge_in_box (box_of_extent (extent_of_edge pair)) (edge_of pair) p (has-ends pair) i on) in_it)
 
-none-near : (extent : Extent) (n : ℕ) (pairs : List (Coordinates × Coordinates)) → length (ids_meeting extent (boxes_from n pairs)) ≡ 0 → AreClear extent (map edge_of pairs)
+none-near : (extent : Extent) (n : ℕ) (pairs : List (Coordinates × Coordinates)) → list_any (λ entry. extents_meet entry.1 extent) (boxes_from n pairs) ≡ false → AreClear extent (map edge_of pairs)
 none-near extent n [] h = tt
-none-near extent n (pair ∷ pairs) h = by_test (extents_meet (extent_of_edge pair) extent) refl h (none-near extent (n + 1) pairs)
-  where
-    by_test : (t : Bool) → extents_meet (extent_of_edge pair) extent ≡ t →
-        length (keys_of (if t then (n, extent_of_edge pair) ∷ filter (λ entry. extents_meet entry.1 extent) (boxes_from (n + 1) pairs) else filter (λ entry. extents_meet entry.1 extent) (boxes_from (n + 1) pairs))) ≡ 0 →
-        (length (ids_meeting extent (boxes_from (n + 1) pairs)) ≡ 0 → AreClear extent (map edge_of pairs)) → AreClear extent (map edge_of (pair ∷ pairs))
-    by_test true e k rest = absurd (omega arith)
-    by_test false e k rest = (off-box extent pair e, rest k)
+none-near extent n (pair ∷ pairs) h =
+    let parts = or_parts (extents_meet (extent_of_edge pair) extent) (list_any (λ entry. extents_meet entry.1 extent) (boxes_from (n + 1) pairs)) h in
+    (off-box extent pair parts.0, none-near extent (n + 1) pairs parts.1)
 
-pub clear-from : (geometry : Geometry) (boxes : Boxes) (extent : Extent) (ids : List ℕ) (none : Bool) → AreBoxesOf geometry boxes → ids ≡ ids_meeting extent boxes → none ≡ nat_eq (length ids) 0 → none ≡ true →
-    AreClear extent (edges_of geometry)
-clear-from geometry boxes extent ids none are is test said =
-    subst (AreClear extent) are.edges
-    (none-near extent 0 are.pairs (ap (λ bs. length (ids_meeting extent bs)) (sym are.same) ∙ ap (λ (ns : List ℕ). length ns) (sym is) ∙ zero (length ids) (sym test ∙ said)))
-  where
-    zero : (n : ℕ) → nat_eq n 0 ≡ true → n ≡ 0
-    zero n h = grind (arith, nat_tests)
+pub none-said : (met : Bool) → not met ≡ true → met ≡ false
+none-said true h = absurd (both_ways false refl h)
+none-said false h = refl
+
+pub clear-from : (pairs : List (Coordinates × Coordinates)) (boxes : Boxes) (extent : Extent) → AreBoxesOf pairs boxes → list_any (λ entry. extents_meet entry.1 extent) boxes ≡ false → AreClear extent (map edge_of pairs)
+clear-from pairs boxes extent are none = none-near extent 0 pairs (ap (λ bs. list_any (λ entry. extents_meet entry.1 extent) bs) (sym are.same) ∙ none)
 
 -- ---- edges are no more than points
 few-lists : (lists : List (List Coordinates)) → length (flat_map edges_of_list lists) ≤ length (joined lists)

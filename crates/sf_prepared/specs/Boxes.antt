@@ -1,11 +1,20 @@
 -- Numbered boxes of edges, as a tree has them.
-use Rattle.std.specs.Prelude.{◌≡◌, ℕ, ◌+◌, List, [], ◌∷◌, map}
-use Rattle.sf_grid.specs.Plane.{Coordinates}
+use Rattle.std.specs.Prelude.{◌≡◌, ℕ, ◌+◌, ◌^◌, ◌-◌, pos, List, [], ◌∷◌, map}
+use Rattle.std.specs.List.{AllByRecursion}
+use Rattle.sf_grid.specs.Plane.{Coordinates, IsOnGrid}
 use Rattle.sf_geometry.specs.declared.extent.Extent.{Extent}
 use Rattle.sf_geometry.specs.declared.geometry.Geometry.{Geometry}
 use Rattle.sf_geometry.specs.Envelope.{extent_at, extent_with}
 use Rattle.sf_geometry.specs.Parts.{edge_of, edges_of}
 use Rattle.sf_rtree.specs.Indexes.{Boxes}
+
+-- the pairs are the ends of the geometry's edges, in order
+abbrev pub AreEdgesOf : Geometry → List (Coordinates × Coordinates) → Type 0
+AreEdgesOf geometry pairs = map edge_of pairs ≡ edges_of geometry
+
+-- both ends are on the grid
+abbrev pub AreOnGrid : Coordinates × Coordinates → Type 0
+AreOnGrid pair = IsOnGrid pair.0 × IsOnGrid pair.1
 
 -- the box of an edge, by its ends
 abbrev pub extent_of_edge : Coordinates × Coordinates → Extent
@@ -16,8 +25,11 @@ abbrev pub boxes_from : ℕ → List (Coordinates × Coordinates) → Boxes
 boxes_from n [] = []
 boxes_from n (pair ∷ pairs) = (n, extent_of_edge pair) ∷ boxes_from (n + 1) pairs
 
--- the boxes are those of the geometry's edges
-pub record AreBoxesOf (geometry : Geometry) (boxes : Boxes) : Type 0 where
-  pub pairs : List (Coordinates × Coordinates)
-  pub edges : map edge_of pairs ≡ edges_of geometry
+-- the boxes are those of these edges, which are on the grid
+pub record AreBoxesOf (pairs : List (Coordinates × Coordinates)) (boxes : Boxes) : Type 0 where
   pub same : boxes ≡ boxes_from 0 pairs
+  pub on_grid : AllByRecursion AreOnGrid pairs
+
+-- the box from a point of the grid up, as far as a number of 32 bits goes
+abbrev pub ray_above : Coordinates → Extent
+ray_above p = record { min_x = p.x; min_y = p.y; max_x = p.x; max_y = pos (2 ^ 31 - 1) }

@@ -1,6 +1,7 @@
-//! One geometry that many others are asked about: a tree of its edges' boxes, and what it tells without a walk.
+//! One geometry that many others are asked about: its edges, a tree of their boxes, and what it tells without a walk.
 #![tactic(auto)]
 
+mod above;
 pub mod laws;
 mod prepared;
 

@@ -1,14 +1,20 @@
-ghost use Rattle.std.specs.Prelude.{◌≡◌, ◌≤◌, ◌^◌, length, IfOk, IfSome, IsTrue};
+ghost use Rattle.std.specs.Prelude.{◌≡◌, ◌≤◌, ◌^◌, length, map, IfOk, IfSome, IsFalse, IsTrue, false};
 ghost use Rattle.std.specs.Int.{int_max, int_min};
+ghost use Rattle.std.specs.List.{list_any};
+ghost use Rattle.sf_grid.specs.Edge.{on_edge};
+ghost use Rattle.sf_grid.specs.EvenOdd.{edges_above, is_odd};
+ghost use Rattle.sf_grid.specs.Plane.{grid_point};
 ghost use Rattle.sf_geometry.specs.Envelope.{envelope_of};
-ghost use Rattle.sf_geometry.specs.Parts.{edges_of};
+ghost use Rattle.sf_geometry.specs.Parts.{edge_of, edges_of};
 ghost use Rattle.sf_rules.specs.Validity.{IsValid};
 ghost use Rattle.sf_relate.specs.declared.shape.Shape.TheVariants.{Areas, Lines};
+ghost use Rattle.sf_relate.specs.Locating.{area_place};
 ghost use Rattle.sf_relate.specs.Matrices.{matrix_of};
-ghost use Rattle.sf_relate.specs.Places.{shape_of};
-ghost use Rattle.sf_prepared.specs.Boxes.{AreBoxesOf, boxes_from, extent_of_edge};
+ghost use Rattle.sf_relate.specs.Places.{IsPlaceOf, shape_of};
+ghost use Rattle.sf_prepared.specs.Boxes.{AreEdgesOf, boxes_from, extent_of_edge};
 ghost use Rattle.sf_prepared.specs.Places.{AreClear};
 
+use crate::above::{edges_lie_on_grid, has_odd_above, ray_above};
 use sf_geometry::{Extent, Geometry};
 use sf_grid::GridPoint;
 use sf_relate::{Matrix, Place, locate, matrix_apart, matrix_within};
@@ -17,81 +23,148 @@ use sf_validity::Valid;
 use std::alloc::{AllocError, Global};
 use std::marker::Model;
 
-/// What is made once of a geometry that many others are asked about: a tree of its edges' boxes. Contracts
-/// see it as these boxes.
+/// What is made once of a geometry that many others are asked about: its edges, and a tree of their boxes.
+/// Contracts see it as the edges' ends.
 #[derive(Drop)]
 pub struct Prepared {
+    edges: Vec<(GridPoint, GridPoint)>,
     boxes: RTree,
 }
 
 impl Model for Prepared {
-    ghost use Rattle.sf_rtree.specs.Indexes.{Boxes};
+    ghost use Rattle.std.specs.Prelude.{List};
+    ghost use Rattle.sf_grid.specs.Plane.{Coordinates};
+    ghost use Rattle.sf_prepared.specs.Boxes.{AreBoxesOf};
 
-    ghost Value = { Boxes };
+    ghost Value = { List (Coordinates × Coordinates) };
 
-    ghost view = { λ a. a.boxes };
+    ghost view = { λ a. a.edges.items };
+
+    ghost invariant = { λ a. AreBoxesOf a.edges.items a.boxes };
 }
 
 impl Prepared {
     /// Prepares a geometry.
     pub fn new(alloc: Global, given: &Valid) -> Result<Prepared, AllocError>
-        ensures { IfOk result (AreBoxesOf given.now) }
+        ensures { IfOk result (AreEdgesOf given.now) }
     {
         let edges = given.geometry().edges(alloc)?;
-        let boxes = boxes_of(alloc, edges.as_slice())?;
+        let pairs = edges.as_slice();
+        edges_lie_on_grid(pairs);
+        let boxes = boxes_of(alloc, pairs)?;
         let boxes = RTree::from_boxes(alloc, boxes)?;
-        Ok(Prepared { boxes })
+        Ok(Prepared { edges, boxes })
     }
 
     /// The matrix of a geometry with the one that was prepared, where no edge of that one has its box in the
-    /// way; else None.
-    ///
-    /// # Errors
-    ///
-    /// Want of memory alone.
-    pub fn matrix_told(
-        &self,
-        alloc: Global,
-        geometry: &Valid,
-        given: &Valid,
-    ) -> Result<Option<Matrix>, AllocError>
-        requires { AreBoxesOf given.now self.now }
-        ensures { IfOk result (λ told. IfSome told (λ matrix.
-            matrix.0 ≡ matrix_of geometry.now given.now)) }
+    /// way; else None. Memory is taken for a list of a few edges; where none is found, all are passed.
+    pub fn matrix_told(&self, alloc: Global, geometry: &Valid, given: &Valid) -> Option<Matrix>
+        requires { AreEdgesOf given.now self.now }
+        ensures { IfSome result (λ matrix. matrix.0 ≡ matrix_of geometry.now given.now) }
     {
         let extent = geometry.geometry().envelope();
-        if self.is_clear(alloc, &extent)? {
-            Ok(told_by_place(geometry, given, extent))
+        if self.is_clear(&extent) {
+            self.told_by_place(alloc, geometry, given, extent)
         } else {
-            Ok(None)
+            None
         }
     }
 
     /// Whether no edge's box shares a point with the box.
-    fn is_clear(&self, alloc: Global, extent: &Extent) -> Result<bool, AllocError>
-        ensures { IfOk result (λ clear. (given : _) → AreBoxesOf given self.now → IsTrue clear → AreClear extent.now (edges_of given)) }
+    fn is_clear(&self, extent: &Extent) -> bool
+        ensures { IsTrue result → AreClear extent.now (map edge_of self.now) }
     {
-        let near = self.boxes.meeting(alloc, extent)?;
-        Ok(near.as_slice().is_empty())
+        !self.boxes.has_meeting(extent)
+    }
+
+    /// The matrix of a geometry with the one that was prepared, of which no edge has a point of the other
+    /// one's box, `extent`, where that one has edges.
+    fn told_by_place(
+        &self,
+        alloc: Global,
+        geometry: &Valid,
+        given: &Valid,
+        extent: Extent,
+    ) -> Option<Matrix>
+        requires edges { AreEdgesOf given.now self.now }
+        requires valid { IsValid geometry.now }
+        requires extent { extent ≡ envelope_of geometry.now }
+        requires clear { AreClear extent (map edge_of self.now) }
+        ensures { IfSome result (λ matrix. matrix.0 ≡ matrix_of geometry.now given.now) }
+    {
+        match given.geometry() {
+            Geometry::Point(_) | Geometry::MultiPoint(_) => None,
+            Geometry::LineString(_) | Geometry::MultiLineString(_) => {
+                Some(apart_from_lines(geometry, given, extent))
+            }
+            Geometry::Polygon(_) | Geometry::MultiPolygon(_) => {
+                self.told_by_point(alloc, geometry, given, extent)
+            }
+        }
+    }
+
+    /// The matrix of a geometry with an area of which no edge has a point of its box, `extent`: the place of
+    /// its first point is that of the whole box.
+    fn told_by_point(
+        &self,
+        alloc: Global,
+        geometry: &Valid,
+        given: &Valid,
+        extent: Extent,
+    ) -> Option<Matrix>
+        requires edges { AreEdgesOf given.now self.now }
+        requires valid { IsValid geometry.now }
+        requires valid_given { IsValid given.now }
+        requires extent { extent ≡ envelope_of geometry.now }
+        requires clear { AreClear extent (edges_of given.now) }
+        requires area { shape_of given.now ≡ Areas }
+        ensures { IfSome result (λ matrix. matrix.0 ≡ matrix_of geometry.now given.now) }
+    {
+        let Some(first) = geometry.geometry().vertex(0, 0, 0) else {
+            return None;
+        };
+        match self.place_of(alloc, given, first) {
+            Place::Interior => Some(matrix_within(geometry, given)),
+            Place::Exterior => Some(matrix_apart(geometry, given)),
+            // No edge has a point of the box.
+            Place::Boundary => None,
+        }
+    }
+
+    /// The place in an area of a point that no edge of it has: by the edges above, or by all of them where no
+    /// memory is found.
+    fn place_of(&self, alloc: Global, given: &Valid, point: GridPoint) -> Place
+        requires edges { AreEdgesOf given.now self.now }
+        requires valid { IsValid given.now }
+        requires area { shape_of given.now ≡ Areas }
+        requires off { IsFalse (list_any (λ e. on_edge e (grid_point point)) (edges_of given.now)) }
+        ensures { IsPlaceOf given.now (grid_point point) result }
+    {
+        match self.is_odd_above(alloc, point) {
+            Ok(odd) => place_by_parity(odd),
+            Err(_) => locate(given, point),
+        }
+    }
+
+    /// Whether an odd number of the edges is above the point: the tree finds those that can be.
+    fn is_odd_above(&self, alloc: Global, point: GridPoint) -> Result<bool, AllocError>
+        ensures { IfOk result (λ odd.
+            odd ≡ is_odd (edges_above (grid_point point) (map edge_of self.now))) }
+    {
+        let ray = ray_above(point);
+        let near = self.boxes.meeting(alloc, &ray)?;
+        Ok(has_odd_above(near.as_slice(), self.edges.as_slice(), point))
     }
 }
 
-/// The matrix of a geometry with another one of which no edge has a point of its box, `extent`, where the
-/// other one has edges.
-fn told_by_place(geometry: &Valid, given: &Valid, extent: Extent) -> Option<Matrix>
-    requires valid { IsValid geometry.now }
-    requires extent { extent ≡ envelope_of geometry.now }
-    requires clear { AreClear extent (edges_of given.now) }
-    ensures { IfSome result (λ matrix. matrix.0 ≡ matrix_of geometry.now given.now) }
+/// The place in an area of a point that no edge of it has, by whether an odd number of them is above.
+fn place_by_parity(odd: bool) -> Place
+    ensures { result ≡ area_place false odd }
 {
-    match given.geometry() {
-        Geometry::Point(_) | Geometry::MultiPoint(_) => None,
-        Geometry::LineString(_) | Geometry::MultiLineString(_) => {
-            Some(apart_from_lines(geometry, given, extent))
-        }
-        Geometry::Polygon(_) | Geometry::MultiPolygon(_) => {
-            told_by_point(geometry, given, extent)
-        }
+    if odd {
+        Place::Interior
+    } else {
+        Place::Exterior
     }
 }
 
@@ -105,27 +178,6 @@ fn apart_from_lines(geometry: &Valid, given: &Valid, extent: Extent) -> Matrix
     ensures { result.0 ≡ matrix_of geometry.now given.now }
 {
     matrix_apart(geometry, given)
-}
-
-/// The matrix of a geometry with an area of which no edge has a point of its box, `extent`: the place of its
-/// first point is that of the whole box.
-fn told_by_point(geometry: &Valid, given: &Valid, extent: Extent) -> Option<Matrix>
-    requires valid { IsValid geometry.now }
-    requires valid_given { IsValid given.now }
-    requires extent { extent ≡ envelope_of geometry.now }
-    requires clear { AreClear extent (edges_of given.now) }
-    requires area { shape_of given.now ≡ Areas }
-    ensures { IfSome result (λ matrix. matrix.0 ≡ matrix_of geometry.now given.now) }
-{
-    let Some(first) = geometry.geometry().vertex(0, 0, 0) else {
-        return None;
-    };
-    match locate(given, first) {
-        Place::Interior => Some(matrix_within(geometry, given)),
-        Place::Exterior => Some(matrix_apart(geometry, given)),
-        // No edge has a point of the box.
-        Place::Boundary => None,
-    }
 }
 
 /// The boxes of these edges, numbered from 0 on.

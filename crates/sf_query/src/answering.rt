@@ -6,7 +6,7 @@ ghost use Rattle.sf_rules.specs.Validity.{IsValid};
 ghost use Rattle.sf_relate.specs.Matrices.{matrix_of};
 ghost use Rattle.sf_relate.specs.Patterns.{has_contact};
 ghost use Rattle.sf_relate.specs.Predicates.{holds};
-ghost use Rattle.sf_prepared.specs.Boxes.{AreBoxesOf};
+ghost use Rattle.sf_prepared.specs.Boxes.{AreEdgesOf};
 ghost use Rattle.sf_query.specs.Answers.{dim_of_geometry, is_answered, is_asked};
 
 use super::ask::Ask;
@@ -31,7 +31,7 @@ pub(crate) fn is_asked_beside(
 ) -> Result<bool, AllocError>
     requires extent { extent ≡ envelope_of given.now }
     requires valid { IsValid given.now }
-    requires prepared { IfSome prepared.now (AreBoxesOf given.now) }
+    requires prepared { IfSome prepared.now (AreEdgesOf given.now) }
     ensures { IfOk result (λ answer. answer ≡ is_asked ask.now geometry.now given.now) }
 {
     if are_apart(geometry, given, extent) {
@@ -50,7 +50,7 @@ pub(crate) fn is_asked_prepared(
     given: &Valid,
     prepared: &Option<Prepared>,
 ) -> Result<bool, AllocError>
-    requires { IfSome prepared.now (AreBoxesOf given.now) }
+    requires { IfSome prepared.now (AreEdgesOf given.now) }
     ensures { IfOk result (λ answer. answer ≡ is_asked ask.now geometry.now given.now) }
 {
     match told_by_prepared(alloc, geometry, given, prepared) {
@@ -59,21 +59,18 @@ pub(crate) fn is_asked_prepared(
     }
 }
 
-/// The matrix, where what was made of the given geometry tells it, and memory for that is found.
+/// The matrix, where what was made of the given geometry tells it.
 fn told_by_prepared(
     alloc: Global,
     geometry: &Valid,
     given: &Valid,
     prepared: &Option<Prepared>,
 ) -> Option<Matrix>
-    requires { IfSome prepared.now (AreBoxesOf given.now) }
+    requires { IfSome prepared.now (AreEdgesOf given.now) }
     ensures { IfSome result (λ matrix. matrix.0 ≡ matrix_of geometry.now given.now) }
 {
     match prepared {
-        Some(prepared) => match prepared.matrix_told(alloc, geometry, given) {
-            Ok(told) => told,
-            Err(_) => None,
-        },
+        Some(prepared) => prepared.matrix_told(alloc, geometry, given),
         None => None,
     }
 }

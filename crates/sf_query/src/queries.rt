@@ -7,7 +7,7 @@ ghost use Rattle.sf_rules.specs.Validity.{IsValid};
 ghost use Rattle.sf_layers.specs.Boxes.{boxes_of};
 ghost use Rattle.sf_layers.specs.Content.{layer_of};
 ghost use Rattle.sf_layers.specs.WellFormed.{IsLayer};
-ghost use Rattle.sf_prepared.specs.Boxes.{AreBoxesOf};
+ghost use Rattle.sf_prepared.specs.Boxes.{AreEdgesOf};
 ghost use Rattle.sf_query.specs.Answers.{IsAnswer, needs_contact};
 ghost use Rattle.sf_query.specs.Replies.{IsQueried, IsRelated};
 
@@ -96,7 +96,7 @@ fn found_by_index(
     given: &Valid,
     prepared: &Option<Prepared>,
 ) -> Result<Found, AllocError>
-    requires prepared { IfSome prepared.now (AreBoxesOf given.now) }
+    requires prepared { IfSome prepared.now (AreEdgesOf given.now) }
     requires layer { IsLayer layer.now }
     requires index { index.now ≡ boxes_of layer.now.features }
     requires contact { IsTrue (needs_contact ask.now) }
@@ -117,7 +117,7 @@ fn found_by_index(
 /// What is made of the given geometry where many features are asked about it; else None, and where no
 /// memory is found.
 fn prepared_for(alloc: Global, given: &Valid, features: usize) -> Option<Prepared>
-    ensures { IfSome result (AreBoxesOf given.now) }
+    ensures { IfSome result (AreEdgesOf given.now) }
 {
     if features < MANY_FEATURES || given.geometry().point_count() <= FEW_POINTS {
         return None;
@@ -143,7 +143,7 @@ fn found_by_pass(
     given: &Valid,
     prepared: &Option<Prepared>,
 ) -> Result<Found, AllocError>
-    requires prepared { IfSome prepared.now (AreBoxesOf given.now) }
+    requires prepared { IfSome prepared.now (AreEdgesOf given.now) }
     requires layer { IsLayer layer.now }
     ensures { IfOk result (IsAnswer layer.now ask.now given.now) }
 {

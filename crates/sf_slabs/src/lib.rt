@@ -10,5 +10,5 @@ mod tests;
 pub use conditions::{are_in_range, have_length};
 pub use decomposition::decompose;
 pub use sf_cells::{Cell, CellSink, Numbers};
-pub use sf_columns::Piece;
-pub use sweep::walk;
+pub use sf_columns::{Piece, Vertex};
+pub use sweep::{walk, walk_sorted};

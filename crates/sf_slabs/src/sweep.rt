@@ -194,8 +194,28 @@ pub fn walk<S: CellSink>(
     ensures err { OnErr result (sink.new ≡ sink.old) }
 {
     let vertices = vertices(alloc, pieces)?;
+    walk_sorted(alloc, pieces, groups, vertices.as_slice(), sink)
+}
+
+/// The same over all vertices of the pieces, in their order, for those who have them at hand.
+pub fn walk_sorted<S: CellSink>(
+    alloc: Global,
+    pieces: &[Piece],
+    groups: &[u32],
+    vertices: &[Vertex],
+    sink: &mut S,
+) -> Result<(), AllocError>
+    requires few { length pieces.now ≤ 65535 }
+    requires few_vertices { length vertices.now ≤ 131070 }
+    requires one_group_each { length groups.now ≡ length pieces.now }
+    requires all { IsPermutation (all_vertices 0 pieces.now) vertices.now }
+    requires in_order { IsSortedBy vertex_before vertices.now }
+    ensures ok { OnOk result (S.content sink.new ≡ fold S.after (S.content sink.old)
+        (map (item_of groups.now) (cells pieces.now))) }
+    ensures err { OnErr result (sink.new ≡ sink.old) }
+{
     let mut sweep = Sweep::new(alloc, pieces.len(), vertices.len(), group_count(groups))?;
-    sweep.run(pieces, groups, vertices.as_slice(), sink);
+    sweep.run(pieces, groups, vertices, sink);
     Ok(())
 }
 

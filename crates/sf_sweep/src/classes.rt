@@ -1,6 +1,6 @@
 //! Items that represent the cells of pieces, by a sweep that hands out only what an event changes.
 
-ghost use Rattle.std.specs.Prelude.{◌≡◌, ◌-◌, ◌<◌, ◌≤◌, ◌++◌, false, length, replicate, OnErr, OnOk};
+ghost use Rattle.std.specs.Prelude.{◌≡◌, ◌-◌, ◌<◌, ◌≤◌, ◌++◌, false, length, replicate, take, OnErr, OnOk};
 ghost use Rattle.std.specs.List.{All};
 ghost use Rattle.sf_cells.specs.Groups.{group_count as group_count_of};
 ghost use Rattle.sf_cells.specs.Pieces.{HasLength};
@@ -9,10 +9,10 @@ ghost use Rattle.sf_classes.specs.Classes.{WereHanded};
 use crate::quick::Quick;
 use sf_cells::CellSink;
 use sf_columns::{Piece, Role, Vertex, vertices};
-use sf_slabs::walk;
+use sf_slabs::{walk, walk_sorted};
 use std::alloc::{AllocError, Global};
 
-/// How many groups there can be, and how many marks of them: as many as a row of parities has.
+/// How many groups a row of parities has.
 const ROW: usize = 8;
 
 /// How many edges are over a vertex on the average, at most, where `walk` is quicker.
@@ -22,11 +22,11 @@ const FEW: usize = 4;
 /// of its class with at least its dimension, and for each cell such an item. Items are of one class
 /// if they have the same counts on them and, of each group that `areal` marks, the same parity of
 /// edges above; no more than that parity may be read from the counts above. A group should be
-/// marked only if its edges are closed chains: else the answer is as right, but slow. With more groups
-/// or marks than a row has, and where cells are few, it hands out all cells. Where memory is wanting the
-/// sink is left as it was.
+/// marked only if its edges are closed chains: else the answer is as right, but slow. Where the groups
+/// fill a row, or cells are few, it hands out all cells. Where memory is wanting the sink is left as it
+/// was.
 /// A sink that is full may be handed no further item: those that are left would change nothing in it.
-pub fn sweep<S: CellSink>(
+pub fn walk_classes<S: CellSink>(
     alloc: Global,
     pieces: &[Piece],
     groups: &[u32],
@@ -41,7 +41,7 @@ pub fn sweep<S: CellSink>(
         (S.content sink.old) (S.content sink.new)) }
     ensures err { OnErr result (sink.new ≡ sink.old) }
 {
-    if group_count(groups) > ROW || areal.len() > ROW {
+    if group_count(groups) >= ROW {
         return walk(alloc, pieces, groups, sink);
     }
     sweep_marked(alloc, pieces, groups, &row_of(areal), sink)
@@ -66,7 +66,7 @@ fn sweep_marked<S: CellSink>(
 {
     let vertices = vertices(alloc, pieces)?;
     if are_under_few(vertices.as_slice()) {
-        return walk(alloc, pieces, groups, sink);
+        return walk_sorted(alloc, pieces, groups, vertices.as_slice(), sink);
     }
     let mut quick = Quick::new(alloc, pieces.len(), vertices.len(), group_count(groups))?;
     quick.run(sink, pieces, groups, areal, vertices.as_slice());
@@ -92,14 +92,21 @@ fn are_under_few(vertices: &[Vertex]) -> bool
     total <= FEW * vertices.len()
 }
 
-/// The marks of groups, as many as a row has: those that aren't there aren't asked for.
+/// The marks of the first groups, as many as a row has: those that aren't there aren't asked for.
 fn row_of(areal: &[bool]) -> [bool; 8]
-    requires few { length areal.now ≤ 8 }
-    ensures { result ≡ areal.now ++ replicate (8 - length areal.now) false }
+    ensures { result ≡ take 8 areal.now ++ replicate (8 - length areal.now) false }
 {
+    let first = first_marks(areal);
     let mut row = [false; 8];
-    row.split_at_mut(areal.len()).0.copy_from_slice(areal);
+    row.split_at_mut(first.len()).0.copy_from_slice(first);
     row
+}
+
+/// The first marks, as many as a row has.
+fn first_marks(areal: &[bool]) -> &[bool]
+    ensures { result.now ≡ take 8 areal.now }
+{
+    areal.get(..ROW).unwrap_or(areal)
 }
 
 /// How many groups there are: the greatest number plus one, or 0.

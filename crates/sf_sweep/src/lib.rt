@@ -15,4 +15,4 @@ mod settle;
 mod sides;
 mod window;
 
-pub use classes::sweep;
+pub use classes::walk_classes;

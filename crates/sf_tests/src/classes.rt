@@ -1,8 +1,9 @@
 //! A triangle and a line that enters it: what is handed out tells what the cells tell.
 
-use sf_classes::{CellSink, Piece, walk_classes};
+use sf_classes::{CellSink, Piece};
 use sf_grid::GridPoint;
 use sf_slabs::{are_in_range, have_length};
+use sf_sweep::walk_classes;
 use std::alloc::Global;
 use std::test::Fail;
 

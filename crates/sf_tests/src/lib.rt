@@ -33,6 +33,8 @@ mod sizes;
 #[cfg(test)]
 mod support;
 #[cfg(test)]
+mod sweeps;
+#[cfg(test)]
 mod values;
 #[cfg(test)]
 mod weights;

@@ -11,6 +11,11 @@ are_under_few-requires g c =
       few = subst (λ vs. length vs ≤ 131070) (sym c.as_slice.ensures.value) (vertices-few c.args.pieces.now c.in_ok-vertices.vertices.items c.requires.few c.in_ok-vertices.ensures.all);
     }
 
+pub walk_sorted-requires-clause-few_vertices : goal.walk_sorted-requires-clause-few_vertices
+walk_sorted-requires-clause-few_vertices g c =
+    subst (λ vs. length vs ≤ 131070) (sym c.as_slice-then-are_under_few.ensures.value)
+    (vertices-few c.args.pieces.now c.in_ok-vertices.vertices.items c.requires.few c.in_ok-vertices.ensures.all)
+
 pub new-requires-clause-few_vertices : goal.new-requires-clause-few_vertices
 new-requires-clause-few_vertices g c =
     few-number _ _ (length c.in_ok-vertices.vertices.items) c.len.ensures (search rules)
@@ -31,4 +36,4 @@ pub run-requires-clause-none_above : goal.run-requires-clause-none_above
 run-requires-clause-none_above g c = c.in_ok-quick.ensures.none_above ∙ ap (λ n. replicate n 0) c.group_count.ensures ∙ sym (counts_none c.args.groups.now)
 
 pub returns-then-are_under_few-clause-ok : goal.returns-then-are_under_few-clause-ok
-returns-then-are_under_few-clause-ok g c = handed-walk c.walk.result c.args.pieces.now c.args.groups.now c.args.areal.now _ _ _ c.walk.ensures.ok
+returns-then-are_under_few-clause-ok g c = handed-walk c.walk_sorted.result c.args.pieces.now c.args.groups.now c.args.areal.now _ _ _ c.walk_sorted.ensures.ok

@@ -1,12 +1,10 @@
-use Rattle.std.proofs.Common.{◌≡◌}
-use Rattle.sf_rtree.specs.Indexes.{ids_meeting}
-use Rattle.sf_prepared.proofs.TreeLaws.{clear-from}
+use Rattle.std.proofs.Common.{◌∙◌, map, subst, sym}
+use Rattle.sf_geometry.specs.Parts.{edge_of}
+use Rattle.sf_prepared.specs.Places.{AreClear}
+use Rattle.sf_prepared.proofs.TreeLaws.{clear-from, none-said}
 use Rattle.sf_prepared.proofs.prepared.Prepared.is_clear.Goals as goal
 
 pub returns : goal.returns
-returns c given are clear =
-    let found = c.in_ok-near.ensures in
-    let seen = c.self.view_is in
-    let slice = c.as_slice.ensures.value in
-    let ids : c.as_slice.result.now ≡ ids_meeting c.args.extent.now c.args.self.now = cc in
-    clear-from given c.args.self.now c.args.extent.now c.as_slice.result.now c.is_empty.result are ids c.is_empty.ensures clear
+returns c clear =
+    subst (λ pairs. AreClear c.args.extent.now (map edge_of pairs)) c.self.view_is
+    (clear-from c.self.inside.edges.items c.self.inside.boxes c.args.extent.now c.self.invariant (sym c.has_meeting.ensures ∙ none-said c.has_meeting.result clear))

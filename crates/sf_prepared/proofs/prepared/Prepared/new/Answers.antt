@@ -8,16 +8,11 @@ use Rattle.sf_prepared.proofs.prepared.Prepared.new.Goals as goal
 
 pub boxes_of-requires : goal.boxes_of-requires
 boxes_of-requires c =
-    few-pairs c.args.given.now c.geometry.result.now c.as_slice.result.now c.geometry.ensures.valid.valid.sized c.geometry.ensures.same
-    (ap (map edge_of) c.as_slice.ensures.value ∙ c.in_ok-edges.ensures)
+    few-pairs c.args.given.now c.geometry.result.now c.as_slice-pairs.result.now c.geometry.ensures.valid.valid.sized c.geometry.ensures.same
+    (ap (map edge_of) c.as_slice-pairs.ensures.value ∙ c.in_ok-edges.ensures)
 
 pub from_boxes-requires : goal.from_boxes-requires
-from_boxes-requires c = subst (λ boxes. IsStrictlySortedBy nat_cmp (keys_of boxes)) (sym c.in_ok-boxes.ensures) (numbers-rise 0 c.as_slice.result.now)
+from_boxes-requires c = subst (λ boxes. IsStrictlySortedBy nat_cmp (keys_of boxes)) (sym c.in_ok-boxes.ensures) (numbers-rise 0 c.as_slice-pairs.result.now)
 
 pub returns : goal.returns
-returns c =
-    record {
-      pairs = c.as_slice.result.now;
-      edges = ap (map edge_of) c.as_slice.ensures.value ∙ c.in_ok-edges.ensures ∙ ap edges_of c.geometry.ensures.same;
-      same = c.in_ok-boxes-2.ensures ∙ c.in_ok-boxes.ensures;
-    }
+returns c = c.in_ok-edges.ensures ∙ ap edges_of c.geometry.ensures.same
