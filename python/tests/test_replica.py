@@ -23,6 +23,7 @@ from replica_support import OPTIONS, ReplicaCase, missing
 from support import FOLDER, PROGRAM, TestCase
 
 from sfstore import JournalError, Refused, Store
+from sfstore.commands import COMMANDS
 from sfstore.replica import LogUnreachable, NotAcknowledged, Replica, ReplicaStopped, owning
 from sfstore.replica.demo import Trial
 from sfstore.replica.lines import EDITS, QUESTIONS, asked
@@ -61,11 +62,8 @@ class Lines(TestCase):
         self.assertEqual(set(words.split("|")), EDITS)
 
     def test_edits_and_questions_are_all_words_of_the_console(self):
-        lines = [f"{word} a b c d e f g h" for word in sorted(EDITS | QUESTIONS)]
-        with Store(PROGRAM) as store:
-            store.run_all(["layer add w point"])
-            outcomes = store.run_all(["layer drop v", "column drop v a", "add w x", "undo", *lines])
-        self.assertEqual([str(it) for it in outcomes[:2]], ["18 NoLayer: layer drop v", "18 NoLayer: column drop v a"])
+        self.assertEqual({command.usage.split(" ")[0] for command in COMMANDS}, EDITS | QUESTIONS)
+        self.assertFalse(EDITS & QUESTIONS)
 
 
 @unittest.skipIf(missing(), missing())
@@ -288,15 +286,6 @@ class Sessions(ReplicaCase):
         answers = b"ok\nok 1\nrefused 31 BadCommand\nrows 1\n1 POINT (3 4)\nrefused 31 BadCommand\n"
         answers += b"refused 101 OtherEditor\nrefused 33 LineTooLong\nok\n"
         self.assertEqual((said.stdout, said.stderr, said.returncode), (answers, b"", 0))
-
-    def test_the_store_of_the_module_over_a_session(self):
-        script = f"#!/bin/sh\nexec env PYTHONPATH={FOLDER} {sys.executable} -m sfstore.replica.command run "
-        script += f"{self.folder / 'ann'} '{self.dsn('ann')}' --program {PROGRAM}\n"
-        with Store(self.script(script)) as store:
-            store.add_layer("w", "point")
-            self.assertEqual(store.add("w", "POINT (3 4)"), 1)
-            self.assertEqual(store.show("w")[0].wkt, "POINT (3 4)")
-            self.assert_refused(101, "OtherEditor", store.editor(9).undo)
 
     def test_many_at_a_socket(self):
         words = ["run", str(self.folder / "ann"), self.dsn("ann"), "--program", PROGRAM, "--listen"]
