@@ -109,7 +109,7 @@ at-head all q n pair rest is = ap (λ ps. list_any (λ r. edge_above (edge_of r)
     or-false true = refl
     or-false false = refl
 
-next-drop : (all : List (Coordinates × Coordinates)) (n : ℕ) (pair : Coordinates × Coordinates) (rest : List (Coordinates × Coordinates)) → drop n all ≡ pair ∷ rest → drop (n + 1) all ≡ rest
+pub next-drop : (all : List (Coordinates × Coordinates)) (n : ℕ) (pair : Coordinates × Coordinates) (rest : List (Coordinates × Coordinates)) → drop n all ≡ pair ∷ rest → drop (n + 1) all ≡ rest
 next-drop all n pair rest is = sym (drop-drop 1 n all) ∙ ap (drop 1) is
 
 found-odd : (all : List (Coordinates × Coordinates)) (p : Coordinates) (n : ℕ) (pairs : List (Coordinates × Coordinates)) → drop n all ≡ pairs → AllByRecursion AreOnGrid pairs → IsOnGrid p →
@@ -127,7 +127,7 @@ found-odd all p n (pair ∷ pairs) is grid i =
     by_test false e k =
         k ∙ sym (ap (λ b. differ b (is_odd (edges_above (grid_point p) (map edge_of pairs)))) (false_from_ne_true (edge_above (edge_of pair) (grid_point p)) (λ h. both_ways _ e (above-meets pair p grid.0 i h))))
 
-found-inside : (size n : ℕ) (extent : Extent) (pairs : List (Coordinates × Coordinates)) → n + length pairs ≤ size → AllByRecursion (λ id. id < size) (ids_meeting extent (boxes_from n pairs))
+pub found-inside : (size n : ℕ) (extent : Extent) (pairs : List (Coordinates × Coordinates)) → n + length pairs ≤ size → AllByRecursion (λ id. id < size) (ids_meeting extent (boxes_from n pairs))
 found-inside size n extent [] h = tt
 found-inside size n extent (pair ∷ pairs) h = by_test (extents_meet (extent_of_edge pair) extent) (found-inside size (n + 1) extent pairs (omega arith))
   where

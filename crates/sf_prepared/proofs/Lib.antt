@@ -1,4 +1,5 @@
 pub mod AboveLaws
+pub mod BesideLaws
 pub mod NearLaws
 pub mod PlacedLaws
 pub mod TreeLaws

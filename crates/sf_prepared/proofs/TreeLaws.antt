@@ -65,7 +65,7 @@ has-ends pair = (
     second s t = and_from (int_le (int_min s t *ℤ pos 1) t) (int_le t (int_max s t *ℤ pos 1)) (test_from_le (int_min s t *ℤ pos 1) t (omega (arith, ints, clamps))) (test_from_le t (int_max s t *ℤ pos 1) (omega (arith, ints, clamps)))
 
 -- ---- where none meets the box
-off-box : (extent : Extent) (pair : Coordinates × Coordinates) → extents_meet (extent_of_edge pair) extent ≡ false → IsOffBox (box_of_extent extent) (edge_of pair)
+pub off-box : (extent : Extent) (pair : Coordinates × Coordinates) → extents_meet (extent_of_edge pair) extent ≡ false → IsOffBox (box_of_extent extent) (edge_of pair)
 off-box extent pair apart p i in_it on =
     both_ways (extents_meet (extent_of_edge pair) extent) apart
     (common_point_meets (box_of_extent (extent_of_edge pair)) (box_of_extent extent) p i (edge_in_box (box_of_extent (extent_of_edge pair)) (edge_of pair) p (has-ends pair) i on) in_it)

@@ -1,8 +1,8 @@
 -- Where all points of a box lie in a valid geometry of which no edge has a point of the box.
-use Rattle.std.specs.Prelude.{◌≡◌, List, IsTrue}
+use Rattle.std.specs.Prelude.{◌≡◌, ℤ, pos, int_lt, List, IsTrue}
 use Rattle.std.specs.List.{AllByRecursion}
-use Rattle.sf_grid.specs.Edge.{Edge as Line}
-use Rattle.sf_grid.specs.Plane.{IsPoint, Point as PlanePoint}
+use Rattle.sf_grid.specs.Edge.{Edge as Line, cross}
+use Rattle.sf_grid.specs.Plane.{Coordinates, IsPoint, Point as PlanePoint, grid_point}
 use Rattle.sf_geometry.specs.declared.extent.Extent.{Extent}
 use Rattle.sf_geometry.specs.declared.geometry.Geometry.{Geometry}
 use Rattle.sf_geometry.specs.Envelope.{envelope_of}
@@ -18,6 +18,16 @@ use Rattle.sf_relate.specs.Told.{IsWithin, ShareNone}
 -- no edge has a point of the box
 abbrev pub AreClear : Extent → List Line → Type 0
 AreClear extent es = AllByRecursion (IsOffBox (box_of_extent extent)) es
+
+-- the place is to the left of the way from a to b
+abbrev pub IsLeft : Coordinates → Coordinates → ℤ → ℤ → Type 0
+IsLeft a b x y = IsTrue (int_lt (pos 0) (cross a b (grid_point (record { x = x; y = y }))))
+
+-- all corners of the box are
+abbrev pub IsBoxLeft : Coordinates → Coordinates → Extent → Type 0
+IsBoxLeft a b extent =
+    (IsLeft a b extent.min_x extent.min_y × IsLeft a b extent.min_x extent.max_y)
+    × (IsLeft a b extent.max_x extent.min_y × IsLeft a b extent.max_x extent.max_y)
 
 -- of an area no edge of which has a point of a geometry's box: with one point of the geometry all of it is in the interior
 abbrev pub WithinByPoint : Type 0

@@ -2,6 +2,7 @@
 #![tactic(auto)]
 
 mod above;
+mod beside;
 pub mod laws;
 mod prepared;
 

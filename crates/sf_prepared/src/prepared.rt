@@ -15,6 +15,7 @@ ghost use Rattle.sf_prepared.specs.Boxes.{AreEdgesOf, boxes_from, extent_of_edge
 ghost use Rattle.sf_prepared.specs.Places.{AreClear};
 
 use crate::above::{edges_lie_on_grid, has_odd_above, ray_above};
+use crate::beside::all_miss;
 use sf_geometry::{Extent, Geometry};
 use sf_grid::GridPoint;
 use sf_relate::{Matrix, Place, locate, matrix_apart, matrix_within};
@@ -56,25 +57,43 @@ impl Prepared {
         Ok(Prepared { edges, boxes })
     }
 
-    /// The matrix of a geometry with the one that was prepared, where no edge of that one has its box in the
-    /// way; else None. Memory is taken for a list of a few edges; where none is found, all are passed.
+    /// The matrix of a geometry with the one that was prepared, where the box of the geometry lies on one side
+    /// of each edge of that one; else None. Memory is taken for lists of near edges alone; where none is found,
+    /// the answer may be None in place of a matrix.
     pub fn matrix_told(&self, alloc: Global, geometry: &Valid, given: &Valid) -> Option<Matrix>
         requires { AreEdgesOf given.now self.now }
         ensures { IfSome result (λ matrix. matrix.0 ≡ matrix_of geometry.now given.now) }
     {
         let extent = geometry.geometry().envelope();
-        if self.is_clear(&extent) {
+        if self.is_clear(alloc, &extent) {
             self.told_by_place(alloc, geometry, given, extent)
         } else {
             None
         }
     }
 
+    /// Whether no edge has a point of the box, as boxes show, or else the edges whose boxes are in the way.
+    fn is_clear(&self, alloc: Global, extent: &Extent) -> bool
+        ensures { IsTrue result → AreClear extent.now (map edge_of self.now) }
+    {
+        self.has_no_box(extent) || self.is_missed(alloc, extent)
+    }
+
     /// Whether no edge's box shares a point with the box.
-    fn is_clear(&self, extent: &Extent) -> bool
+    fn has_no_box(&self, extent: &Extent) -> bool
         ensures { IsTrue result → AreClear extent.now (map edge_of self.now) }
     {
         !self.boxes.has_meeting(extent)
+    }
+
+    /// Whether each edge whose box is in the way misses the box. Where no memory is found nothing is known.
+    fn is_missed(&self, alloc: Global, extent: &Extent) -> bool
+        ensures { IsTrue result → AreClear extent.now (map edge_of self.now) }
+    {
+        match self.boxes.meeting(alloc, extent) {
+            Ok(near) => all_miss(near.as_slice(), self.edges.as_slice(), extent),
+            Err(_) => false,
+        }
     }
 
     /// The matrix of a geometry with the one that was prepared, of which no edge has a point of the other

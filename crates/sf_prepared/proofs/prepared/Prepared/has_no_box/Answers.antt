@@ -2,7 +2,7 @@ use Rattle.std.proofs.Common.{◌∙◌, map, subst, sym}
 use Rattle.sf_geometry.specs.Parts.{edge_of}
 use Rattle.sf_prepared.specs.Places.{AreClear}
 use Rattle.sf_prepared.proofs.TreeLaws.{clear-from, none-said}
-use Rattle.sf_prepared.proofs.prepared.Prepared.is_clear.Goals as goal
+use Rattle.sf_prepared.proofs.prepared.Prepared.has_no_box.Goals as goal
 
 pub returns : goal.returns
 returns c clear =

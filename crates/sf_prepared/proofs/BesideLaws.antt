@@ -1,0 +1,145 @@
+-- An edge has no point of a box that lies on one side of it; where all edges whose boxes are in the way do so, the box is clear.
+use Rattle.std.proofs.Common.{◌≡◌, ℕ, ◌+◌, ◌<◌, ◌≤◌, arith, refl, ap, sym, ◌∙◌, subst, get_or, ℤ, pos, ◌+ℤ◌, ◌-ℤ◌, ◌*ℤ◌, ◌<ℤ◌, ◌≤ℤ◌, Bool, true, false, List, [], ◌∷◌, drop, take, length, map, filter}
+use Rattle.std.specs.Prelude.{if◌then◌else◌, int_le}
+use Rattle.std.specs.List.{AllByRecursion}
+use Rattle.std.specs.Map.{keys_of}
+use Rattle.std.proofs.lemmas.Bool.{and_parts}
+use Rattle.std.proofs.lemmas.Int.{by_lt_z, ints}
+use Rattle.std.proofs.lemmas.List.{drop_all, drop_more}
+use Rattle.sf_grid.specs.Plane.{Coordinates, IsPoint, Point, grid_point, x_of, y_of}
+use Rattle.sf_grid.specs.Edge.{cross, edge_between, within}
+use Rattle.sf_grid.proofs.CallerLemmas.{dif, le_from_test, lies, lt_from_test, mul, mul_nonneg-nonneg, mul_pos, num, ring, sum, var}
+use Rattle.sf_geometry.specs.declared.extent.Extent.{Extent}
+use Rattle.sf_geometry.specs.Envelope.{extents_meet}
+use Rattle.sf_geometry.specs.Parts.{edge_of}
+use Rattle.sf_paths.specs.Paths.{IsOffBox}
+use Rattle.sf_plane.specs.Boxes.{in_box}
+use Rattle.sf_relate.specs.Contact.{box_of_extent}
+use Rattle.sf_rtree.specs.Indexes.{ids_meeting}
+use Rattle.sf_prepared.specs.Boxes.{boxes_from, extent_of_edge}
+use Rattle.sf_prepared.specs.Places.{AreClear, IsBoxLeft, IsLeft}
+use Rattle.sf_prepared.proofs.AboveLaws.{found-inside, next-drop}
+use Rattle.sf_prepared.proofs.TreeLaws.{off-box}
+
+-- ---- on one side
+-- the side of a point, by that of a corner
+from-corner : (a b : Coordinates) (p : Point) (x y : ℤ) →
+    cross a b p ≡ cross a b (grid_point (record { x = x; y = y })) *ℤ pos p.d +ℤ ((b.x -ℤ a.x) *ℤ (p.y -ℤ y *ℤ pos p.d) +ℤ (a.y -ℤ b.y) *ℤ (p.x -ℤ x *ℤ pos p.d))
+from-corner a b p x y =
+    ring (a.x ∷ a.y ∷ b.x ∷ b.y ∷ p.x ∷ p.y ∷ pos p.d ∷ x ∷ y ∷ [])
+    (dif (mul (dif (var 2) (var 0)) (dif (var 5) (mul (var 1) (var 6)))) (mul (dif (var 3) (var 1)) (dif (var 4) (mul (var 0) (var 6)))))
+    (sum
+    (mul (dif (mul (dif (var 2) (var 0)) (dif (var 8) (mul (var 1) (num (pos 1))))) (mul (dif (var 3) (var 1)) (dif (var 7) (mul (var 0) (num (pos 1)))))) (var 6))
+    (sum (mul (dif (var 2) (var 0)) (dif (var 5) (mul (var 8) (var 6)))) (mul (dif (var 1) (var 3)) (dif (var 4) (mul (var 7) (var 6))))))
+    refl
+
+beyond-corner : (a b : Coordinates) (p : Point) (x y : ℤ) → IsPoint p → IsLeft a b x y → pos 0 ≤ℤ ((b.x -ℤ a.x) *ℤ (p.y -ℤ y *ℤ pos p.d)) → pos 0 ≤ℤ ((a.y -ℤ b.y) *ℤ (p.x -ℤ x *ℤ pos p.d)) → pos 0 <ℤ cross a b p
+beyond-corner a b p x y i h s t =
+    sum_of (cross a b p) _ _ _ (from-corner a b p x y) (mul_pos (cross a b (grid_point (record { x = x; y = y }))) p.d i.positive (lt_from_test (pos 0) (cross a b (grid_point (record { x = x; y = y }))) h)) s t
+  where
+    sum_of : (z k m n : ℤ) → z ≡ k +ℤ (m +ℤ n) → pos 0 <ℤ k → pos 0 ≤ℤ m → pos 0 ≤ℤ n → pos 0 <ℤ z
+    sum_of z k m n e f g h' = omega (arith, ints)
+
+-- the product by the least or by the greatest of a range is not negative, whichever sign the factor has
+record Ranged (low high z r : ℤ) : Type 0 where
+  at_low : pos 0 ≤ℤ r → pos 0 ≤ℤ (r *ℤ (z -ℤ low))
+  at_high : r <ℤ pos 0 → pos 0 ≤ℤ (r *ℤ (z -ℤ high))
+
+ranged : (low high z r : ℤ) → low ≤ℤ z → z ≤ℤ high → Ranged low high z r
+ranged low high z r f g =
+    record {
+      at_low = λ h. mul_nonneg-nonneg r (z -ℤ low) h (up low z f);
+      at_high = λ h. turned (mul_nonneg-nonneg (pos 0 -ℤ r) (high -ℤ z) (away r h) (up z high g));
+    }
+  where
+    up : (m n : ℤ) → m ≤ℤ n → pos 0 ≤ℤ (n -ℤ m)
+    up m n h = omega (arith, ints)
+
+    away : (m : ℤ) → m <ℤ pos 0 → pos 0 ≤ℤ (pos 0 -ℤ m)
+    away m h = omega (arith, ints)
+
+    turned : pos 0 ≤ℤ ((pos 0 -ℤ r) *ℤ (high -ℤ z)) → pos 0 ≤ℤ (r *ℤ (z -ℤ high))
+    turned h = subst (λ k. pos 0 ≤ℤ k) (ring (r ∷ high ∷ z ∷ []) (mul (dif (num (pos 0)) (var 0)) (dif (var 1) (var 2))) (mul (var 0) (dif (var 2) (var 1))) refl) h
+
+left-of-way : (a b : Coordinates) (extent : Extent) (p : Point) → IsPoint p → IsBoxLeft a b extent → in_box (box_of_extent extent) p ≡ true → pos 0 <ℤ cross a b p
+left-of-way a b extent p i h inside =
+    let parts = and_parts (within extent.min_x extent.max_x (x_of p)) (within extent.min_y extent.max_y (y_of p)) inside in
+    let x = and_parts (int_le (extent.min_x *ℤ pos p.d) p.x) (int_le p.x (extent.max_x *ℤ pos p.d)) parts.0 in
+    let y = and_parts (int_le (extent.min_y *ℤ pos p.d) p.y) (int_le p.y (extent.max_y *ℤ pos p.d)) parts.1 in
+    let across = ranged (extent.min_x *ℤ pos p.d) (extent.max_x *ℤ pos p.d) p.x (a.y -ℤ b.y) (le_from_test _ _ x.0) (le_from_test _ _ x.1) in
+    let up = ranged (extent.min_y *ℤ pos p.d) (extent.max_y *ℤ pos p.d) p.y (b.x -ℤ a.x) (le_from_test _ _ y.0) (le_from_test _ _ y.1) in
+    by_lt_z (b.x -ℤ a.x) (pos 0)
+    (λ back. by_lt_z (a.y -ℤ b.y) (pos 0)
+    (λ rise. beyond-corner a b p extent.max_x extent.max_y i h.1.1 (up.at_high back) (across.at_high rise))
+    (λ fall. beyond-corner a b p extent.min_x extent.max_y i h.0.1 (up.at_high back) (across.at_low fall)))
+    (λ on. by_lt_z (a.y -ℤ b.y) (pos 0)
+    (λ rise. beyond-corner a b p extent.max_x extent.min_y i h.1.0 (up.at_low on) (across.at_high rise))
+    (λ fall. beyond-corner a b p extent.min_x extent.min_y i h.0.0 (up.at_low on) (across.at_low fall)))
+
+no-zero : (z : ℤ) → pos 0 <ℤ z → z ≡ pos 0 → ⊥
+no-zero z h e = absurd (omega (arith, ints))
+
+pub misses-left : (a b : Coordinates) (extent : Extent) → IsBoxLeft a b extent → IsOffBox (box_of_extent extent) (edge_between a b)
+misses-left a b extent h p i inside on = no-zero (cross a b p) (left-of-way a b extent p i h inside) (lies (edge_between a b) p on).line
+
+pub misses-right : (a b : Coordinates) (extent : Extent) → IsBoxLeft b a extent → IsOffBox (box_of_extent extent) (edge_between a b)
+misses-right a b extent h p i inside on =
+    no-zero (cross b a p) (left-of-way b a extent p i h inside) (back (cross a b p) (cross b a p) turned (lies (edge_between a b) p on).line)
+  where
+    turned : cross b a p ≡ pos 0 -ℤ cross a b p
+    turned =
+        ring (a.x ∷ a.y ∷ b.x ∷ b.y ∷ p.x ∷ p.y ∷ pos p.d ∷ [])
+        (dif (mul (dif (var 0) (var 2)) (dif (var 5) (mul (var 3) (var 6)))) (mul (dif (var 1) (var 3)) (dif (var 4) (mul (var 2) (var 6)))))
+        (dif (num (pos 0)) (dif (mul (dif (var 2) (var 0)) (dif (var 5) (mul (var 1) (var 6)))) (mul (dif (var 3) (var 1)) (dif (var 4) (mul (var 0) (var 6))))))
+        refl
+
+    back : (z w : ℤ) → w ≡ pos 0 -ℤ z → z ≡ pos 0 → w ≡ pos 0
+    back z w e f = omega (arith, ints)
+
+-- ---- of the edges in the way
+-- the edge of a number misses the box
+abbrev misses_at : List (Coordinates × Coordinates) → Extent → ℕ → Type 0
+misses_at pairs extent id = AllByRecursion (λ pair. IsOffBox (box_of_extent extent) (edge_of pair)) (take 1 (drop id pairs))
+
+-- there is an edge of each number, and where those that are left miss the box, it is clear
+pub record AreMissed (pairs : List (Coordinates × Coordinates)) (extent : Extent) (left : List ℕ) : Type 0 where
+  pub inside : AllByRecursion (λ id. id < length pairs) left
+  pub tells : AllByRecursion (misses_at pairs extent) left → AreClear extent (map edge_of pairs)
+
+missed-clear : (all : List (Coordinates × Coordinates)) (extent : Extent) (n : ℕ) (pairs : List (Coordinates × Coordinates)) → drop n all ≡ pairs → AllByRecursion (misses_at all extent) (ids_meeting extent (boxes_from n pairs)) →
+    AreClear extent (map edge_of pairs)
+missed-clear all extent n [] is h = tt
+missed-clear all extent n (pair ∷ pairs) is h = by_test (extents_meet (extent_of_edge pair) extent) refl h (missed-clear all extent (n + 1) pairs (next-drop all n pair pairs is))
+  where
+    by_test : (t : Bool) → extents_meet (extent_of_edge pair) extent ≡ t →
+        AllByRecursion (misses_at all extent) (keys_of (if t then (n, extent_of_edge pair) ∷ filter (λ entry. extents_meet entry.1 extent) (boxes_from (n + 1) pairs) else filter (λ entry. extents_meet entry.1 extent) (boxes_from (n + 1) pairs))) →
+        (AllByRecursion (misses_at all extent) (ids_meeting extent (boxes_from (n + 1) pairs)) → AreClear extent (map edge_of pairs)) → AreClear extent (map edge_of (pair ∷ pairs))
+    by_test true e k rest = ((subst (λ ps. AllByRecursion (λ r. IsOffBox (box_of_extent extent) (edge_of r)) (take 1 ps)) is k.0).0, rest k.1)
+    by_test false e k rest = (off-box extent pair e, rest k)
+
+pub missed-start : (pairs : List (Coordinates × Coordinates)) (extent : Extent) (near : List ℕ) → near ≡ ids_meeting extent (boxes_from 0 pairs) → AreMissed pairs extent near
+missed-start pairs extent near is =
+    record {
+      inside = subst (AllByRecursion (λ id. id < length pairs)) (sym is) (found-inside (length pairs) 0 extent pairs (omega arith));
+      tells = λ h. missed-clear pairs extent 0 pairs refl (subst (AllByRecursion (misses_at pairs extent)) is h);
+    }
+
+pub missed-inside : (pairs : List (Coordinates × Coordinates)) (extent : Extent) (near : List ℕ) (index : ℕ) → index < length near → AreMissed pairs extent (drop index near) → get_or near index 0 < length pairs
+missed-inside pairs extent near index l h = (subst (AllByRecursion (λ n. n < length pairs)) (drop_more near index 0 l) h.inside).0
+
+pub missed-next : (pairs : List (Coordinates × Coordinates)) (extent : Extent) (near : List ℕ) (index : ℕ) (pair : Coordinates × Coordinates) → index < length near → pair ≡ get_or pairs (get_or near index 0) pair →
+    IsOffBox (box_of_extent extent) (edge_of pair) → AreMissed pairs extent (drop index near) → AreMissed pairs extent (drop (index + 1) near)
+missed-next pairs extent near index pair l at off h =
+    let id = get_or near index 0 in
+    let left = drop_more near index 0 l in
+    let each = subst (AllByRecursion (λ n. n < length pairs)) left h.inside in
+    let there = drop_more pairs id pair each.0 ∙ ap (λ r. r ∷ drop (id + 1) pairs) (sym at) in
+    record {
+      inside = each.1;
+      tells =
+          λ k. h.tells (subst (AllByRecursion (misses_at pairs extent)) (sym left)
+          (subst (λ ps. AllByRecursion (λ r. IsOffBox (box_of_extent extent) (edge_of r)) (take 1 ps)) (sym there) (off, tt), k));
+    }
+
+pub missed-end : (pairs : List (Coordinates × Coordinates)) (extent : Extent) (near : List ℕ) (index : ℕ) → length near ≤ index → AreMissed pairs extent (drop index near) → AreClear extent (map edge_of pairs)
+missed-end pairs extent near index l h = h.tells (subst (AllByRecursion (misses_at pairs extent)) (sym (drop_all index near l)) tt)

@@ -1,0 +1,71 @@
+//! Edges that have no point of a box though their own boxes are in its way: the box lies on one side of them.
+
+ghost use Rattle.std.specs.Prelude.{◌≡◌, map, int_lt, pos, IsTrue};
+ghost use Rattle.sf_grid.specs.Edge.{cross as cross_of};
+ghost use Rattle.sf_grid.specs.Plane.{grid_point};
+ghost use Rattle.sf_geometry.specs.Parts.{edge_of};
+ghost use Rattle.sf_paths.specs.Paths.{IsOffBox};
+ghost use Rattle.sf_relate.specs.Contact.{box_of_extent};
+ghost use Rattle.sf_rtree.specs.Indexes.{ids_meeting};
+ghost use Rattle.sf_prepared.specs.Boxes.{boxes_from};
+ghost use Rattle.sf_prepared.specs.Places.{AreClear, IsBoxLeft, IsLeft};
+
+use sf_geometry::Extent;
+use sf_grid::edges::orientation;
+use sf_grid::{GridPoint, Turn};
+
+/// Whether all of these edges miss a box, where these are the numbers of those whose boxes are in its way. No
+/// other one can have a point of it.
+pub(crate) fn all_miss(near: &[u32], edges: &[(GridPoint, GridPoint)], extent: &Extent) -> bool
+    requires { near.now ≡ ids_meeting extent.now (boxes_from 0 edges.now) }
+    ensures { IsTrue result → AreClear extent.now (map edge_of edges.now) }
+{
+    for id in near {
+        if !misses(&edges[*id as usize], extent) {
+            return false;
+        }
+    }
+    true
+}
+
+/// Whether the box lies on one side of the edge.
+fn misses(edge: &(GridPoint, GridPoint), extent: &Extent) -> bool
+    ensures { IsTrue result → IsOffBox (box_of_extent extent.now) (edge_of edge.now) }
+{
+    let (a, b) = edge;
+    is_box_left(*a, *b, extent) || is_box_left(*b, *a, extent)
+}
+
+/// Whether all corners of the box are to the left of the way from `a` to `b`.
+fn is_box_left(a: GridPoint, b: GridPoint, extent: &Extent) -> bool
+    ensures { IsTrue result → IsBoxLeft a b extent.now }
+{
+    is_side_left(a, b, extent.min_x, extent) && is_side_left(a, b, extent.max_x, extent)
+}
+
+/// Whether both corners in the column `x` are.
+fn is_side_left(a: GridPoint, b: GridPoint, x: i32, extent: &Extent) -> bool
+    ensures { IsTrue result → IsLeft a b x extent.now.min_y × IsLeft a b x extent.now.max_y }
+{
+    is_left(a, b, x, extent.min_y) && is_left(a, b, x, extent.max_y)
+}
+
+/// Whether the place is on the grid and to the left of the way from `a` to `b`.
+fn is_left(a: GridPoint, b: GridPoint, x: i32, y: i32) -> bool
+    ensures { IsTrue result → IsLeft a b x y }
+{
+    match GridPoint::new(x, y) {
+        Some(corner) => is_to_the_left(a, b, corner),
+        None => false,
+    }
+}
+
+/// Whether the point is to the left of the way from `a` to `b`.
+fn is_to_the_left(a: GridPoint, b: GridPoint, point: GridPoint) -> bool
+    ensures { result ≡ int_lt (pos 0) (cross_of a b (grid_point point)) }
+{
+    match orientation(a, b, point) {
+        Turn::Left => true,
+        Turn::Right | Turn::Straight => false,
+    }
+}
