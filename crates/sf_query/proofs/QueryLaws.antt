@@ -20,7 +20,7 @@ use Rattle.sf_layers.specs.WellFormed.{IsFeature, IsLayer, IsWellFormed}
 use Rattle.sf_relate.specs.declared.matrix.Matrix.{Matrix}
 use Rattle.sf_relate.specs.declared.place.Place.{Place}
 use Rattle.sf_relate.specs.declared.predicate.Predicate.{Predicate}
-use Rattle.sf_relate.specs.declared.predicate.Predicate.TheVariants.{Contains, Crosses, Disjoint, Equals, Intersects, Overlaps, Touches, Within}
+use Rattle.sf_relate.specs.declared.predicate.Predicate.TheVariants.{Disjoint, Intersects}
 use Rattle.sf_relate.specs.Matrices.{IsMatrix, matrix_of}
 use Rattle.sf_relate.specs.Patterns.{has_contact}
 use Rattle.sf_relate.specs.Places.{IsPlaceOf}

@@ -8,7 +8,6 @@ use Rattle.sf_features.specs.Features.{FeatureContent}
 use Rattle.sf_layers.specs.Content.{LayerContent}
 use Rattle.sf_plane.specs.declared.dim.Dim.{Dim}
 use Rattle.sf_plane.specs.Unions.{dim_of}
-use Rattle.sf_relate.specs.declared.predicate.Predicate.{Predicate}
 use Rattle.sf_relate.specs.Matrices.{matrix_of}
 use Rattle.sf_relate.specs.Patterns.{asks_contact, matches}
 use Rattle.sf_relate.specs.Predicates.{holds, predicate_asks_contact}
