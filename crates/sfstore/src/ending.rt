@@ -1,6 +1,7 @@
 //! How a run ends before its time: its status, and its last words.
 use sf_console::ServeFault;
 use sf_file::{LoadFault, SaveFault};
+use sf_run::RunFault;
 use sf_words::WordsFault;
 use std::fmt;
 
@@ -17,6 +18,15 @@ pub enum Ending {
     /// The file to save to could not be opened or made.
     SaveOpen,
     Save(SaveFault),
+}
+
+impl From<RunFault> for Ending {
+    fn from(fault: RunFault) -> Ending {
+        match fault {
+            RunFault::Load(fault) => Ending::Load(fault),
+            RunFault::Serve(fault) => Ending::Serve(fault),
+        }
+    }
 }
 
 impl Ending {

@@ -5,9 +5,7 @@
 mod ending;
 
 use ending::Ending;
-use sf_console::{Editor, serve};
-use sf_file::{load, save};
-use sf_layers::Store;
+use sf_run::{Served, run_from};
 use sf_words::{Words, WordsFault, options};
 use std::process::ExitCode;
 use std::rt::{Env, Files};
@@ -32,22 +30,28 @@ fn asked(rt: &(impl Env + AllocGlobal)) -> Result<Words, Ending> {
     options::words(alloc, words.as_slice()).map_err(Ending::Words)
 }
 
-/// The store of a file, or a new one where none is named.
-fn loaded(rt: &(impl Files + AllocGlobal), path: &Option<String>) -> Result<Store, Ending> {
+/// Answers all lines of the input, over the store of a file where one is named.
+fn served(
+    rt: &(impl Files + Input + Print + AllocGlobal),
+    path: &Option<String>,
+) -> Result<Served, Ending> {
+    let alloc = rt.alloc();
+    let mut input = rt.reader();
+    let mut output = io::writer(rt);
     let Some(path) = path else {
-        return Ok(Store::new(rt.alloc()));
+        return sf_run::run(alloc, &mut input, &mut output).map_err(Ending::Serve);
     };
     let Ok(mut file) = fs::open(rt, path.as_str()) else {
         return Err(Ending::LoadOpen);
     };
-    load(rt.alloc(), &mut file).map_err(Ending::Load)
+    run_from(alloc, &mut file, &mut input, &mut output).map_err(Ending::from)
 }
 
-/// Saves the store to a file, where one is named.
+/// Saves what was served to a file, where one is named.
 fn saved(
     rt: &(impl Files + AllocGlobal),
     path: &Option<String>,
-    store: &Store,
+    served: &Served,
 ) -> Result<(), Ending> {
     let Some(path) = path else {
         return Ok(());
@@ -55,20 +59,14 @@ fn saved(
     let Ok(mut file) = fs::create(rt, path.as_str()) else {
         return Err(Ending::SaveOpen);
     };
-    save(rt.alloc(), store, &mut file).map_err(Ending::Save)
+    served.save(rt.alloc(), &mut file).map_err(Ending::Save)
 }
 
 /// The whole run.
 fn run(rt: &(impl Files + Env + Input + Print + AllocGlobal)) -> Result<(), Ending> {
     let asked = asked(rt)?;
-    let store = loaded(rt, &asked.load)?;
-    let mut editor = Editor::from_store(rt.alloc(), store);
-    let mut input = rt.reader();
-    let mut output = io::writer(rt);
-    match serve(rt.alloc(), &mut editor, &mut input, &mut output) {
-        Ok(()) => saved(rt, &asked.save, editor.store()),
-        Err(fault) => Err(Ending::Serve(fault)),
-    }
+    let served = served(rt, &asked.load)?;
+    saved(rt, &asked.save, &served)
 }
 
 fn main(rt: HostRuntime) -> ExitCode {

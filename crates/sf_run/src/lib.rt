@@ -1,0 +1,7 @@
+//! The whole run of the program over readers and writers: from the bytes of a file, over the lines of an input,
+//! to the bytes of a file.
+#![tactic(auto)]
+
+mod running;
+
+pub use running::{RunFault, Served, run, run_from};
