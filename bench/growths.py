@@ -30,32 +30,43 @@ BATCH = 32
 WORKERS = 2
 SECONDS = 60
 
-LIBRARY = r"""
+# What such a library begins with: where it is told that a call was met, and the numbers that it is told.
+HEAD = r"""
 #define _GNU_SOURCE
 #include <dlfcn.h>
+#include <errno.h>
 #include <stddef.h>
 #include <stdlib.h>
+#include <sys/syscall.h>
 #include <unistd.h>
 
-/* Which growth is refused, counted from 1; whether all behind it are; where it is told that one was. */
-static long left = -1;
-static int rest, has_told;
-static int told = -1;
+static int has_told;
+
+static long number(const char *name) {
+    const char *text = getenv(name);
+    return text ? atol(text) : 0;
+}
+
+static int met(void) {
+    if (!has_told) has_told = syscall(SYS_write, (int)number("MET"), "x", 1) == 1;
+    return 1;
+}
+"""
+
+REFUSING = r"""
+/* Which growth is refused, counted from 1, and whether all behind it are; 0 once none is to be refused. */
+static long left;
+static int rest;
 
 __attribute__((constructor)) static void begin(void) {
-    const char *number = getenv("REFUSED_GROWTH"), *descriptor = getenv("REFUSED_TOLD");
-    rest = getenv("REFUSED_REST") != NULL;
-    if (number && descriptor) {
-        told = atoi(descriptor);
-        left = atol(number);
-    }
+    left = number("GROWTH");
+    rest = number("REST") != 0;
 }
 
 static int refuses(void) {
     if (left <= 0 || --left > 0) return 0;
-    left = rest ? 1 : -1;
-    if (!has_told) has_told = write(told, "x", 1) == 1;
-    return 1;
+    left = rest;
+    return met();
 }
 
 void *malloc(size_t size) {
@@ -79,7 +90,7 @@ void *aligned_alloc(size_t alignment, size_t size) {
 int posix_memalign(void **block, size_t alignment, size_t size) {
     static int (*next)(void **, size_t, size_t);
     if (!next) next = (int (*)(void **, size_t, size_t))dlsym(RTLD_NEXT, "posix_memalign");
-    return refuses() ? 12 : next(block, alignment, size);
+    return refuses() ? ENOMEM : next(block, alignment, size);
 }
 """
 
@@ -146,22 +157,6 @@ SESSION = [
 
 
 @dataclass(frozen=True)
-class Growths:
-    """Which growth is refused, counted from 1, and whether every one behind it is."""
-
-    first: int
-    has_rest: bool
-
-    def variables(self, library: Path, told: int) -> dict[str, str]:
-        """What the library is told by."""
-        rest = {"REFUSED_REST": "1"} if self.has_rest else {}
-        return {"LD_PRELOAD": str(library), "REFUSED_GROWTH": str(self.first), "REFUSED_TOLD": str(told), **rest}
-
-    def __str__(self) -> str:
-        return f"growth {self.first}{' and all behind it' if self.has_rest else ''}"
-
-
-@dataclass(frozen=True)
 class Ended:
     """How a run of a program ended: its status, what it wrote, and what it left where it was to save."""
 
@@ -183,7 +178,7 @@ class Call:
         """A run over the text."""
         with tempfile.TemporaryDirectory() as folder:
             file = Path(folder) / "saved"
-            words = [self.program, *self.words, *(["--save", str(file)] if self.saves else [])]
+            words = [str(self.program), *self.words, *(["--save", str(file)] if self.saves else [])]
             ended = subprocess.run(
                 words, input=text, env=variables, pass_fds=descriptors, capture_output=True, check=False, timeout=SECONDS
             )
@@ -191,19 +186,19 @@ class Call:
         return Ended(ended.returncode, ended.stdout, ended.stderr, saved)
 
 
-def library(folder: Path) -> Path:
-    """The library that refuses growths."""
-    path = folder / "refusing.so"
+def library(folder: Path, source: str = REFUSING) -> Path:
+    """A library that stands before calls of the C library."""
+    path = folder / "before.so"
     compiler = ["cc", "-shared", "-fPIC", "-O1", "-x", "c", "-", "-o", str(path), "-ldl"]
-    subprocess.run(compiler, input=LIBRARY, text=True, check=True)
+    subprocess.run(compiler, input=HEAD + source, text=True, check=True)
     return path
 
 
-def refused_run(path: Path, call: Call, text: bytes, growths: Growths) -> Ended | None:
-    """A run with growths refused; None where it met no refusal."""
+def met_run(path: Path, call: Call, text: bytes, variables: dict[str, str]) -> Ended | None:
+    """A run under such a library, told by variables; None where what it waits for was not met."""
     reading, writing = os.pipe()
     try:
-        ended = call.run(text, growths.variables(path, writing), (writing,))
+        ended = call.run(text, {**variables, "LD_PRELOAD": str(path), "MET": str(writing)}, (writing,))
     finally:
         os.close(writing)
         with os.fdopen(reading, "rb") as told:
@@ -211,19 +206,24 @@ def refused_run(path: Path, call: Call, text: bytes, growths: Growths) -> Ended 
     return ended if has_met else None
 
 
-def refused_runs(path: Path, call: Call, text: bytes, has_rest: bool) -> Iterator[tuple[Growths, Ended]]:
-    """The runs in which one growth, or with all behind it, is refused: each until one meets no refusal."""
+def met_runs(path: Path, call: Call, text: bytes, counted: str, others: dict[str, str]) -> Iterator[tuple[int, Ended]]:
+    """The runs in which what a variable counts, from 1 on, was met: each until it is not."""
 
-    def run(growths: Growths) -> Ended | None:
-        return refused_run(path, call, text, growths)
+    def run(number: int) -> Ended | None:
+        return met_run(path, call, text, {counted: str(number), **others})
 
     with ThreadPoolExecutor(WORKERS) as pool:
         for start in itertools.count(1, BATCH):
-            batch = [Growths(number, has_rest) for number in range(start, start + BATCH)]
-            for growths, ended in zip(batch, pool.map(run, batch)):
+            batch = range(start, start + BATCH)
+            for number, ended in zip(batch, pool.map(run, batch)):
                 if ended is None:
                     return
-                yield growths, ended
+                yield number, ended
+
+
+def refused_runs(path: Path, call: Call, text: bytes, has_rest: bool) -> Iterator[tuple[int, Ended]]:
+    """The runs in which one growth, or with all behind it, is refused."""
+    return met_runs(path, call, text, "GROWTH", {"REST": "1"} if has_rest else {})
 
 
 def sent(lines: list[str]) -> bytes:
@@ -293,11 +293,11 @@ class Session:
 def checked(path: Path, session: Session, has_rest: bool) -> list[tuple[str, Ended]]:
     """How each run of a session with growths refused ended, and what it left; refuses what none may do."""
     found = []
-    for growths, ended in refused_runs(path, session.call, sent(session.lines), has_rest):
+    for number, ended in refused_runs(path, session.call, sent(session.lines), has_rest):
         try:
             found.append((session.check(ended), ended))
         except AssertionError as error:
-            raise AssertionError(f"{growths}: {error}") from error
+            raise AssertionError(f"growth {number}, all behind it {has_rest}: {error}") from error
     return found
 
 

@@ -273,9 +273,9 @@ class Refused(unittest.TestCase):
             self.assertTrue(whole.endswith(b"</svg>\n"))
             for has_rest in (False, True):
                 statuses = set()
-                for growths, ended in refused_runs(self.library, Call(PICTURE, words), file, has_rest):
+                for number, ended in refused_runs(self.library, Call(PICTURE, words), file, has_rest):
                     statuses.add(ended.status)
-                    with self.subTest(words=words, growths=str(growths)):
+                    with self.subTest(words=words, growth=number, has_rest=has_rest):
                         self.check_picture(ended, whole)
                 self.assertIn(3, statuses)
 
