@@ -70,6 +70,7 @@ DIALOG = {
 LINES = list(DIALOG)
 ANSWERS = "".join(DIALOG.values()).encode()
 WRITES = ("WRITE_FAILS", "WRITE_TAKES_NONE")
+MANY_BYTES: dict[str, str] = {}
 ONE_BYTE = {"STEP": "1"}
 
 
@@ -115,7 +116,7 @@ class Failed(unittest.TestCase):
         text = sent(LINES)
         for place, ended in enumerate(self.runs(Call(STORE), text, "READ_FAILS", ONE_BYTE)):
             self.assertEqual((ended.status, ended.output), (1, answered(text[:place]) + b"fault serve Read\n"))
-        for place, ended in enumerate(self.runs(Call(STORE), text, "READ_FAILS", {})):
+        for place, ended in enumerate(self.runs(Call(STORE), text, "READ_FAILS", MANY_BYTES)):
             self.assertEqual((ended.status, ended.output), (1, (ANSWERS if place else b"") + b"fault serve Read\n"))
 
     def test_a_front_of_the_answers_is_written_before_a_failed_write(self) -> None:
@@ -124,13 +125,13 @@ class Failed(unittest.TestCase):
             self.assertEqual(len(ends), len(ANSWERS))
             for place, ended in enumerate(ends):
                 self.assertEqual((ended.status, ended.output), (1, ANSWERS[:place] + b"fault serve Write\n"))
-            for place, ended in enumerate(self.runs(Call(STORE), sent(LINES), counted, {})):
+            for place, ended in enumerate(self.runs(Call(STORE), sent(LINES), counted, MANY_BYTES)):
                 wanted = "".join(list(DIALOG.values())[:place]).encode()
                 self.assertEqual((ended.status, ended.output), (1, wanted + b"fault serve Write\n"))
 
     def test_a_file_that_cannot_be_read_is_told(self) -> None:
         call = Call(STORE, ("--load", str(self.file)))
-        for others in ({}, ONE_BYTE):
+        for others in (MANY_BYTES, ONE_BYTE):
             ends = [(ended.status, ended.output) for ended in self.runs(call, b"", "READ_FAILS", others)]
             # The reads of the file, its end too, and then those of standard input.
             of_file = ends.count((3, b"fault load Read\n"))
@@ -145,12 +146,12 @@ class Failed(unittest.TestCase):
             self.assertEqual(len(ends), len(whole))
             for place, ended in enumerate(ends):
                 self.assertEqual((ended.status, ended.output, ended.saved), (4, b"fault save Write\n", whole[:place]))
-            for ended in self.runs(call, b"", counted, {}):
+            for ended in self.runs(call, b"", counted, MANY_BYTES):
                 self.assertEqual((ended.status, ended.output), (4, b"fault save Write\n"))
                 self.assertTrue(whole.startswith(ended.saved))
 
     def test_a_picture_of_a_file_that_cannot_be_read_is_a_fault(self) -> None:
-        for others in ({}, ONE_BYTE):
+        for others in (MANY_BYTES, ONE_BYTE):
             for ended in self.runs(Call(PICTURE), self.file.read_bytes(), "READ_FAILS", others):
                 self.assertEqual((ended.status, ended.output, ended.told), (3, b"", b"fault load Read\n"))
 
@@ -162,7 +163,7 @@ class Failed(unittest.TestCase):
             self.assertEqual(len(ends), len(whole))
             for place, ended in enumerate(ends):
                 self.assertEqual((ended.status, ended.output, ended.told), (1, whole[:place], b"fault draw Write\n"))
-            for ended in self.runs(Call(PICTURE), file, counted, {}):
+            for ended in self.runs(Call(PICTURE), file, counted, MANY_BYTES):
                 self.assertEqual((ended.status, ended.told), (1, b"fault draw Write\n"))
                 self.assertTrue(whole.startswith(ended.output))
 
