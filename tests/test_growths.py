@@ -151,7 +151,7 @@ undo
 @1 show w
 """.splitlines()
 
-WHOLE = [*SESSION, "layer drop a", *TAKEN_BACK, *LAYERS, *VERTICES, *VALUES, *VALUES_BACK, *EDITORS]
+WHOLE = [*SESSION, *(f"layer drop {name}" for name in "acd"), *TAKEN_BACK, *LAYERS, *VERTICES, *VALUES, *VALUES_BACK, *EDITORS]
 
 # A look at a layer of points: what its index finds, and the rest.
 LOOKS = ["query w intersects POLYGON ((0 0, 3 0, 3 3, 0 3, 0 0))", "query w disjoint POINT (2 2)"]
