@@ -1,21 +1,98 @@
 #!/usr/bin/env python3
-"""Refuses each growth of the program's memory in turn, over a session with every edit, its undo and its redo.
+"""Refuses each growth of a program's memory in turn, and looks at what it answers, saves and draws then.
 
-A run in which the n-th growth is refused has to answer as a run of the same session without the lines that
-were refused for want of memory: so these have changed nothing, and no other line is touched. It may also end
-with `fault serve Memory` before its first answer, where its buffers find no memory. The growths are counted from
-1 until a run meets no refusal. A small library that the C compiler makes stands before the C library's calls.
+Of a session: with the lines left out that were refused for want of memory, the program with ample memory has to give
+the remaining answers, and to save the same file: so these lines have changed nothing, and no other line is touched. A
+run may also end with a fault that names what found no memory, and with what may stand before such a fault. The growths
+are counted from 1 until a run meets no refusal; in a second turn every growth behind the refused one is refused too. A
+small library that the C compiler makes stands before the C library's calls.
 
-    rt run is needed once in crates/sfstore (it builds the program); then: bench/growths.py
+    bench/growths.py
+
+rt run is needed once in crates/sfstore: it builds the program. tests/test_growths.py has more sessions.
 """
+
+from __future__ import annotations
+
+import itertools
 import os
 import subprocess
 import sys
 import tempfile
+from collections.abc import Iterator
+from concurrent.futures import ThreadPoolExecutor
+from dataclasses import dataclass, field
 from pathlib import Path
 
-PROGRAM = Path(__file__).resolve().parent.parent / "crates/sfstore/out/sfstore"
-REFUSED = "refused 1 Memory"
+PROGRAM = Path(__file__).resolve().parent.parent / "crates" / "sfstore" / "out" / "sfstore"
+REFUSED = ["refused 1 Memory"]
+BATCH = 32
+WORKERS = 2
+SECONDS = 60
+
+# What such a library begins with: where it is told that a call was met, and the numbers that it is told.
+HEAD = r"""
+#define _GNU_SOURCE
+#include <dlfcn.h>
+#include <errno.h>
+#include <stddef.h>
+#include <stdlib.h>
+#include <sys/syscall.h>
+#include <unistd.h>
+
+static int has_told;
+
+static long number(const char *name) {
+    const char *text = getenv(name);
+    return text ? atol(text) : 0;
+}
+
+static int met(void) {
+    if (!has_told) has_told = syscall(SYS_write, (int)number("MET"), "x", 1) == 1;
+    return 1;
+}
+"""
+
+REFUSING = r"""
+/* Which growth is refused, counted from 1, and whether all behind it are; 0 once none is to be refused. */
+static long left;
+static int rest;
+
+__attribute__((constructor)) static void begin(void) {
+    left = number("GROWTH");
+    rest = number("REST") != 0;
+}
+
+static int refuses(void) {
+    if (left <= 0 || --left > 0) return 0;
+    left = rest;
+    return met();
+}
+
+void *malloc(size_t size) {
+    static void *(*next)(size_t);
+    if (!next) next = (void *(*)(size_t))dlsym(RTLD_NEXT, "malloc");
+    return refuses() ? NULL : next(size);
+}
+
+void *realloc(void *block, size_t size) {
+    static void *(*next)(void *, size_t);
+    if (!next) next = (void *(*)(void *, size_t))dlsym(RTLD_NEXT, "realloc");
+    return refuses() ? NULL : next(block, size);
+}
+
+void *aligned_alloc(size_t alignment, size_t size) {
+    static void *(*next)(size_t, size_t);
+    if (!next) next = (void *(*)(size_t, size_t))dlsym(RTLD_NEXT, "aligned_alloc");
+    return refuses() ? NULL : next(alignment, size);
+}
+
+int posix_memalign(void **block, size_t alignment, size_t size) {
+    static int (*next)(void **, size_t, size_t);
+    if (!next) next = (int (*)(void **, size_t, size_t))dlsym(RTLD_NEXT, "posix_memalign");
+    return refuses() ? ENOMEM : next(block, alignment, size);
+}
+"""
 
 EDITS = """\
 layer add a any
@@ -43,127 +120,205 @@ delete a 3
 column drop a depth
 layer drop c
 """.splitlines()
-QUESTIONS = ["layers", "columns a", "show a", "show c", "hex a 2", "box a 4", "simple a 4"]
-SESSION = (
-    EDITS + QUESTIONS + ["undo"] * (len(EDITS) // 2) + QUESTIONS + ["undo"] * (len(EDITS) - len(EDITS) // 2) + ["undo", "layers"]
-    + ["redo"] * len(EDITS) + ["redo"] + QUESTIONS + ["undo", "layer add d any", "redo", "layers"]
-)
 
-LIBRARY = r"""
-#define _GNU_SOURCE
-#include <dlfcn.h>
-#include <stddef.h>
-#include <stdlib.h>
-#include <unistd.h>
+QUESTIONS = """\
+layers
+columns a
+show a
+show c
+hex a 2
+box a 4
+simple a 4
+relate a 4 LINESTRING (-5 5, 15 5)
+match a T*F**F*** POLYGON ((0 0, 9 0, 9 9, 0 9, 0 0))
+query a intersects POLYGON ((4 4, 7 4, 7 7, 4 4))
+query a disjoint MULTIPOINT (0 0, 7 7)
+""".splitlines()
 
-/* Which growth is refused, counted from 1; whether one was, is written to this descriptor. */
-static long left = -1;
-static int told = -1;
+HALF = ["undo"] * (len(EDITS) // 2)
 
-__attribute__((constructor)) static void begin(void) {
-    const char *number = getenv("REFUSED_GROWTH"), *descriptor = getenv("REFUSED_TOLD");
-    if (number && descriptor) {
-        told = atoi(descriptor);
-        left = atol(number);
-    }
-}
-
-static int refuses(void) {
-    if (left <= 0 || --left > 0) return 0;
-    left = -1;
-    return write(told, "x", 1) == 1;
-}
-
-void *malloc(size_t size) {
-    static void *(*next)(size_t);
-    if (!next) next = (void *(*)(size_t))dlsym(RTLD_NEXT, "malloc");
-    return refuses() ? NULL : next(size);
-}
-
-void *realloc(void *block, size_t size) {
-    static void *(*next)(void *, size_t);
-    if (!next) next = (void *(*)(void *, size_t))dlsym(RTLD_NEXT, "realloc");
-    return refuses() ? NULL : next(block, size);
-}
-
-void *aligned_alloc(size_t alignment, size_t size) {
-    static void *(*next)(size_t, size_t);
-    if (!next) next = (void *(*)(size_t, size_t))dlsym(RTLD_NEXT, "aligned_alloc");
-    return refuses() ? NULL : next(alignment, size);
-}
-
-int posix_memalign(void **block, size_t alignment, size_t size) {
-    static int (*next)(void **, size_t, size_t);
-    if (!next) next = (int (*)(void **, size_t, size_t))dlsym(RTLD_NEXT, "posix_memalign");
-    return refuses() ? 12 : next(block, alignment, size);
-}
-"""
+# Every edit, undone and done again; every question before, within and behind.
+SESSION = [
+    *EDITS,
+    *QUESTIONS,
+    *HALF,
+    *QUESTIONS,
+    *HALF,
+    "undo",
+    "layers",
+    *["redo"] * len(EDITS),
+    "redo",
+    *QUESTIONS,
+    "undo",
+    "layer add d any",
+    "redo",
+    "layers",
+]
 
 
-def library(folder):
-    """The library that refuses a growth."""
-    path = Path(folder) / "refusing.so"
+@dataclass(frozen=True)
+class Ended:
+    """How a run of a program ended: its status, what it wrote, and what it left where it was to save."""
+
+    status: int
+    output: bytes
+    told: bytes
+    saved: bytes
+
+
+@dataclass(frozen=True)
+class Call:
+    """How a program is called. `saves`: it saves too."""
+
+    program: Path
+    words: tuple[str, ...] = ()
+    saves: bool = False
+
+    def run(self, text: bytes, variables: dict[str, str], descriptors: tuple[int, ...] = ()) -> Ended:
+        """A run over the text."""
+        with tempfile.TemporaryDirectory() as folder:
+            file = Path(folder) / "saved"
+            words = [str(self.program), *self.words, *(["--save", str(file)] if self.saves else [])]
+            ended = subprocess.run(
+                words, input=text, env=variables, pass_fds=descriptors, capture_output=True, check=False, timeout=SECONDS
+            )
+            saved = file.read_bytes() if file.exists() else b""
+        return Ended(ended.returncode, ended.stdout, ended.stderr, saved)
+
+
+def library(folder: Path, source: str = REFUSING) -> Path:
+    """A library that stands before calls of the C library."""
+    path = folder / "before.so"
     compiler = ["cc", "-shared", "-fPIC", "-O1", "-x", "c", "-", "-o", str(path), "-ldl"]
-    subprocess.run(compiler, input=LIBRARY, text=True, check=True)
+    subprocess.run(compiler, input=HEAD + source, text=True, check=True)
     return path
 
 
-def answers(output):
+def met_run(path: Path, call: Call, text: bytes, variables: dict[str, str]) -> Ended | None:
+    """A run under such a library, told by variables; None where what it waits for was not met."""
+    reading, writing = os.pipe()
+    try:
+        ended = call.run(text, {**variables, "LD_PRELOAD": str(path), "MET": str(writing)}, (writing,))
+    finally:
+        os.close(writing)
+        with os.fdopen(reading, "rb") as told:
+            has_met = told.read() != b""
+    return ended if has_met else None
+
+
+def met_runs(path: Path, call: Call, text: bytes, counted: str, others: dict[str, str]) -> Iterator[tuple[int, Ended]]:
+    """The runs in which what a variable counts, from 1 on, was met: each until it is not."""
+
+    def run(number: int) -> Ended | None:
+        return met_run(path, call, text, {counted: str(number), **others})
+
+    with ThreadPoolExecutor(WORKERS) as pool:
+        for start in itertools.count(1, BATCH):
+            batch = range(start, start + BATCH)
+            for number, ended in zip(batch, pool.map(run, batch)):
+                if ended is None:
+                    return
+                yield number, ended
+
+
+def refused_runs(path: Path, call: Call, text: bytes, has_rest: bool) -> Iterator[tuple[int, Ended]]:
+    """The runs in which one growth, or with all behind it, is refused."""
+    return met_runs(path, call, text, "GROWTH", {"REST": "1"} if has_rest else {})
+
+
+def sent(lines: list[str]) -> bytes:
+    """The lines as a program reads them."""
+    return "".join(f"{line}\n" for line in lines).encode()
+
+
+def answers(output: bytes) -> list[list[str]]:
     """The answers of an output: each a list of lines, of which one with rows has several."""
-    lines = iter(output.splitlines())
+    lines = iter(output.decode().splitlines())
+    found = []
     for line in lines:
         rows = int(line[5:]) if line.startswith("rows ") else 0
-        yield [line] + [next(lines) for _ in range(rows)]
+        found.append([line, *itertools.islice(lines, rows)])
+    return found
 
 
-def run(session, environment=None, descriptors=()):
-    """The status and the output of the program."""
-    text = "".join(line + "\n" for line in session)
-    done = subprocess.run(
-        [PROGRAM], input=text, text=True, stdout=subprocess.PIPE, check=False, env=environment, pass_fds=descriptors
-    )
-    return done.returncode, done.stdout
+@dataclass
+class Session:
+    """Lines that a program answers, and what it answers and saves with ample memory."""
+
+    call: Call
+    lines: list[str]
+    ample: dict[tuple[int, ...], Ended] = field(default_factory=dict)
+
+    def without(self, left_out: tuple[int, ...]) -> Ended:
+        """A run with ample memory that has all lines but these."""
+        if left_out not in self.ample:
+            kept = [line for place, line in enumerate(self.lines) if place not in left_out]
+            self.ample[left_out] = self.call.run(sent(kept), {})
+        return self.ample[left_out]
+
+    def fault(self, ended: Ended) -> str:
+        """What the run ended by before it answered a line, where want of memory may end it so; else nothing."""
+        faults = {(1, b"fault serve Memory\n"): "serve"}
+        if self.call.words or self.call.saves:
+            faults[2, b"fault words Memory\n"] = "words"
+        if "--load" in self.call.words:
+            faults[3, b"fault load Memory\n"] = "load"
+        return "" if ended.saved else faults.get((ended.status, ended.output), "")
+
+    def check(self, ended: Ended) -> str:
+        """Refuses what a run with growths refused must not do. How it ended: the lines refused, or its fault."""
+        fault = self.fault(ended)
+        if fault:
+            return fault
+        output, behind = ended.output, b""
+        if self.call.saves and ended.status == 4:
+            output, behind, _ = output.partition(b"fault save Memory\n")
+        elif ended.status != 0:
+            raise AssertionError(f"status {ended.status}: {ended.output!r} {ended.told!r}")
+        return self.check_answers(answers(output), ended.saved, behind != b"")
+
+    def check_answers(self, given: list[list[str]], saved: bytes, is_cut: bool) -> str:
+        """Refuses answers and a saved file that are not those of the session without its refused lines."""
+        if len(given) != len(self.lines):
+            raise AssertionError(f"{len(given)} answers to {len(self.lines)} lines")
+        left_out = tuple(place for place, answer in enumerate(given) if answer == REFUSED)
+        wanted = self.without(left_out)
+        if answers(wanted.output) != [answer for answer in given if answer != REFUSED]:
+            raise AssertionError(f"other answers than without {[self.lines[place] for place in left_out]}")
+        if not (wanted.saved.startswith(saved) if is_cut else wanted.saved == saved):
+            raise AssertionError(f"another file than without {[self.lines[place] for place in left_out]}")
+        return "save" if is_cut else " ".join(str(place) for place in left_out)
 
 
-def refused_run(path, number):
-    """Whether the growth was refused, the status and the output of that run."""
-    reading, writing = os.pipe()
-    environment = os.environ | {"LD_PRELOAD": str(path), "REFUSED_GROWTH": str(number), "REFUSED_TOLD": str(writing)}
-    status, output = run(SESSION, environment, (writing,))
-    os.close(writing)
-    with os.fdopen(reading, "rb") as told:
-        return told.read() != b"", status, output
+def checked(path: Path, session: Session, has_rest: bool) -> list[tuple[str, Ended]]:
+    """How each run of a session with growths refused ended, and what it left; refuses what none may do."""
+    found = []
+    for number, ended in refused_runs(path, session.call, sent(session.lines), has_rest):
+        try:
+            found.append((session.check(ended), ended))
+        except AssertionError as error:
+            raise AssertionError(f"growth {number}, all behind it {has_rest}: {error}") from error
+    return found
 
 
-def check(number, status, output):
-    """How many lines were refused in the run; ends the script where the rest isn't as without them."""
-    if status == 1 and output == "fault serve Memory\n":
-        return 0
-    given = list(answers(output))
-    if status != 0 or len(given) != len(SESSION):
-        sys.exit(f"growth {number}: status {status}, {len(given)} answers to {len(SESSION)} lines")
-    kept = [line for line, answer in zip(SESSION, given) if answer != [REFUSED]]
-    _, wanted = run(kept)
-    if list(answers(wanted)) != [answer for answer in given if answer != [REFUSED]]:
-        sys.exit(f"growth {number}: the answers are not those of the session without its refused lines")
-    return len(SESSION) - len(kept)
+def summary(path: Path, session: Session, has_rest: bool) -> str:
+    """What the runs of a session were like."""
+    ends = [end for end, _ in checked(path, session, has_rest)]
+    faults = sum(end == "serve" for end in ends)
+    none = sum(end == "" for end in ends)
+    what = "with all behind it" if has_rest else "alone"
+    lines = len(ends) - faults - none
+    return f"{len(ends)} growths refused {what}: {lines} runs with lines refused, {faults} not begun, {none} as if none was"
 
 
-def main():
+def main() -> None:
+    """Refuses each growth of the session."""
     if not PROGRAM.is_file():
         sys.exit(f"{PROGRAM} is missing: run `rt run` in crates/sfstore first")
     with tempfile.TemporaryDirectory() as folder:
-        path = library(folder)
-        number, lines, others = 0, 0, 0
-        while True:
-            number += 1
-            met, status, output = refused_run(path, number)
-            if not met:
-                break
-            refused = check(number, status, output)
-            lines += refused
-            others += refused == 0
-        print(f"{number - 1} growths refused in turn: {lines} lines refused, {others} runs with none")
+        path = library(Path(folder))
+        for has_rest in (False, True):
+            print(summary(path, Session(Call(PROGRAM), SESSION), has_rest))
 
 
 if __name__ == "__main__":

@@ -146,6 +146,19 @@ class Pictures(unittest.TestCase):
                     tints[words] = part.get("class")
         self.assertEqual(list(tints.values()), ["layer tint-1"] * 2)
 
+    def test_many_layers_stand_in_their_order_with_a_tint_each(self):
+        for count in (5, 10):
+            names = [f"layer{number}" for number in range(count)]
+            lines = (f"layer add {name} point\nadd {name} POINT ({place} 7)\n" for place, name in enumerate(names))
+            root = picture(file_of("".join(lines).encode()))
+            shown = [(part.get("id"), part.get("class")) for part in root.iter(f"{SVG}g") if part.get("id")]
+            entries = [part.get("class") for part in root.iter(f"{SVG}g") if part.get("class", "").startswith("entry ")]
+            self.assertEqual(shown, [(name, f"layer tint-{place % 8}") for place, name in enumerate(names)])
+            self.assertEqual(entries, [f"entry tint-{place % 8}" for place in range(count)])
+            self.assertEqual([text.text for text in root.iter(f"{SVG}text")][1:], names)
+            found = [(f"{name}-1", ("point", f"M{place} 7h0")) for place, name in enumerate(names)]
+            self.assertEqual(list(paths(root).items()), found)
+
     def test_a_window_shows_what_has_a_part_in_it(self):
         words = ("--window", "9", "-1", "31", "3", "--width", "440")
         self.assertEqual(list(paths(picture(self.file, *words))), ["shapes-1", "shapes-2", "shapes-4", "shapes-6"])

@@ -1,0 +1,172 @@
+"""Each read and each write of the built programs failed in turn, and bytes given and taken one at a time."""
+
+from __future__ import annotations
+
+import shutil
+import sys
+import tempfile
+import unittest
+from pathlib import Path
+from typing import ClassVar
+
+TOP = Path(__file__).resolve().parent.parent
+sys.path.insert(0, str(TOP / "bench"))
+
+from growths import Call, Ended, library, met_runs, sent
+
+STORE = TOP / "crates" / "sfstore" / "out" / "sfstore"
+PICTURE = TOP / "crates" / "sfmap" / "out" / "sfmap"
+
+# A read or a write that fails, or a write that takes nothing, the calls counted from 1. It fails once: who takes it
+# for nothing and goes on ends well.
+FAILING = r"""
+static long reads, writes, takes, step;
+
+__attribute__((constructor)) static void begin(void) {
+    reads = number("READ_FAILS");
+    writes = number("WRITE_FAILS");
+    takes = number("WRITE_TAKES_NONE");
+    step = number("STEP");
+}
+
+static int is_now(long *left) {
+    return *left > 0 && --*left == 0 && met();
+}
+
+static size_t part(size_t count) {
+    return step && count > (size_t)step ? (size_t)step : count;
+}
+
+ssize_t read(int file, void *bytes, size_t count) {
+    if (is_now(&reads)) {
+        errno = EIO;
+        return -1;
+    }
+    return syscall(SYS_read, file, bytes, part(count));
+}
+
+ssize_t write(int file, const void *bytes, size_t count) {
+    if (is_now(&writes)) {
+        errno = EIO;
+        return -1;
+    }
+    if (is_now(&takes)) return 0;
+    return syscall(SYS_write, file, bytes, part(count));
+}
+
+ssize_t __read(int file, void *bytes, size_t count) { return read(file, bytes, count); }
+ssize_t __write(int file, const void *bytes, size_t count) { return write(file, bytes, count); }
+"""
+
+# Each line with its answer.
+DIALOG = {
+    "layer add wells point": "ok\n",
+    "add wells POINT (3 4)": "ok 1\n",
+    "show wells": "rows 1\n1 POINT (3 4)\n",
+    "undo": "ok\n",
+    "columns wells": "rows 0\n",
+    "redo": "ok\n",
+}
+LINES = list(DIALOG)
+ANSWERS = "".join(DIALOG.values()).encode()
+WRITES = ("WRITE_FAILS", "WRITE_TAKES_NONE")
+MANY_BYTES: dict[str, str] = {}
+ONE_BYTE = {"STEP": "1"}
+
+
+def answered(read: bytes) -> bytes:
+    """The answers to the lines that are whole in what was read."""
+    return "".join(DIALOG[LINES[place]] for place in range(read.count(b"\n"))).encode()
+
+
+@unittest.skipIf(shutil.which("cc") is None, "cc is missing")
+class Failed(unittest.TestCase):
+    """Runs in which one call of the system fails."""
+
+    folder: ClassVar[tempfile.TemporaryDirectory[str]]
+    library: ClassVar[Path]
+    file: ClassVar[Path]
+
+    @classmethod
+    def setUpClass(cls) -> None:
+        cls.folder = tempfile.TemporaryDirectory()
+        cls.library = library(Path(cls.folder.name), FAILING)
+        cls.file = Path(cls.folder.name) / "store.sfs"
+        cls.file.write_bytes(Call(STORE, saves=True).run(sent(LINES), {}).saved)
+
+    @classmethod
+    def tearDownClass(cls) -> None:
+        cls.folder.cleanup()
+
+    def runs(self, call: Call, text: bytes, counted: str, others: dict[str, str]) -> list[Ended]:
+        """The runs in which each call fails in turn."""
+        ended = [ended for _, ended in met_runs(self.library, call, text, counted, others)]
+        self.assertTrue(ended)
+        return ended
+
+    def test_one_byte_a_call_makes_no_difference(self) -> None:
+        variables = {"LD_PRELOAD": str(self.library), **ONE_BYTE}
+        for call, text in (
+            (Call(STORE, ("--load", str(self.file)), saves=True), b"show wells\nundo\nlayer add v any\n"),
+            (Call(PICTURE), self.file.read_bytes()),
+        ):
+            self.assertEqual(call.run(text, variables), call.run(text, {}))
+
+    def test_lines_before_a_failed_read_are_answered(self) -> None:
+        text = sent(LINES)
+        for place, ended in enumerate(self.runs(Call(STORE), text, "READ_FAILS", ONE_BYTE)):
+            self.assertEqual((ended.status, ended.output), (1, answered(text[:place]) + b"fault serve Read\n"))
+        for place, ended in enumerate(self.runs(Call(STORE), text, "READ_FAILS", MANY_BYTES)):
+            self.assertEqual((ended.status, ended.output), (1, (ANSWERS if place else b"") + b"fault serve Read\n"))
+
+    def test_a_front_of_the_answers_is_written_before_a_failed_write(self) -> None:
+        for counted in WRITES:
+            ends = self.runs(Call(STORE), sent(LINES), counted, ONE_BYTE)
+            self.assertEqual(len(ends), len(ANSWERS))
+            for place, ended in enumerate(ends):
+                self.assertEqual((ended.status, ended.output), (1, ANSWERS[:place] + b"fault serve Write\n"))
+            for place, ended in enumerate(self.runs(Call(STORE), sent(LINES), counted, MANY_BYTES)):
+                wanted = "".join(list(DIALOG.values())[:place]).encode()
+                self.assertEqual((ended.status, ended.output), (1, wanted + b"fault serve Write\n"))
+
+    def test_a_file_that_cannot_be_read_is_told(self) -> None:
+        call = Call(STORE, ("--load", str(self.file)))
+        for others in (MANY_BYTES, ONE_BYTE):
+            ends = [(ended.status, ended.output) for ended in self.runs(call, b"", "READ_FAILS", others)]
+            # The reads of the file, its end too, and then those of standard input.
+            of_file = ends.count((3, b"fault load Read\n"))
+            self.assertGreaterEqual(of_file, 2 if not others else len(self.file.read_bytes()) + 1)
+            self.assertEqual(ends[of_file:], [(1, b"fault serve Read\n")])
+
+    def test_a_front_of_the_file_is_saved_before_a_failed_write(self) -> None:
+        whole = self.file.read_bytes()
+        call = Call(STORE, ("--load", str(self.file)), saves=True)
+        for counted in WRITES:
+            ends = self.runs(call, b"", counted, ONE_BYTE)
+            self.assertEqual(len(ends), len(whole))
+            for place, ended in enumerate(ends):
+                self.assertEqual((ended.status, ended.output, ended.saved), (4, b"fault save Write\n", whole[:place]))
+            for ended in self.runs(call, b"", counted, MANY_BYTES):
+                self.assertEqual((ended.status, ended.output), (4, b"fault save Write\n"))
+                self.assertTrue(whole.startswith(ended.saved))
+
+    def test_a_picture_of_a_file_that_cannot_be_read_is_a_fault(self) -> None:
+        for others in (MANY_BYTES, ONE_BYTE):
+            for ended in self.runs(Call(PICTURE), self.file.read_bytes(), "READ_FAILS", others):
+                self.assertEqual((ended.status, ended.output, ended.told), (3, b"", b"fault load Read\n"))
+
+    def test_a_front_of_the_picture_is_drawn_before_a_failed_write(self) -> None:
+        file = self.file.read_bytes()
+        whole = Call(PICTURE).run(file, {}).output
+        for counted in WRITES:
+            ends = self.runs(Call(PICTURE), file, counted, ONE_BYTE)
+            self.assertEqual(len(ends), len(whole))
+            for place, ended in enumerate(ends):
+                self.assertEqual((ended.status, ended.output, ended.told), (1, whole[:place], b"fault draw Write\n"))
+            for ended in self.runs(Call(PICTURE), file, counted, MANY_BYTES):
+                self.assertEqual((ended.status, ended.told), (1, b"fault draw Write\n"))
+                self.assertTrue(whole.startswith(ended.output))
+
+
+if __name__ == "__main__":
+    unittest.main()

@@ -1,0 +1,284 @@
+"""Each growth of memory refused in turn, over the built programs: sessions, files loaded and saved, pictures."""
+
+from __future__ import annotations
+
+import shutil
+import sys
+import tempfile
+import unittest
+from pathlib import Path
+from typing import ClassVar
+
+TOP = Path(__file__).resolve().parent.parent
+sys.path.insert(0, str(TOP / "bench"))
+
+from growths import EDITS, QUESTIONS, REFUSED, SESSION, Call, Ended, Session, answers, checked, library, refused_runs, sent
+
+STORE = TOP / "crates" / "sfstore" / "out" / "sfstore"
+PICTURE = TOP / "crates" / "sfmap" / "out" / "sfmap"
+
+# What a line of each command and of each edit begins with.
+COMMANDS = """\
+layer add
+layer drop
+layer rename
+layer move
+layers
+column add
+column drop
+columns
+add
+addhex
+delete
+replace
+vertex insert
+vertex move
+vertex remove
+set
+unset
+show
+hex
+box
+simple
+relate
+match
+query
+undo
+redo
+""".splitlines()
+
+# A feature deleted, additions taken back, and others in their place.
+TAKEN_BACK = """\
+layer add w point
+add w POINT (1 1)
+delete w 1
+add w POINT (2 2)
+undo
+undo
+undo
+add w POINT (3 3)
+show w
+redo
+undo
+redo
+show w
+layer drop w
+""".splitlines()
+
+LAYERS = """\
+layer add a any
+layer add b any
+layer add c any
+layer drop b
+layers
+undo
+layers
+layer move c 0
+layers
+layer move a 3
+layer rename a b
+layer add 9x any
+layer drop a
+layer drop b
+layer drop c
+""".splitlines()
+
+VERTICES = """\
+layer add p polygon
+add p POLYGON ((0 0, 10 0, 10 10, 0 10, 0 0))
+vertex move p 1 0 0 2 5 -5
+show p
+vertex move p 1 0 0 0 -1 -1
+show p
+undo
+show p
+vertex insert p 1 0 0 4 0 5
+show p
+vertex remove p 1 0 0 4
+show p
+vertex remove p 1 0 0 4
+box p 1
+layer drop p
+""".splitlines()
+
+# A layer with values, and its column dropped.
+VALUES = """\
+layer add w point
+column add w depth int
+column add w label text
+add w POINT (1 1)
+add w POINT (2 2)
+add w POINT (3 3)
+set w 1 depth 12
+set w 3 depth -7
+set w 1 label 'it''s old'
+show w
+column drop w depth
+columns w
+""".splitlines()
+
+VALUES_BACK = """\
+undo
+columns w
+show w
+set w 2 depth 'x'
+set w 2 label 'x'
+redo
+undo
+layer drop w
+""".splitlines()
+
+EDITORS = """\
+@1 layer add w point
+@1 add w POINT (1 1)
+@2 add w POINT (2 2)
+@1 undo
+@2 undo
+@2 undo
+@1 redo
+@1 undo
+@2 redo
+@1 redo
+@2 redo
+undo
+@3 show w
+@2 undo
+@3 delete w 1
+@2 redo
+@255 query w intersects POINT (1 1)
+@0 undo
+@3 undo
+@1 show w
+""".splitlines()
+
+WHOLE = [*SESSION, *(f"layer drop {name}" for name in "acd"), *TAKEN_BACK, *LAYERS, *VERTICES, *VALUES, *VALUES_BACK, *EDITORS]
+
+# A look at a layer of points: what its index finds, and the rest.
+LOOKS = ["query w intersects POLYGON ((0 0, 3 0, 3 3, 0 3, 0 0))", "query w disjoint POINT (2 2)"]
+COUNT = 30
+
+
+def indexed() -> list[str]:
+    """Points added to a layer, and some of them moved, deleted and taken back, with looks at it between."""
+    lines = ["layer add w point"]
+    for place in range(COUNT):
+        lines += [f"add w POINT ({place % 6} {place // 6})", *LOOKS]
+    for number in range(1, COUNT, 2):
+        lines += [f"delete w {number}", *LOOKS]
+    for number in range(2, COUNT, 4):
+        lines += [f"vertex move w {number} 0 0 0 {number % 5} 1", *LOOKS]
+    return [*lines, *(line for verb in ["undo"] * 12 + ["redo"] * 8 for line in (verb, *LOOKS)), "show w"]
+
+
+# A column's values dropped and taken back: a look behind each line, and on after it.
+DROPPED = [*VALUES, "show w", "undo", "columns w", "show w", "undo", "columns w", "show w", *["undo"] * 9, "layers"]
+FIRST_UNDO = DROPPED.index("undo")
+VALUES_SHOWN = ["rows 3", "1 POINT (1 1) depth=12 label='it''s old'", "2 POINT (2 2)", "3 POINT (3 3) depth=-7"]
+LABELS_SHOWN = ["rows 3", "1 POINT (1 1) label='it''s old'", "2 POINT (2 2)", "3 POINT (3 3)"]
+AFTER_FIRST = [REFUSED, ["rows 1", "label text"], LABELS_SHOWN, ["ok"], ["rows 2", "depth int", "label text"], VALUES_SHOWN]
+
+# A store of several layers, with values and all kinds, and what is asked of it once it was loaded.
+STORED = [*VALUES[:-2], *EDITS[:-3], "layer add m point", *(f"add m POINT ({place % 6} {place // 6})" for place in range(COUNT))]
+ASKED = """\
+layers
+columns w
+show w
+query m intersects POLYGON ((0 0, 3 0, 3 3, 0 3, 0 0))
+delete m 7
+query m disjoint POINT (2 2)
+undo
+add m POINT (9 9)
+query m intersects POINT (9 9)
+show m
+""".splitlines() + QUESTIONS
+
+
+@unittest.skipIf(shutil.which("cc") is None, "cc is missing")
+class Refused(unittest.TestCase):
+    """Runs in which growths are refused, one or all from one on."""
+
+    folder: ClassVar[tempfile.TemporaryDirectory[str]]
+    library: ClassVar[Path]
+    file: ClassVar[Path]
+
+    @classmethod
+    def setUpClass(cls) -> None:
+        cls.folder = tempfile.TemporaryDirectory()
+        cls.library = library(Path(cls.folder.name))
+        cls.file = Path(cls.folder.name) / "store.sfs"
+        cls.file.write_bytes(Call(STORE, saves=True).run(sent(STORED), {}).saved)
+
+    @classmethod
+    def tearDownClass(cls) -> None:
+        cls.folder.cleanup()
+
+    def ends(self, call: Call, lines: list[str]) -> list[tuple[str, Ended]]:
+        """How the runs of a session ended, each checked."""
+        session = Session(call, lines)
+        found = []
+        for has_rest in (False, True):
+            runs = checked(self.library, session, has_rest)
+            self.assertTrue(runs)
+            found += runs
+        ample = session.without(())
+        self.assertEqual((ample.status, ample.told), (0, b""))
+        self.assertNotIn(REFUSED, answers(ample.output))
+        return found
+
+    def test_every_command_and_every_edit_undone_and_done_again(self) -> None:
+        ends = {end for end, _ in self.ends(Call(STORE), WHOLE)}
+        self.assertIn("serve", ends)
+
+    def test_the_session_has_every_command(self) -> None:
+        given = answers(Call(STORE).run(sent(WHOLE), {}).output)
+        accepted = {line for line, answer in zip(WHOLE, given) if not answer[0].startswith("refused ")}
+        for command in COMMANDS:
+            self.assertTrue(any(f"{line} ".startswith(f"{command} ") for line in accepted), command)
+
+    def test_an_index_without_memory_is_missed_by_no_answer(self) -> None:
+        ends = [end for end, _ in self.ends(Call(STORE), indexed())]
+        # These growths were the index's: no line was refused for them, and all answers are right.
+        self.assertGreater(ends.count(""), 0)
+
+    def test_a_dropped_column_comes_back_whole_or_not_yet(self) -> None:
+        found = self.ends(Call(STORE), DROPPED)
+        first = [answers(ended.output) for end, ended in found if end == str(FIRST_UNDO)]
+        self.assertTrue(first)
+        for given in first:
+            self.assertEqual(given[FIRST_UNDO : FIRST_UNDO + len(AFTER_FIRST)], AFTER_FIRST)
+
+    def test_a_file_is_loaded_whole_or_not(self) -> None:
+        ends = {end for end, _ in self.ends(Call(STORE, ("--load", str(self.file))), ASKED)}
+        self.assertLessEqual({"words", "load", "serve", ""}, ends)
+
+    def test_a_file_is_saved_whole_or_a_fault_is_told(self) -> None:
+        ends = {end for end, _ in self.ends(Call(STORE, ("--load", str(self.file)), saves=True), ASKED)}
+        self.assertLessEqual({"words", "load", "serve", "save"}, ends)
+
+    def check_picture(self, ended: Ended, whole: bytes) -> None:
+        """Refuses what a picture program must not do without memory."""
+        if ended.status == 0:
+            self.assertEqual((ended.output, ended.told), (whole, b""))
+        elif ended.status == 1:
+            self.assertEqual(ended.told, b"fault draw Memory\n")
+            self.assertTrue(whole.startswith(ended.output))
+        else:
+            faults = {2: b"fault words Memory\n", 3: b"fault load Memory\n"}
+            self.assertEqual((ended.told, ended.output), (faults.get(ended.status), b""))
+
+    def test_a_picture_is_drawn_whole_or_a_fault_is_told(self) -> None:
+        file = self.file.read_bytes()
+        for words in ((), ("--layer", "a", "--layer", "m", "--window", "-5", "-5", "9", "9")):
+            whole = Call(PICTURE, words).run(file, {}).output
+            self.assertTrue(whole.endswith(b"</svg>\n"))
+            for has_rest in (False, True):
+                statuses = set()
+                for number, ended in refused_runs(self.library, Call(PICTURE, words), file, has_rest):
+                    statuses.add(ended.status)
+                    with self.subTest(words=words, growth=number, has_rest=has_rest):
+                        self.check_picture(ended, whole)
+                self.assertIn(3, statuses)
+
+
+if __name__ == "__main__":
+    unittest.main()
