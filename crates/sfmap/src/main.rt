@@ -11,12 +11,19 @@ use std::process::ExitCode;
 use std::rt::Env;
 use std::{env, io};
 
+/// Why the system's words could not be had.
+fn arguments_fault(error: &io::Error) -> Ending {
+    if error.kind() == io::ErrorKind::OutOfMemory {
+        Ending::Words(AskedFault::Memory)
+    } else {
+        Ending::Arguments
+    }
+}
+
 /// What the words of the command line ask for.
 fn asked(rt: &(impl Env + AllocGlobal)) -> Result<Asked, Ending> {
     let alloc = rt.alloc();
-    let Ok(arguments) = env::args(rt) else {
-        return Err(Ending::Arguments);
-    };
+    let arguments = env::args(rt).map_err(|error| arguments_fault(&error))?;
     let Ok(arguments) = arguments.collect::<Vec<String>>(alloc) else {
         return Err(Ending::Words(AskedFault::Memory));
     };
