@@ -258,9 +258,7 @@ class Session:
 
     def fault(self, ended: Ended) -> str:
         """What the run ended by before it answered a line, where want of memory may end it so; else nothing."""
-        faults = {(1, b"fault serve Memory\n"): "serve"}
-        if self.call.words or self.call.saves:
-            faults[2, b"fault words Memory\n"] = "words"
+        faults = {(1, b"fault serve Memory\n"): "serve", (2, b"fault words Memory\n"): "words"}
         if "--load" in self.call.words:
             faults[3, b"fault load Memory\n"] = "load"
         return "" if ended.saved else faults.get((ended.status, ended.output), "")
@@ -304,7 +302,7 @@ def checked(path: Path, session: Session, has_rest: bool) -> list[tuple[str, End
 def summary(path: Path, session: Session, has_rest: bool) -> str:
     """What the runs of a session were like."""
     ends = [end for end, _ in checked(path, session, has_rest)]
-    faults = sum(end == "serve" for end in ends)
+    faults = sum(end in ("serve", "words") for end in ends)
     none = sum(end == "" for end in ends)
     what = "with all behind it" if has_rest else "alone"
     lines = len(ends) - faults - none
