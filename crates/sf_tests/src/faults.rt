@@ -33,27 +33,21 @@ const FILE: [u8; 63] = [
 /// How many bytes are given or taken at a time.
 const STEPS: [usize; 3] = [1, 7, 100_000];
 
-/// How many calls go well after one that failed: none, or all, where who takes a fault as nothing would end well.
-const LATER: [usize; 2] = [0, usize::MAX];
-
-/// A reader that gives at most `step` bytes at a time, and fails once it was called `calls` times; after a
-/// failure it gives bytes again at the next `later` calls.
+/// A reader that gives at most `step` bytes at a time, and fails once it was called `calls` times.
 #[derive(Drop)]
 struct FailingReader<'a> {
     bytes: &'a [u8],
     step: usize,
     calls: usize,
-    later: usize,
     has_failed: bool,
 }
 
 impl<'a> FailingReader<'a> {
-    fn new(bytes: &'a [u8], step: usize, calls: usize, later: usize) -> FailingReader<'a> {
+    fn new(bytes: &'a [u8], step: usize, calls: usize) -> FailingReader<'a> {
         FailingReader {
             bytes,
             step,
             calls,
-            later,
             has_failed: false,
         }
     }
@@ -63,7 +57,6 @@ impl Read for FailingReader<'_> {
     fn read(&mut self, buf: &mut [u8]) -> io::Result<usize> {
         if self.calls == 0 {
             self.has_failed = true;
-            self.calls = self.later;
             return Err(io::Error::from(ErrorKind::Other));
         }
         self.calls -= 1;
@@ -74,8 +67,7 @@ impl Read for FailingReader<'_> {
 }
 
 /// A writer that takes at most `step` bytes at a time. Once it was called `calls` times it fails, or takes no
-/// byte where it is lazy; once it was flushed `flushes` times, flushing fails. After a failure the next `later`
-/// calls of its kind go well.
+/// byte where it is lazy; once it was flushed `flushes` times, flushing fails.
 #[derive(Drop)]
 struct FailingWriter {
     taken: Vec<u8>,
@@ -84,7 +76,6 @@ struct FailingWriter {
     calls: usize,
     is_lazy: bool,
     flushes: usize,
-    later: usize,
     has_failed: bool,
 }
 
@@ -95,7 +86,6 @@ impl FailingWriter {
         calls: usize,
         is_lazy: bool,
         flushes: usize,
-        later: usize,
     ) -> FailingWriter {
         FailingWriter {
             taken: Vec::new(alloc),
@@ -104,7 +94,6 @@ impl FailingWriter {
             calls,
             is_lazy,
             flushes,
-            later,
             has_failed: false,
         }
     }
@@ -114,7 +103,6 @@ impl Write for FailingWriter {
     fn write(&mut self, buf: &[u8]) -> io::Result<usize> {
         if self.calls == 0 {
             self.has_failed = true;
-            self.calls = self.later;
             return if self.is_lazy {
                 Ok(0)
             } else {
@@ -130,7 +118,6 @@ impl Write for FailingWriter {
     fn flush(&mut self) -> io::Result<()> {
         if self.flushes == 0 {
             self.has_failed = true;
-            self.flushes = self.later;
             return Err(io::Error::from(ErrorKind::Other));
         }
         self.flushes -= 1;
@@ -138,24 +125,6 @@ impl Write for FailingWriter {
         Ok(())
     }
 }
-
-/// Whether a writer that fails takes no byte, and how many of its calls go well after one that failed.
-const WRITES: [(bool, usize); 4] = [
-    (false, 0),
-    (true, 0),
-    (false, usize::MAX),
-    (true, usize::MAX),
-];
-
-/// The same, with the number of flushes that go well, for a writer of one flush.
-const LAST_WRITES: [(bool, usize, usize); 6] = [
-    (false, 1, 0),
-    (true, 1, 0),
-    (false, 0, 0),
-    (false, 1, usize::MAX),
-    (true, 1, usize::MAX),
-    (false, 0, usize::MAX),
-];
 
 /// How serving ended, by name.
 fn serving_end(served: Result<(), ServeFault>) -> &'static str {
@@ -227,26 +196,24 @@ fn serve_answers_what_was_read(rt: HostRuntime) {
     let alloc = rt.alloc();
     for step in STEPS {
         for calls in 0..INPUT.len() + 2 {
-            for later in LATER {
-                let mut editor = Editor::new(alloc);
-                let mut reader = FailingReader::new(INPUT.as_bytes(), step, calls, later);
-                let mut written: Vec<u8> = Vec::new(alloc);
-                let served = serve(alloc, &mut editor, &mut reader, &mut written);
-                let read = INPUT.len().wrapping_sub(reader.bytes.len());
-                let (len, depths) = answered(read);
-                assert_eq!(rt;
-                    serving_end(served),
-                    end_after(reader.has_failed, "Read"),
-                    "{calls} of {step}"
-                );
-                assert!(rt;
-                    reader.has_failed || read == INPUT.len(),
-                    "{calls} of {step}"
-                );
-                assert_eq!(rt; written.len(), len, "{calls} of {step}");
-                assert!(rt; OUTPUT.as_bytes().starts_with(written.as_slice()));
-                assert_eq!(rt; editor.depths(), depths);
-            }
+            let mut editor = Editor::new(alloc);
+            let mut reader = FailingReader::new(INPUT.as_bytes(), step, calls);
+            let mut written: Vec<u8> = Vec::new(alloc);
+            let served = serve(alloc, &mut editor, &mut reader, &mut written);
+            let read = INPUT.len().wrapping_sub(reader.bytes.len());
+            let (len, depths) = answered(read);
+            assert_eq!(rt;
+                serving_end(served),
+                end_after(reader.has_failed, "Read"),
+                "{calls} of {step}"
+            );
+            assert!(rt;
+                reader.has_failed || read == INPUT.len(),
+                "{calls} of {step}"
+            );
+            assert_eq!(rt; written.len(), len, "{calls} of {step}");
+            assert!(rt; OUTPUT.as_bytes().starts_with(written.as_slice()));
+            assert_eq!(rt; editor.depths(), depths);
         }
     }
 }
@@ -257,7 +224,7 @@ fn editor_goes_on_after_a_fault(rt: HostRuntime) -> Result<(), Fail> {
     let alloc = rt.alloc();
     let mut editor = Editor::new(alloc);
     let input = b"layer add w point\nadd w POINT (1 1)\nadd w POINT (2 2)";
-    let mut reader = FailingReader::new(input.as_slice(), 100, 1, 0);
+    let mut reader = FailingReader::new(input.as_slice(), 100, 1);
     let mut written: Vec<u8> = Vec::new(alloc);
     let served = serve(alloc, &mut editor, &mut reader, &mut written);
     assert_eq!(rt; serving_end(served), "Read");
@@ -274,10 +241,10 @@ fn serve_writes_a_front(rt: HostRuntime) {
     let alloc = rt.alloc();
     for step in STEPS {
         for calls in 0..OUTPUT.len() + 2 {
-            for (is_lazy, later) in WRITES {
+            for is_lazy in [false, true] {
                 let mut editor = Editor::new(alloc);
                 let mut reader = INPUT.as_bytes();
-                let mut writer = FailingWriter::new(alloc, step, calls, is_lazy, usize::MAX, later);
+                let mut writer = FailingWriter::new(alloc, step, calls, is_lazy, usize::MAX);
                 let served = serve(alloc, &mut editor, &mut reader, &mut writer);
                 let written = writer.taken.len();
                 let (whole, depths) = being_answered(written);
@@ -303,23 +270,21 @@ fn serve_writes_a_front(rt: HostRuntime) {
 fn serve_flushes_each_answer(rt: HostRuntime) {
     let alloc = rt.alloc();
     for flushes in 0..LINES.len() + 1 {
-        for later in LATER {
-            let mut editor = Editor::new(alloc);
-            let mut reader = INPUT.as_bytes();
-            let mut writer = FailingWriter::new(alloc, 100, usize::MAX, false, flushes, later);
-            let served = serve(alloc, &mut editor, &mut reader, &mut writer);
-            assert_eq!(rt;
-                serving_end(served),
-                end_after(flushes < LINES.len(), "Write"),
-                "at {flushes}"
-            );
-            let mut len: usize = 0;
-            for (_, answer, _) in &LINES[..LINES.len().min(flushes + 1)] {
-                len = len.wrapping_add(answer.len());
-            }
-            assert_eq!(rt; writer.taken.len(), len, "at {flushes}");
-            assert!(rt; OUTPUT.as_bytes().starts_with(writer.taken.as_slice()));
+        let mut editor = Editor::new(alloc);
+        let mut reader = INPUT.as_bytes();
+        let mut writer = FailingWriter::new(alloc, 100, usize::MAX, false, flushes);
+        let served = serve(alloc, &mut editor, &mut reader, &mut writer);
+        assert_eq!(rt;
+            serving_end(served),
+            end_after(flushes < LINES.len(), "Write"),
+            "at {flushes}"
+        );
+        let mut len: usize = 0;
+        for (_, answer, _) in &LINES[..LINES.len().min(flushes + 1)] {
+            len = len.wrapping_add(answer.len());
         }
+        assert_eq!(rt; writer.taken.len(), len, "at {flushes}");
+        assert!(rt; OUTPUT.as_bytes().starts_with(writer.taken.as_slice()));
     }
 }
 
@@ -329,19 +294,17 @@ fn load_tells_a_read_fault(rt: HostRuntime) {
     let alloc = rt.alloc();
     for step in STEPS {
         for calls in 0..FILE.len() + 2 {
-            for later in LATER {
-                let mut reader = FailingReader::new(FILE.as_slice(), step, calls, later);
-                let loaded = load(alloc, &mut reader);
-                assert_eq!(rt;
-                    loading_end(&loaded),
-                    end_after(reader.has_failed, "Read"),
-                    "{calls} of {step}"
-                );
-                assert!(rt;
-                    reader.has_failed || reader.bytes.is_empty(),
-                    "{calls} of {step}"
-                );
-            }
+            let mut reader = FailingReader::new(FILE.as_slice(), step, calls);
+            let loaded = load(alloc, &mut reader);
+            assert_eq!(rt;
+                loading_end(&loaded),
+                end_after(reader.has_failed, "Read"),
+                "{calls} of {step}"
+            );
+            assert!(rt;
+                reader.has_failed || reader.bytes.is_empty(),
+                "{calls} of {step}"
+            );
         }
     }
 }
@@ -353,8 +316,8 @@ fn save_writes_a_front(rt: HostRuntime) -> Result<(), Fail> {
     let store = load(alloc, &mut FILE.as_slice())?;
     for step in STEPS {
         for calls in 0..FILE.len() + 2 {
-            for (is_lazy, flushes, later) in LAST_WRITES {
-                let mut writer = FailingWriter::new(alloc, step, calls, is_lazy, flushes, later);
+            for (is_lazy, flushes) in [(false, 1), (true, 1), (false, 0)] {
+                let mut writer = FailingWriter::new(alloc, step, calls, is_lazy, flushes);
                 let saved = save(alloc, &store, &mut writer);
                 let written = writer.taken.len();
                 assert_eq!(rt;

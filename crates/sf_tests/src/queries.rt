@@ -112,9 +112,9 @@ fn push_questions(input: &mut String) -> Result<(), Fail> {
     Ok(())
 }
 
-/// Adds the identifiers of so many points: those in the square, or the others.
-fn push_ids(output: &mut String, alloc: Global, count: u32, in_square: bool) -> Result<(), Fail> {
-    for number in 0..count {
+/// Adds the identifiers of the points in the square, or of the others.
+fn push_ids(output: &mut String, alloc: Global, in_square: bool) -> Result<(), Fail> {
+    for number in 0..POINTS {
         if is_in_square(number) == in_square {
             let id = number + 1;
             output.push_str(format!(in alloc; "{id}\n")?.as_str())?;
@@ -126,19 +126,14 @@ fn push_ids(output: &mut String, alloc: Global, count: u32, in_square: bool) -> 
 /// Adds the answers to the questions where all points are there.
 fn push_found(output: &mut String, alloc: Global) -> Result<(), Fail> {
     output.push_str("rows 25\n")?;
-    push_ids(output, alloc, POINTS, true)?;
+    push_ids(output, alloc, true)?;
     output.push_str("rows 975\n")?;
-    push_ids(output, alloc, POINTS, false)
+    push_ids(output, alloc, false)
 }
 
-/// Adds the lines that add so many points, and their answers.
-fn push_additions(
-    input: &mut String,
-    output: &mut String,
-    alloc: Global,
-    count: u32,
-) -> Result<(), Fail> {
-    for number in 0..count {
+/// Adds the line that adds each point, and its answer.
+fn push_additions(input: &mut String, output: &mut String, alloc: Global) -> Result<(), Fail> {
+    for number in 0..POINTS {
         let x = number % 40;
         let y = number / 40;
         let id = number + 1;
@@ -171,7 +166,7 @@ fn push_undos(input: &mut String, output: &mut String) -> Result<(), Fail> {
 fn points_are_found_added_deleted_and_back(rt: HostRuntime) -> Result<(), Fail> {
     let mut input = String::from_str(rt.alloc(), "layer add w point\n")?;
     let mut output = String::from_str(rt.alloc(), "ok\n")?;
-    push_additions(&mut input, &mut output, rt.alloc(), POINTS)?;
+    push_additions(&mut input, &mut output, rt.alloc())?;
     push_questions(&mut input)?;
     push_found(&mut output, rt.alloc())?;
     push_deletions(&mut input, &mut output, rt.alloc())?;
@@ -180,22 +175,6 @@ fn points_are_found_added_deleted_and_back(rt: HostRuntime) -> Result<(), Fail> 
     push_undos(&mut input, &mut output)?;
     push_questions(&mut input)?;
     push_found(&mut output, rt.alloc())?;
-    let mut whole = input.as_bytes();
-    assert_eq!(rt; answers(rt.alloc(), &mut whole)?.as_str(), output.as_str());
-    Ok(())
-}
-
-/// How many points the largest index has.
-const MOST_POINTS: u32 = 5000;
-
-#[test]
-fn points_are_found_among_five_thousand(rt: HostRuntime) -> Result<(), Fail> {
-    let mut input = String::from_str(rt.alloc(), "layer add w point\n")?;
-    let mut output = String::from_str(rt.alloc(), "ok\n")?;
-    push_additions(&mut input, &mut output, rt.alloc(), MOST_POINTS)?;
-    input.push_str("query w intersects POLYGON ((5 5, 9 5, 9 9, 5 9, 5 5))\n")?;
-    output.push_str("rows 25\n")?;
-    push_ids(&mut output, rt.alloc(), MOST_POINTS, true)?;
     let mut whole = input.as_bytes();
     assert_eq!(rt; answers(rt.alloc(), &mut whole)?.as_str(), output.as_str());
     Ok(())
