@@ -2,6 +2,7 @@
 
 ghost use Rattle.sf_interiors.specs.Apart.{InteriorIsApart};
 ghost use Rattle.sf_interiors.specs.Dimensions.{BoundaryHasDimension, InteriorHasDimension};
+ghost use Rattle.sf_interiors.specs.Vertices.{AreasHaveBeside};
 
 /// No point of the plane is both in the interior and in the boundary of a valid geometry: a point
 /// on a ring of one polygon is inside no other.
@@ -18,4 +19,10 @@ pub fn interior_has_dimension()
 /// end that is in it.
 pub fn boundary_has_dimension()
     ensures { BoundaryHasDimension }
+{}
+
+/// Less than a grid step away from each end of its edges a valid area has a part of its interior with area, and
+/// a part of its boundary with length.
+pub fn areas_have_beside()
+    ensures { AreasHaveBeside }
 {}

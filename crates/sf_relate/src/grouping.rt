@@ -38,7 +38,7 @@ pub(crate) fn pieces_of(
 }
 
 /// Adds the pieces of a geometry to one group, and dots at the ends of its lines to another one.
-fn push_grouped(
+pub(crate) fn push_grouped(
     alloc: Global,
     pieces: &mut GroupedPieces,
     geometry: &Geometry,

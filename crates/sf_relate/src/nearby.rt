@@ -1,0 +1,95 @@
+//! The matrix of a geometry with an area, by a walk over those edges of the area alone that can be on a point of
+//! the geometry or above one.
+
+ghost use Rattle.std.specs.Prelude.{◌≡◌, ◌≤◌, ◌++◌, IfOk, IsFalse, OnOk, length, map};
+ghost use Rattle.std.specs.List.{AllByRecursion};
+ghost use Rattle.sf_geometry.specs.Lists.{is_same};
+ghost use Rattle.sf_geometry.specs.Parts.{edge_of};
+ghost use Rattle.sf_pieces.specs.Marked.{marked, piece_of};
+ghost use Rattle.sf_relate.specs.Matrices.{matrix_of};
+ghost use Rattle.sf_relate.specs.Nearby.{ReachesBeyond, TellPlaces, nearby_grouped};
+ghost use Rattle.sf_relate.specs.Places.{shape_of};
+ghost use Rattle.sf_relate.specs.declared.shape.Shape.TheVariants.{Areas};
+
+use super::grouping::{FIRST, FIRST_ENDS, SECOND, push_grouped};
+use super::matrix::Matrix;
+use super::shape::Shape;
+use super::sink::MatrixSink;
+use sf_geometry::Geometry;
+use sf_grid::GridPoint;
+use sf_pieces::GroupedPieces;
+use sf_plane::Dim;
+use sf_validity::Valid;
+use std::alloc::{AllocError, Global};
+
+/// The matrix of a geometry with an area that has parts of its interior and of its boundary outside of it, by
+/// those edges of the area that tell the place of each point of the geometry. What the area has in the
+/// geometry's exterior is known, so the edges that are far away are not walked.
+///
+/// # Errors
+///
+/// Want of memory alone.
+pub fn relate_nearby(
+    alloc: Global,
+    a: &Valid,
+    area: &Valid,
+    edges: &[(GridPoint, GridPoint)],
+) -> Result<Matrix, AllocError>
+    requires areal { shape_of area.now ≡ Areas }
+    requires few { length edges.now ≤ 4096 }
+    requires long { AllByRecursion (λ pair. IsFalse (is_same pair.0 pair.1)) edges.now }
+    requires places { TellPlaces a.now area.now (map edge_of edges.now) }
+    requires beyond { ReachesBeyond a.now area.now }
+    ensures { IfOk result (λ matrix. matrix.0 ≡ matrix_of a.now area.now) }
+{
+    let first = a.geometry();
+    let pieces = pieces_nearby(alloc, first, edges)?;
+    let mut sink = MatrixSink {
+        first: Shape::of(first),
+        second: Shape::of(area.geometry()),
+        entries: [Dim::Nothing; 9],
+    };
+    let areal = [sink.first.is_areal(), sink.second.is_areal()];
+    pieces.walk(alloc, &areal, &mut sink)?;
+    let [ii, ib, ie, bi, bb, be, _, _, _] = sink.entries;
+    Ok(Matrix([
+        ii,
+        ib,
+        ie,
+        bi,
+        bb,
+        be,
+        Dim::Two,
+        Dim::One,
+        Dim::Two,
+    ]))
+}
+
+/// The pieces of a geometry with its ends, and these edges, by groups.
+fn pieces_nearby(
+    alloc: Global,
+    first: &Geometry,
+    edges: &[(GridPoint, GridPoint)],
+) -> Result<GroupedPieces, AllocError>
+    requires { AllByRecursion (λ pair. IsFalse (is_same pair.0 pair.1)) edges.now }
+    ensures { IfOk result (λ pieces. pieces ≡ nearby_grouped first.now (map edge_of edges.now)) }
+{
+    let mut pieces = GroupedPieces::new(alloc);
+    push_edges(&mut pieces, edges)?;
+    push_grouped(alloc, &mut pieces, first, FIRST, FIRST_ENDS)?;
+    Ok(pieces)
+}
+
+/// Adds edges to the group of the second geometry.
+fn push_edges(
+    pieces: &mut GroupedPieces,
+    edges: &[(GridPoint, GridPoint)],
+) -> Result<(), AllocError>
+    requires { AllByRecursion (λ pair. IsFalse (is_same pair.0 pair.1)) edges.now }
+    ensures { OnOk result (pieces.new ≡ pieces.old ++ marked 1 (map piece_of (map edge_of edges.now))) }
+{
+    for (from, to) in edges {
+        pieces.push_edges(&[*from, *to], SECOND)?;
+    }
+    Ok(())
+}
