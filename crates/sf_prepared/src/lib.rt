@@ -4,6 +4,7 @@
 mod above;
 mod beside;
 pub mod laws;
+mod nearby;
 mod prepared;
 
 pub use prepared::Prepared;

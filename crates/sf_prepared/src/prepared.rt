@@ -28,8 +28,8 @@ use std::marker::Model;
 /// Contracts see it as the edges' ends.
 #[derive(Drop)]
 pub struct Prepared {
-    edges: Vec<(GridPoint, GridPoint)>,
-    boxes: RTree,
+    pub(crate) edges: Vec<(GridPoint, GridPoint)>,
+    pub(crate) boxes: RTree,
 }
 
 impl Model for Prepared {
