@@ -2,20 +2,11 @@
 
 from __future__ import annotations
 
-import shutil
-import sys
-import tempfile
 import unittest
-from pathlib import Path
-from typing import ClassVar
 
-TOP = Path(__file__).resolve().parent.parent
-sys.path.insert(0, str(TOP / "bench"))
+from preloaded import PICTURE, STORE, Preloaded
 
-from growths import Call, Ended, library, met_runs, sent
-
-STORE = TOP / "crates" / "sfstore" / "out" / "sfstore"
-PICTURE = TOP / "crates" / "sfmap" / "out" / "sfmap"
+from growths import Call, Ended, met_runs, sent
 
 # A read or a write that fails, or a write that takes nothing, the calls counted from 1. It fails once: who takes it
 # for nothing and goes on ends well.
@@ -79,24 +70,11 @@ def answered(read: bytes) -> bytes:
     return "".join(DIALOG[LINES[place]] for place in range(read.count(b"\n"))).encode()
 
 
-@unittest.skipIf(shutil.which("cc") is None, "cc is missing")
-class Failed(unittest.TestCase):
+class Failed(Preloaded):
     """Runs in which one call of the system fails."""
 
-    folder: ClassVar[tempfile.TemporaryDirectory[str]]
-    library: ClassVar[Path]
-    file: ClassVar[Path]
-
-    @classmethod
-    def setUpClass(cls) -> None:
-        cls.folder = tempfile.TemporaryDirectory()
-        cls.library = library(Path(cls.folder.name), FAILING)
-        cls.file = Path(cls.folder.name) / "store.sfs"
-        cls.file.write_bytes(Call(STORE, saves=True).run(sent(LINES), {}).saved)
-
-    @classmethod
-    def tearDownClass(cls) -> None:
-        cls.folder.cleanup()
+    source = FAILING
+    stored = LINES
 
     def runs(self, call: Call, text: bytes, counted: str, others: dict[str, str]) -> list[Ended]:
         """The runs in which each call fails in turn."""

@@ -2,20 +2,11 @@
 
 from __future__ import annotations
 
-import shutil
-import sys
-import tempfile
 import unittest
-from pathlib import Path
-from typing import ClassVar
 
-TOP = Path(__file__).resolve().parent.parent
-sys.path.insert(0, str(TOP / "bench"))
+from preloaded import PICTURE, STORE, Preloaded
 
-from growths import EDITS, QUESTIONS, REFUSED, SESSION, Call, Ended, Session, answers, checked, library, refused_runs, sent
-
-STORE = TOP / "crates" / "sfstore" / "out" / "sfstore"
-PICTURE = TOP / "crates" / "sfmap" / "out" / "sfmap"
+from growths import EDITS, QUESTIONS, REFUSED, REFUSING, SESSION, Call, Ended, Session, answers, checked, refused_runs, sent
 
 # What a line of each command and of each edit begins with.
 COMMANDS = """\
@@ -193,24 +184,11 @@ show m
 """.splitlines() + QUESTIONS
 
 
-@unittest.skipIf(shutil.which("cc") is None, "cc is missing")
-class Refused(unittest.TestCase):
+class Refused(Preloaded):
     """Runs in which growths are refused, one or all from one on."""
 
-    folder: ClassVar[tempfile.TemporaryDirectory[str]]
-    library: ClassVar[Path]
-    file: ClassVar[Path]
-
-    @classmethod
-    def setUpClass(cls) -> None:
-        cls.folder = tempfile.TemporaryDirectory()
-        cls.library = library(Path(cls.folder.name))
-        cls.file = Path(cls.folder.name) / "store.sfs"
-        cls.file.write_bytes(Call(STORE, saves=True).run(sent(STORED), {}).saved)
-
-    @classmethod
-    def tearDownClass(cls) -> None:
-        cls.folder.cleanup()
+    source = REFUSING
+    stored = STORED
 
     def ends(self, call: Call, lines: list[str]) -> list[tuple[str, Ended]]:
         """How the runs of a session ended, each checked."""

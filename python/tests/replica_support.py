@@ -6,6 +6,8 @@ import itertools
 import os
 import pwd
 import re
+import sys
+import textwrap
 import unittest
 from importlib.util import find_spec
 
@@ -65,6 +67,13 @@ class ReplicaCase(TestCase):
 
     def dsn(self, login):
         return self.pair.dsn(login, self.database)
+
+    def flagged(self, text, once):
+        """A program before the real one that goes wrong while a file is there, which is taken at once or left."""
+        flag = self.folder / "flag"
+        flag.touch()
+        text = textwrap.dedent(text).format(flag=str(flag), once=once, program=PROGRAM)
+        return self.script(f"#!{sys.executable}\n{text}")
 
     def replica(self, login, program=PROGRAM, **changed):
         """A replica of a login, which ends with the test."""

@@ -480,9 +480,7 @@ class Divergence(ReplicaCase):
 
     def wrong_program(self, once):
         """A program that stores another point than it is given, on its first start or on each one."""
-        (self.folder / "flag").touch()
-        text = textwrap.dedent(self.WRONG).format(flag=str(self.folder / "flag"), once=once, program=PROGRAM)
-        return self.script(f"#!{sys.executable}\n{text}")
+        return self.flagged(self.WRONG, once)
 
     def test_a_replica_that_differs_once_begins_again(self):
         ann, ben = self.town("ann", "ben")
@@ -588,9 +586,8 @@ class Memory(ReplicaCase):
         """
 
     def scarce_program(self, once):
-        (self.folder / "flag").touch()
-        text = textwrap.dedent(self.SCARCE).format(flag=str(self.folder / "flag"), once=once, program=PROGRAM)
-        return self.script(f"#!{sys.executable}\n{text}")
+        """A program that answers as one that finds no memory for a line, on its first start or on each one."""
+        return self.flagged(self.SCARCE, once)
 
     LINES = ["add w POINT (1 1)", "add w POINT (7 3)", "add w POINT (2 2)", "delete w 2", "undo"]
 
