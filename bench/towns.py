@@ -40,14 +40,40 @@ def town(count: int, spikes: bool) -> str:
     return "POLYGON ((" + ", ".join(f"{x} {y}" for x, y in [*corners, corners[0]]) + "))"
 
 
+def points(count: int) -> list[str]:
+    """Lines that add so many points, in rows round the origin."""
+    row = math.isqrt(count)
+    half = row * SPACE // 2
+    return [f"add a POINT ({(k % row) * SPACE - half} {(k // row) * SPACE - half})" for k in range(row * row)]
+
+
+def street(count: int) -> str:
+    """A line of 4,096 points that winds through the middle of so many squares, from one side to the other."""
+    half = math.isqrt(count) * SPACE / 2
+    corners = [(round(half * (k / 2_047.5 - 1)), round(half / 4 * math.sin(k / 150))) for k in range(4_096)]
+    return "LINESTRING (" + ", ".join(f"{x} {y}" for x, y in corners) + ")"
+
+
+def rows(what: str, before: list[str], asks: list[str], given: str) -> None:
+    """Prints what each question costs for each feature."""
+    count = len(before) - 1
+    for asked in asks:
+        each = cost(before, [f"{asked} {given}"]) / count
+        print(f"{count} {what}: {asked} {each:.2f} us for each feature", flush=True)
+
+
 def main() -> None:
     count = int(sys.argv[1]) if len(sys.argv) > 1 else 100_000
-    before = ["layer add a polygon", *squares(count)]
+    of_squares = ["layer add a polygon", *squares(count)]
+    of_points = ["layer add a point", *points(count)]
+    predicates = ("within", "intersects", "disjoint", "overlaps", "touches", "contains")
+    asks = [*(f"query a {predicate}" for predicate in predicates), "match a T*F**F***"]
     for spikes in (False, True):
+        where = f", town of {EDGES} edges{' with spikes' if spikes else ''}"
         given = town(count, spikes)
-        for asked in ("query a within", "query a intersects", "query a disjoint", "match a T*F**F***"):
-            each = cost(before, [f"{asked} {given}"]) / count
-            print(f"{count} squares, town of {EDGES} edges{' with spikes' if spikes else ''}: {asked} {each:.2f} us for each feature")
+        rows("squares" + where, of_squares, asks, given)
+        rows("points" + where, of_points, asks[:3], given)
+    rows("squares, a street of 4096 points", of_squares, ["query a crosses", "query a intersects"], street(count))
 
 
 if __name__ == "__main__":

@@ -29,6 +29,7 @@ use Rattle.sf_rules.specs.Validity.{NoneApplies}
 use Rattle.sf_rules.proofs.MemberLaws.{any-one, count-same, each-from_in, each-in, each-to_flat, one-any}
 use Rattle.sf_rules.proofs.TightLaws.{edges-differ}
 use Rattle.sf_interiors.specs.Dimensions.{BoundaryHasDimension, InteriorHasDimension}
+use Rattle.sf_interiors.specs.Vertices.{beside, is_beside}
 use Rattle.sf_interiors.proofs.AlongLaws.{along-on, rise_to, run_to}
 use Rattle.sf_interiors.proofs.ApartLaws.{IsSound, common-edges, polygons-sound}
 use Rattle.sf_interiors.proofs.ChainLaws.{balanced-chain}
@@ -36,9 +37,9 @@ use Rattle.sf_interiors.proofs.OpenLaws.{triangle-inside}
 use Rattle.sf_interiors.proofs.ParityLaws.{on-edges, polygon-inside}
 use Rattle.sf_interiors.proofs.RingLaws.{balanced-rings}
 use Rattle.sf_interiors.proofs.SharingLaws.{rings-apart}
-use Rattle.sf_interiors.proofs.SquareLaws.{square, square-closed, square-inside}
+use Rattle.sf_interiors.proofs.SquareLaws.{square, square-beside, square-closed, square-inside}
 
-is_grid : (p : Coordinates) → IsPoint (grid_point p)
+pub is_grid : (p : Coordinates) → IsPoint (grid_point p)
 is_grid p = record { positive = lit< tt }
 
 -- ---- what finitely many points or edges have is thin
@@ -145,10 +146,10 @@ no-step w d f s m some less e =
     under a b c g h k = omega (arith, ints)
 
 -- the point of the edge a little behind its start
-abbrev little : Line → ℕ → Point
+abbrev pub little : Line → ℕ → Point
 little e m = nudged (m + 1) (run_to e.b (grid_point e.a)) (rise_to e.b (grid_point e.a)) (grid_point e.a)
 
-abbrev size_of : Line → ℕ
+abbrev pub size_of : Line → ℕ
 size_of e = suc (unsigned_abs (run_to e.b (grid_point e.a)) + unsigned_abs (rise_to e.b (grid_point e.a)))
 
 between-grid : (e : Line) (v : Coordinates) (p : Point) → e.a ≢ e.b → IsPoint p → IsBetween (grid_point e.a) (little e (size_of e)) p → same_point (grid_point v) p ≡ false
@@ -194,7 +195,7 @@ between-grid e v p n i b =
     ended : (a c : ℤ) → c *ℤ pos 1 -ℤ a ≡ pos 0 → a ≡ c
     ended a c h = omega (arith, ints)
 
-short-segment : (e : Line) (set : PointSet) → e.a ≢ e.b → ((p : Point) → IsPoint p → IsOnEdge e p → ((v : Coordinates) → same_point (grid_point v) p ≡ false) → set p ≡ true) → HasSegment set
+pub short-segment : (e : Line) (set : PointSet) → e.a ≢ e.b → ((p : Point) → IsPoint p → IsOnEdge e p → IsBetween (grid_point e.a) (little e (size_of e)) p → set p ≡ true) → HasSegment set
 short-segment e set n on =
     let b = little e (size_of e) in
     let is_b = nudged-point (size_of e + 1) (run_to e.b (grid_point e.a)) (rise_to e.b (grid_point e.a)) (grid_point e.a) (omega arith) (is_grid e.a) in
@@ -209,7 +210,7 @@ short-segment e set n on =
           (λ t.
           let parts = and_parts (int_eq (e.a.x *ℤ pos b.d) (b.x *ℤ pos 1)) (int_eq (e.a.y *ℤ pos b.d) (b.y *ℤ pos 1)) t in
           n (same_coordinates e.a e.b (level e.a.x e.b.x (size_of e + 1) (eq_from_test _ _ parts.0)) (level e.a.y e.b.y (size_of e + 1) (eq_from_test _ _ parts.1))));
-      has = λ p i between. on p i (edge_is_convex e (grid_point e.a) b p (is_grid e.a) is_b i (start_on_edge e.a e.b) on_b between) (λ v. between-grid e v p n i between);
+      has = λ p i between. on p i (edge_is_convex e (grid_point e.a) b p (is_grid e.a) is_b i (start_on_edge e.a e.b) on_b between) between;
     }
   where
     level : (a c : ℤ) (k : ℕ) → a *ℤ pos (1 * k) ≡ (a *ℤ pos k +ℤ (c *ℤ pos 1 -ℤ a)) *ℤ pos 1 → a ≡ c
@@ -242,34 +243,42 @@ edge-on_line : (ps : List Coordinates) (h : HasEdge ps) (p : Point) → IsOnEdge
 edge-on_line ps h p on = ap (list_any (λ e. on_edge e p)) h.is ∙ ap (λ t. t || list_any (λ e. on_edge e p) h.rest) on
 
 -- ---- areas
-long-edges : (lists : List (List Coordinates)) → AllByRecursion (λ (e : Line). e.a ≢ e.b) (flat_map edges_of lists)
+pub long-edges : (lists : List (List Coordinates)) → AllByRecursion (λ (e : Line). e.a ≢ e.b) (flat_map edges_of lists)
 long-edges lists = each-to_flat (λ (e : Line). e.a ≢ e.b) edges_of lists (each-from_in (λ ps. AllByRecursion (λ (e : Line). e.a ≢ e.b) (edges_of ps)) lists (λ ps i. edges-differ ps))
 
-polygon-triangle : (shell : List Coordinates) (holes : List (List Coordinates)) → IsSound (shell ∷ holes) → HasTriangle (in_polygon (shell ∷ holes))
-polygon-triangle shell holes s =
-    let first = has-edge 2 shell s.simple.0.long in
-    let q = grid_point first.edge.a in
-    let on : on_line shell q ≡ true = edge-on_line shell first q (start_on_edge first.edge.a first.edge.b) in
+-- what a set has, one with more points has
+pub wider-triangle : (s t : PointSet) → ((p : Point) → s p ≡ true → t p ≡ true) → HasTriangle s → HasTriangle t
+wider-triangle s t f h = record { a = h.a; b = h.b; c = h.c; is_a = h.is_a; is_b = h.is_b; is_c = h.is_c; wide = h.wide; has = λ p i j. f p (h.has p i j) }
+
+wider-segment : (s t : PointSet) → ((p : Point) → s p ≡ true → t p ≡ true) → HasSegment s → HasSegment t
+wider-segment s t f h = record { a = h.a; b = h.b; is_a = h.is_a; is_b = h.is_b; differ = h.differ; has = λ p i j. f p (h.has p i j) }
+
+-- beside a grid point on one of its rings a polygon has a triangle
+pub polygon-triangle : (rings : List (List Coordinates)) (v : Coordinates) → IsSound rings → on_polygon rings (grid_point v) ≡ true → HasTriangle (beside v (in_polygon rings))
+polygon-triangle rings v s on =
     let c =
-    common-edges (flat_map edges_of (shell ∷ holes)) (square first.edge.a) q (is_grid first.edge.a) (long-edges (shell ∷ holes)) (rings-apart (shell ∷ holes) s.simple s.shares_none)
-    (λ p i. balanced-rings (shell ∷ holes) p i s.closed)
-    (λ p i. balanced-chain (square first.edge.a) p (square-closed first.edge.a) i)
-    (on-edges (shell ∷ holes) q ∙ ap (λ t. t || on_polygon holes q) on)
-    (square-inside first.edge.a) in
-    triangle-inside (flat_map edges_of (shell ∷ holes)) (in_polygon (shell ∷ holes)) c.point c.is_point (balanced-rings (shell ∷ holes) c.point c.is_point s.closed) c.first
-    (λ p i inside. polygon-inside (shell ∷ holes) p (s.holes_within p i) (s.holes_apart p i) inside)
+    common-edges (flat_map edges_of rings) (square v) (grid_point v) (is_grid v) (long-edges rings) (rings-apart rings s.simple s.shares_none)
+    (λ p i. balanced-rings rings p i s.closed)
+    (λ p i. balanced-chain (square v) p (square-closed v) i)
+    (on-edges rings (grid_point v) ∙ on)
+    (square-inside v) in
+    triangle-inside (flat_map edges_of rings) (square v) (beside v (in_polygon rings)) c.point c.is_point (balanced-rings rings c.point c.is_point s.closed)
+    (balanced-chain (square v) c.point (square-closed v) c.is_point) c.first c.second
+    (λ p i inside near.
+    and_from (in_polygon rings p) (is_beside v p) (polygon-inside rings p (s.holes_within p i) (s.holes_apart p i) inside) (square-beside v p i near))
+
+shell-triangle : (shell : List Coordinates) (holes : List (List Coordinates)) → IsSound (shell ∷ holes) → HasTriangle (in_polygon (shell ∷ holes))
+shell-triangle shell holes s =
+    let first = has-edge 2 shell s.simple.0.long in
+    let v = first.edge.a in
+    let on : on_line shell (grid_point v) ≡ true = edge-on_line shell first (grid_point v) (start_on_edge v first.edge.b) in
+    wider-triangle (beside v (in_polygon (shell ∷ holes))) (in_polygon (shell ∷ holes)) (λ p h. (and_parts (in_polygon (shell ∷ holes) p) (is_beside v p) h).0)
+    (polygon-triangle (shell ∷ holes) v s (ap (λ t. t || on_polygon holes (grid_point v)) on))
 
 polygon-boundary : (shell : List Coordinates) (holes : List (List Coordinates)) → IsSound (shell ∷ holes) → HasSegment (on_polygon (shell ∷ holes))
 polygon-boundary shell holes s =
     let first = has-edge 2 shell s.simple.0.long in
     whole-segment first.edge (on_polygon (shell ∷ holes)) first.long (λ p i on. ap (λ t. t || on_polygon holes p) (edge-on_line shell first p on))
-
--- more points
-wider-triangle : (s t : PointSet) → ((p : Point) → s p ≡ true → t p ≡ true) → HasTriangle s → HasTriangle t
-wider-triangle s t f h = record { a = h.a; b = h.b; c = h.c; is_a = h.is_a; is_b = h.is_b; is_c = h.is_c; wide = h.wide; has = λ p i j. f p (h.has p i j) }
-
-wider-segment : (s t : PointSet) → ((p : Point) → s p ≡ true → t p ≡ true) → HasSegment s → HasSegment t
-wider-segment s t f h = record { a = h.a; b = h.b; is_a = h.is_a; is_b = h.is_b; differ = h.differ; has = λ p i j. f p (h.has p i j) }
 
 polygons-on : (polygons : List (List (List Coordinates))) (p : Point) → list_any (λ rings. on_polygon rings p) polygons ≡ true → list_any (λ e. on_edge e p) (flat_map edges_of (joined polygons)) ≡ true
 polygons-on polygons p h = on-edges (joined polygons) p ∙ flat polygons h
@@ -286,7 +295,7 @@ polygons-on polygons p h = on-edges (joined polygons) p ∙ flat polygons h
     flat [] k = k
     flat (r ∷ ps) k = elim (or_cases (on_polygon r p) (list_any (λ rings. on_polygon rings p) ps) k) [ inl here ↦ append r (joined ps) here | inr later ↦ behind r (joined ps) (flat ps later) ]
 
-sound-polygons : (polygons : List (List (List Coordinates))) → NoneApplies (flat_map ring_rules (joined polygons) ++ polygon_rules polygons) → AllByRecursion IsSound polygons
+pub sound-polygons : (polygons : List (List (List Coordinates))) → NoneApplies (flat_map ring_rules (joined polygons) ++ polygon_rules polygons) → AllByRecursion IsSound polygons
 sound-polygons polygons h =
     let parts = each-parts (λ (r : Rule). ¬ (Applies r.condition)) (flat_map ring_rules (joined polygons)) (polygon_rules polygons) h in polygons-sound polygons parts.0 parts.1
 
@@ -368,7 +377,7 @@ interior_has_dimension (MultiPoint (p ∷ ps)) v = (
 interior_has_dimension (LineString ps) v =
     let first = has-edge 0 ps (false_from_ne_true (nat_lt (length (tight ps)) 2) v.faultless.0) in (
       short-segment first.edge (in_interior (LineString ps)) first.long
-          (λ p i on grid. and_from (on_line ps p) (not (is_among (ends_of ps) p)) (edge-on_line ps first p on) (ap not (none-among (ends_of ps) p grid))),
+          (λ p i on between. and_from (on_line ps p) (not (is_among (ends_of ps) p)) (edge-on_line ps first p on) (ap not (none-among (ends_of ps) p (λ w. between-grid first.edge w p first.long i between)))),
       no-triangle (edges_of ps) (in_interior (LineString ps)) (edges-differ ps) (λ p i t. (and_parts (on_line ps p) (not (is_among (ends_of ps) p)) t).0),
     )
 interior_has_dimension (MultiLineString []) v = absurd (both_ways true v.sized.filled refl)
@@ -376,20 +385,20 @@ interior_has_dimension (MultiLineString (l ∷ ls)) v =
     let first = has-edge 0 l (false_from_ne_true (nat_lt (length (tight l)) 2) v.faultless.0) in
     let ends = λ (p : Point). is_odd (count_by (λ ps. is_among (ends_of ps) p) (l ∷ ls)) in (
       short-segment first.edge (in_interior (MultiLineString (l ∷ ls))) first.long
-          (λ p i on grid.
+          (λ p i on between.
           and_from (list_any (λ ps. on_line ps p) (l ∷ ls)) (not (ends p)) (or_left (on_line l p) (list_any (λ ps. on_line ps p) ls) (edge-on_line l first p on))
-          (ap (λ n. not (is_odd n)) (count-zero (λ ps. is_among (ends_of ps) p) (l ∷ ls) (each-from_in (λ ps. is_among (ends_of ps) p ≡ false) (l ∷ ls) (λ ps k. none-among (ends_of ps) p grid))))),
+          (ap (λ n. not (is_odd n)) (count-zero (λ ps. is_among (ends_of ps) p) (l ∷ ls) (each-from_in (λ ps. is_among (ends_of ps) p ≡ false) (l ∷ ls) (λ ps k. none-among (ends_of ps) p (λ w. between-grid first.edge w p first.long i between)))))),
       no-triangle (flat_map edges_of (l ∷ ls)) (in_interior (MultiLineString (l ∷ ls))) (long-edges (l ∷ ls))
           (λ p i t. on-edges (l ∷ ls) p ∙ (and_parts (list_any (λ ps. on_line ps p) (l ∷ ls)) (not (ends p)) t).0),
     )
 interior_has_dimension (Polygon []) v = absurd (both_ways true v.sized.filled refl)
-interior_has_dimension (Polygon (shell ∷ holes)) v = polygon-triangle shell holes (sound-polygons ((shell ∷ holes) ∷ []) v.faultless).0
+interior_has_dimension (Polygon (shell ∷ holes)) v = shell-triangle shell holes (sound-polygons ((shell ∷ holes) ∷ []) v.faultless).0
 interior_has_dimension (MultiPolygon []) v = absurd (both_ways true v.sized.filled refl)
 interior_has_dimension (MultiPolygon ([] ∷ polygons)) v = absurd (both_ways true (or_parts (is_empty ([] ∷ polygons)) true v.sized.filled).1 refl)
 interior_has_dimension (MultiPolygon ((shell ∷ holes) ∷ polygons)) v =
     wider-triangle (in_polygon (shell ∷ holes)) (in_interior (MultiPolygon ((shell ∷ holes) ∷ polygons)))
     (λ p h. or_left (in_polygon (shell ∷ holes) p) (list_any (λ rings. in_polygon rings p) polygons) h)
-    (polygon-triangle shell holes (sound-polygons ((shell ∷ holes) ∷ polygons) v.faultless).0)
+    (shell-triangle shell holes (sound-polygons ((shell ∷ holes) ∷ polygons) v.faultless).0)
 
 pub boundary_has_dimension : BoundaryHasDimension
 boundary_has_dimension (OnePoint p) v = λ h. both_ways false refl h.has

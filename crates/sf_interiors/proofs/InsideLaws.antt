@@ -18,7 +18,7 @@ use Rattle.sf_interiors.proofs.NudgeLaws.{IsFine, above-left, above-right, off-n
 use Rattle.sf_interiors.proofs.SideLaws.{differ, edge_above_left, is_over, straddles}
 
 -- ---- a vertical edge that straddles a point is on it
-upright-on : (a b : Coordinates) (p : Point) → a.x ≡ b.x → a.x *ℤ pos p.d ≡ p.x → (b.y *ℤ pos p.d) ≤ℤ p.y → p.y <ℤ (a.y *ℤ pos p.d) → IsOnEdge (edge_between a b) p
+pub upright-on : (a b : Coordinates) (p : Point) → a.x ≡ b.x → a.x *ℤ pos p.d ≡ p.x → (b.y *ℤ pos p.d) ≤ℤ p.y → p.y <ℤ (a.y *ℤ pos p.d) → IsOnEdge (edge_between a b) p
 upright-on a b p e f low high =
     let under : b.y <ℤ a.y = lt_from_mul b.y a.y p.d (chain (b.y *ℤ pos p.d) (a.y *ℤ pos p.d) low high) in
     on_edge_from (edge_between a b) p

@@ -13,3 +13,4 @@ pub mod ApartLaws
 pub mod OpenLaws
 pub mod SquareLaws
 pub mod DimensionLaws
+pub mod VertexLaws

@@ -1,5 +1,5 @@
--- Near a point inside closed chains lies one in no event's column and at no height; a triangle round it is inside too.
-use Rattle.std.proofs.Common.{◌≡◌, ℕ, suc, ◌+◌, ◌*◌, ◌<◌, arith, refl, ap, sym, ◌∙◌, ℤ, pos, ◌+ℤ◌, ◌-ℤ◌, ◌*ℤ◌, ◌<ℤ◌, ◌≤ℤ◌, true, false, List, [], ◌∷◌, map}
+-- Near a point inside two lists of edges lies one in no event's column and at no height; a triangle round it is inside both too.
+use Rattle.std.proofs.Common.{◌≡◌, ℕ, suc, ◌+◌, ◌*◌, ◌<◌, arith, refl, ap, sym, ◌∙◌, ℤ, pos, ◌+ℤ◌, ◌-ℤ◌, ◌*ℤ◌, ◌<ℤ◌, ◌≤ℤ◌, true, false, List, [], ◌∷◌, ◌++◌, map}
 use Rattle.std.specs.Prelude.{if◌then◌else◌}
 use Rattle.std.specs.List.{AllByRecursion, flat_map}
 use Rattle.std.proofs.lemmas.Bool.{and_from, both_ways}
@@ -13,7 +13,7 @@ use Rattle.sf_columns.specs.declared.piece.Piece.{Piece}
 use Rattle.sf_columns.specs.declared.piece.Piece.TheVariants.{Edge}
 use Rattle.sf_cells.specs.Pieces.{ends_of, heights_of, if_in_column, is_above, is_on}
 use Rattle.sf_cells.specs.Samples.{events}
-use Rattle.sf_slabs.proofs.CallerLemmas.{Among, IsPoint-point_at, Numbers, each-both, each-map, each-parts, event_places, event_places-numbers, heights_in, if_cases, on_edge-height}
+use Rattle.sf_slabs.proofs.CallerLemmas.{Among, IsPoint-point_at, Numbers, each-append, each-both, each-map, each-parts, event_places, event_places-numbers, heights_in, if_cases, on_edge-height}
 use Rattle.sf_plane.proofs.CoverLaws.{Among-sorted_back, is_listed}
 use Rattle.sf_plane.proofs.FormLaws.{nudged, nudged-point}
 use Rattle.sf_plane.proofs.GuardLaws.{alike_triangle}
@@ -21,7 +21,6 @@ use Rattle.sf_plane.proofs.ShareLaws.{alike_each}
 use Rattle.sf_plane.proofs.StripLaws.{among_has}
 use Rattle.sf_plane.specs.Cover.{is_among}
 use Rattle.sf_plane.specs.Dimension.{HasTriangle, PointSet}
-use Rattle.sf_plane.specs.Unions.{AreInOneCell}
 use Rattle.sf_grid.specs.Fraction.{fraction_lt}
 use Rattle.sf_rules.proofs.MemberLaws.{count-same, each-of_flat, each-of_map, each-to_flat, each-to_map}
 use Rattle.sf_interiors.proofs.ChainLaws.{IsBalanced}
@@ -129,28 +128,44 @@ no_height es p i h off =
         (each-both (λ (e : Line). Avoids (x_of p) (ends_of (piece_of e))) (λ e. on_edge e p ≡ false) (λ (e : Line). Avoids (y_of p) (heights_of (x_of p) (piece_of e))) es (λ e k o. edge_heights e p i k o) ends off))
 
 -- ---- what is in one cell with a point inside is inside
-alike-inside : (es : List Line) (p q : Point) → AreInOneCell (map piece_of es) p q → IsInside es p → IsInside es q
-alike-inside es p q a h =
-    let each = each-of_map (λ r. (is_on p r ≡ is_on q r) × (is_above p r ≡ is_above q r)) piece_of es (alike_each (map piece_of es) p q a.alike) in
+-- both points are on the edge or neither, and it is above both or neither
+abbrev AreAlikeAt : Point → Point → Line → Type 0
+AreAlikeAt p q e = (is_on p (piece_of e) ≡ is_on q (piece_of e)) × (is_above p (piece_of e) ≡ is_above q (piece_of e))
+
+alike-inside : (es : List Line) (p q : Point) → AllByRecursion (AreAlikeAt p q) es → IsInside es p → IsInside es q
+alike-inside es p q each h =
     record {
-      off =
-          each-both (λ (e : Line). (is_on p (piece_of e) ≡ is_on q (piece_of e)) × (is_above p (piece_of e) ≡ is_above q (piece_of e))) (λ e. on_edge e p ≡ false) (λ e. on_edge e q ≡ false) es
-          (λ e k o. sym k.0 ∙ o) each h.off;
+      off = each-both (AreAlikeAt p q) (λ e. on_edge e p ≡ false) (λ e. on_edge e q ≡ false) es (λ e k o. sym k.0 ∙ o) each h.off;
       odd =
           ap is_odd
-          (count-same (λ e. edge_above e q) (λ e. edge_above e p) es
-          (each-map (λ (e : Line). (is_on p (piece_of e) ≡ is_on q (piece_of e)) × (is_above p (piece_of e) ≡ is_above q (piece_of e))) (λ e. edge_above e q ≡ edge_above e p) es (λ e k. sym k.1) each))
+          (count-same (λ e. edge_above e q) (λ e. edge_above e p) es (each-map (AreAlikeAt p q) (λ e. edge_above e q ≡ edge_above e p) es (λ e k. sym k.1) each))
           ∙ h.odd;
     }
 
--- with a point inside, a set that has all points inside has a triangle
-pub triangle-inside : (es : List Line) (set : PointSet) (c : Point) → IsPoint c → IsBalanced es c → IsInside es c → ((q : Point) → IsPoint q → IsInside es q → set q ≡ true) → HasTriangle set
-triangle-inside es set c i b h has =
-    let pieces = map piece_of es in
-    let k : ℕ = suc (swerves (pos 1) (pos 0) es + denominators (event_places pieces)) in
+-- with a point inside two lists of edges, a set that has all points inside both has a triangle
+pub triangle-inside : (es fs : List Line) (set : PointSet) (c : Point) → IsPoint c → IsBalanced es c → IsBalanced fs c → IsInside es c → IsInside fs c →
+    ((q : Point) → IsPoint q → IsInside es q → IsInside fs q → set q ≡ true) → HasTriangle set
+triangle-inside es fs set c i b d h g has =
+    let pieces = map piece_of (es ++ fs) in
+    let k : ℕ = suc (swerves (pos 1) (pos 0) es + swerves (pos 1) (pos 0) fs + denominators (event_places pieces)) in
     let p = nudged k (pos 1) (pos 0) c in
     let is_p = nudged-point k (pos 1) (pos 0) c (omega arith) i in
-    let inside = stays es c (pos 1) (pos 0) k i b (each-fine (pos 1) (pos 0) es k (omega arith)) h in
+    let first = stays es c (pos 1) (pos 0) k i b (each-fine (pos 1) (pos 0) es k (omega arith)) h in
+    let second = stays fs c (pos 1) (pos 0) k i d (each-fine (pos 1) (pos 0) fs k (omega arith)) g in
     let columns = stepped_off (event_places pieces) c k (event_places-numbers pieces) (omega arith) in
-    let t = alike_triangle pieces p is_p (no_event pieces p is_p columns) (no_height es p is_p columns inside.off) in
-    record { a = t.a; b = t.b; c = t.c; is_a = t.is_a; is_b = t.is_b; is_c = t.is_c; wide = t.wide; has = λ q j l. has q j (alike-inside es p q (t.alike q j l) inside) }
+    let off = each-append (λ e. on_edge e p ≡ false) es fs first.off second.off in
+    let t = alike_triangle pieces p is_p (no_event pieces p is_p columns) (no_height (es ++ fs) p is_p columns off) in
+    record {
+      a = t.a;
+      b = t.b;
+      c = t.c;
+      is_a = t.is_a;
+      is_b = t.is_b;
+      is_c = t.is_c;
+      wide = t.wide;
+      has =
+          λ q j l.
+          let each = each-of_map (λ r. (is_on p r ≡ is_on q r) × (is_above p r ≡ is_above q r)) piece_of (es ++ fs) (alike_each pieces p q (t.alike q j l).alike) in
+          let parts = each-parts (AreAlikeAt p q) es fs each in
+          has q j (alike-inside es p q parts.0 first) (alike-inside fs p q parts.1 second);
+    }

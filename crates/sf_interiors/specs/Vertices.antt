@@ -1,5 +1,5 @@
 -- What an area has beside each end of its edges: a part of its interior and one of its boundary, less than a grid step away.
-use Rattle.std.specs.Prelude.{◌≡◌, Bool, ◌&&◌, List, ℤ, pos, ◌+ℤ◌, ◌-ℤ◌, ◌*ℤ◌, int_lt}
+use Rattle.std.specs.Prelude.{◌≡◌, Bool, ◌&&◌, pos, ◌+ℤ◌, ◌-ℤ◌, ◌*ℤ◌, int_lt}
 use Rattle.std.specs.List.{AllByRecursion}
 use Rattle.sf_grid.specs.Edge.{Edge}
 use Rattle.sf_grid.specs.Plane.{Coordinates, Point as PlanePoint}

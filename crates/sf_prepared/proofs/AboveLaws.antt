@@ -1,5 +1,5 @@
 -- The edges above a point are among those whose boxes are in the way of the ray from there up.
-use Rattle.std.proofs.Common.{◌≡◌, ℕ, ◌+◌, ◌<◌, ◌≤◌, arith, refl, ap, sym, ◌∙◌, subst, get_or, ℤ, pos, ◌+ℤ◌, ◌-ℤ◌, ◌*ℤ◌, ◌<ℤ◌, ◌≤ℤ◌, Bool, true, false, ◌&&◌, ◌||◌, List, [], ◌∷◌, ◌++◌, drop, take, length, map, filter, inl, inr}
+use Rattle.std.proofs.Common.{◌≡◌, ℕ, ◌+◌, ◌<◌, ◌≤◌, arith, lit<, refl, ap, sym, ◌∙◌, subst, get_or, ℤ, pos, ◌+ℤ◌, ◌-ℤ◌, ◌*ℤ◌, ◌<ℤ◌, ◌≤ℤ◌, Bool, true, false, ◌&&◌, ◌||◌, List, [], ◌∷◌, ◌++◌, drop, take, length, map, filter, inl, inr}
 use Rattle.std.specs.Prelude.{◌^◌, ◌-◌, if◌then◌else◌, int_le, int_lt}
 use Rattle.std.specs.Int.{int_max, int_min}
 use Rattle.std.specs.List.{AllByRecursion, list_any}
@@ -8,84 +8,137 @@ use Rattle.std.proofs.lemmas.Bool.{and_from, and_parts, both_ways, false_from_ne
 use Rattle.std.proofs.lemmas.Int.{by_lt_z, clamps, ints}
 use Rattle.std.proofs.lemmas.List.{drop-drop, drop_all, drop_more, take_more}
 use Rattle.sf_grid.specs.Bounds.{grid_max}
-use Rattle.sf_grid.specs.Plane.{Coordinates, IsOnGrid, Point, grid_point}
-use Rattle.sf_grid.specs.Edge.{below_rightward, cross, edge_above}
+use Rattle.sf_grid.specs.Plane.{Coordinates, IsOnGrid, IsPoint, Point, grid_point, x_of, y_of}
+use Rattle.sf_grid.specs.Edge.{below_rightward, cross, edge_above, within}
 use Rattle.sf_grid.specs.EvenOdd.{edges_above, is_odd}
-use Rattle.sf_grid.proofs.CallerLemmas.{dif, le_from_test, lt_from_test, mul, mul_nonneg-nonneg, mul_pos-pos, num, ring, sum, test_from_le, var}
+use Rattle.sf_grid.proofs.CallerLemmas.{dif, le_from_mul, le_from_test, lt_from_mul, lt_from_test, mul, mul_lt, mul_nonneg-nonneg, mul_pos-pos, ring, sum, test_from_le, var}
 use Rattle.sf_slabs.proofs.CallerLemmas.{each-append}
 use Rattle.sf_geometry.specs.declared.extent.Extent.{Extent}
-use Rattle.sf_geometry.specs.Envelope.{extents_meet}
+use Rattle.sf_geometry.specs.Envelope.{extent_at, extents_meet}
 use Rattle.sf_geometry.specs.Parts.{edge_of}
 use Rattle.sf_interiors.proofs.ChainLaws.{odd-count}
 use Rattle.sf_interiors.proofs.SideLaws.{differ}
 use Rattle.sf_rtree.specs.Indexes.{ids_meeting}
+use Rattle.sf_relate.specs.Contact.{in_extent}
 use Rattle.sf_prepared.specs.Boxes.{AreOnGrid, boxes_from, extent_of_edge, ray_above}
+use Rattle.sf_prepared.specs.Nearby.{columns_over}
 
--- ---- the box of an edge above a point is in the way
+-- ---- the sides of a box with a point
+pub record IsBoxed (e : Extent) (q : Point) : Type 0 where
+  pub left : (e.min_x *ℤ pos q.d) ≤ℤ q.x
+  pub right : q.x ≤ℤ (e.max_x *ℤ pos q.d)
+  pub bottom : (e.min_y *ℤ pos q.d) ≤ℤ q.y
+  pub top : q.y ≤ℤ (e.max_y *ℤ pos q.d)
+
+pub boxed-sides : (e : Extent) (q : Point) → in_extent e q ≡ true → IsBoxed e q
+boxed-sides e q h =
+    let parts = and_parts (within e.min_x e.max_x (x_of q)) (within e.min_y e.max_y (y_of q)) h in
+    let x = and_parts (int_le (e.min_x *ℤ pos q.d) q.x) (int_le q.x (e.max_x *ℤ pos q.d)) parts.0 in
+    let y = and_parts (int_le (e.min_y *ℤ pos q.d) q.y) (int_le q.y (e.max_y *ℤ pos q.d)) parts.1 in
+    record { left = le_from_test _ _ x.0; right = le_from_test _ _ x.1; bottom = le_from_test _ _ y.0; top = le_from_test _ _ y.1 }
+
+pub boxed-from : (e : Extent) (q : Point) → IsBoxed e q → in_extent e q ≡ true
+boxed-from e q b =
+    and_from (within e.min_x e.max_x (x_of q)) (within e.min_y e.max_y (y_of q))
+    (and_from (int_le (e.min_x *ℤ pos q.d) q.x) (int_le q.x (e.max_x *ℤ pos q.d)) (test_from_le _ _ b.left) (test_from_le _ _ b.right))
+    (and_from (int_le (e.min_y *ℤ pos q.d) q.y) (int_le q.y (e.max_y *ℤ pos q.d)) (test_from_le _ _ b.bottom) (test_from_le _ _ b.top))
+
+-- ---- the box of an edge above a point of a box is in the columns over it
+-- the side of a point is a mean of how far it is above the ends
+side_mean : (u v : Coordinates) (q : Point) →
+    cross u v q *ℤ pos q.d
+    ≡ (q.x -ℤ u.x *ℤ pos q.d) *ℤ (q.y -ℤ v.y *ℤ pos q.d) +ℤ (v.x *ℤ pos q.d -ℤ q.x) *ℤ (q.y -ℤ u.y *ℤ pos q.d)
+side_mean u v q =
+    ring (u.x ∷ u.y ∷ v.x ∷ v.y ∷ q.x ∷ q.y ∷ pos q.d ∷ [])
+    (mul (dif (mul (dif (var 2) (var 0)) (dif (var 5) (mul (var 1) (var 6)))) (mul (dif (var 3) (var 1)) (dif (var 4) (mul (var 0) (var 6))))) (var 6))
+    (sum
+    (mul (dif (var 4) (mul (var 0) (var 6))) (dif (var 5) (mul (var 3) (var 6))))
+    (mul (dif (mul (var 2) (var 6)) (var 4)) (dif (var 5) (mul (var 1) (var 6)))))
+    refl
+
 -- a point above both ends is not below the edge
-over-both : (u v p : Coordinates) → u.x ≤ℤ p.x → p.x <ℤ v.x → u.y <ℤ p.y → v.y <ℤ p.y → cross u v (grid_point p) <ℤ pos 0 → ⊥
-over-both u v p l r h k c =
-    let s = mul_nonneg-nonneg (p.x -ℤ u.x) (p.y -ℤ v.y) (omega (arith, ints)) (omega (arith, ints)) in
-    let t = mul_pos-pos (v.x -ℤ p.x) (p.y -ℤ u.y) (omega (arith, ints)) (omega (arith, ints)) in
-    clash (cross u v (grid_point p)) _ _ side s t c
+over-both : (u v : Coordinates) (q : Point) → IsPoint q → (u.x *ℤ pos q.d) ≤ℤ q.x → q.x <ℤ (v.x *ℤ pos q.d) → (u.y *ℤ pos q.d) <ℤ q.y → (v.y *ℤ pos q.d) <ℤ q.y →
+    cross u v q <ℤ pos 0 → ⊥
+over-both u v q i l r h k c =
+    let s = mul_nonneg-nonneg (q.x -ℤ u.x *ℤ pos q.d) (q.y -ℤ v.y *ℤ pos q.d) (omega (arith, ints)) (omega (arith, ints)) in
+    let t = mul_pos-pos (v.x *ℤ pos q.d -ℤ q.x) (q.y -ℤ u.y *ℤ pos q.d) (omega (arith, ints)) (omega (arith, ints)) in
+    clash (cross u v q) (lt_from_mul (pos 0) (cross u v q) q.d (positive (cross u v q *ℤ pos q.d) _ _ (side_mean u v q) s t)) c
   where
-    side : cross u v (grid_point p) ≡ (p.x -ℤ u.x) *ℤ (p.y -ℤ v.y) +ℤ (v.x -ℤ p.x) *ℤ (p.y -ℤ u.y)
-    side =
-        ring (u.x ∷ u.y ∷ v.x ∷ v.y ∷ p.x ∷ p.y ∷ [])
-        (dif (mul (dif (var 2) (var 0)) (dif (var 5) (mul (var 1) (num (pos 1))))) (mul (dif (var 3) (var 1)) (dif (var 4) (mul (var 0) (num (pos 1))))))
-        (sum (mul (dif (var 4) (var 0)) (dif (var 5) (var 3))) (mul (dif (var 2) (var 4)) (dif (var 5) (var 1))))
-        refl
+    positive : (z s t : ℤ) → z ≡ s +ℤ t → pos 0 ≤ℤ s → pos 0 <ℤ t → (pos 0 *ℤ pos q.d) <ℤ z
+    positive z s t e f g = omega (arith, ints)
 
-    clash : (z s t : ℤ) → z ≡ s +ℤ t → pos 0 ≤ℤ s → pos 0 <ℤ t → z <ℤ pos 0 → ⊥
-    clash z s t e f g n = absurd (omega (arith, ints))
+    clash : (z : ℤ) → pos 0 <ℤ z → z <ℤ pos 0 → ⊥
+    clash z f g = absurd (omega (arith, ints))
 
 -- two ranges of one coordinate meet
 abbrev ranges_meet : ℤ → ℤ → ℤ → ℤ → Bool
 ranges_meet a b low high = int_le (int_max (int_min a b) low) (int_min (int_max a b) high)
 
-columns-meet : (a b z : ℤ) → a ≤ℤ z → z <ℤ b → ranges_meet a b z z ≡ true
-columns-meet a b z f g = test_from_le (int_max (int_min a b) z) (int_min (int_max a b) z) (omega (arith, ints, clamps))
+-- a place that an edge passes over and a box has
+columns-meet : (a b low high z : ℤ) (d : ℕ) → 0 < d → (a *ℤ pos d) ≤ℤ z → z <ℤ (b *ℤ pos d) → (low *ℤ pos d) ≤ℤ z → z ≤ℤ (high *ℤ pos d) → ranges_meet a b low high ≡ true
+columns-meet a b low high z d p f g h k =
+    test_from_le (int_max (int_min a b) low) (int_min (int_max a b) high)
+    (below (lt_from_mul a b d (before (a *ℤ pos d) (b *ℤ pos d) f g)) (le_from_mul a high d p (upto (a *ℤ pos d) (high *ℤ pos d) f k))
+    (lt_from_mul low b d (before (low *ℤ pos d) (b *ℤ pos d) h g)) (le_from_mul low high d p (upto (low *ℤ pos d) (high *ℤ pos d) h k)))
+  where
+    before : (m n : ℤ) → m ≤ℤ z → z <ℤ n → m <ℤ n
+    before m n s t = omega (arith, ints)
 
-heights-meet : (a b z top : ℤ) → (a <ℤ z → b <ℤ z → ⊥) → a ≤ℤ top → b ≤ℤ top → z ≤ℤ top → ranges_meet a b z top ≡ true
-heights-meet a b z top not_over f g h =
-    test_from_le (int_max (int_min a b) z) (int_min (int_max a b) top)
-    (by_lt_z a z (λ l. by_lt_z b z (λ m. absurd (not_over l m)) (λ m. omega (arith, ints, clamps))) (λ l. omega (arith, ints, clamps)))
+    upto : (m n : ℤ) → m ≤ℤ z → z ≤ℤ n → m ≤ℤ n
+    upto m n s t = omega (arith, ints)
+
+    below : a <ℤ b → a ≤ℤ high → low <ℤ b → low ≤ℤ high → int_max (int_min a b) low ≤ℤ int_min (int_max a b) high
+    below s t u v = omega (arith, ints, clamps)
+
+heights-meet : (a b low top : ℤ) → (a <ℤ low → b <ℤ low → ⊥) → a ≤ℤ top → b ≤ℤ top → ranges_meet a b low top ≡ true
+heights-meet a b low top not_under f g =
+    test_from_le (int_max (int_min a b) low) (int_min (int_max a b) top)
+    (by_lt_z a low (λ l. by_lt_z b low (λ m. absurd (not_under l m)) (λ m. omega (arith, ints, clamps))) (λ l. omega (arith, ints, clamps)))
 
 turned : (a b low high : ℤ) → ranges_meet a b low high ≡ true → ranges_meet b a low high ≡ true
 turned a b low high h =
     let l = le_from_test (int_max (int_min a b) low) (int_min (int_max a b) high) h in
     test_from_le (int_max (int_min b a) low) (int_min (int_max b a) high) (omega (arith, ints, clamps))
 
-rightward-meets : (u v p : Coordinates) → IsOnGrid u → IsOnGrid v → IsOnGrid p → below_rightward u v (grid_point p) ≡ true →
-    (ranges_meet u.x v.x p.x p.x ≡ true) × (ranges_meet u.y v.y p.y (pos (2 ^ 31 - 1)) ≡ true)
-rightward-meets u v p i j k h =
-    let parts = and_parts (int_le (u.x *ℤ pos 1) p.x && int_lt p.x (v.x *ℤ pos 1)) (int_lt (cross u v (grid_point p)) (pos 0)) h in
-    let columns = and_parts (int_le (u.x *ℤ pos 1) p.x) (int_lt p.x (v.x *ℤ pos 1)) parts.0 in
-    let low = once u.x p.x (le_from_test (u.x *ℤ pos 1) p.x columns.0) in
-    let high = once_less p.x v.x (lt_from_test p.x (v.x *ℤ pos 1) columns.1) in
-    let side = lt_from_test (cross u v (grid_point p)) (pos 0) parts.1 in (
-      columns-meet u.x v.x p.x low high,
-      heights-meet u.y v.y p.y (pos (2 ^ 31 - 1)) (λ f g. over-both u v p low high f g side) (small u.y i.1.1) (small v.y j.1.1) (small p.y k.1.1),
+rightward-meets : (u v : Coordinates) (q : Point) (extent : Extent) → IsOnGrid u → IsOnGrid v → IsPoint q → in_extent extent q ≡ true → below_rightward u v q ≡ true →
+    (ranges_meet u.x v.x extent.min_x extent.max_x ≡ true) × (ranges_meet u.y v.y extent.min_y (pos (2 ^ 31 - 1)) ≡ true)
+rightward-meets u v q extent i j k inside h =
+    let parts = and_parts (int_le (u.x *ℤ pos q.d) q.x && int_lt q.x (v.x *ℤ pos q.d)) (int_lt (cross u v q) (pos 0)) h in
+    let columns = and_parts (int_le (u.x *ℤ pos q.d) q.x) (int_lt q.x (v.x *ℤ pos q.d)) parts.0 in
+    let low = le_from_test (u.x *ℤ pos q.d) q.x columns.0 in
+    let high = lt_from_test q.x (v.x *ℤ pos q.d) columns.1 in
+    let side = lt_from_test (cross u v q) (pos 0) parts.1 in
+    let b = boxed-sides extent q inside in (
+      columns-meet u.x v.x extent.min_x extent.max_x q.x q.d k.positive low high b.left b.right,
+      heights-meet u.y v.y extent.min_y (pos (2 ^ 31 - 1))
+          (λ f g. over-both u v q k low high
+          (before (u.y *ℤ pos q.d) (extent.min_y *ℤ pos q.d) (mul_lt u.y extent.min_y q.d k.positive f) b.bottom)
+          (before (v.y *ℤ pos q.d) (extent.min_y *ℤ pos q.d) (mul_lt v.y extent.min_y q.d k.positive g) b.bottom)
+          side)
+          (small u.y i.1.1) (small v.y j.1.1),
     )
   where
-    once : (a b : ℤ) → (a *ℤ pos 1) ≤ℤ b → a ≤ℤ b
-    once a b f = omega (arith, ints)
-
-    once_less : (a b : ℤ) → a <ℤ (b *ℤ pos 1) → a <ℤ b
-    once_less a b f = omega (arith, ints)
+    before : (m n : ℤ) → m <ℤ n → n ≤ℤ q.y → m <ℤ q.y
+    before m n s t = omega (arith, ints)
 
     small : (z : ℤ) → z ≤ℤ grid_max → z ≤ℤ pos (2 ^ 31 - 1)
     small z f = omega (arith, ints)
 
-above-meets : (pair : Coordinates × Coordinates) (p : Coordinates) → AreOnGrid pair → IsOnGrid p → edge_above (edge_of pair) (grid_point p) ≡ true →
-    extents_meet (extent_of_edge pair) (ray_above p) ≡ true
-above-meets pair p i j h =
-    elim (or_cases (below_rightward pair.0 pair.1 (grid_point p)) (below_rightward pair.1 pair.0 (grid_point p)) h) [
-      | inl forth ↦ let m = rightward-meets pair.0 pair.1 p i.0 i.1 j forth in and_from _ _ m.0 m.1
+pub above-meets : (pair : Coordinates × Coordinates) (q : Point) (extent : Extent) → AreOnGrid pair → IsPoint q → in_extent extent q ≡ true → edge_above (edge_of pair) q ≡ true →
+    extents_meet (extent_of_edge pair) (columns_over extent) ≡ true
+above-meets pair q extent i k inside h =
+    elim (or_cases (below_rightward pair.0 pair.1 q) (below_rightward pair.1 pair.0 q) h) [
+      | inl forth ↦ let m = rightward-meets pair.0 pair.1 q extent i.0 i.1 k inside forth in and_from _ _ m.0 m.1
       | inr back ↦
-          let m = rightward-meets pair.1 pair.0 p i.1 i.0 j back in
-          and_from _ _ (turned pair.1.x pair.0.x p.x p.x m.0) (turned pair.1.y pair.0.y p.y (pos (2 ^ 31 - 1)) m.1)
+          let m = rightward-meets pair.1 pair.0 q extent i.1 i.0 k inside back in
+          and_from _ _ (turned pair.1.x pair.0.x extent.min_x extent.max_x m.0) (turned pair.1.y pair.0.y extent.min_y (pos (2 ^ 31 - 1)) m.1)
     ]
+
+-- the ray from a point of the grid up is in the columns over the box of that point
+above-meets_ray : (pair : Coordinates × Coordinates) (p : Coordinates) → AreOnGrid pair → edge_above (edge_of pair) (grid_point p) ≡ true → extents_meet (extent_of_edge pair) (ray_above p) ≡ true
+above-meets_ray pair p i h =
+    above-meets pair (grid_point p) (extent_at p) i (record { positive = lit< tt })
+    (boxed-from (extent_at p) (grid_point p) (record { left = omega (arith, ints); right = omega (arith, ints); bottom = omega (arith, ints); top = omega (arith, ints) })) h
 
 -- ---- what the edges of some numbers count
 -- the edge of a number is above
@@ -112,11 +165,11 @@ at-head all q n pair rest is = ap (λ ps. list_any (λ r. edge_above (edge_of r)
 pub next-drop : (all : List (Coordinates × Coordinates)) (n : ℕ) (pair : Coordinates × Coordinates) (rest : List (Coordinates × Coordinates)) → drop n all ≡ pair ∷ rest → drop (n + 1) all ≡ rest
 next-drop all n pair rest is = sym (drop-drop 1 n all) ∙ ap (drop 1) is
 
-found-odd : (all : List (Coordinates × Coordinates)) (p : Coordinates) (n : ℕ) (pairs : List (Coordinates × Coordinates)) → drop n all ≡ pairs → AllByRecursion AreOnGrid pairs → IsOnGrid p →
+found-odd : (all : List (Coordinates × Coordinates)) (p : Coordinates) (n : ℕ) (pairs : List (Coordinates × Coordinates)) → drop n all ≡ pairs → AllByRecursion AreOnGrid pairs →
     odd_at all (grid_point p) (ids_meeting (ray_above p) (boxes_from n pairs)) ≡ is_odd (edges_above (grid_point p) (map edge_of pairs))
-found-odd all p n [] is grid i = refl
-found-odd all p n (pair ∷ pairs) is grid i =
-    by_test (extents_meet (extent_of_edge pair) (ray_above p)) refl (found-odd all p (n + 1) pairs (next-drop all n pair pairs is) grid.1 i) ∙ sym (odd-count (λ e. edge_above e (grid_point p)) (edge_of pair) (map edge_of pairs))
+found-odd all p n [] is grid = refl
+found-odd all p n (pair ∷ pairs) is grid =
+    by_test (extents_meet (extent_of_edge pair) (ray_above p)) refl (found-odd all p (n + 1) pairs (next-drop all n pair pairs is) grid.1) ∙ sym (odd-count (λ e. edge_above e (grid_point p)) (edge_of pair) (map edge_of pairs))
   where
     by_test : (t : Bool) → extents_meet (extent_of_edge pair) (ray_above p) ≡ t →
         odd_at all (grid_point p) (ids_meeting (ray_above p) (boxes_from (n + 1) pairs)) ≡ is_odd (edges_above (grid_point p) (map edge_of pairs)) →
@@ -125,7 +178,7 @@ found-odd all p n (pair ∷ pairs) is grid i =
     by_test true e k =
         ap (λ b. differ b (odd_at all (grid_point p) (ids_meeting (ray_above p) (boxes_from (n + 1) pairs)))) (at-head all (grid_point p) n pair pairs is) ∙ ap (differ (edge_above (edge_of pair) (grid_point p))) k
     by_test false e k =
-        k ∙ sym (ap (λ b. differ b (is_odd (edges_above (grid_point p) (map edge_of pairs)))) (false_from_ne_true (edge_above (edge_of pair) (grid_point p)) (λ h. both_ways _ e (above-meets pair p grid.0 i h))))
+        k ∙ sym (ap (λ b. differ b (is_odd (edges_above (grid_point p) (map edge_of pairs)))) (false_from_ne_true (edge_above (edge_of pair) (grid_point p)) (λ h. both_ways _ e (above-meets_ray pair p grid.0 h))))
 
 pub found-inside : (size n : ℕ) (extent : Extent) (pairs : List (Coordinates × Coordinates)) → n + length pairs ≤ size → AllByRecursion (λ id. id < size) (ids_meeting extent (boxes_from n pairs))
 found-inside size n extent [] h = tt
@@ -137,12 +190,12 @@ found-inside size n extent (pair ∷ pairs) h = by_test (extents_meet (extent_of
     by_test false k = k
 
 -- ---- the steps of the loop
-pub counted-start : (pairs : List (Coordinates × Coordinates)) (p : Coordinates) (near : List ℕ) → AllByRecursion AreOnGrid pairs → IsOnGrid p → near ≡ ids_meeting (ray_above p) (boxes_from 0 pairs) →
+pub counted-start : (pairs : List (Coordinates × Coordinates)) (p : Coordinates) (near : List ℕ) → AllByRecursion AreOnGrid pairs → near ≡ ids_meeting (ray_above p) (boxes_from 0 pairs) →
     IsCounted pairs (grid_point p) false near
-counted-start pairs p near grid i is =
+counted-start pairs p near grid is =
     record {
       inside = subst (AllByRecursion (λ id. id < length pairs)) (sym is) (found-inside (length pairs) 0 (ray_above p) pairs (omega arith));
-      tells = ap (odd_at pairs (grid_point p)) is ∙ found-odd pairs p 0 pairs refl grid i;
+      tells = ap (odd_at pairs (grid_point p)) is ∙ found-odd pairs p 0 pairs refl grid;
     }
 
 pub counted-inside : (pairs : List (Coordinates × Coordinates)) (q : Point) (odd : Bool) (near : List ℕ) (index : ℕ) → index < length near → IsCounted pairs q odd (drop index near) → get_or near index 0 < length pairs

@@ -1,14 +1,13 @@
 -- An edge has no point of a box that lies on one side of it; where all edges whose boxes are in the way do so, the box is clear.
 use Rattle.std.proofs.Common.{◌≡◌, ℕ, ◌+◌, ◌<◌, ◌≤◌, arith, refl, ap, sym, ◌∙◌, subst, get_or, ℤ, pos, ◌+ℤ◌, ◌-ℤ◌, ◌*ℤ◌, ◌<ℤ◌, ◌≤ℤ◌, Bool, true, false, List, [], ◌∷◌, drop, take, length, map, filter}
-use Rattle.std.specs.Prelude.{if◌then◌else◌, int_le}
+use Rattle.std.specs.Prelude.{if◌then◌else◌}
 use Rattle.std.specs.List.{AllByRecursion}
 use Rattle.std.specs.Map.{keys_of}
-use Rattle.std.proofs.lemmas.Bool.{and_parts}
 use Rattle.std.proofs.lemmas.Int.{by_lt_z, ints}
 use Rattle.std.proofs.lemmas.List.{drop_all, drop_more}
-use Rattle.sf_grid.specs.Plane.{Coordinates, IsPoint, Point, grid_point, x_of, y_of}
-use Rattle.sf_grid.specs.Edge.{cross, edge_between, within}
-use Rattle.sf_grid.proofs.CallerLemmas.{dif, le_from_test, lies, lt_from_test, mul, mul_nonneg-nonneg, mul_pos, num, ring, sum, var}
+use Rattle.sf_grid.specs.Plane.{Coordinates, IsPoint, Point, grid_point}
+use Rattle.sf_grid.specs.Edge.{cross, edge_between}
+use Rattle.sf_grid.proofs.CallerLemmas.{dif, lies, lt_from_test, mul, mul_nonneg-nonneg, mul_pos, num, ring, sum, var}
 use Rattle.sf_geometry.specs.declared.extent.Extent.{Extent}
 use Rattle.sf_geometry.specs.Envelope.{extents_meet}
 use Rattle.sf_geometry.specs.Parts.{edge_of}
@@ -18,7 +17,7 @@ use Rattle.sf_relate.specs.Contact.{box_of_extent}
 use Rattle.sf_rtree.specs.Indexes.{ids_meeting}
 use Rattle.sf_prepared.specs.Boxes.{boxes_from, extent_of_edge}
 use Rattle.sf_prepared.specs.Places.{AreClear, IsBoxLeft, IsLeft}
-use Rattle.sf_prepared.proofs.AboveLaws.{found-inside, next-drop}
+use Rattle.sf_prepared.proofs.AboveLaws.{boxed-sides, found-inside, next-drop}
 use Rattle.sf_prepared.proofs.TreeLaws.{off-box}
 
 -- ---- on one side
@@ -63,11 +62,9 @@ ranged low high z r f g =
 
 left-of-way : (a b : Coordinates) (extent : Extent) (p : Point) → IsPoint p → IsBoxLeft a b extent → in_box (box_of_extent extent) p ≡ true → pos 0 <ℤ cross a b p
 left-of-way a b extent p i h inside =
-    let parts = and_parts (within extent.min_x extent.max_x (x_of p)) (within extent.min_y extent.max_y (y_of p)) inside in
-    let x = and_parts (int_le (extent.min_x *ℤ pos p.d) p.x) (int_le p.x (extent.max_x *ℤ pos p.d)) parts.0 in
-    let y = and_parts (int_le (extent.min_y *ℤ pos p.d) p.y) (int_le p.y (extent.max_y *ℤ pos p.d)) parts.1 in
-    let across = ranged (extent.min_x *ℤ pos p.d) (extent.max_x *ℤ pos p.d) p.x (a.y -ℤ b.y) (le_from_test _ _ x.0) (le_from_test _ _ x.1) in
-    let up = ranged (extent.min_y *ℤ pos p.d) (extent.max_y *ℤ pos p.d) p.y (b.x -ℤ a.x) (le_from_test _ _ y.0) (le_from_test _ _ y.1) in
+    let sides = boxed-sides extent p inside in
+    let across = ranged (extent.min_x *ℤ pos p.d) (extent.max_x *ℤ pos p.d) p.x (a.y -ℤ b.y) sides.left sides.right in
+    let up = ranged (extent.min_y *ℤ pos p.d) (extent.max_y *ℤ pos p.d) p.y (b.x -ℤ a.x) sides.bottom sides.top in
     by_lt_z (b.x -ℤ a.x) (pos 0)
     (λ back. by_lt_z (a.y -ℤ b.y) (pos 0)
     (λ rise. beyond-corner a b p extent.max_x extent.max_y i h.1.1 (up.at_high back) (across.at_high rise))

@@ -1,13 +1,12 @@
 -- Where a geometry lies in another one whose edges have no point of its box.
-use Rattle.std.proofs.Common.{◌≡◌, ℕ, ◌<◌, refl, ap, sym, ◌∙◌, subst, ℤ, pos, ◌*ℤ◌, ◌≤ℤ◌, arith, lit<, Bool, true, false, ◌&&◌, not, List, [], ◌∷◌, map, Option, Some, inl, inr}
-use Rattle.std.specs.Prelude.{int_le}
+use Rattle.std.proofs.Common.{◌≡◌, ℕ, ◌<◌, refl, ap, sym, ◌∙◌, subst, ℤ, pos, ◌*ℤ◌, ◌≤ℤ◌, arith, lit<, Bool, true, false, not, List, [], ◌∷◌, map, Option, Some, inl, inr}
 use Rattle.std.specs.List.{AllByRecursion, flat_map, list_any}
 use Rattle.std.proofs.lemmas.Bool.{and_from, and_parts, both_ways, false_from_ne_true, or_cases, or_from, or_left, or_parts}
 use Rattle.std.proofs.lemmas.Int.{ints}
-use Rattle.sf_grid.specs.Plane.{Coordinates, IsPoint, Point as PlanePoint, grid_point, x_of, y_of}
-use Rattle.sf_grid.specs.Edge.{Edge as Line, edge_above, on_edge, within}
+use Rattle.sf_grid.specs.Plane.{Coordinates, IsPoint, Point as PlanePoint, grid_point}
+use Rattle.sf_grid.specs.Edge.{Edge as Line, edge_above, on_edge}
 use Rattle.sf_grid.specs.EvenOdd.{edges_above, is_odd}
-use Rattle.sf_grid.proofs.CallerLemmas.{le_from_mul, le_from_test, test_from_le}
+use Rattle.sf_grid.proofs.CallerLemmas.{le_from_mul}
 use Rattle.sf_slabs.proofs.CallerLemmas.{each-parts}
 use Rattle.sf_geometry.specs.declared.extent.Extent.{Extent}
 use Rattle.sf_geometry.specs.declared.geometry.Geometry.{Geometry}
@@ -41,6 +40,7 @@ use Rattle.sf_relate.proofs.ToldLaws.{beyond, exterior-from}
 use Rattle.sf_relate.proofs.FirstLaws.{first_point_is_in}
 use Rattle.sf_prepared.specs.Boxes.{AreEdgesOf}
 use Rattle.sf_prepared.specs.Places.{ApartByPoint, ApartFromLines, AreClear, WithinByPoint}
+use Rattle.sf_prepared.proofs.AboveLaws.{boxed-from, boxed-sides}
 use Rattle.sf_prepared.proofs.NearLaws.{triangle-near}
 
 -- ---- the rings of an area: one parity in the box
@@ -72,13 +72,13 @@ rings-place rings box p q closed off i j in_p in_q =
     ∙ sym (ap (λ b. area_place b (parity (flat_map edges_of_list rings) q)) (none-on box (flat_map edges_of_list rings) q off j in_q))
 
 -- ---- an area has the places of its rings' edges
-record HasRings (b : Geometry) : Type 0 where
-  rings : List (List Coordinates)
-  edges : edges_of b ≡ flat_map edges_of_list rings
-  places : (q : PlanePoint) → place_by_tests b q ≡ edges_place (flat_map edges_of_list rings) q
-  closed : AllByRecursion (λ ring. is_closed ring ≡ true) rings
+pub record HasRings (b : Geometry) : Type 0 where
+  pub rings : List (List Coordinates)
+  pub edges : edges_of b ≡ flat_map edges_of_list rings
+  pub places : (q : PlanePoint) → place_by_tests b q ≡ edges_place (flat_map edges_of_list rings) q
+  pub closed : AllByRecursion (λ ring. is_closed ring ≡ true) rings
 
-has-rings : (b : Geometry) → IsValid b → shape_of b ≡ Areas → HasRings b
+pub has-rings : (b : Geometry) → IsValid b → shape_of b ≡ Areas → HasRings b
 has-rings (Point p) v s = absurd cc
 has-rings (MultiPoint ps) v s = absurd cc
 has-rings (LineString ps) v s = absurd cc
@@ -118,36 +118,35 @@ off-boundary b extent q v s clear j in_q =
 abbrev last_corner : Extent → Coordinates
 last_corner extent = record { x = extent.max_x; y = extent.max_y }
 
-in-order : (low high z : ℤ) (d : ℕ) → 0 < d → (low *ℤ pos d) ≤ℤ z → z ≤ℤ (high *ℤ pos d) → (int_le (low *ℤ pos 1) high && int_le high (high *ℤ pos 1)) ≡ true
-in-order low high z d p f g =
-    and_from (int_le (low *ℤ pos 1) high) (int_le high (high *ℤ pos 1))
-    (test_from_le (low *ℤ pos 1) high (once low high (le_from_mul low high d p (chain (low *ℤ pos d) (high *ℤ pos d) f g))))
-    (test_from_le high (high *ℤ pos 1) (self high))
+in-order : (low high z : ℤ) (d : ℕ) → 0 < d → (low *ℤ pos d) ≤ℤ z → z ≤ℤ (high *ℤ pos d) → (low *ℤ pos 1) ≤ℤ high
+in-order low high z d p f g = once (le_from_mul low high d p (chain (low *ℤ pos d) (high *ℤ pos d) f g))
   where
     chain : (a b : ℤ) → a ≤ℤ z → z ≤ℤ b → a ≤ℤ b
     chain a b h k = omega (arith, ints)
 
-    once : (a b : ℤ) → a ≤ℤ b → (a *ℤ pos 1) ≤ℤ b
-    once a b h = omega (arith, ints)
-
-    self : (a : ℤ) → a ≤ℤ (a *ℤ pos 1)
-    self a = omega (arith, ints)
+    once : low ≤ℤ high → (low *ℤ pos 1) ≤ℤ high
+    once h = omega (arith, ints)
 
 corner-in : (e : Extent) (q : PlanePoint) → IsPoint q → in_extent e q ≡ true → in_extent e (grid_point (last_corner e)) ≡ true
 corner-in e q i h =
-    let parts = and_parts (within e.min_x e.max_x (x_of q)) (within e.min_y e.max_y (y_of q)) h in
-    let x = and_parts (int_le (e.min_x *ℤ pos q.d) q.x) (int_le q.x (e.max_x *ℤ pos q.d)) parts.0 in
-    let y = and_parts (int_le (e.min_y *ℤ pos q.d) q.y) (int_le q.y (e.max_y *ℤ pos q.d)) parts.1 in
-    and_from (within e.min_x e.max_x (x_of (grid_point (last_corner e)))) (within e.min_y e.max_y (y_of (grid_point (last_corner e))))
-    (in-order e.min_x e.max_x q.x q.d i.positive (le_from_test _ _ x.0) (le_from_test _ _ x.1))
-    (in-order e.min_y e.max_y q.y q.d i.positive (le_from_test _ _ y.0) (le_from_test _ _ y.1))
+    let b = boxed-sides e q h in
+    boxed-from e (grid_point (last_corner e))
+    (record {
+      left = in-order e.min_x e.max_x q.x q.d i.positive b.left b.right;
+      right = self e.max_x;
+      bottom = in-order e.min_y e.max_y q.y q.d i.positive b.bottom b.top;
+      top = self e.max_y;
+    })
+  where
+    self : (a : ℤ) → a ≤ℤ (a *ℤ pos 1)
+    self a = omega (arith, ints)
 
 is_corner : (e : Extent) → IsPoint (grid_point (last_corner e))
 is_corner e = record { positive = lit< tt }
 
 -- ---- the laws
 -- a point of the geometry lies in its box
-boxed : (a : Geometry) (q : PlanePoint) → IsValid a → IsPoint q → is_in a q ≡ true → in_extent (envelope_of a) q ≡ true
+pub boxed : (a : Geometry) (q : PlanePoint) → IsValid a → IsPoint q → is_in a q ≡ true → in_extent (envelope_of a) q ≡ true
 boxed a q v i h = lies_in_box a q (valid-closed a v) i h
 
 -- and so its last corner lies where the point does

@@ -1,6 +1,6 @@
 -- Numbered boxes of edges: they rise by number, and where none meets a box no edge has a point of it.
 use Rattle.std.proofs.Common.{◌≡◌, ℕ, ◌+◌, ◌<◌, ◌≤◌, arith, refl, ap, sym, ◌∙◌, ℤ, pos, ◌*ℤ◌, Bool, true, false, ◌&&◌, not, List, [], ◌∷◌, ◌++◌, length, map}
-use Rattle.std.specs.Prelude.{◌^◌, int_le}
+use Rattle.std.specs.Prelude.{int_le}
 use Rattle.std.specs.Int.{int_max, int_min}
 use Rattle.std.specs.Cmp.{nat_cmp_is}
 use Rattle.std.specs.declared.cmp.Ordering.TheVariants.{Less}
@@ -50,7 +50,7 @@ one-more boxes n extent pair rest left all is box h =
     ∙ h
 
 -- ---- the box of an edge has its ends
-has-ends : (pair : Coordinates × Coordinates) → HasEnds (box_of_extent (extent_of_edge pair)) (edge_of pair)
+pub has-ends : (pair : Coordinates × Coordinates) → HasEnds (box_of_extent (extent_of_edge pair)) (edge_of pair)
 has-ends pair = (
   and_from (within (int_min pair.0.x pair.1.x) (int_max pair.0.x pair.1.x) (x_of (grid_point pair.0))) (within (int_min pair.0.y pair.1.y) (int_max pair.0.y pair.1.y) (y_of (grid_point pair.0)))
       (first pair.0.x pair.1.x) (first pair.0.y pair.1.y),
@@ -97,12 +97,12 @@ few-of (MultiLineString lines) = few-lists lines
 few-of (Polygon rings) = few-lists rings
 few-of (MultiPolygon polygons) = few-lists (joined polygons)
 
-pub few-pairs : (geometry found : Geometry) (pairs : List (Coordinates × Coordinates)) → IsSized geometry → found ≡ geometry → map edge_of pairs ≡ edges_of found → length pairs ≤ 2 ^ 16
+pub few-pairs : (geometry found : Geometry) (pairs : List (Coordinates × Coordinates)) → IsSized geometry → found ≡ geometry → map edge_of pairs ≡ edges_of found → length pairs ≤ 4096
 few-pairs geometry found pairs sized is edges =
     bound (length pairs) (length (points_of geometry)) (up (sym (length-map pairs edge_of) ∙ ap (λ (es : List Line). length es) (edges ∙ ap edges_of is)) (few-of geometry)) sized.few
   where
     up : {m n k : ℕ} → m ≡ n → n ≤ k → m ≤ k
     up e h = omega (arith, e, h)
 
-    bound : (m n : ℕ) → m ≤ n → n ≤ 4096 → m ≤ 2 ^ 16
+    bound : (m n : ℕ) → m ≤ n → n ≤ 4096 → m ≤ 4096
     bound m n h k = omega (arith, h, k)

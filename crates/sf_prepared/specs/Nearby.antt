@@ -1,6 +1,6 @@
 -- The edges that can be on a point of a box or above one: those in the columns over it, from its lower side up.
-use Rattle.std.specs.Prelude.{ℕ, ◌^◌, ◌-◌, pos, Bool, ◌||◌, not, List}
-use Rattle.std.specs.List.{filter}
+use Rattle.std.specs.Prelude.{ℕ, ◌^◌, ◌-◌, pos, Bool, ◌||◌, not, List, take, drop}
+use Rattle.std.specs.List.{filter, flat_map}
 use Rattle.sf_grid.specs.Plane.{Coordinates, grid_point}
 use Rattle.sf_geometry.specs.declared.extent.Extent.{Extent}
 use Rattle.sf_geometry.specs.Envelope.{extents_meet}
@@ -18,3 +18,7 @@ nearby extent pairs = filter (λ pair. extents_meet (extent_of_edge pair) (colum
 -- an end of the edge is outside of the box
 abbrev pub leaves : Extent → Coordinates × Coordinates → Bool
 leaves extent pair = not (in_extent extent (grid_point pair.0)) || not (in_extent extent (grid_point pair.1))
+
+-- the edges of these numbers
+abbrev pub edges_at : List (Coordinates × Coordinates) → List ℕ → List (Coordinates × Coordinates)
+edges_at pairs ids = flat_map (λ id. take 1 (drop id pairs)) ids

@@ -4,7 +4,7 @@ ghost use Rattle.std.specs.Prelude.{◌≡◌, ◌&&◌, map, int_le, int_lt, po
 ghost use Rattle.std.specs.List.{AllByRecursion};
 ghost use Rattle.sf_grid.specs.Edge.{below_rightward, cross as cross_of, edge_above};
 ghost use Rattle.sf_grid.specs.EvenOdd.{edges_above, is_odd};
-ghost use Rattle.sf_grid.specs.Plane.{IsOnGrid, grid_point};
+ghost use Rattle.sf_grid.specs.Plane.{grid_point};
 ghost use Rattle.sf_geometry.specs.Parts.{edge_of};
 ghost use Rattle.sf_rtree.specs.Indexes.{ids_meeting};
 ghost use Rattle.sf_prepared.specs.Boxes.{AreOnGrid, boxes_from, ray_above};
@@ -15,8 +15,7 @@ use sf_grid::{GridPoint, Turn};
 
 /// The box of the ray from a point up.
 pub(crate) fn ray_above(point: GridPoint) -> Extent
-    ensures value { result ≡ ray_above point }
-    ensures on_grid { IsOnGrid point }
+    ensures { result ≡ ray_above point }
 {
     Extent {
         min_x: point.x(),
@@ -33,7 +32,6 @@ pub(crate) fn has_odd_above(
     edges: &[(GridPoint, GridPoint)],
     point: GridPoint,
 ) -> bool
-    requires point { IsOnGrid point }
     requires on_grid { AllByRecursion AreOnGrid edges.now }
     requires near { near.now ≡ ids_meeting (ray_above point) (boxes_from 0 edges.now) }
     ensures { result ≡ is_odd (edges_above (grid_point point) (map edge_of edges.now)) }

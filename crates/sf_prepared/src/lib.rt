@@ -1,4 +1,4 @@
-//! One geometry that many others are asked about: its edges, a tree of their boxes, and what it tells without a walk.
+//! One geometry that many others are asked about: its edges, a tree of their boxes, and what the edges nearby tell.
 #![tactic(auto)]
 
 mod above;

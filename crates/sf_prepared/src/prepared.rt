@@ -57,9 +57,10 @@ impl Prepared {
         Ok(Prepared { edges, boxes })
     }
 
-    /// The matrix of a geometry with the one that was prepared, where the box of the geometry lies on one side
-    /// of each edge of that one; else None. Memory is taken for lists of near edges alone; where none is found,
-    /// the answer may be None in place of a matrix.
+    /// The matrix of a geometry with the one that was prepared, where the edges nearby tell it: where the box of
+    /// the geometry lies on one side of each edge, its place does; else a walk over the edges of an area that can
+    /// be on a point of the geometry or above one. None where that is not quicker than a walk over all of them,
+    /// and where no memory is found.
     pub fn matrix_told(&self, alloc: Global, geometry: &Valid, given: &Valid) -> Option<Matrix>
         requires { AreEdgesOf given.now self.now }
         ensures { IfSome result (λ matrix. matrix.0 ≡ matrix_of geometry.now given.now) }
@@ -68,7 +69,7 @@ impl Prepared {
         if self.is_clear(alloc, &extent) {
             self.told_by_place(alloc, geometry, given, extent)
         } else {
-            None
+            self.told_by_walk(alloc, geometry, given)
         }
     }
 

@@ -9,6 +9,8 @@ mod queries;
 mod refusal;
 #[cfg(test)]
 mod tests;
+#[cfg(test)]
+mod town_tests;
 
 pub use ask::Ask;
 pub use found::Found;

@@ -60,7 +60,7 @@ raised-listed t Exterior Exterior d = refl
 cons : {A : Type 0} (x y : A) (xs ys : List A) → x ≡ y → xs ≡ ys → x ∷ xs ≡ y ∷ ys
 cons x y xs ys e f = ap (λ v. v ∷ xs) e ∙ ap (λ vs. y ∷ vs) f
 
-listed-same : (t u : Table) → ((p q : Place) → t p q ≡ u p q) → listed t ≡ listed u
+pub listed-same : (t u : Table) → ((p q : Place) → t p q ≡ u p q) → listed t ≡ listed u
 listed-same t u h =
     cons _ _ _ _ (h Interior Interior) (cons _ _ _ _ (h Interior Boundary) (cons _ _ _ _ (h Interior Exterior)
     (cons _ _ _ _ (h Boundary Interior) (cons _ _ _ _ (h Boundary Boundary) (cons _ _ _ _ (h Boundary Exterior)
@@ -68,7 +68,7 @@ listed-same t u h =
 
 -- ---- the greatest dimension of the items with these places
 -- the item has these places
-abbrev is_at : Shape → Shape → Place → Place → Item → Bool
+abbrev pub is_at : Shape → Shape → Place → Place → Item → Bool
 is_at a b p q i = is_place p (first_place a i) && is_place q (second_place b i)
 
 abbrev pub greatest_at : Shape → Shape → List Item → Table
@@ -118,12 +118,12 @@ fold-listed a b t (i ∷ is) =
     by_test false x d y = refl
 
 -- ---- places that are what the tests of a geometry say
-abbrev set_of : Geometry → Place → PointSet
+abbrev pub set_of : Geometry → Place → PointSet
 set_of a Interior = in_interior a
 set_of a Boundary = in_boundary a
 set_of a Exterior = in_exterior a
 
-of_place : (a : Geometry) (q : PlanePoint) (p place : Place) → IsPlaceOf a q place → set_of a p q ≡ is_place p place
+pub of_place : (a : Geometry) (q : PlanePoint) (p place : Place) → IsPlaceOf a q place → set_of a p q ≡ is_place p place
 of_place a q Interior place h = h.interior
 of_place a q Boundary place h = h.boundary
 of_place a q Exterior place h = ap (λ v. not v && not (in_boundary a q)) h.interior ∙ ap (λ v. not (is_place Interior place) && not v) h.boundary ∙ neither place
@@ -139,7 +139,7 @@ same-place Points on ends m n h = refl
 same-place Lines on ends m n h = refl
 same-place Areas on ends m n h = ap (λ b. if nat_lt 0 on then Boundary else (if b then Interior else Exterior)) (h refl)
 
-abbrev areal_of : Shape → Shape → List Bool
+abbrev pub areal_of : Shape → Shape → List Bool
 areal_of a b = is_areal a ∷ is_areal b ∷ []
 
 same-first : (a b : Shape) (i j : Item) → AreOfOneClass (areal_of a b) i j → first_place a i ≡ first_place a j
@@ -152,7 +152,7 @@ same-second a b i j h =
     ap (λ on. place_by b (slice_index on 1) (slice_index on 3) (slice_index i.above 1)) h.on
     ∙ same-place b (slice_index j.on 1) (slice_index j.on 3) (slice_index i.above 1) (slice_index j.above 1) (odd-at (areal_of a b) i.above j.above 1 h.odd)
 
-places-of-classes : (a b : Shape) (p q : Place) → IsOfClasses (areal_of a b) (is_at a b p q)
+pub places-of-classes : (a b : Shape) (p q : Place) → IsOfClasses (areal_of a b) (is_at a b p q)
 places-of-classes a b p q i j h =
     ap (λ r. is_place p r && is_place q (second_place b i)) (same-first a b i j h)
     ∙ ap (λ r. is_place p (first_place a j) && is_place q r) (same-second a b i j h)

@@ -15,11 +15,11 @@ use Rattle.sf_relate.specs.AllPieces.{all_grouped, all_pieces, end_dots_of, grou
 use Rattle.sf_relate.specs.Places.{first_place, place_at, place_by, second_place, shape_of}
 
 -- ---- pieces without their groups
-unmarked : (group : ℕ) (ps : List Piece) → pieces_among (marked group ps) ≡ ps
+pub unmarked : (group : ℕ) (ps : List Piece) → pieces_among (marked group ps) ≡ ps
 unmarked group [] = refl
 unmarked group (p ∷ ps) = ap (λ qs. p ∷ qs) (unmarked group ps)
 
-one-are : (m n : ℕ) (a : Geometry) → pieces_among (grouped m n a) ≡ with_ends a
+pub one-are : (m n : ℕ) (a : Geometry) → pieces_among (grouped m n a) ≡ with_ends a
 one-are m n a =
     map-join (λ (k : Marked). k.0) (marked m (pieces_of a)) (marked n (end_dots_of a))
     ∙ ap (λ ps. ps ++ pieces_among (marked n (end_dots_of a))) (unmarked m (pieces_of a))
@@ -32,20 +32,20 @@ pieces-are a b =
     ∙ ap (λ ps. with_ends b ++ ps) (one-are 0 2 a)
 
 -- ---- how many of a group pass a test
-abbrev passing : (Piece → Bool) → ℕ → List Marked → ℕ
+abbrev pub passing : (Piece → Bool) → ℕ → List Marked → ℕ
 passing test g ms = count_by (λ (m : Marked). (m.1 == g) && test m.0) ms
 
-passing-append : (test : Piece → Bool) (g : ℕ) (ms ns : List Marked) → passing test g (ms ++ ns) ≡ passing test g ms + passing test g ns
+pub passing-append : (test : Piece → Bool) (g : ℕ) (ms ns : List Marked) → passing test g (ms ++ ns) ≡ passing test g ms + passing test g ns
 passing-append test g ms ns = sum_by-append (λ (m : Marked). cond ((m.1 == g) && test m.0) 1 0) ms ns
 
-passing-marked : (test : Piece → Bool) (g h : ℕ) (ps : List Piece) → passing test g (marked h ps) ≡ (if h == g then count_by test ps else 0)
+pub passing-marked : (test : Piece → Bool) (g h : ℕ) (ps : List Piece) → passing test g (marked h ps) ≡ (if h == g then count_by test ps else 0)
 passing-marked test g h ps = count-map (λ (m : Marked). (m.1 == g) && test m.0) (λ piece. (piece, h)) ps ∙ by_test (h == g)
   where
     by_test : (c : Bool) → count_by (λ piece. c && test piece) ps ≡ (if c then count_by test ps else 0)
     by_test true = refl
     by_test false = count-never ps
 
-passing-one : (test : Piece → Bool) (g m n : ℕ) (a : Geometry) →
+pub passing-one : (test : Piece → Bool) (g m n : ℕ) (a : Geometry) →
     passing test g (grouped m n a) ≡ (if m == g then count_by test (pieces_of a) else 0) + (if n == g then count_by test (end_dots_of a) else 0)
 passing-one test g m n a =
     passing-append test g (marked m (pieces_of a)) (marked n (end_dots_of a))
@@ -86,7 +86,7 @@ in-three test a b = passing-all test 3 a b ∙ of (count_by test (end_dots_of b)
     of n = omega arith
 
 -- ---- the places of a point's item are those by its counts
-places-of : (shape : Shape) (on on' ends ends' above above' : ℕ) → on ≡ on' → ends ≡ ends' → above ≡ above' → place_by shape on ends above ≡ place_by shape on' ends' above'
+pub places-of : (shape : Shape) (on on' ends ends' above above' : ℕ) → on ≡ on' → ends ≡ ends' → above ≡ above' → place_by shape on ends above ≡ place_by shape on' ends' above'
 places-of shape on on' ends ends' above above' e f g =
     ap (λ n. place_by shape n ends above) e ∙ ap (λ n. place_by shape on' n above) f ∙ ap (λ n. place_by shape on' ends' n) g
 

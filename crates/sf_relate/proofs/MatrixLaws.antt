@@ -13,7 +13,7 @@ use Rattle.sf_relate.specs.Places.{Gathered, is_areal, no_entries, shape_of, wit
 use Rattle.sf_relate.proofs.FoldLaws.{matrix-of-items}
 use Rattle.sf_relate.proofs.SetLaws.{matrices_are_over_the_plane}
 
-gathered : (g : Gathered) (is : List Item) → (fold with_cell g is).entries ≡ fold (with_item g.first g.second) g.entries is
+pub gathered : (g : Gathered) (is : List Item) → (fold with_cell g is).entries ≡ fold (with_item g.first g.second) g.entries is
 gathered g [] = refl
 gathered g (i ∷ is) = gathered (with_cell g i) is
 
@@ -32,8 +32,8 @@ entries-left a b ms areal old new v w e f o h =
     ∙ gathered (begun (shape_of a) (shape_of b)) h.items
     ∙ matrix-of-items a b h.items v w (subst Q f (subst P e h.represent))
 
-pub begun-as : (a b : Geometry) (f g : Shape) → f ≡ shape_of a → g ≡ shape_of b → begun f g ≡ begun (shape_of a) (shape_of b)
-begun-as a b f g h k = ap (λ s. begun s g) h ∙ ap (begun (shape_of a)) k
+pub begun-with : (f g first second : Shape) → f ≡ first → g ≡ second → begun f g ≡ begun first second
+begun-with f g first second h k = ap (λ s. begun s g) h ∙ ap (begun first) k
 
 pub matrix-over-plane : (a b : Geometry) (entries : List Dim) → entries ≡ matrix_of a b → IsMatrix a b entries
 matrix-over-plane a b entries e = subst (IsMatrix a b) (sym e) (matrices_are_over_the_plane a b).computed

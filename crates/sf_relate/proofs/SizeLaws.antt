@@ -45,7 +45,7 @@ few-all_ends [] = omega arith
 few-all_ends (ps ∷ lines) =
     omega (arith, few-ends ps, few-all_ends lines, length-append (ends_of_line ps) (flat_map ends_of_line lines), length-append ps (joined lines))
 
-few-with_ends : (a : Geometry) → length (pieces_of a) + length (ends_of a) ≤ 2 * length (points_of a)
+pub few-with_ends : (a : Geometry) → length (pieces_of a) + length (ends_of a) ≤ 2 * length (points_of a)
 few-with_ends (Point p) = omega arith
 few-with_ends (MultiPoint ps) = omega (arith, length-map ps pieces.Dot, length-append ps [])
 few-with_ends (LineString ps) =
@@ -54,7 +54,7 @@ few-with_ends (MultiLineString lines) = omega (arith, length-map (flat_map edges
 few-with_ends (Polygon rings) = omega (arith, length-map (flat_map edges_of_list rings) piece_of, few-lists rings)
 few-with_ends (MultiPolygon polygons) = omega (arith, length-map (flat_map edges_of_list (joined polygons)) piece_of, few-lists (joined polygons))
 
-length-grouped : (m n : ℕ) (a : Geometry) → length (grouped m n a) ≡ length (pieces_of a) + length (ends_of a)
+pub length-grouped : (m n : ℕ) (a : Geometry) → length (grouped m n a) ≡ length (pieces_of a) + length (ends_of a)
 length-grouped m n a =
     length-append (marked m (pieces_of a)) (marked n (end_dots_of a))
     ∙ ap (λ k. k + length (marked n (end_dots_of a))) (length-map (pieces_of a) (λ piece. (piece, m)))
@@ -88,7 +88,7 @@ some-ring ring others h = some-first ring others (long (length (tight ring)) (no
     long : (n : ℕ) → 4 ≤ n → 2 ≤ n
     long n l = omega (arith, l)
 
-some-piece : (a : Geometry) → IsValid a → 1 ≤ length (pieces_of a)
+pub some-piece : (a : Geometry) → IsValid a → 1 ≤ length (pieces_of a)
 some-piece (Point p) v = omega arith
 some-piece (MultiPoint []) v = absurd (both_ways true v.sized.filled refl)
 some-piece (MultiPoint (p ∷ ps)) v = omega arith
@@ -103,7 +103,7 @@ some-piece (MultiPolygon ((shell ∷ holes) ∷ polygons)) v = some-ring shell (
 
 -- ---- the groups are below the number of pieces
 -- ends come in pairs
-ends-pairs : (lines : List (List Coordinates)) → (length (flat_map ends_of_line lines) ≡ 0) ⊎ (2 ≤ length (flat_map ends_of_line lines))
+pub ends-pairs : (lines : List (List Coordinates)) → (length (flat_map ends_of_line lines) ≡ 0) ⊎ (2 ≤ length (flat_map ends_of_line lines))
 ends-pairs [] = inl refl
 ends-pairs ([] ∷ lines) = ends-pairs lines
 ends-pairs ((p ∷ ps) ∷ lines) = by_test (is_closed (p ∷ ps)) (ends-pairs lines)
@@ -115,11 +115,11 @@ ends-pairs ((p ∷ ps) ∷ lines) = by_test (is_closed (p ∷ ps)) (ends-pairs l
     by_test false h = inr (omega arith)
 
 -- the group of each piece
-each-marked : (P : ℕ → Type 0) (group : ℕ) (ps : List Piece) → (1 ≤ length ps → P group) → AllByRecursion P (groups_of (marked group ps))
+pub each-marked : (P : ℕ → Type 0) (group : ℕ) (ps : List Piece) → (1 ≤ length ps → P group) → AllByRecursion P (groups_of (marked group ps))
 each-marked P group [] h = tt
 each-marked P group (p ∷ ps) h = (h (omega arith), each-marked P group ps (λ _. h (omega arith)))
 
-each-joined : (P : ℕ → Type 0) (ms ns : List Marked) → AllByRecursion P (groups_of ms) → AllByRecursion P (groups_of ns) → AllByRecursion P (groups_of (ms ++ ns))
+pub each-joined : (P : ℕ → Type 0) (ms ns : List Marked) → AllByRecursion P (groups_of ms) → AllByRecursion P (groups_of ns) → AllByRecursion P (groups_of (ms ++ ns))
 each-joined P ms ns h k =
     let Q : List ℕ → Type 0 = AllByRecursion P in
     subst Q (sym (map-join (λ (m : Marked). m.1) ms ns)) (each-append P (groups_of ms) (groups_of ns) h k)

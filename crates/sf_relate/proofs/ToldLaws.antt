@@ -106,7 +106,7 @@ at_most_second m n = omega (arith, ints, clamps)
 further : (m n : ℤ) (d : ℕ) (x : ℤ) → m ≤ℤ n → (n *ℤ pos d) <ℤ x → (m *ℤ pos d) <ℤ x
 further m n d x h k = let l = mul_le m n d h in omega (arith, ints)
 
-outside-both : (a b : Geometry) → IsValid a → IsValid b → HasTriangle (both (in_exterior a) (in_exterior b))
+pub outside-both : (a b : Geometry) → IsValid a → IsValid b → HasTriangle (both (in_exterior a) (in_exterior b))
 outside-both a b v w =
     record {
       a = far (far_end a b) (pos 1) (pos 0);

@@ -1,11 +1,13 @@
 //! The matrix of a geometry with an area, by a walk over those edges of the area alone that can be on a point of
 //! the geometry or above one.
 
-ghost use Rattle.std.specs.Prelude.{◌≡◌, ◌≤◌, ◌++◌, IfOk, IsFalse, OnOk, length, map};
+ghost use Rattle.std.specs.Prelude.{◌≡◌, ◌≤◌, ◌∷◌, [], ◌++◌, IfOk, IsFalse, OnOk, length, map};
 ghost use Rattle.std.specs.List.{AllByRecursion};
 ghost use Rattle.sf_geometry.specs.Lists.{is_same};
 ghost use Rattle.sf_geometry.specs.Parts.{edge_of};
 ghost use Rattle.sf_pieces.specs.Marked.{marked, piece_of};
+ghost use Rattle.sf_plane.specs.declared.dim.Dim.TheVariants.{One, Two};
+ghost use Rattle.sf_relate.specs.Contact.{own_rows};
 ghost use Rattle.sf_relate.specs.Matrices.{matrix_of};
 ghost use Rattle.sf_relate.specs.Nearby.{ReachesBeyond, TellPlaces, nearby_grouped};
 ghost use Rattle.sf_relate.specs.Places.{shape_of};
@@ -51,18 +53,15 @@ pub fn relate_nearby(
     };
     let areal = [sink.first.is_areal(), sink.second.is_areal()];
     pieces.walk(alloc, &areal, &mut sink)?;
-    let [ii, ib, ie, bi, bb, be, _, _, _] = sink.entries;
-    Ok(Matrix([
-        ii,
-        ib,
-        ie,
-        bi,
-        bb,
-        be,
-        Dim::Two,
-        Dim::One,
-        Dim::Two,
-    ]))
+    Ok(reaching_beyond(sink.entries))
+}
+
+/// The first two rows of these entries, and the third one of an area that reaches beyond the other geometry.
+fn reaching_beyond(entries: [Dim; 9]) -> Matrix
+    ensures { result.0 ≡ own_rows entries ++ Two ∷ One ∷ Two ∷ [] }
+{
+    let [ii, ib, ie, bi, bb, be, _, _, _] = entries;
+    Matrix([ii, ib, ie, bi, bb, be, Dim::Two, Dim::One, Dim::Two])
 }
 
 /// The pieces of a geometry with its ends, and these edges, by groups.
@@ -88,7 +87,8 @@ fn push_edges(
     requires { AllByRecursion (λ pair. IsFalse (is_same pair.0 pair.1)) edges.now }
     ensures { OnOk result (pieces.new ≡ pieces.old ++ marked 1 (map piece_of (map edge_of edges.now))) }
 {
-    for (from, to) in edges {
+    for edge in edges {
+        let (from, to) = edge;
         pieces.push_edges(&[*from, *to], SECOND)?;
     }
     Ok(())

@@ -6,7 +6,7 @@ use Rattle.sf_prepared.proofs.above.has_odd_above.Goals as goal
 use Rattle.sf_prepared.proofs.above.has_odd_above.Goals.{else-is_above, then-is_above}
 
 pub loop-id-init : goal.loop-id-init
-loop-id-init c = counted-start c.args.edges.now c.args.point c.args.near.now c.requires.on_grid c.requires.point c.requires.near
+loop-id-init c = counted-start c.args.edges.now c.args.point c.args.near.now c.requires.on_grid c.requires.near
 
 pub bounds-edges-id : goal.bounds-edges-id
 bounds-edges-id c = counted-inside c.args.edges.now (grid_point c.args.point) c.loop-id.odd c.args.near.now c.loop-id.id-index c.loop-id-test.true c.loop-id.invariant

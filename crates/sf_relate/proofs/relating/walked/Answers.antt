@@ -1,7 +1,7 @@
 use Rattle.std.proofs.Common.{◌≡◌, ap, ◌∙◌, [], ◌∷◌}
 use Rattle.sf_relate.specs.AllPieces.{all_grouped}
 use Rattle.sf_relate.specs.Places.{gathered_by, is_areal, shape_of}
-use Rattle.sf_relate.proofs.MatrixLaws.{begun, begun-as, entries-left, matrix-over-plane}
+use Rattle.sf_relate.proofs.MatrixLaws.{begun, begun-with, entries-left, matrix-over-plane}
 use Rattle.sf_relate.proofs.SizeLaws.{CanWalk, can-walk}
 use Rattle.sf_relate.proofs.relating.walked.Goals as goal
 use Rattle.sf_relate.proofs.relating.walked.Goals.{After-is_areal-2}
@@ -32,7 +32,7 @@ returns-clause-computed c =
     entries-left a b c.in_ok-pieces.pieces (c.is_areal.result ∷ c.is_areal-2.result ∷ []) (begun c.of.result c.of-2.result) (gathered_by c.walk.new.sink)
     c.geometry-first.ensures.valid.valid c.geometry-second.ensures.valid.valid (both at.After-is_areal-2)
     (ap (λ x. x ∷ c.is_areal-2.result ∷ []) (c.is_areal.ensures ∙ ap is_areal first) ∙ ap (λ x. is_areal (shape_of a) ∷ x ∷ []) (c.is_areal-2.ensures ∙ ap is_areal second))
-    (begun-as a b c.of.result c.of-2.result first second)
+    (begun-with c.of.result c.of-2.result (shape_of a) (shape_of b) first second)
     c.in_ok-walk.ensures.ok
 
 pub returns-clause-plane : goal.returns-clause-plane

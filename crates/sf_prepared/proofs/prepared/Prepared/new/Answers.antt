@@ -1,4 +1,4 @@
-use Rattle.std.proofs.Common.{◌∙◌, ap, map, subst, sym}
+use Rattle.std.proofs.Common.{◌∙◌, arith, ap, map, subst, sym}
 use Rattle.std.specs.List.Sorted.{IsStrictlySortedBy}
 use Rattle.std.specs.Map.{keys_of}
 use Rattle.std.specs.Ordering.{nat_cmp}
@@ -8,8 +8,11 @@ use Rattle.sf_prepared.proofs.prepared.Prepared.new.Goals as goal
 
 pub boxes_of-requires : goal.boxes_of-requires
 boxes_of-requires c =
-    few-pairs c.args.given.now c.geometry.result.now c.as_slice-pairs.result.now c.geometry.ensures.valid.valid.sized c.geometry.ensures.same
-    (ap (map edge_of) c.as_slice-pairs.ensures.value ∙ c.in_ok-edges.ensures)
+    omega (
+      arith,
+      few-pairs c.args.given.now c.geometry.result.now c.as_slice-pairs.result.now c.geometry.ensures.valid.valid.sized c.geometry.ensures.same
+          (ap (map edge_of) c.as_slice-pairs.ensures.value ∙ c.in_ok-edges.ensures),
+    )
 
 pub from_boxes-requires : goal.from_boxes-requires
 from_boxes-requires c = subst (λ boxes. IsStrictlySortedBy nat_cmp (keys_of boxes)) (sym c.in_ok-boxes.ensures) (numbers-rise 0 c.as_slice-pairs.result.now)

@@ -1,0 +1,210 @@
+//! Queries of a geometry of many points over many features: each answer is that of the features' matrices, told one
+//! by one.
+
+ghost use Rattle.std.specs.Prelude.{◌≡◌};
+ghost use Rattle.sf_layers.specs.WellFormed.{IsLayer};
+ghost use Rattle.sf_layers.specs.declared.layer_kind.LayerKind.TheVariants.{Any};
+
+use crate::tests::{points, push, stored};
+use crate::{Ask, query, relate_one};
+use sf_geometry::{Geometry, Sequence};
+use sf_grid::GridPoint;
+use sf_layers::{Layer, LayerKind, Store};
+use sf_relate::{Matrix, Pattern, Predicate, dimension, holds};
+use sf_validity::{Valid, validate};
+use std::alloc::Global;
+use std::test::Fail;
+
+type Places = &'static [(i32, i32)];
+
+/// A border with spikes, a point written twice, upright and level edges along the features' boxes, and vertices on
+/// their corners.
+const BORDER: Places = &[
+    (-40, -40),
+    (-21, -40),
+    (-20, -16),
+    (-18, -40),
+    (10, -40),
+    (10, -40),
+    (10, -30),
+    (25, -30),
+    (40, -40),
+    (33, -7),
+    (40, 0),
+    (12, 3),
+    (40, 11),
+    (30, 30),
+    (40, 40),
+    (0, 40),
+    (-1, 22),
+    (-2, 40),
+    (-40, 40),
+    (-40, 11),
+    (-24, 10),
+    (-40, 9),
+    (-40, -40),
+];
+
+/// A hole that touches no border, with edges along the features'.
+const HOLE: Places = &[
+    (-10, 10),
+    (-10, 20),
+    (-5, 15),
+    (0, 20),
+    (0, 10),
+    (-5, 12),
+    (-10, 10),
+];
+
+/// A part of its own inside the hole.
+const ISLAND: Places = &[(-7, 14), (-5, 13), (-3, 14), (-5, 14), (-7, 14)];
+
+const PREDICATES: [Predicate; 8] = [
+    Predicate::Equals,
+    Predicate::Disjoint,
+    Predicate::Intersects,
+    Predicate::Touches,
+    Predicate::Within,
+    Predicate::Contains,
+    Predicate::Crosses,
+    Predicate::Overlaps,
+];
+
+const PATTERNS: [&'static str; 6] = [
+    "T*F**F***",
+    "2*T***T**",
+    "FF*FF****",
+    "****1****",
+    "F***0****",
+    "******212",
+];
+
+/// How many places in a row, and how far from one to the next.
+const ROW: i32 = 12;
+
+const STEP: i32 = 8;
+
+fn polygon(alloc: Global, rings: &[Places]) -> Result<Sequence<Sequence<GridPoint>>, Fail> {
+    let mut lists = Vec::new(alloc);
+    for places in rings {
+        lists.push(points(alloc, *places)?)?;
+    }
+    Ok(Sequence::from_vec(lists))
+}
+
+/// The town: two polygons, one of them in a hole of the other.
+fn town(alloc: Global) -> Result<Valid, Fail> {
+    let mut polygons = Vec::new(alloc);
+    polygons.push(polygon(alloc, &[BORDER, HOLE])?)?;
+    polygons.push(polygon(alloc, &[ISLAND])?)?;
+    let geometry = Geometry::MultiPolygon(Sequence::from_vec(polygons));
+    if geometry.check_size().is_err() {
+        return Err("not sized".into());
+    }
+    match validate(alloc, geometry) {
+        Ok(valid) => Ok(valid),
+        Err(_) => Err("not valid".into()),
+    }
+}
+
+/// A square, a line or a point at the place of a number, in turn.
+fn feature(alloc: Global, number: i32) -> Result<Geometry, Fail> {
+    let x = number % ROW * STEP - 44;
+    let y = number / ROW * STEP - 44;
+    let corner = |across: i32, up: i32| GridPoint::new(x + across, y + up).ok_or("off the grid");
+    let mut points = Vec::new(alloc);
+    points.push(corner(0, 0)?)?;
+    match number % 3 {
+        0 => {
+            points.push(corner(4, 0)?)?;
+            points.push(corner(4, 4)?)?;
+            points.push(corner(0, 4)?)?;
+            points.push(corner(0, 0)?)?;
+            let mut rings = Vec::new(alloc);
+            rings.push(Sequence::from_vec(points))?;
+            Ok(Geometry::Polygon(Sequence::from_vec(rings)))
+        }
+        1 => {
+            points.push(corner(7, 3)?)?;
+            Ok(Geometry::LineString(Sequence::from_vec(points)))
+        }
+        _ => {
+            points.push(corner(3, 1)?)?;
+            Ok(Geometry::MultiPoint(Sequence::from_vec(points)))
+        }
+    }
+}
+
+/// A store with features in rows across the town.
+fn with_rows(alloc: Global) -> Result<Store, Fail> {
+    let mut layer = Layer::new(alloc, LayerKind::Any);
+    for number in 0..ROW * ROW {
+        push(alloc, &mut layer, feature(alloc, number)?)?;
+    }
+    stored(alloc, layer)
+}
+
+/// Whether the matrix is as asked.
+fn is_as_asked(ask: &Ask, own: &Geometry, given: &Valid, matrix: &Matrix) -> bool {
+    match ask {
+        Ask::Matching(pattern) => pattern.matches(matrix),
+        Ask::Named(predicate) => holds(
+            *predicate,
+            dimension(own),
+            dimension(given.geometry()),
+            matrix,
+        ),
+    }
+}
+
+/// The features whose matrices are as asked, each told by itself.
+fn told_one_by_one(
+    alloc: Global,
+    store: &Store,
+    ask: &Ask,
+    given: &Valid,
+) -> Result<Vec<u32>, Fail> {
+    let layer = store.layer("shapes").ok_or("no layer")?;
+    let mut ids = Vec::new(alloc);
+    for (id, feature) in layer.features() {
+        let Ok(matrix) = relate_one(alloc, store, "shapes", *id, given) else {
+            return Err("no matrix".into());
+        };
+        if is_as_asked(ask, feature.valid().geometry(), given, &matrix) {
+            ids.push(*id)?;
+        }
+    }
+    Ok(ids)
+}
+
+/// Whether a query finds what the matrices say.
+fn is_told(alloc: Global, store: &Store, ask: &Ask, given: &Valid) -> Result<bool, Fail> {
+    let wanted = told_one_by_one(alloc, store, ask, given)?;
+    match query(alloc, store, "shapes", ask, given) {
+        Ok(found) => Ok(found.ids.as_slice() == wanted.as_slice()),
+        Err(_) => Err("no answer".into()),
+    }
+}
+
+#[test]
+fn predicates_of_a_town_are_those_of_matrices(rt: HostRuntime) -> Result<(), Fail> {
+    let store = with_rows(rt.alloc())?;
+    let town = town(rt.alloc())?;
+    for predicate in PREDICATES {
+        assert!(rt; is_told(rt.alloc(), &store, &Ask::Named(predicate), &town)?);
+    }
+    Ok(())
+}
+
+#[test]
+fn patterns_of_a_town_are_those_of_matrices(rt: HostRuntime) -> Result<(), Fail> {
+    let store = with_rows(rt.alloc())?;
+    let town = town(rt.alloc())?;
+    for text in PATTERNS {
+        let Ok(pattern) = Pattern::parse(text) else {
+            return Err("no pattern".into());
+        };
+        assert!(rt; is_told(rt.alloc(), &store, &Ask::Matching(pattern), &town)?);
+    }
+    Ok(())
+}

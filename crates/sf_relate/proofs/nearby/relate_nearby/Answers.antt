@@ -1,0 +1,36 @@
+use Rattle.std.proofs.Common.{◌≡◌, ap, ◌∙◌, [], ◌∷◌, map}
+use Rattle.sf_geometry.specs.Parts.{edge_of}
+use Rattle.sf_relate.specs.declared.shape.Shape.TheVariants.{Areas}
+use Rattle.sf_relate.specs.Nearby.{nearby_grouped}
+use Rattle.sf_relate.specs.Places.{gathered_by, is_areal, shape_of}
+use Rattle.sf_relate.proofs.MatrixLaws.{begun, begun-with}
+use Rattle.sf_relate.proofs.NearbyLaws.{can-nearby, nearby-left}
+use Rattle.sf_relate.proofs.SizeLaws.{CanWalk}
+use Rattle.sf_relate.proofs.nearby.relate_nearby.Goals as goal
+use Rattle.sf_relate.proofs.nearby.relate_nearby.Goals.{After-is_areal-2}
+
+-- the pieces are those of the geometry and these edges
+grouped : (c : After-is_areal-2) → c.in_ok-pieces.pieces ≡ nearby_grouped c.args.a.now (map edge_of c.args.edges.now)
+grouped c = c.in_ok-pieces.ensures ∙ ap (λ g. nearby_grouped g (map edge_of c.args.edges.now)) c.geometry-first.ensures.same
+
+can : (c : After-is_areal-2) → CanWalk c.in_ok-pieces.pieces
+can c = can-nearby c.args.a.now c.args.edges.now c.in_ok-pieces.pieces c.geometry-first.ensures.valid.valid c.requires.few (grouped c)
+
+pub walk-requires-clause-few : goal.walk-requires-clause-few
+walk-requires-clause-few c = (can (goal.at.walk-requires-clause-few c).After-is_areal-2).few
+
+pub walk-requires-clause-groups_in_range : goal.walk-requires-clause-groups_in_range
+walk-requires-clause-groups_in_range c = (can (goal.at.walk-requires-clause-groups_in_range c).After-is_areal-2).groups_in_range
+
+pub returns : goal.returns
+returns c =
+    let at = goal.at.returns c in
+    let a = c.args.a.now in
+    let first : c.of.result ≡ shape_of a = c.of.ensures ∙ ap shape_of c.geometry-first.ensures.same in
+    let second : c.of-2.result ≡ Areas = c.of-2.ensures ∙ ap shape_of c.geometry.ensures.same ∙ c.requires.areal in
+    c.reaching_beyond.ensures
+    ∙ nearby-left a c.args.area.now (map edge_of c.args.edges.now) c.in_ok-pieces.pieces (c.is_areal.result ∷ c.is_areal-2.result ∷ []) (begun c.of.result c.of-2.result) (gathered_by c.walk.new.sink)
+    c.geometry-first.ensures.valid.valid c.geometry.ensures.valid.valid c.requires.areal c.requires.places c.requires.beyond (grouped at.After-is_areal-2)
+    (ap (λ x. x ∷ c.is_areal-2.result ∷ []) (c.is_areal.ensures ∙ ap is_areal first) ∙ ap (λ x. is_areal (shape_of a) ∷ x ∷ []) (c.is_areal-2.ensures ∙ ap is_areal second))
+    (begun-with c.of.result c.of-2.result (shape_of a) Areas first second)
+    c.in_ok-walk.ensures.ok
