@@ -72,6 +72,33 @@ class Documents(unittest.TestCase):
                 self.assertTrue(path.stem == "Lib" or (crate, path.stem) in found, path)
 
 
+class Copyright(unittest.TestCase):
+    """The copyright file of the package, by Debian's machine-readable format."""
+
+    def setUp(self):
+        self.text = (TOP / "package" / "copyright").read_text()
+        paragraphs = re.split("\n\n+", self.text.strip())
+        self.paragraphs = [dict(re.findall(r"^([\w-]+):(.*(?:\n .*)*)", text, re.MULTILINE)) for text in paragraphs]
+
+    def test_each_line_is_a_field_or_goes_on_with_one(self):
+        for line in self.text.splitlines():
+            self.assertRegex(line, r"^([A-Z][\w-]+:.*| \S.*|)$")
+
+    def test_files_have_a_copyright_and_a_licence_that_is_told(self):
+        files = [paragraph for paragraph in self.paragraphs if "Files" in paragraph]
+        told = {paragraph["License"].split()[0] for paragraph in self.paragraphs if list(paragraph) == ["License"]}
+        self.assertEqual(files[0]["Files"].strip(), "*")
+        for paragraph in files:
+            self.assertTrue(paragraph["Copyright"].strip())
+            self.assertLessEqual(set(paragraph["License"].strip().split(" and ")), told)
+
+    def test_the_crates_of_the_toolchain_are_named(self):
+        lines = [line for line in (TOP / "crates.txt").read_text().splitlines() if not line.startswith("#")]
+        below = {name for line in lines for name in line.partition(":")[2].split()}
+        for name in sorted(below - set(crates())):
+            self.assertIn(f"\n {name}, ", self.text)
+
+
 class Map(unittest.TestCase):
     def setUp(self):
         self.text = (TOP / "docs" / "MAP.md").read_text()
