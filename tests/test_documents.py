@@ -60,6 +60,14 @@ class Documents(unittest.TestCase):
                     self.assertTrue(is_there(path.rstrip("/")), f"{page.name}: {path}")
 
 
+    def test_the_version_is_that_of_the_changes_and_of_packages(self):
+        version = (TOP / "package" / "VERSION").read_text().strip()
+        headings = re.findall("^## ([0-9].*)$", (TOP / "CHANGELOG.md").read_text(), re.MULTILINE)
+        self.assertEqual(headings[0], version)
+        for page in PAGES:
+            for named in re.findall(r"sfstore_([0-9.]+)_amd64\.deb", page.read_text()):
+                self.assertEqual(named, version, page.name)
+
     def test_every_file_of_definitions_is_listed(self):
         text = (TOP / "docs" / "DEFINITIONS.md").read_text()
         found = set()
