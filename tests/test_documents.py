@@ -130,6 +130,19 @@ class Map(unittest.TestCase):
             files = {path.stem for path in (CRATES / name / "specs").glob("*.antt")} - {"Lib"}
             self.assertEqual(set(re.findall(r"\w+", definitions)), files, name)
 
+    def test_contracts_stand_in_the_files_that_are_named(self):
+        calls = [
+            (call, CRATES / name / "src" / f"{file}.rt")
+            for name, row in re.findall(r"^\| `(\w+)` \|[^|]*\|[^|]*\|([^|]*)\|$", self.text, re.MULTILINE)
+            for group, file in re.findall(r"((?:`[\w:]+`,? ?)+)\((\w+)\)", row)
+            for call in re.findall(r"(\w+)`", group)
+            if call != "laws"
+        ]
+        calls += [(call, CRATES / path) for call, path in re.findall(r"`(\w+)`, `(\w+/src/\w+\.rt)`", self.text)]
+        self.assertGreater(len(calls), 80)
+        for call, path in calls:
+            self.assertRegex(path.read_text(), rf"\b(fn|struct|enum|trait) {call}\b", f"{path}: {call}")
+
 
 if __name__ == "__main__":
     unittest.main()
