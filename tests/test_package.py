@@ -127,6 +127,11 @@ class Package(unittest.TestCase):
         self.assertRegex(said, "gate: [0-9]+ passed, [0-9]+ failed\n")
         self.assertIn("toolchain: rattle-kit", said)
 
+    def test_the_copyright_is_in_it(self):
+        said = (self.documents / "copyright").read_text()
+        self.assertEqual(said, (TOP / "package" / "copyright").read_text())
+        self.assertTrue(said.startswith("Format: https://www.debian.org/doc/packaging-manuals/copyright-format/1.0/\n"))
+
     def test_the_links_of_the_pages_lead_to_documents(self):
         links = [(page, link) for page in self.documents.rglob("*.md") for link in re.findall(r"\]\(([^)#:]+)\)", page.read_text())]
         self.assertGreater(len(links), 20)

@@ -1,0 +1,148 @@
+"""Tests of the documents: links lead somewhere, files that are named are there, and the map has every crate."""
+
+from __future__ import annotations
+
+import re
+import unittest
+from pathlib import Path
+
+TOP = Path(__file__).resolve().parent.parent
+CRATES = TOP / "crates"
+PAGES = [*sorted(TOP.glob("*.md")), *sorted((TOP / "docs").glob("*.md"))]
+
+# What is named and made only by a build, or stands for a name.
+NOT_THERE = {"crates/sfstore/out/sfstore", "crates/NAME"}
+
+
+def crates() -> dict[str, list[str]]:
+    """The crates of crates.txt, each with the crates that it stands on."""
+    lines = [line for line in (TOP / "crates.txt").read_text().splitlines() if line and not line.startswith("#")]
+    stands_on = {name: below.split() for name, _, below in (line.partition(":") for line in lines)}
+    return {name: [other for other in below if other in stands_on] for name, below in stands_on.items()}
+
+
+def anchors(page: Path) -> set[str]:
+    """The anchors of a page's headings."""
+    headings = re.findall("^#+ (.*)$", page.read_text(), re.MULTILINE)
+    return {re.sub(r"[^\w -]", "", heading.lower()).replace(" ", "-") for heading in headings}
+
+
+def one_by_one(text: str) -> list[str]:
+    """The paths that braces stand for: a/{b,c} is a/b and a/c."""
+    found = re.search("{([^{}]*)}", text)
+    if found is None:
+        return [text]
+    front, back = text[: found.start()], text[found.end() :]
+    return [path for word in found[1].split(",") for path in one_by_one(front + word.strip() + back)]
+
+
+def is_there(path: str) -> bool:
+    """Whether a path is one of the checkout, of a crate or of the module, its ending left out or not."""
+    folders = [TOP, CRATES, *CRATES.iterdir(), TOP / "python" / "sfstore"]
+    return any(next(folder.glob(path + ending), None) for folder in folders for ending in ("", ".antt", ".rt"))
+
+
+class Documents(unittest.TestCase):
+    def test_links_lead_to_files_and_headings(self):
+        links = [(page, link) for page in PAGES for link in re.findall(r"\]\(([^)\s]+)\)", page.read_text())]
+        self.assertGreater(len(links), 50)
+        for page, link in links:
+            path, _, anchor = link.partition("#")
+            target = page.parent / path if path else page
+            self.assertTrue(link.startswith("https:") or target.exists(), f"{page.name}: {link}")
+            self.assertTrue(not anchor or anchor in anchors(target), f"{page.name}: {link}")
+
+    def test_files_that_are_named_are_there(self):
+        for page in PAGES:
+            named = {path for text in re.findall("`([^`\n]+)`", page.read_text()) for path in one_by_one(text)}
+            for path in named - NOT_THERE:
+                if "/" in path.rstrip("/") and re.fullmatch(r"[\w.*-][\w./*-]*", path):
+                    self.assertTrue(is_there(path.rstrip("/")), f"{page.name}: {path}")
+
+
+    def test_the_version_is_that_of_the_changes_and_of_packages(self):
+        version = (TOP / "package" / "VERSION").read_text().strip()
+        headings = re.findall("^## ([0-9].*)$", (TOP / "CHANGELOG.md").read_text(), re.MULTILINE)
+        self.assertEqual(headings[0], version)
+        for page in PAGES:
+            for named in re.findall(r"sfstore_([0-9.]+)_amd64\.deb", page.read_text()):
+                self.assertEqual(named, version, page.name)
+
+    def test_every_file_of_definitions_is_listed(self):
+        text = (TOP / "docs" / "DEFINITIONS.md").read_text()
+        found = set()
+        for section in re.split("^## ", text, flags=re.MULTILINE)[1:]:
+            heading, *lines = section.splitlines()
+            files = {file for line in lines if line.startswith("|") for file in line.split("|")[-2].split(",")}
+            found |= {(crate, file.strip()) for crate in re.findall(r"`(\w+)/specs`", heading) for file in files}
+        for crate in crates():
+            for path in (CRATES / crate / "specs").glob("*.antt"):
+                self.assertTrue(path.stem == "Lib" or (crate, path.stem) in found, path)
+
+
+class Copyright(unittest.TestCase):
+    """The copyright file of the package, by Debian's machine-readable format."""
+
+    def setUp(self):
+        self.text = (TOP / "package" / "copyright").read_text()
+        paragraphs = re.split("\n\n+", self.text.strip())
+        self.paragraphs = [dict(re.findall(r"^([\w-]+):(.*(?:\n .*)*)", text, re.MULTILINE)) for text in paragraphs]
+
+    def test_each_line_is_a_field_or_goes_on_with_one(self):
+        for line in self.text.splitlines():
+            self.assertRegex(line, r"^([A-Z][\w-]+:.*| \S.*|)$")
+
+    def test_files_have_a_copyright_and_a_licence_that_is_told(self):
+        files = [paragraph for paragraph in self.paragraphs if "Files" in paragraph]
+        told = {paragraph["License"].split()[0] for paragraph in self.paragraphs if list(paragraph) == ["License"]}
+        self.assertEqual(files[0]["Files"].strip(), "*")
+        for paragraph in files:
+            self.assertTrue(paragraph["Copyright"].strip())
+            self.assertLessEqual(set(paragraph["License"].strip().split(" and ")), told)
+
+    def test_the_crates_of_the_toolchain_are_named(self):
+        lines = [line for line in (TOP / "crates.txt").read_text().splitlines() if not line.startswith("#")]
+        below = {name for line in lines for name in line.partition(":")[2].split()}
+        for name in sorted(below - set(crates())):
+            self.assertIn(f"\n {name}, ", self.text)
+
+
+class Map(unittest.TestCase):
+    def setUp(self):
+        self.text = (TOP / "docs" / "MAP.md").read_text()
+        self.picture = self.text.split("```")[1]
+        self.rows = re.findall(r"^\| `(\w+)` \|[^|]*\|([^|]*)\|", self.text, re.MULTILINE)
+
+    def test_every_crate_stands_in_the_picture_once(self):
+        self.assertEqual(sorted(re.findall(r"\bsf\w+", self.picture)), sorted(crates()))
+
+    def test_a_crate_stands_on_lower_ones(self):
+        heights = {
+            name: line for line, text in enumerate(self.picture.splitlines()) for name in re.findall(r"\bsf\w+", text)
+        }
+        for name, below in crates().items():
+            for other in below:
+                self.assertLess(heights[name], heights[other], f"{name}: {other}")
+
+    def test_every_crate_has_a_row_with_its_definitions(self):
+        self.assertEqual(sorted(name for name, _ in self.rows), sorted(crates()))
+        for name, definitions in self.rows:
+            files = {path.stem for path in (CRATES / name / "specs").glob("*.antt")} - {"Lib"}
+            self.assertEqual(set(re.findall(r"\w+", definitions)), files, name)
+
+    def test_contracts_stand_in_the_files_that_are_named(self):
+        calls = [
+            (call, CRATES / name / "src" / f"{file}.rt")
+            for name, row in re.findall(r"^\| `(\w+)` \|[^|]*\|[^|]*\|([^|]*)\|$", self.text, re.MULTILINE)
+            for group, file in re.findall(r"((?:`[\w:]+`,? ?)+)\((\w+)\)", row)
+            for call in re.findall(r"(\w+)`", group)
+            if call != "laws"
+        ]
+        calls += [(call, CRATES / path) for call, path in re.findall(r"`(\w+)`, `(\w+/src/\w+\.rt)`", self.text)]
+        self.assertGreater(len(calls), 80)
+        for call, path in calls:
+            self.assertRegex(path.read_text(), rf"\b(fn|struct|enum|trait) {call}\b", f"{path}: {call}")
+
+
+if __name__ == "__main__":
+    unittest.main()
