@@ -79,6 +79,13 @@ const PATTERNS: [&'static str; 6] = [
     "******212",
 ];
 
+/// What the features have, from their places on.
+const SQUARE: Places = &[(0, 0), (4, 0), (4, 4), (0, 4), (0, 0)];
+
+const LINE: Places = &[(0, 0), (7, 3)];
+
+const PAIR: Places = &[(0, 0), (3, 1)];
+
 /// How many places in a row, and how far from one to the next.
 const ROW: i32 = 12;
 
@@ -107,31 +114,32 @@ fn town(alloc: Global) -> Result<Valid, Fail> {
     }
 }
 
-/// A square, a line or a point at the place of a number, in turn.
-fn feature(alloc: Global, number: i32) -> Result<Geometry, Fail> {
+/// A point so far from the place of a number, across and up.
+fn corner(number: i32, across: i32, up: i32) -> Result<GridPoint, Fail> {
     let x = number % ROW * STEP - 44;
     let y = number / ROW * STEP - 44;
-    let corner = |across: i32, up: i32| GridPoint::new(x + across, y + up).ok_or("off the grid");
+    Ok(GridPoint::new(x.saturating_add(across), y.saturating_add(up)).ok_or("off the grid")?)
+}
+
+/// The points so far from the place of a number.
+fn corners(alloc: Global, number: i32, ways: Places) -> Result<Sequence<GridPoint>, Fail> {
     let mut points = Vec::new(alloc);
-    points.push(corner(0, 0)?)?;
+    for (across, up) in ways {
+        points.push(corner(number, *across, *up)?)?;
+    }
+    Ok(Sequence::from_vec(points))
+}
+
+/// A square, a line or two points at the place of a number, in turn.
+fn feature(alloc: Global, number: i32) -> Result<Geometry, Fail> {
     match number % 3 {
         0 => {
-            points.push(corner(4, 0)?)?;
-            points.push(corner(4, 4)?)?;
-            points.push(corner(0, 4)?)?;
-            points.push(corner(0, 0)?)?;
             let mut rings = Vec::new(alloc);
-            rings.push(Sequence::from_vec(points))?;
+            rings.push(corners(alloc, number, SQUARE)?)?;
             Ok(Geometry::Polygon(Sequence::from_vec(rings)))
         }
-        1 => {
-            points.push(corner(7, 3)?)?;
-            Ok(Geometry::LineString(Sequence::from_vec(points)))
-        }
-        _ => {
-            points.push(corner(3, 1)?)?;
-            Ok(Geometry::MultiPoint(Sequence::from_vec(points)))
-        }
+        1 => Ok(Geometry::LineString(corners(alloc, number, LINE)?)),
+        _ => Ok(Geometry::MultiPoint(corners(alloc, number, PAIR)?)),
     }
 }
 
