@@ -171,6 +171,10 @@ class Pictures(unittest.TestCase):
         texts = [text.text for text in picture(self.file).iter(f"{SVG}text")]
         self.assertEqual(texts[0], "20 grid steps")
 
+    def test_a_bar_of_one_step_says_so(self):
+        texts = [text.text for text in picture(self.file, "--layer", "wells").iter(f"{SVG}text")]
+        self.assertEqual(texts[0], "1 grid step")
+
     def test_an_empty_store(self):
         root = picture(b"SFSTORE1\0\0\0\0")
         self.assertEqual(paths(root), {})

@@ -1,3 +1,4 @@
 pub mod Choices
+pub mod Frames
 pub mod Texts
 pub mod Views

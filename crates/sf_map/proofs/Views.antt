@@ -1,7 +1,7 @@
 -- How many layers are shown, one after another.
 use Rattle.std.specs.Prelude.{◌≡◌, ℕ, ◌+◌, ◌≤◌, Some, List, length}
-use Rattle.std.specs.List.{count_by, slice_get}
-use Rattle.std.proofs.Common.{ap, sym, ◌∙◌, true, false, take, take_all, get_or}
+use Rattle.std.specs.List.{slice_get}
+use Rattle.std.proofs.Common.{ap, ◌∙◌, true, false, take, take_all}
 use Rattle.std.proofs.lemmas.List.Sums.{count_by_more_no, count_by_more_yes}
 use Rattle.std.proofs.lemmas.Option.{get_or_from_slice_get, slice_get_within}
 use Rattle.sf_layers.specs.Content.{Content, LayerContent}

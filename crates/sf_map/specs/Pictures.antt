@@ -113,10 +113,19 @@ frame_text view =
     codes "</g>\n</svg>\n<rect class='frame' width='" ++ (decimal view.width ++ (codes "' height='" ++ (decimal view.map_height ++ codes "'/>\n")))
 
 -- a bar as long as so many grid steps
-abbrev pub scale_text : View → List ℕ
-scale_text view =
+abbrev pub bar_text : View → List ℕ
+bar_text view =
     codes "<g class='scale' transform='translate(10 " ++ (decimal (view.map_height + 15) ++ (codes ")'><path d='M0 0v6h" ++ (decimal view.bar_pixels
-    ++ (codes "v-6'/><text x='" ++ (decimal (view.bar_pixels + 8) ++ (codes "' y='8'>" ++ (decimal view.bar_steps ++ codes " grid steps</text></g>\n")))))))
+    ++ (codes "v-6'/><text x='" ++ (decimal (view.bar_pixels + 8) ++ codes "' y='8'>")))))
+
+-- so many grid steps in words, and the end of the scale
+abbrev pub steps_text : ℕ → List ℕ
+steps_text steps =
+    if steps == 1 then codes "1 grid step</text></g>\n" else decimal steps ++ codes " grid steps</text></g>\n"
+
+-- the scale: a bar with its length
+abbrev pub scale_text : View → List ℕ
+scale_text view = bar_text view ++ steps_text view.bar_steps
 
 -- where the first row of the legend stands
 abbrev pub legend_top : View → ℕ

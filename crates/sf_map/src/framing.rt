@@ -1,6 +1,6 @@
 //! What stands before and behind the layers of a picture: its size and style, a scale, a legend.
 ghost use Rattle.std.specs.Prelude.{◌≡◌, ◌++◌, string_bytes, OnOk};
-ghost use Rattle.sf_map.specs.Pictures.{back, frame_text, front, legend_row, legend_rows, legend_top, map_corner, map_sides, map_size, picture_head, scale_text, style};
+ghost use Rattle.sf_map.specs.Pictures.{back, bar_text, frame_text, front, legend_row, legend_rows, legend_top, map_corner, map_sides, map_size, picture_head, scale_text, steps_text, style};
 
 use super::choice::Choice;
 use super::layers::TINT_COUNT;
@@ -93,18 +93,36 @@ fn push_frame(text: &mut String, view: &View) -> Result<(), AllocError>
     )
 }
 
-/// Puts a bar that is as long as so many grid steps behind a text.
+/// Puts a bar with its length behind a text.
 fn push_scale(text: &mut String, view: &View) -> Result<(), AllocError>
     ensures { OnOk result (string_bytes text.new ≡ string_bytes text.old ++ scale_text view.now) }
+{
+    push_bar(text, view)?;
+    push_steps(text, view.bar_steps)
+}
+
+/// Puts a bar that is as long as so many grid steps behind a text.
+fn push_bar(text: &mut String, view: &View) -> Result<(), AllocError>
+    ensures { OnOk result (string_bytes text.new ≡ string_bytes text.old ++ bar_text view.now) }
 {
     let top = u64::from(view.map_height) + 15;
     let pixels = view.bar_pixels;
     let behind = u64::from(pixels) + 8;
-    let steps = view.bar_steps;
-    writeln!(
+    write!(
         text,
-        "<g class='scale' transform='translate(10 {top})'><path d='M0 0v6h{pixels}v-6'/><text x='{behind}' y='8'>{steps} grid steps</text></g>"
+        "<g class='scale' transform='translate(10 {top})'><path d='M0 0v6h{pixels}v-6'/><text x='{behind}' y='8'>"
     )
+}
+
+/// Puts so many grid steps in words, and the end of the scale, behind a text.
+fn push_steps(text: &mut String, steps: u64) -> Result<(), AllocError>
+    ensures { OnOk result (string_bytes text.new ≡ string_bytes text.old ++ steps_text steps) }
+{
+    if steps == 1 {
+        writeln!(text, "1 grid step</text></g>")
+    } else {
+        writeln!(text, "{steps} grid steps</text></g>")
+    }
 }
 
 /// Puts the legend behind a text: a row for each layer that is shown, in drawing order.

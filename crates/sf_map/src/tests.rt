@@ -15,7 +15,7 @@ const HEAD: &str =
     "<svg xmlns='http://www.w3.org/2000/svg' width='200' height='260' viewBox='0 0 200 260'>\n<style>";
 
 const MAP: &str =
-    "</style>\n<rect class='background' width='100%' height='100%'/>\n<svg class='map' width='200' height='200' viewBox='0 0 2 2' data-corner='2 5'>\n<g transform='scale(1 -1)'>\n<g id='wells' class='layer tint-0'>\n<path id='wells-1' class='feature point' d='M1 -1h0'/>\n</g>\n</g>\n</svg>\n<rect class='frame' width='200' height='200'/>\n<g class='scale' transform='translate(10 215)'><path d='M0 0v6h100v-6'/><text x='108' y='8'>1 grid steps</text></g>\n<g class='entry tint-0' transform='translate(10 235)'><rect class='swatch' width='14' height='14'/><text x='22' y='12'>wells</text></g>\n</svg>\n";
+    "</style>\n<rect class='background' width='100%' height='100%'/>\n<svg class='map' width='200' height='200' viewBox='0 0 2 2' data-corner='2 5'>\n<g transform='scale(1 -1)'>\n<g id='wells' class='layer tint-0'>\n<path id='wells-1' class='feature point' d='M1 -1h0'/>\n</g>\n</g>\n</svg>\n<rect class='frame' width='200' height='200'/>\n<g class='scale' transform='translate(10 215)'><path d='M0 0v6h100v-6'/><text x='108' y='8'>1 grid step</text></g>\n<g class='entry tint-0' transform='translate(10 235)'><rect class='swatch' width='14' height='14'/><text x='22' y='12'>wells</text></g>\n</svg>\n";
 
 /// A layer of points with one feature, the point 3 4.
 fn wells(alloc: Global) -> Result<Layer, Fail>

@@ -1,4 +1,4 @@
-use Rattle.std.proofs.Common.{◌≡◌, ◌∙◌, ◌≤◌, ◌+◌, ℕ, List, Some, ap, arith, option_map, refl, slice_get, sym}
+use Rattle.std.proofs.Common.{◌≡◌, ◌∙◌, ◌+◌, ℕ, List, Some, ap, arith, option_map, refl, slice_get, sym}
 use Rattle.sf_layers.specs.Content.{LayerContent}
 use Rattle.sf_map.proofs.Views.{shown-all, shown-more, shown-same}
 use Rattle.sf_map.proofs.view.layers_shown.Goals as goal
