@@ -20,23 +20,32 @@ SPACE = 20
 SIDE = 10
 
 
+def square(x: int, y: int) -> str:
+    """A line that adds a square with its first corner there."""
+    return f"add a POLYGON (({x} {y}, {x + SIDE} {y}, {x + SIDE} {y + SIDE}, {x} {y + SIDE}, {x} {y}))"
+
+
 def squares(count: int) -> list[str]:
     """Lines that add so many squares, in rows round the origin."""
     row = math.isqrt(count)
     half = row * SPACE // 2
     found = []
     for k in range(row * row):
-        x, y = (k % row) * SPACE - half, (k // row) * SPACE - half
-        found.append(f"add a POLYGON (({x} {y}, {x + SIDE} {y}, {x + SIDE} {y + SIDE}, {x} {y + SIDE}, {x} {y}))")
+        found.append(square((k % row) * SPACE - half, (k // row) * SPACE - half))
     return found
 
 
-def town(count: int, spikes: bool) -> str:
-    """A polygon that has some four in five of so many squares inside."""
+def border(count: int, spikes: bool) -> list[tuple[int, int]]:
+    """The corners of a town that has some four in five of so many squares inside."""
     radius = math.isqrt(count) * SPACE / 2 * 1.02
     angles = [2 * math.pi * k / EDGES for k in range(EDGES)]
     radii = [radius * (0.99 if spikes and k % 2 else 1.0) for k in range(EDGES)]
-    corners = [(round(r * math.cos(a)), round(r * math.sin(a))) for r, a in zip(radii, angles, strict=True)]
+    return [(round(r * math.cos(a)), round(r * math.sin(a))) for r, a in zip(radii, angles)]
+
+
+def town(count: int, spikes: bool) -> str:
+    """The town as a polygon."""
+    corners = border(count, spikes)
     return "POLYGON ((" + ", ".join(f"{x} {y}" for x, y in [*corners, corners[0]]) + "))"
 
 
@@ -54,11 +63,11 @@ def street(count: int) -> str:
     return "LINESTRING (" + ", ".join(f"{x} {y}" for x, y in corners) + ")"
 
 
-def rows(what: str, before: list[str], asks: list[str], given: str) -> None:
+def rows(what: str, before: list[str], asks: list[str], given: str, times: int = 1) -> None:
     """Prints what each question costs for each feature."""
     count = len(before) - 1
     for asked in asks:
-        each = cost(before, [f"{asked} {given}"]) / count
+        each = cost(before, [f"{asked} {given}"] * times) / count / times
         print(f"{count} {what}: {asked} {each:.2f} us for each feature", flush=True)
 
 
@@ -73,6 +82,9 @@ def main() -> None:
         given = town(count, spikes)
         rows("squares" + where, of_squares, asks, given)
         rows("points" + where, of_points, asks[:3], given)
+        # Each of these has a vertex of the town inside.
+        on_border = ["layer add a polygon", *(square(x - 3, y - 4) for x, y in border(count, spikes)[::5])]
+        rows("squares on the border" + where, on_border, asks, given, 5)
     rows("squares, a street of 4096 points", of_squares, ["query a crosses", "query a intersects"], street(count))
 
 
