@@ -1,13 +1,17 @@
 //! What only the library tells.
+ghost use Rattle.std.specs.Prelude.{◌≡◌, IfOk};
+
 use super::answer::Answer;
 use super::boxes::{all_of, boxes_of, has, tree_of};
 use sf_commands::{Command, parse};
+use sf_geometry::Extent;
 use sf_history::Editor;
 use sf_layers::{Layer, Store};
 use sf_query::{Ask, query};
 use sf_refusals::Refusal;
-use sf_rtree::SpatialIndex;
+use sf_rtree::{RTree, SpatialIndex};
 use std::alloc::Global;
+use std::collections::BTreeMap;
 use std::io::Write;
 
 /// How many steps an editor has in its past, and how many in its future.
@@ -41,28 +45,24 @@ pub(crate) fn looked(alloc: Global, store: &Store, line: &str) -> Result<Answer,
     Ok(Answer::Found(found))
 }
 
-/// A tree of a layer's boxes, the box of a feature taken out of it while memory is scarce. The layer's own index has
-/// no part in it.
+/// A tree of a layer's boxes, those of some features taken out of it, the last one while memory is scarce; and one
+/// built anew of those left. The layer's own index has no part in it.
 pub(crate) fn removal<W: Write>(
     alloc: Global,
     store: &Store,
     words: &str,
     output: &mut W,
 ) -> Result<Answer, Refusal> {
-    let Some((name, number)) = words.split_once(' ') else {
-        return Err(Refusal::BadCommand);
-    };
-    let Ok(id) = number.parse::<u32>() else {
-        return Err(Refusal::BadCommand);
-    };
-    let boxes = boxes_of(alloc, layer_of(store, name)?)?;
-    let Some(extent) = boxes.get(&id) else {
-        return Err(Refusal::NoFeature);
-    };
+    let (name, ids) = words.split_once(' ').ok_or(Refusal::BadCommand)?;
+    let (earlier, last) = ids.rsplit_once(' ').unwrap_or(("", ids));
+    let last = id_of(last)?;
+    let mut boxes = boxes_of(alloc, layer_of(store, name)?)?;
     let tree = tree_of(alloc, &boxes)?;
+    let tree = without_all(alloc, tree, &mut boxes, earlier)?;
+    let extent = boxes.remove(&last).ok_or(Refusal::NoFeature)?;
     // Where these can't be written, the answer can't either.
     let _ = Answer::Scarce.write_to(output);
-    let left = tree.remove(alloc, id, *extent);
+    let left = tree.remove(alloc, last, extent);
     let _ = Answer::Ample.write_to(output);
     let left = match left {
         Ok(tree) => Some(all_of(alloc, &tree)?),
@@ -70,6 +70,32 @@ pub(crate) fn removal<W: Write>(
     };
     let anew = all_of(alloc, &tree_of(alloc, &boxes)?)?;
     Ok(Answer::Removed(left, anew))
+}
+
+/// A tree without the boxes of these identifiers, which are taken out of the map too.
+fn without_all(
+    alloc: Global,
+    tree: RTree,
+    boxes: &mut BTreeMap<u32, Extent>,
+    ids: &str,
+) -> Result<RTree, Refusal>
+    requires { tree ≡ boxes.old.entries }
+    ensures { IfOk result (λ left. left ≡ boxes.new.entries) }
+{
+    let mut left = tree;
+    for word in ids.split(' ').filter(|word| !word.is_empty()) {
+        let id = id_of(word)?;
+        let Some(extent) = boxes.remove(&id) else {
+            return Err(Refusal::NoFeature);
+        };
+        left = left.remove(alloc, id, extent)?;
+    }
+    Ok(left)
+}
+
+/// The identifier that a word is.
+fn id_of(word: &str) -> Result<u32, Refusal> {
+    word.parse::<u32>().map_err(|_| Refusal::BadCommand)
 }
 
 /// The layer of a name.
