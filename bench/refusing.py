@@ -13,6 +13,7 @@ rt run is needed once in crates/sf_refusing: it builds the program. tests/test_r
 
 from __future__ import annotations
 
+import itertools
 import re
 import sys
 import tempfile
@@ -20,7 +21,7 @@ from collections.abc import Iterator
 from dataclasses import dataclass
 from pathlib import Path
 
-from growths import REFUSED, REFUSING, Call, Ended, answers, library, met_runs, sent
+from growths import REFUSED, REFUSING, Call, Ended, answers, library, met_run, sent
 
 PROGRAM = Path(__file__).resolve().parent.parent / "crates" / "sf_refusing" / "out" / "sf_refusing"
 
@@ -58,9 +59,10 @@ NEAR = f"looked query w intersects {SQUARE}"
 APART = "looked query w disjoint POINT (2 2)"
 ROWS = "show w"
 DEPTHS = "depths"
+COLUMNS = "columns w"
 INDEXED = "indexed w"
 BOXES = "boxes w"
-LOOKS = [INDEXED, BOXES, DEPTHS, "columns w", ROWS, NEAR, APART]
+LOOKS = [INDEXED, BOXES, DEPTHS, COLUMNS, ROWS, NEAR, APART]
 INDEX_LOOKS = (INDEXED, BOXES)
 
 
@@ -169,7 +171,11 @@ class Wanted:
     @staticmethod
     def of(trial: Trial) -> Wanted:
         """The two runs of a trial."""
-        return Wanted(trial, trial.ample(trial.line), trial.ample(DEPTHS))
+        wanted = Wanted(trial, trial.ample(trial.line), trial.ample(DEPTHS))
+        given = [wanted.carried_out.answer, wanted.carried_out.behind[-1]]
+        if not all(is_accepted(answer) for answer in given):
+            raise AssertionError(f"{trial.line}, then {trial.follower}: {given}, though memory is ample")
+        return wanted
 
     def check(self, told: Told, has_rest: bool) -> str:
         """Refuses what a run with growths refused must not be told. How it ended: "refused", "lost" or "kept"."""
@@ -208,13 +214,20 @@ def tried(path: Path, trial: Trial, has_rest: bool) -> list[str]:
 
 
 def scarce_runs(path: Path, lines: list[str], has_rest: bool) -> Iterator[tuple[int, Ended]]:
-    """The runs of lines in which a growth within the marks, or with all behind it, is refused."""
-    return met_runs(path, Call(PROGRAM), sent(lines), "WITHIN", {"REST": "1"} if has_rest else {})
+    """The runs of lines in which a growth within the marks, or with all behind it, is refused: until none is met."""
+    others = {"REST": "1"} if has_rest else {}
+    # Within one line there are few, so no run is begun that may not be needed.
+    for number in itertools.count(1):
+        ended = met_run(path, Call(PROGRAM), sent(lines), {"WITHIN": str(number), **others})
+        if ended is None:
+            return
+        yield number, ended
 
 
 # Edits that move the boxes of the layer, and such as only name it.
 MOVING = [
     "add w POINT (2 3)",
+    "addhex w 010100000000000000000008400000000000001040",
     "delete w 8",
     "replace w 8 POINT (9 9)",
     "vertex move w 8 0 0 0 9 9",
@@ -267,10 +280,10 @@ def shrinking_trials() -> list[Trial]:
     return found
 
 
-def dropped_column() -> Trial:
-    """A column with a value of each feature dropped and taken back, and what was before it taken back too."""
+def dropping_trials() -> list[Trial]:
+    """A column with a value of each point dropped, taken back and dropped again."""
     values = tuple(f"set w {number} depth {-number}" for number in range(1, COUNT + 1))
-    return Trial((*LAYER, *values, "column drop w depth"), "undo", ("show w",), "undo")
+    return trials_of((*LAYER, *values), "column drop w depth", ("show w",), "undo")
 
 
 def removal_ends(path: Path, numbers: tuple[int, ...], has_rest: bool) -> list[str]:

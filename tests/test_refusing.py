@@ -8,12 +8,13 @@ from preloaded import Preloaded
 
 from growths import REFUSED
 from refusing import (
+    COLUMNS,
     MARKED,
     PROGRAM,
     ROWS,
     Trial,
     Wanted,
-    dropped_column,
+    dropping_trials,
     growing_trials,
     moving_trials,
     naming_trials,
@@ -42,12 +43,9 @@ class Refusing(Preloaded):
         self.check(moving_trials())
 
     def test_each_edit_that_names_a_layer_builds_its_index_anew(self) -> None:
-        trials = naming_trials()
-        self.check(trials)
-        for trial in trials:
+        for trial in naming_trials():
             with self.subTest(trial.follower):
-                self.assertIn("lost", tried(self.library, trial, True))
-                self.assertEqual(Wanted.of(trial).carried_out.behind[-1][0].split()[0], "ok")
+                self.check([trial])
 
     def test_an_index_that_grows_is_whole_or_given_up(self) -> None:
         self.check(growing_trials())
@@ -61,18 +59,25 @@ class Refusing(Preloaded):
             self.assertIn("gone", ends)
 
     def test_a_dropped_column_is_taken_back_whole_or_not_at_all(self) -> None:
-        trial = dropped_column()
-        wanted = Wanted.of(trial)
-        before = wanted.carried_out.looks[1].told[ROWS]
+        trials = dropping_trials()
         for has_rest in (False, True):
-            ends = tried(self.library, trial, has_rest)
-            self.assertEqual(set(ends), {"refused"})
-            for growth, ended in scarce_runs(self.library, trial.lines(trial.line), has_rest):
-                told = trial.told(ended)
-                with self.subTest(growth=growth, has_rest=has_rest):
-                    self.assertEqual(told.answer, REFUSED)
-                    self.assertEqual(told.looks[:2], wanted.left_out.looks[:2])
-                    self.assertEqual((told.behind[-1], told.looks[-1].told[ROWS]), (["ok"], before))
+            for trial in trials:
+                self.assertEqual(set(tried(self.library, trial, has_rest)), {"refused"})
+            self.check_taken_back(trials[1], has_rest)
+
+    def check_taken_back(self, trial: Trial, has_rest: bool) -> None:
+        """Refuses a layer without its values behind an undo that was refused and another that found memory."""
+        wanted = Wanted.of(trial)
+        dropped, whole = wanted.left_out.looks[0], wanted.carried_out.looks[1]
+        self.assertEqual((dropped.told[COLUMNS], whole.told[COLUMNS]), (["rows 0"], ["rows 1", "depth int"]))
+        self.assertIn("30 POINT (5 4) depth=-30", whole.told[ROWS])
+        for growth, ended in scarce_runs(self.library, trial.lines(trial.line), has_rest):
+            told = trial.told(ended)
+            with self.subTest(growth=growth, has_rest=has_rest):
+                self.assertEqual((told.answer, told.looks[1]), (REFUSED, dropped))
+                for line in (COLUMNS, ROWS):
+                    self.assertEqual(told.looks[2].told[line], dropped.told[line])
+                    self.assertEqual(told.looks[3].told[line], whole.told[line])
 
 
 if __name__ == "__main__":
