@@ -21,10 +21,10 @@ PICTURE = TOP / "crates" / "sfmap" / "out" / "sfmap"
 
 @unittest.skipIf(shutil.which("cc") is None, "cc is missing")
 class Preloaded(unittest.TestCase):
-    """Tests with a library of a C source, and with a file that was saved after some lines."""
+    """Tests with a library of a C source, and where there are lines with a file that was saved after them."""
 
     source: ClassVar[str]
-    stored: ClassVar[Sequence[str]]
+    stored: ClassVar[Sequence[str]] = ()
 
     folder: ClassVar[tempfile.TemporaryDirectory[str]]
     library: ClassVar[Path]
@@ -35,7 +35,8 @@ class Preloaded(unittest.TestCase):
         cls.folder = tempfile.TemporaryDirectory()
         cls.library = library(Path(cls.folder.name), cls.source)
         cls.file = Path(cls.folder.name) / "store.sfs"
-        cls.file.write_bytes(Call(STORE, saves=True).run(sent(list(cls.stored)), {}).saved)
+        if cls.stored:
+            cls.file.write_bytes(Call(STORE, saves=True).run(sent(list(cls.stored)), {}).saved)
 
     @classmethod
     def tearDownClass(cls) -> None:

@@ -1,0 +1,84 @@
+"""Each growth within a line refused in turn: indexes that are given up, and steps of the history, from within."""
+
+from __future__ import annotations
+
+import unittest
+
+from preloaded import Preloaded
+
+from growths import REFUSED
+from refusing import (
+    COLUMNS,
+    MARKED,
+    PROGRAM,
+    ROWS,
+    Trial,
+    Wanted,
+    dropping_trials,
+    growing_trials,
+    moving_trials,
+    naming_trials,
+    removal_ends,
+    removals,
+    scarce_runs,
+    shrinking_trials,
+    tried,
+)
+
+
+@unittest.skipUnless(PROGRAM.is_file(), "sf_refusing is not built")
+class Refusing(Preloaded):
+    """Runs in which growths within one line are refused, one or all from one on."""
+
+    source = MARKED
+
+    def check(self, trials: list[Trial]) -> None:
+        """Tries each; among them have to be lines that were refused, and accepted ones that lost the index."""
+        alone = [end for trial in trials for end in tried(self.library, trial, False)]
+        self.assertEqual(set(alone), {"refused", "kept"})
+        with_rest = [end for trial in trials for end in tried(self.library, trial, True)]
+        self.assertLessEqual({"refused", "lost"}, set(with_rest))
+
+    def test_an_index_given_up_is_built_anew_by_the_next_step(self) -> None:
+        self.check(moving_trials())
+
+    def test_each_edit_that_names_a_layer_builds_its_index_anew(self) -> None:
+        for trial in naming_trials():
+            with self.subTest(trial.follower):
+                self.check([trial])
+
+    def test_an_index_that_grows_is_whole_or_given_up(self) -> None:
+        self.check(growing_trials())
+
+    def test_an_index_that_shrinks_is_whole_or_given_up(self) -> None:
+        self.check(shrinking_trials())
+
+    def test_a_removal_leaves_a_whole_tree_or_none(self) -> None:
+        for has_rest in (False, True):
+            ends = [end for numbers in removals() for end in removal_ends(self.library, numbers, has_rest)]
+            self.assertIn("gone", ends)
+
+    def test_a_dropped_column_is_taken_back_whole_or_not_at_all(self) -> None:
+        trials = dropping_trials()
+        for has_rest in (False, True):
+            for trial in trials:
+                self.assertEqual(set(tried(self.library, trial, has_rest)), {"refused"})
+            self.check_taken_back(trials[1], has_rest)
+
+    def check_taken_back(self, trial: Trial, has_rest: bool) -> None:
+        """Refuses a layer without its values behind an undo that was refused and another that found memory."""
+        wanted = Wanted.of(trial)
+        dropped, whole = wanted.left_out.looks[0], wanted.carried_out.looks[1]
+        self.assertEqual((dropped.told[COLUMNS], whole.told[COLUMNS]), (["rows 0"], ["rows 1", "depth int"]))
+        self.assertIn("30 POINT (5 4) depth=-30", whole.told[ROWS])
+        for growth, ended in scarce_runs(self.library, trial.lines(trial.line), has_rest):
+            told = trial.told(ended)
+            with self.subTest(growth=growth, has_rest=has_rest):
+                self.assertEqual((told.answer, told.looks[1]), (REFUSED, dropped))
+                for line in (COLUMNS, ROWS):
+                    self.assertEqual(told.looks[2].told[line], dropped.told[line])
+                    self.assertEqual(told.looks[3].told[line], whole.told[line])
+
+
+if __name__ == "__main__":
+    unittest.main()
