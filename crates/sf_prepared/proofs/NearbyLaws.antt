@@ -42,7 +42,7 @@ use Rattle.sf_relate.proofs.TestedPlaces.{tests_tell_places}
 use Rattle.sf_relate.proofs.ToldLaws.{exterior-from}
 use Rattle.sf_rtree.specs.Indexes.{Boxes, ids_meeting}
 use Rattle.sf_prepared.specs.Boxes.{AreBoxesOf, AreEdgesOf, AreOnGrid, boxes_from, extent_of_edge}
-use Rattle.sf_prepared.specs.Nearby.{columns_over, edges_at, leaves, nearby}
+use Rattle.sf_prepared.specs.Nearby.{LeavingReachesBeyond, NearbyTellsPlaces, columns_over, edges_at, leaves, nearby}
 use Rattle.sf_prepared.proofs.AboveLaws.{above-meets, boxed-from, boxed-sides, found-inside, next-drop}
 use Rattle.sf_prepared.proofs.PlacedLaws.{boxed, has-rings}
 use Rattle.sf_prepared.proofs.TreeLaws.{few-pairs, has-ends, none-said}
@@ -282,3 +282,12 @@ nearby-enough a b found extent pairs edges v w s are grid is boxes those one =
       places = nearby-tell a b pairs v w s are grid;
       beyond = area-beyond a b pairs v w s are (ap (λ es. list_any (leaves (envelope_of a)) es) (sym near) ∙ ap (λ e. list_any (leaves e) edges) (sym same) ∙ one);
     })
+
+-- ---- as laws
+pub nearby-tells-places : NearbyTellsPlaces
+nearby-tells-places a area pairs beside =
+    nearby-tell a area pairs beside.valid beside.valid_area beside.areal beside.edges beside.on_grid
+
+pub leaving-reaches-beyond : LeavingReachesBeyond
+leaving-reaches-beyond a area pairs beside one =
+    area-beyond a area pairs beside.valid beside.valid_area beside.areal beside.edges one

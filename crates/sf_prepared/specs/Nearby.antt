@@ -1,11 +1,17 @@
 -- The edges that can be on a point of a box or above one: those in the columns over it, from its lower side up.
-use Rattle.std.specs.Prelude.{ℕ, ◌^◌, ◌-◌, pos, Bool, ◌||◌, not, List, take, drop}
-use Rattle.std.specs.List.{filter, flat_map}
+use Rattle.std.specs.Prelude.{◌≡◌, ℕ, ◌^◌, ◌-◌, pos, Bool, ◌||◌, not, IsTrue, List, map, take, drop}
+use Rattle.std.specs.List.{AllByRecursion, filter, flat_map, list_any}
 use Rattle.sf_grid.specs.Plane.{Coordinates, grid_point}
 use Rattle.sf_geometry.specs.declared.extent.Extent.{Extent}
-use Rattle.sf_geometry.specs.Envelope.{extents_meet}
+use Rattle.sf_geometry.specs.declared.geometry.Geometry.{Geometry}
+use Rattle.sf_geometry.specs.Envelope.{envelope_of, extents_meet}
+use Rattle.sf_geometry.specs.Parts.{edge_of}
+use Rattle.sf_rules.specs.Validity.{IsValid}
 use Rattle.sf_relate.specs.Contact.{in_extent}
-use Rattle.sf_prepared.specs.Boxes.{extent_of_edge}
+use Rattle.sf_relate.specs.Nearby.{ReachesBeyond, TellPlaces}
+use Rattle.sf_relate.specs.Places.{shape_of}
+use Rattle.sf_relate.specs.declared.shape.Shape.TheVariants.{Areas}
+use Rattle.sf_prepared.specs.Boxes.{AreEdgesOf, AreOnGrid, extent_of_edge}
 
 -- the box of these columns, as far up as a number of 32 bits goes
 abbrev pub columns_over : Extent → Extent
@@ -22,3 +28,23 @@ leaves extent pair = not (in_extent extent (grid_point pair.0)) || not (in_exten
 -- the edges of these numbers
 abbrev pub edges_at : List (Coordinates × Coordinates) → List ℕ → List (Coordinates × Coordinates)
 edges_at pairs ids = flat_map (λ id. take 1 (drop id pairs)) ids
+
+-- a valid geometry, and a valid area with its edges as pairs of grid points
+pub record IsBesideArea (a area : Geometry) (pairs : List (Coordinates × Coordinates)) : Type 0 where
+  pub valid : IsValid a
+  pub valid_area : IsValid area
+  pub areal : shape_of area ≡ Areas
+  pub edges : AreEdgesOf area pairs
+  pub on_grid : AllByRecursion AreOnGrid pairs
+
+-- those nearby tell the places of all points of the geometry
+abbrev pub NearbyTellsPlaces : Type 0
+NearbyTellsPlaces =
+    (a area : Geometry) (pairs : List (Coordinates × Coordinates)) → IsBesideArea a area pairs
+    → TellPlaces a area (map edge_of (nearby (envelope_of a) pairs))
+
+-- where one of them leaves the geometry's box, the area reaches beyond the geometry
+abbrev pub LeavingReachesBeyond : Type 0
+LeavingReachesBeyond =
+    (a area : Geometry) (pairs : List (Coordinates × Coordinates)) → IsBesideArea a area pairs
+    → IsTrue (list_any (leaves (envelope_of a)) (nearby (envelope_of a) pairs)) → ReachesBeyond a area

@@ -1,6 +1,7 @@
-//! Laws of a geometry whose edges have no point of another one's box, each the contract of a function that does
-//! nothing.
+//! Laws of a geometry whose edges have no point of another one's box, and of those that are near it, each the contract
+//! of a function that does nothing.
 
+ghost use Rattle.sf_prepared.specs.Nearby.{LeavingReachesBeyond, NearbyTellsPlaces};
 ghost use Rattle.sf_prepared.specs.Places.{ApartByPoint, ApartFromLines, WithinByPoint};
 
 /// A valid geometry in a box that no edge of an area meets lies in the area's interior where a point of it does,
@@ -17,4 +18,16 @@ pub fn apart_by_point()
 /// It shares no point with lines that have no point of the box.
 pub fn apart_from_lines()
     ensures { ApartFromLines }
+{}
+
+/// The edges of an area in the columns over a valid geometry's box, from its lower side up, tell of each point of
+/// that geometry its place in the area.
+pub fn nearby_tells_places()
+    ensures { NearbyTellsPlaces }
+{}
+
+/// Where an end of one of these is outside of the box, the area has a part of its interior with area and a part of
+/// its boundary with length in the geometry's exterior.
+pub fn leaving_reaches_beyond()
+    ensures { LeavingReachesBeyond }
 {}
