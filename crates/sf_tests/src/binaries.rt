@@ -1,5 +1,5 @@
 //! Sessions with well-known binary: `addhex` and `hex`. The words of coordinates are IEEE 754 binary64.
-use super::support::{ByteByByte, answers};
+use super::support::other_session;
 use std::test::Fail;
 
 const SESSIONS: [(&str, &str); 8] = [
@@ -46,13 +46,6 @@ const SESSIONS: [(&str, &str); 8] = [
 
 #[test]
 fn binaries_in_one_piece_and_byte_by_byte(rt: HostRuntime) -> Result<(), Fail> {
-    for (input, output) in SESSIONS {
-        let mut whole = input.as_bytes();
-        assert_eq!(rt; answers(rt.alloc(), &mut whole)?.as_str(), output);
-        let mut bytes = ByteByByte {
-            bytes: input.as_bytes(),
-        };
-        assert_eq!(rt; answers(rt.alloc(), &mut bytes)?.as_str(), output);
-    }
+    assert_eq!(rt; other_session(rt.alloc(), &SESSIONS)?, None);
     Ok(())
 }

@@ -19,27 +19,33 @@ const READ: [(&str, u8, &str, u32); 11] = [
     ("@255  box w 3", 255, "box", 3),
 ];
 
-/// What a line is read as, or None where it is refused or is another command.
-fn read(alloc: Global, line: &str) -> Option<(u8, &'static str, u32)> {
-    let (editor, command) = parse(alloc, line).ok()?;
-    let (verb, id) = match command {
-        Command::Undo => ("undo", 0),
-        Command::Show(_) => ("show", 0),
-        Command::Hex(_, id) => ("hex", id),
-        Command::Simple(_, id) => ("simple", id),
-        Command::Extent(_, id) => ("box", id),
-        Command::Relate(_, id, _) => ("relate", id),
-        Command::Match(_, _, _) => ("match", 0),
-        Command::Query(_, _, _) => ("query", 0),
-        _ => return None,
-    };
-    Some((editor, verb, id))
+/// The verb of a command and the identifier of its feature or 0, or None where it is another command.
+fn verb_of(command: &Command) -> Option<(&'static str, u32)> {
+    match command {
+        Command::Undo => Some(("undo", 0)),
+        Command::Show(_) => Some(("show", 0)),
+        Command::Hex(_, id) => Some(("hex", *id)),
+        Command::Simple(_, id) => Some(("simple", *id)),
+        Command::Extent(_, id) => Some(("box", *id)),
+        Command::Relate(_, id, _) => Some(("relate", *id)),
+        Command::Match(_, _, _) => Some(("match", 0)),
+        Command::Query(_, _, _) => Some(("query", 0)),
+        _ => None,
+    }
+}
+
+/// What a line is read as, or None where it is refused.
+fn read(alloc: Global, line: &str) -> Option<(u8, Option<(&'static str, u32)>)> {
+    match parse(alloc, line) {
+        Ok((editor, command)) => Some((editor, verb_of(&command))),
+        Err(_) => None,
+    }
 }
 
 #[test]
 fn parse_reads_commands(rt: HostRuntime) {
     for (line, editor, verb, id) in READ {
-        assert_eq!(rt; read(rt.alloc(), line), Some((editor, verb, id)));
+        assert_eq!(rt; read(rt.alloc(), line), Some((editor, Some((verb, id)))));
     }
 }
 

@@ -1,5 +1,5 @@
 //! Sessions that edit: layers, columns, features and vertices, each taken back and done again.
-use super::support::{ByteByByte, answers, answers_of};
+use super::support::{answers_of, other_session};
 use sf_console::Editor;
 use std::alloc::Global;
 use std::test::Fail;
@@ -84,14 +84,7 @@ const SESSIONS: [(&str, &str); 15] = [
 
 #[test]
 fn edits_in_one_piece_and_byte_by_byte(rt: HostRuntime) -> Result<(), Fail> {
-    for (input, output) in SESSIONS {
-        let mut whole = input.as_bytes();
-        assert_eq!(rt; answers(rt.alloc(), &mut whole)?.as_str(), output);
-        let mut bytes = ByteByByte {
-            bytes: input.as_bytes(),
-        };
-        assert_eq!(rt; answers(rt.alloc(), &mut bytes)?.as_str(), output);
-    }
+    assert_eq!(rt; other_session(rt.alloc(), &SESSIONS)?, None);
     Ok(())
 }
 

@@ -1,6 +1,7 @@
 //! Several editors of one store: their lines, and whose steps they undo and redo.
-use super::support::answers;
+use super::support::other_answer;
 use sf_console::{Command, Editor, Refusal, parse};
+use sf_edits::Edit;
 use std::alloc::Global;
 use std::test::Fail;
 
@@ -29,14 +30,8 @@ const LINES: [(&str, &str); 20] = [
 
 #[test]
 fn several_editors(rt: HostRuntime) -> Result<(), Fail> {
-    let mut input = String::new(rt.alloc());
-    let mut output = String::new(rt.alloc());
-    for (line, answer) in LINES {
-        writeln!(input, "{line}")?;
-        writeln!(output, "{answer}")?;
-    }
-    let mut bytes = input.as_bytes();
-    assert_eq!(rt; answers(rt.alloc(), &mut bytes)?.as_str(), output.as_str());
+    let mut editor = Editor::new(rt.alloc());
+    assert_eq!(rt; other_answer(rt.alloc(), &mut editor, &LINES)?, None);
     Ok(())
 }
 
@@ -60,52 +55,53 @@ const WORDS: [(&str, &str); 14] = [
 
 #[test]
 fn words_of_editors(rt: HostRuntime) -> Result<(), Fail> {
-    let mut input = String::new(rt.alloc());
-    let mut output = String::new(rt.alloc());
-    for (line, answer) in WORDS {
-        writeln!(input, "{line}")?;
-        writeln!(output, "{answer}")?;
-    }
-    let mut bytes = input.as_bytes();
-    assert_eq!(rt; answers(rt.alloc(), &mut bytes)?.as_str(), output.as_str());
+    let mut editor = Editor::new(rt.alloc());
+    assert_eq!(rt; other_answer(rt.alloc(), &mut editor, &WORDS)?, None);
     Ok(())
 }
 
-/// What an editor's line asks for, carried out. The refusal of an undo or a redo where it was refused.
-fn asked(alloc: Global, editor: &mut Editor, line: &str) -> Result<Option<Refusal>, Fail> {
-    let outcome = match parse(alloc, line) {
-        Ok((number, Command::Edit(edit))) => match editor.edit_as(alloc, number, edit) {
-            Ok(_) => Ok(()),
-            Err((_, refusal)) => Err(refusal),
-        },
-        Ok((number, Command::Undo)) => editor.undo_as(alloc, number),
-        Ok((number, Command::Redo)) => editor.redo_as(alloc, number),
-        _ => return Err(Fail::from("no command of the history")),
-    };
-    Ok(outcome.err())
+/// Carries an edit out. The refusal where it was refused.
+fn edited(alloc: Global, editor: &mut Editor, number: u8, edit: Edit) -> Option<Refusal> {
+    match editor.edit_as(alloc, number, edit) {
+        Ok(_) => None,
+        Err((_, refusal)) => Some(refusal),
+    }
 }
 
+/// What an editor's line asks for, carried out. The refusal where it was refused.
+fn asked(alloc: Global, editor: &mut Editor, line: &str) -> Option<Refusal> {
+    match parse(alloc, line) {
+        Ok((number, Command::Edit(edit))) => edited(alloc, editor, number, edit),
+        Ok((number, Command::Undo)) => editor.undo_as(alloc, number).err(),
+        Ok((number, Command::Redo)) => editor.redo_as(alloc, number).err(),
+        Ok(_) => Some(Refusal::BadCommand),
+        Err(refusal) => Some(refusal),
+    }
+}
+
+/// Lines of several editors, and the refusal of each.
+const OWNERS: [(&str, Option<Refusal>); 12] = [
+    ("@1 layer add w point", None),
+    ("@1 add w POINT (1 1)", None),
+    ("@2 add w POINT (2 2)", None),
+    ("@1 undo", Some(Refusal::NotYours(2))),
+    ("@2 undo", None),
+    ("@2 undo", Some(Refusal::NotYours(1))),
+    ("@1 redo", Some(Refusal::NotYours(2))),
+    ("@1 undo", None),
+    ("@2 redo", Some(Refusal::NotYours(1))),
+    ("@1 redo", None),
+    ("@2 redo", None),
+    ("undo", Some(Refusal::NotYours(2))),
+];
+
 #[test]
-fn refusals_name_the_owner(rt: HostRuntime) -> Result<(), Fail> {
+fn refusals_name_the_owner(rt: HostRuntime) {
     let mut editor = Editor::new(rt.alloc());
-    for (line, refusal) in [
-        ("@1 layer add w point", None),
-        ("@1 add w POINT (1 1)", None),
-        ("@2 add w POINT (2 2)", None),
-        ("@1 undo", Some(Refusal::NotYours(2))),
-        ("@2 undo", None),
-        ("@2 undo", Some(Refusal::NotYours(1))),
-        ("@1 redo", Some(Refusal::NotYours(2))),
-        ("@1 undo", None),
-        ("@2 redo", Some(Refusal::NotYours(1))),
-        ("@1 redo", None),
-        ("@2 redo", None),
-        ("undo", Some(Refusal::NotYours(2))),
-    ] {
-        assert_eq!(rt; asked(rt.alloc(), &mut editor, line)?, refusal);
+    for (line, refusal) in OWNERS {
+        assert_eq!(rt; asked(rt.alloc(), &mut editor, line), refusal);
     }
     assert_eq!(rt; editor.depths(), (3, 0));
     assert_eq!(rt; editor.undo(rt.alloc()), Err(Refusal::NotYours(2)));
     assert_eq!(rt; editor.redo(rt.alloc()), Err(Refusal::NothingToRedo));
-    Ok(())
 }

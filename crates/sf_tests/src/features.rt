@@ -1,5 +1,5 @@
 //! Sessions that add features and ask about one: `box`, `simple` and `hex`.
-use super::support::{ByteByByte, answers};
+use super::support::other_session;
 use std::test::Fail;
 
 const SESSIONS: [(&str, &str); 11] = [
@@ -61,13 +61,6 @@ const SESSIONS: [(&str, &str); 11] = [
 
 #[test]
 fn features_in_one_piece_and_byte_by_byte(rt: HostRuntime) -> Result<(), Fail> {
-    for (input, output) in SESSIONS {
-        let mut whole = input.as_bytes();
-        assert_eq!(rt; answers(rt.alloc(), &mut whole)?.as_str(), output);
-        let mut bytes = ByteByByte {
-            bytes: input.as_bytes(),
-        };
-        assert_eq!(rt; answers(rt.alloc(), &mut bytes)?.as_str(), output);
-    }
+    assert_eq!(rt; other_session(rt.alloc(), &SESSIONS)?, None);
     Ok(())
 }

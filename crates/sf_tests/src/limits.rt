@@ -2,7 +2,7 @@
 ghost use Rattle.std.specs.Prelude.{◌≡◌};
 ghost use Rattle.sf_layers.specs.Content.{empty_layer, with_next_column, with_next_id};
 
-use super::support::{answers, answers_of};
+use super::support::{answers, other_answer};
 use sf_console::Editor;
 use sf_layers::{Layer, LayerKind, Store, Text};
 use std::alloc::{AllocError, Global};
@@ -76,28 +76,28 @@ fn store_near_its_end(alloc: Global) -> Option<Store> {
 /// Lines to an editor of that store, and the answer to each.
 const LAST_NUMBERS: [(&str, &str); 20] = [
     // The last identifier and the last column number are given, and there is no further one.
-    ("add w POINT (1 1)", "ok 4294967294\n"),
-    ("add w POINT (2 2)", "refused 27 IdsExhausted\n"),
-    ("column add w a int", "ok\n"),
-    ("column add w b int", "refused 28 ColumnsExhausted\n"),
-    ("set w 4294967294 a 1", "ok\n"),
-    ("show w", "rows 1\n4294967294 POINT (1 1) a=1\n"),
+    ("add w POINT (1 1)", "ok 4294967294"),
+    ("add w POINT (2 2)", "refused 27 IdsExhausted"),
+    ("column add w a int", "ok"),
+    ("column add w b int", "refused 28 ColumnsExhausted"),
+    ("set w 4294967294 a 1", "ok"),
+    ("show w", "rows 1\n4294967294 POINT (1 1) a=1"),
     // What is deleted or dropped leaves no room.
-    ("delete w 4294967294", "ok\n"),
-    ("add w POINT (3 3)", "refused 27 IdsExhausted\n"),
-    ("column drop w a", "ok\n"),
-    ("column add w b int", "refused 28 ColumnsExhausted\n"),
+    ("delete w 4294967294", "ok"),
+    ("add w POINT (3 3)", "refused 27 IdsExhausted"),
+    ("column drop w a", "ok"),
+    ("column add w b int", "refused 28 ColumnsExhausted"),
     // Additions that are taken back do.
-    ("undo", "ok\n"),
-    ("undo", "ok\n"),
-    ("undo", "ok\n"),
-    ("undo", "ok\n"),
-    ("undo", "ok\n"),
-    ("undo", "refused 29 NothingToUndo\n"),
-    ("add w POINT (4 4)", "ok 4294967294\n"),
-    ("column add w b int", "ok\n"),
-    ("show w", "rows 1\n4294967294 POINT (4 4)\n"),
-    ("columns w", "rows 1\nb int\n"),
+    ("undo", "ok"),
+    ("undo", "ok"),
+    ("undo", "ok"),
+    ("undo", "ok"),
+    ("undo", "ok"),
+    ("undo", "refused 29 NothingToUndo"),
+    ("add w POINT (4 4)", "ok 4294967294"),
+    ("column add w b int", "ok"),
+    ("show w", "rows 1\n4294967294 POINT (4 4)"),
+    ("columns w", "rows 1\nb int"),
 ];
 
 #[test]
@@ -106,11 +106,7 @@ fn last_identifier_and_last_column(rt: HostRuntime) -> Result<(), Fail> {
         return Err(Fail::from("no memory"));
     };
     let mut editor = Editor::from_store(rt.alloc(), store);
-    for (line, answer) in LAST_NUMBERS {
-        let mut bytes = line.as_bytes();
-        let written = answers_of(rt.alloc(), &mut editor, &mut bytes)?;
-        assert_eq!(rt; written.as_str(), answer, "to {line}");
-    }
+    assert_eq!(rt; other_answer(rt.alloc(), &mut editor, &LAST_NUMBERS)?, None);
     Ok(())
 }
 

@@ -1,5 +1,6 @@
 //! Worked sessions: what is read, and the answers to it.
-use super::support::{ByteByByte, answers};
+use super::support::are_answers;
+use std::alloc::Global;
 use std::test::Fail;
 
 const SESSIONS: [(&[u8], &str); 36] = [
@@ -121,13 +122,18 @@ const SESSIONS: [(&[u8], &str); 36] = [
     ),
 ];
 
+/// The place of the first session to which a new editor answers otherwise.
+fn other_bytes(alloc: Global, sessions: &[(&[u8], &str)]) -> Result<Option<usize>, Fail> {
+    for (place, (input, output)) in sessions.iter().enumerate() {
+        if !are_answers(alloc, input, output)? {
+            return Ok(Some(place));
+        }
+    }
+    Ok(None)
+}
+
 #[test]
 fn sessions_in_one_piece_and_byte_by_byte(rt: HostRuntime) -> Result<(), Fail> {
-    for (input, output) in SESSIONS {
-        let mut whole = input;
-        assert_eq!(rt; answers(rt.alloc(), &mut whole)?.as_str(), output);
-        let mut bytes = ByteByByte { bytes: input };
-        assert_eq!(rt; answers(rt.alloc(), &mut bytes)?.as_str(), output);
-    }
+    assert_eq!(rt; other_bytes(rt.alloc(), &SESSIONS)?, None);
     Ok(())
 }

@@ -1,5 +1,5 @@
 //! Long lines, long sessions and long answers.
-use super::support::{ByteByByte, answers};
+use super::support::{ByteByByte, answers, are_answers};
 use std::alloc::{AllocError, Global};
 use std::test::Fail;
 
@@ -20,39 +20,42 @@ const LETTERS: [(usize, &str, &str); 5] = [
     ),
 ];
 
+/// So many letters, and what stands behind them.
+fn letters_before(alloc: Global, letters: usize, ending: &str) -> Result<String, AllocError> {
+    let mut input = "a".repeat(alloc, letters)?;
+    input.push_str(ending)?;
+    Ok(input)
+}
+
 #[test]
 fn lines_of_letters(rt: HostRuntime) -> Result<(), Fail> {
     for (letters, ending, output) in LETTERS {
-        let mut input = "a".repeat(rt.alloc(), letters)?;
-        input.push_str(ending)?;
-        let mut whole = input.as_bytes();
-        assert_eq!(rt;
-            answers(rt.alloc(), &mut whole)?.as_str(),
-            output,
-            "of {letters}"
-        );
-        let mut bytes = ByteByByte {
-            bytes: input.as_bytes(),
-        };
-        assert_eq!(rt;
-            answers(rt.alloc(), &mut bytes)?.as_str(),
-            output,
+        let input = letters_before(rt.alloc(), letters, ending)?;
+        assert!(rt;
+            are_answers(rt.alloc(), input.as_bytes(), output)?,
             "of {letters}"
         );
     }
     Ok(())
 }
 
-// The line has 131,072 bytes.
+/// A session with the longest line, of 131,072 bytes, that adds a point.
+fn longest_input(alloc: Global) -> Result<String, AllocError> {
+    let mut input = String::from_str(alloc, "layer add w any\nadd w POINT (1 ")?;
+    input.push_str("0".repeat(alloc, 131_055)?.as_str())?;
+    input.push_str("2)\nshow w\n")?;
+    Ok(input)
+}
+
 #[test]
 fn longest_addition(rt: HostRuntime) -> Result<(), Fail> {
-    let mut input = String::from_str(rt.alloc(), "layer add w any\nadd w POINT (1 ")?;
-    input.push_str("0".repeat(rt.alloc(), 131_055)?.as_str())?;
-    input.push_str("2)\nshow w\n")?;
-    let mut whole = input.as_bytes();
-    assert_eq!(rt;
-        answers(rt.alloc(), &mut whole)?.as_str(),
-        "ok\nok 1\nrows 1\n1 POINT (1 2)\n"
+    let input = longest_input(rt.alloc())?;
+    assert!(rt;
+        are_answers(
+            rt.alloc(),
+            input.as_bytes(),
+            "ok\nok 1\nrows 1\n1 POINT (1 2)\n"
+        )?
     );
     Ok(())
 }
@@ -65,17 +68,24 @@ fn multi_point_line(alloc: Global, more: usize) -> Result<String, AllocError> {
     Ok(line)
 }
 
+/// A session with as many points as a geometry has at most, and with more.
+fn most_points_input(alloc: Global) -> Result<String, AllocError> {
+    let mut input = String::from_str(alloc, "layer add w any\n")?;
+    input.push_str(multi_point_line(alloc, 4_095)?.as_str())?;
+    input.push_str(multi_point_line(alloc, 4_096)?.as_str())?;
+    input.push_str("vertex insert w 1 0 0 0 7 7\nbox w 1\nsimple w 1\n")?;
+    Ok(input)
+}
+
 #[test]
 fn most_points(rt: HostRuntime) -> Result<(), Fail> {
-    let mut input = String::from_str(rt.alloc(), "layer add w any\n")?;
-    for more in [4_095, 4_096] {
-        input.push_str(multi_point_line(rt.alloc(), more)?.as_str())?;
-    }
-    input.push_str("vertex insert w 1 0 0 0 7 7\nbox w 1\nsimple w 1\n")?;
-    let mut whole = input.as_bytes();
-    assert_eq!(rt;
-        answers(rt.alloc(), &mut whole)?.as_str(),
-        "ok\nok 1\nrefused 9 TooManyVertices\nrefused 9 TooManyVertices\n1 2 1 2\nfalse\n"
+    let input = most_points_input(rt.alloc())?;
+    assert!(rt;
+        are_answers(
+            rt.alloc(),
+            input.as_bytes(),
+            "ok\nok 1\nrefused 9 TooManyVertices\nrefused 9 TooManyVertices\n1 2 1 2\nfalse\n"
+        )?
     );
     Ok(())
 }

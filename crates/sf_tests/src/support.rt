@@ -24,6 +24,46 @@ pub fn answers_of<R: Read>(
     Ok(String::from_utf8(written)?)
 }
 
+/// Whether a new editor gives these answers to an input, in one piece and a byte at a time.
+pub fn are_answers(alloc: Global, input: &[u8], output: &str) -> Result<bool, Fail> {
+    let mut whole = input;
+    let in_one_piece = answers(alloc, &mut whole)?;
+    let mut bytes = ByteByByte { bytes: input };
+    let byte_by_byte = answers(alloc, &mut bytes)?;
+    Ok(in_one_piece.as_str() == output && byte_by_byte.as_str() == output)
+}
+
+/// The place of the first session, an input and its answers, to which a new editor answers otherwise.
+pub fn other_session(alloc: Global, sessions: &[(&str, &str)]) -> Result<Option<usize>, Fail> {
+    for (place, (input, output)) in sessions.iter().enumerate() {
+        if !are_answers(alloc, input.as_bytes(), output)? {
+            return Ok(Some(place));
+        }
+    }
+    Ok(None)
+}
+
+/// Whether an editor gives an answer to a line. The answer stands without its last line feed.
+fn is_answer(alloc: Global, editor: &mut Editor, line: &str, answer: &str) -> Result<bool, Fail> {
+    let mut bytes = line.as_bytes();
+    let written = answers_of(alloc, editor, &mut bytes)?;
+    Ok(written.as_str().strip_suffix('\n') == Some(answer))
+}
+
+/// The place of the first line to which an editor gives another answer than the one beside it.
+pub fn other_answer(
+    alloc: Global,
+    editor: &mut Editor,
+    lines: &[(&str, &str)],
+) -> Result<Option<usize>, Fail> {
+    for (place, (line, answer)) in lines.iter().enumerate() {
+        if !is_answer(alloc, editor, line, answer)? {
+            return Ok(Some(place));
+        }
+    }
+    Ok(None)
+}
+
 /// Puts as many bytes into a buffer as it takes, and gives their number.
 pub fn put(buf: &mut [u8], bytes: &[u8]) -> usize
     ensures in_buf { result ≤ length buf.old }
