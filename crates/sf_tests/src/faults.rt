@@ -1,6 +1,8 @@
-//! Readers and writers that fail at each of their calls, under `serve`, `load` and `save`; readers that give
-//! little at a time, and writers that take little.
-use super::support::put;
+//! Readers and writers that fail at each of their calls, for good or once, under `serve`, `load` and `save`;
+//! readers that give little at a time, and writers that take little.
+ghost use Rattle.std.specs.Prelude.{◌≡◌, IfOk};
+
+use super::support::{other_answer, put};
 use sf_console::{Editor, ServeFault, serve};
 use sf_file::{LoadFault, SaveFault, load, save};
 use sf_layers::Store;
@@ -33,97 +35,196 @@ const FILE: [u8; 63] = [
 /// How many bytes are given or taken at a time.
 const STEPS: [usize; 3] = [1, 7, 100_000];
 
-/// A reader that gives at most `step` bytes at a time, and fails once it was called `calls` times.
+/// What a reader or a writer does at the call that goes wrong.
+#[derive(Clone, Copy, PartialEq, Eq, Debug)]
+enum Fault {
+    /// It fails.
+    Error,
+    /// It fails as one that was interrupted.
+    Interrupted,
+    /// It takes no byte, of a writer.
+    Nothing,
+}
+
+/// What goes wrong with a reader, and whether its later calls succeed again.
+const READER_FAULTS: [(Fault, bool); 3] = [
+    (Fault::Error, false),
+    (Fault::Error, true),
+    (Fault::Interrupted, true),
+];
+
+/// What goes wrong with a writer, and whether its later calls succeed again.
+const WRITER_FAULTS: [(Fault, bool); 5] = [
+    (Fault::Error, false),
+    (Fault::Error, true),
+    (Fault::Interrupted, true),
+    (Fault::Nothing, false),
+    (Fault::Nothing, true),
+];
+
+/// What a call that goes wrong gives.
+fn failed(fault: Fault) -> io::Result<usize>
+    ensures { IfOk result (λ count. count ≡ 0) }
+{
+    match fault {
+        Fault::Error => Err(io::Error::from(ErrorKind::Other)),
+        Fault::Interrupted => Err(io::Error::from(ErrorKind::Interrupted)),
+        Fault::Nothing => Ok(0),
+    }
+}
+
+/// When calls go wrong: once there were `calls` of them, from then on or, where `heals`, once. Whether one
+/// did, and whether there was a call behind it.
+#[derive(Clone, Copy)]
+struct Trouble {
+    calls: usize,
+    fault: Fault,
+    heals: bool,
+    has_failed: bool,
+    went_on: bool,
+}
+
+impl Trouble {
+    fn after(calls: usize, fault: Fault, heals: bool) -> Trouble {
+        Trouble {
+            calls,
+            fault,
+            heals,
+            has_failed: false,
+            went_on: false,
+        }
+    }
+
+    fn never() -> Trouble {
+        Trouble::after(usize::MAX, Fault::Error, false)
+    }
+
+    /// Counts a call. Whether it goes wrong.
+    fn strikes(&mut self) -> bool {
+        if self.has_failed {
+            self.went_on = true;
+            return !self.heals;
+        }
+        if self.calls == 0 {
+            self.has_failed = true;
+            return true;
+        }
+        self.calls -= 1;
+        false
+    }
+}
+
+/// A reader that gives at most `step` bytes at a time, and goes wrong.
 #[derive(Drop)]
 struct FailingReader<'a> {
     bytes: &'a [u8],
     step: usize,
-    calls: usize,
-    has_failed: bool,
+    trouble: Trouble,
 }
 
 impl<'a> FailingReader<'a> {
-    fn new(bytes: &'a [u8], step: usize, calls: usize) -> FailingReader<'a> {
+    fn new(bytes: &'a [u8], step: usize, trouble: Trouble) -> FailingReader<'a> {
         FailingReader {
             bytes,
             step,
-            calls,
-            has_failed: false,
+            trouble,
         }
     }
 }
 
 impl Read for FailingReader<'_> {
     fn read(&mut self, buf: &mut [u8]) -> io::Result<usize> {
-        if self.calls == 0 {
-            self.has_failed = true;
-            return Err(io::Error::from(ErrorKind::Other));
+        if self.trouble.strikes() {
+            return failed(self.trouble.fault);
         }
-        self.calls -= 1;
         let count = put(buf, &self.bytes[..self.bytes.len().min(self.step)]);
         self.bytes = self.bytes.split_at(count).1;
         Ok(count)
     }
 }
 
-/// A writer that takes at most `step` bytes at a time. Once it was called `calls` times it fails, or takes no
-/// byte where it is lazy; once it was flushed `flushes` times, flushing fails.
+/// A writer that takes at most `step` bytes at a time, and goes wrong at a write or at a flush. A call behind
+/// one that went wrong is noted, be it a write or a flush.
 #[derive(Drop)]
 struct FailingWriter {
     taken: Vec<u8>,
     flushed: usize,
     step: usize,
-    calls: usize,
-    is_lazy: bool,
-    flushes: usize,
-    has_failed: bool,
+    writes: Trouble,
+    flushes: Trouble,
+    went_on: bool,
 }
 
 impl FailingWriter {
-    fn new(
-        alloc: Global,
-        step: usize,
-        calls: usize,
-        is_lazy: bool,
-        flushes: usize,
-    ) -> FailingWriter {
+    fn new(alloc: Global, step: usize, writes: Trouble, flushes: Trouble) -> FailingWriter {
         FailingWriter {
             taken: Vec::new(alloc),
             flushed: 0,
             step,
-            calls,
-            is_lazy,
+            writes,
             flushes,
-            has_failed: false,
+            went_on: false,
         }
+    }
+
+    fn has_failed(&self) -> bool {
+        self.writes.has_failed || self.flushes.has_failed
     }
 }
 
 impl Write for FailingWriter {
     fn write(&mut self, buf: &[u8]) -> io::Result<usize> {
-        if self.calls == 0 {
-            self.has_failed = true;
-            return if self.is_lazy {
-                Ok(0)
-            } else {
-                Err(io::Error::from(ErrorKind::Other))
-            };
+        self.went_on |= self.has_failed();
+        if self.writes.strikes() {
+            return failed(self.writes.fault);
         }
-        self.calls -= 1;
         let count = buf.len().min(self.step);
         self.taken.extend_from_slice(&buf[..count])?;
         Ok(count)
     }
 
     fn flush(&mut self) -> io::Result<()> {
-        if self.flushes == 0 {
-            self.has_failed = true;
+        self.went_on |= self.has_failed();
+        if self.flushes.strikes() {
             return Err(io::Error::from(ErrorKind::Other));
         }
-        self.flushes -= 1;
         self.flushed = self.taken.len();
         Ok(())
     }
+}
+
+/// How a run went: how it ended, how many bytes were read, how many bytes of what is wanted were written (none
+/// where they are others), how many of them were flushed, how many edits can be undone and redone, whether
+/// a call went wrong, and whether one followed it.
+#[derive(Clone, Copy, Debug, PartialEq, Eq)]
+struct Outcome {
+    end: &'static str,
+    read: usize,
+    front: Option<usize>,
+    flushed: usize,
+    depths: (usize, usize),
+    has_failed: bool,
+    went_on: bool,
+}
+
+/// How many bytes were written where they are a front of those that are wanted.
+fn front_of(written: &[u8], wanted: &[u8]) -> Option<usize> {
+    if wanted.starts_with(written) {
+        Some(written.len())
+    } else {
+        None
+    }
+}
+
+/// How many bytes a reader gave that had those of the input.
+fn read_of(left: &[u8]) -> usize {
+    INPUT.len().wrapping_sub(left.len())
+}
+
+/// Whether a reader of so many bytes, that gives `step` of them at a time, is read more than `calls` times; the
+/// read that finds its end counts.
+fn is_reached(len: usize, step: usize, calls: usize) -> bool {
+    calls.saturating_sub(1).saturating_mul(step) < len
 }
 
 /// How serving ended, by name.
@@ -175,45 +276,158 @@ fn answered(read: usize) -> (usize, (usize, usize)) {
     (answers, after)
 }
 
-/// Of the answers of which so many bytes were written: how many bytes those have that are whole, and how
-/// many edits can be undone and redone after the line that was being answered.
-fn being_answered(written: usize) -> (usize, (usize, usize)) {
+/// Of the answers of which so many bytes were written: how many bytes those have that are whole, how many
+/// bytes have the lines up to the one that was being answered, and how many edits can be undone and redone
+/// after it.
+fn being_answered(written: usize) -> (usize, usize, (usize, usize)) {
     let mut left = written;
+    let mut read: usize = 0;
     let mut after = (0, 0);
-    for (_, answer, depths) in LINES {
+    for (line, answer, depths) in LINES {
         after = depths;
+        read = read.wrapping_add(line.len());
         if left < answer.len() {
             break;
         }
         left -= answer.len();
     }
-    (written.wrapping_sub(left), after)
+    (written.wrapping_sub(left), read, after)
 }
 
-// Just the lines are answered that came whole before the reader failed.
+/// How the session goes with a reader.
+fn served_from(alloc: Global, step: usize, trouble: Trouble) -> Outcome {
+    let mut editor = Editor::new(alloc);
+    let mut reader = FailingReader::new(INPUT.as_bytes(), step, trouble);
+    let mut writer = FailingWriter::new(alloc, 100, Trouble::never(), Trouble::never());
+    let served = serve(alloc, &mut editor, &mut reader, &mut writer);
+    Outcome {
+        end: serving_end(served),
+        read: read_of(reader.bytes),
+        front: front_of(writer.taken.as_slice(), OUTPUT.as_bytes()),
+        flushed: writer.flushed,
+        depths: editor.depths(),
+        has_failed: reader.trouble.has_failed,
+        went_on: reader.trouble.went_on,
+    }
+}
+
+/// How it is to go with a reader that goes wrong after so many calls: just the lines are answered that came
+/// whole before.
+fn wanted_from(step: usize, calls: usize) -> Outcome {
+    let read = calls.saturating_mul(step).min(INPUT.len());
+    let (len, depths) = answered(read);
+    let fails = is_reached(INPUT.len(), step, calls);
+    Outcome {
+        end: end_after(fails, "Read"),
+        read,
+        front: Some(len),
+        flushed: len,
+        depths,
+        has_failed: fails,
+        went_on: false,
+    }
+}
+
 #[test]
 fn serve_answers_what_was_read(rt: HostRuntime) {
-    let alloc = rt.alloc();
-    for step in STEPS {
-        for calls in 0..INPUT.len() + 2 {
-            let mut editor = Editor::new(alloc);
-            let mut reader = FailingReader::new(INPUT.as_bytes(), step, calls);
-            let mut written: Vec<u8> = Vec::new(alloc);
-            let served = serve(alloc, &mut editor, &mut reader, &mut written);
-            let read = INPUT.len().wrapping_sub(reader.bytes.len());
-            let (len, depths) = answered(read);
+    for (fault, heals) in READER_FAULTS {
+        for step in STEPS {
+            for calls in 0..INPUT.len() + 2 {
+                assert_eq!(rt;
+                    served_from(rt.alloc(), step, Trouble::after(calls, fault, heals)),
+                    wanted_from(step, calls),
+                    "{calls} of {step}, {heals}"
+                );
+            }
+        }
+    }
+}
+
+/// How the session goes with a writer.
+fn served_to(alloc: Global, step: usize, writes: Trouble, flushes: Trouble) -> Outcome {
+    let mut editor = Editor::new(alloc);
+    let mut reader = FailingReader::new(INPUT.as_bytes(), 1, Trouble::never());
+    let mut writer = FailingWriter::new(alloc, step, writes, flushes);
+    let served = serve(alloc, &mut editor, &mut reader, &mut writer);
+    Outcome {
+        end: serving_end(served),
+        read: read_of(reader.bytes),
+        front: front_of(writer.taken.as_slice(), OUTPUT.as_bytes()),
+        flushed: writer.flushed,
+        depths: editor.depths(),
+        has_failed: writer.has_failed(),
+        went_on: writer.went_on,
+    }
+}
+
+/// How it is to go with a writer that took so many bytes: the answers that are whole were flushed, and no line
+/// was read behind the one that was being answered.
+fn wanted_to(written: usize) -> Outcome {
+    let (whole, read, depths) = being_answered(written);
+    let fails = written < OUTPUT.len();
+    Outcome {
+        end: end_after(fails, "Write"),
+        read,
+        front: Some(written),
+        flushed: whole,
+        depths,
+        has_failed: fails,
+        went_on: false,
+    }
+}
+
+#[test]
+fn serve_writes_a_front(rt: HostRuntime) {
+    for (fault, heals) in WRITER_FAULTS {
+        for step in STEPS {
+            for calls in 0..OUTPUT.len() + 2 {
+                let outcome = served_to(
+                    rt.alloc(),
+                    step,
+                    Trouble::after(calls, fault, heals),
+                    Trouble::never(),
+                );
+                let written = calls.saturating_mul(step).min(outcome.front.unwrap_or(0));
+                assert_eq!(rt; outcome, wanted_to(written), "{calls} of {step}, {heals}");
+            }
+        }
+    }
+}
+
+/// How it is to go where a flush goes wrong after so many: the answers up to that one were written.
+fn wanted_flushed(flushes: usize) -> Outcome {
+    let mut read: usize = 0;
+    let mut written: usize = 0;
+    let mut flushed: usize = 0;
+    let mut after = (0, 0);
+    for (line, answer, depths) in &LINES[..LINES.len().min(flushes.saturating_add(1))] {
+        read = read.wrapping_add(line.len());
+        flushed = written;
+        written = written.wrapping_add(answer.len());
+        after = *depths;
+    }
+    let fails = flushes < LINES.len();
+    Outcome {
+        end: end_after(fails, "Write"),
+        read,
+        front: Some(written),
+        flushed: if fails { flushed } else { written },
+        depths: after,
+        has_failed: fails,
+        went_on: false,
+    }
+}
+
+#[test]
+fn serve_flushes_each_answer(rt: HostRuntime) {
+    for heals in [false, true] {
+        for flushes in 0..LINES.len() + 1 {
+            let trouble = Trouble::after(flushes, Fault::Error, heals);
             assert_eq!(rt;
-                serving_end(served),
-                end_after(reader.has_failed, "Read"),
-                "{calls} of {step}"
+                served_to(rt.alloc(), 100, Trouble::never(), trouble),
+                wanted_flushed(flushes),
+                "at {flushes}, {heals}"
             );
-            assert!(rt;
-                reader.has_failed || read == INPUT.len(),
-                "{calls} of {step}"
-            );
-            assert_eq!(rt; written.len(), len, "{calls} of {step}");
-            assert!(rt; OUTPUT.as_bytes().starts_with(written.as_slice()));
-            assert_eq!(rt; editor.depths(), depths);
         }
     }
 }
@@ -221,117 +435,105 @@ fn serve_answers_what_was_read(rt: HostRuntime) {
 // A line that was cut off is not carried out, and the editor goes on with another reader.
 #[test]
 fn editor_goes_on_after_a_fault(rt: HostRuntime) -> Result<(), Fail> {
-    let alloc = rt.alloc();
-    let mut editor = Editor::new(alloc);
+    let mut editor = Editor::new(rt.alloc());
     let input = b"layer add w point\nadd w POINT (1 1)\nadd w POINT (2 2)";
-    let mut reader = FailingReader::new(input.as_slice(), 100, 1);
-    let mut written: Vec<u8> = Vec::new(alloc);
-    let served = serve(alloc, &mut editor, &mut reader, &mut written);
+    let trouble = Trouble::after(1, Fault::Error, false);
+    let mut reader = FailingReader::new(input.as_slice(), 100, trouble);
+    let mut written: Vec<u8> = Vec::new(rt.alloc());
+    let served = serve(rt.alloc(), &mut editor, &mut reader, &mut written);
     assert_eq!(rt; serving_end(served), "Read");
-    let mut more = b"show w\n".as_slice();
-    written.clear();
-    serve(alloc, &mut editor, &mut more, &mut written)?;
-    assert_eq!(rt; written.as_slice(), b"rows 1\n1 POINT (1 1)\n".as_slice());
+    assert_eq!(rt;
+        other_answer(
+            rt.alloc(),
+            &mut editor,
+            &[("show w", "rows 1\n1 POINT (1 1)")]
+        )?,
+        None
+    );
     Ok(())
 }
 
-// A front of the answers is written; those that are whole were flushed.
-#[test]
-fn serve_writes_a_front(rt: HostRuntime) {
-    let alloc = rt.alloc();
-    for step in STEPS {
-        for calls in 0..OUTPUT.len() + 2 {
-            for is_lazy in [false, true] {
-                let mut editor = Editor::new(alloc);
-                let mut reader = INPUT.as_bytes();
-                let mut writer = FailingWriter::new(alloc, step, calls, is_lazy, usize::MAX);
-                let served = serve(alloc, &mut editor, &mut reader, &mut writer);
-                let written = writer.taken.len();
-                let (whole, depths) = being_answered(written);
-                assert_eq!(rt;
-                    serving_end(served),
-                    end_after(writer.has_failed, "Write"),
-                    "{calls} of {step}"
-                );
-                assert!(rt;
-                    writer.has_failed || written == OUTPUT.len(),
-                    "{calls} of {step}"
-                );
-                assert!(rt; OUTPUT.as_bytes().starts_with(writer.taken.as_slice()));
-                assert_eq!(rt; writer.flushed, whole);
-                assert_eq!(rt; editor.depths(), depths);
-            }
-        }
-    }
-}
-
-// Each answer is flushed; where that fails, the answers up to that one were written.
-#[test]
-fn serve_flushes_each_answer(rt: HostRuntime) {
-    let alloc = rt.alloc();
-    for flushes in 0..LINES.len() + 1 {
-        let mut editor = Editor::new(alloc);
-        let mut reader = INPUT.as_bytes();
-        let mut writer = FailingWriter::new(alloc, 100, usize::MAX, false, flushes);
-        let served = serve(alloc, &mut editor, &mut reader, &mut writer);
-        assert_eq!(rt;
-            serving_end(served),
-            end_after(flushes < LINES.len(), "Write"),
-            "at {flushes}"
-        );
-        let mut len: usize = 0;
-        for (_, answer, _) in &LINES[..LINES.len().min(flushes + 1)] {
-            len = len.wrapping_add(answer.len());
-        }
-        assert_eq!(rt; writer.taken.len(), len, "at {flushes}");
-        assert!(rt; OUTPUT.as_bytes().starts_with(writer.taken.as_slice()));
-    }
+/// How loading the file from a reader goes: how it ended, how many bytes were left, and whether a read followed
+/// one that went wrong.
+fn loaded_from(alloc: Global, step: usize, trouble: Trouble) -> (&'static str, usize, bool) {
+    let mut reader = FailingReader::new(FILE.as_slice(), step, trouble);
+    let loaded = load(alloc, &mut reader);
+    (
+        loading_end(&loaded),
+        reader.bytes.len(),
+        reader.trouble.went_on,
+    )
 }
 
 // A file loads in whatever pieces it comes; a fault of the reader is told, and no other.
 #[test]
 fn load_tells_a_read_fault(rt: HostRuntime) {
-    let alloc = rt.alloc();
-    for step in STEPS {
-        for calls in 0..FILE.len() + 2 {
-            let mut reader = FailingReader::new(FILE.as_slice(), step, calls);
-            let loaded = load(alloc, &mut reader);
-            assert_eq!(rt;
-                loading_end(&loaded),
-                end_after(reader.has_failed, "Read"),
-                "{calls} of {step}"
-            );
-            assert!(rt;
-                reader.has_failed || reader.bytes.is_empty(),
-                "{calls} of {step}"
-            );
+    for (fault, heals) in READER_FAULTS {
+        for step in STEPS {
+            for calls in 0..FILE.len() + 2 {
+                let end = end_after(is_reached(FILE.len(), step, calls), "Read");
+                let left = FILE.len().saturating_sub(calls.saturating_mul(step));
+                assert_eq!(rt;
+                    loaded_from(rt.alloc(), step, Trouble::after(calls, fault, heals)),
+                    (end, left, false),
+                    "{calls} of {step}, {heals}"
+                );
+            }
         }
     }
 }
 
-// A front of the file is written; a writer that fails, takes no byte or cannot flush is told, and no other.
+/// How saving the store of the file to a writer goes: how it ended, how many bytes of the file were written,
+/// how many of them were flushed, and whether a call followed one that went wrong.
+fn saved_to(
+    alloc: Global,
+    store: &Store,
+    step: usize,
+    writes: Trouble,
+    flushes: Trouble,
+) -> (&'static str, Option<usize>, usize, bool) {
+    let mut writer = FailingWriter::new(alloc, step, writes, flushes);
+    let saved = save(alloc, store, &mut writer);
+    (
+        saving_end(saved),
+        front_of(writer.taken.as_slice(), FILE.as_slice()),
+        writer.flushed,
+        writer.went_on,
+    )
+}
+
+// A front of the file is written; a writer that fails or takes no byte is told.
 #[test]
 fn save_writes_a_front(rt: HostRuntime) -> Result<(), Fail> {
-    let alloc = rt.alloc();
-    let store = load(alloc, &mut FILE.as_slice())?;
-    for step in STEPS {
-        for calls in 0..FILE.len() + 2 {
-            for (is_lazy, flushes) in [(false, 1), (true, 1), (false, 0)] {
-                let mut writer = FailingWriter::new(alloc, step, calls, is_lazy, flushes);
-                let saved = save(alloc, &store, &mut writer);
-                let written = writer.taken.len();
+    let store = load(rt.alloc(), &mut FILE.as_slice())?;
+    for (fault, heals) in WRITER_FAULTS {
+        for step in STEPS {
+            for calls in 0..FILE.len() + 2 {
+                let len = calls.saturating_mul(step).min(FILE.len());
+                let fails = len < FILE.len();
+                let writes = Trouble::after(calls, fault, heals);
+                let flushed = if fails { 0 } else { FILE.len() };
                 assert_eq!(rt;
-                    saving_end(saved),
-                    end_after(writer.has_failed, "Write"),
-                    "{calls} of {step}"
+                    saved_to(rt.alloc(), &store, step, writes, Trouble::never()),
+                    (end_after(fails, "Write"), Some(len), flushed, false),
+                    "{calls} of {step}, {heals}"
                 );
-                assert!(rt;
-                    writer.has_failed || written == FILE.len(),
-                    "{calls} of {step}"
-                );
-                assert!(rt; FILE.as_slice().starts_with(writer.taken.as_slice()));
             }
         }
+    }
+    Ok(())
+}
+
+// A flush that fails is told, once the file is written.
+#[test]
+fn save_tells_a_flush_fault(rt: HostRuntime) -> Result<(), Fail> {
+    let store = load(rt.alloc(), &mut FILE.as_slice())?;
+    for heals in [false, true] {
+        let flushes = Trouble::after(0, Fault::Error, heals);
+        assert_eq!(rt;
+            saved_to(rt.alloc(), &store, 100, Trouble::never(), flushes),
+            ("Write", Some(FILE.len()), 0, false)
+        );
     }
     Ok(())
 }

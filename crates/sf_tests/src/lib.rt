@@ -21,6 +21,8 @@ mod features;
 #[cfg(test)]
 mod files;
 #[cfg(test)]
+mod indexes;
+#[cfg(test)]
 mod limits;
 #[cfg(test)]
 mod matrices;
