@@ -1,4 +1,5 @@
 pub mod Choices
 pub mod Frames
+pub mod Program
 pub mod Texts
 pub mod Views

@@ -1,3 +1,4 @@
 pub mod Elements
+pub mod Options
 pub mod Pictures
 pub mod Views
