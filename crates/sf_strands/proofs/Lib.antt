@@ -12,3 +12,4 @@ pub mod PushLaws
 pub mod MeetingLaws
 pub mod PlaceLaws
 pub mod PairLaws
+pub mod ChangedLaws

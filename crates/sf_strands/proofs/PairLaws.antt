@@ -25,7 +25,7 @@ shifted k i = omega arith
 none : (k : ℕ) → k + 0 ≡ k
 none k = omega arith
 
-any-at : {X : Type 0} (test : ℕ × X → Bool) (k : ℕ) (xs : List X) (i : ℕ) (d : X) → i < length xs → test (k + i, get_or xs i d) ≡ true → list_any test (enumerate_from k xs) ≡ true
+pub any-at : {X : Type 0} (test : ℕ × X → Bool) (k : ℕ) (xs : List X) (i : ℕ) (d : X) → i < length xs → test (k + i, get_or xs i d) ≡ true → list_any test (enumerate_from k xs) ≡ true
 any-at test k [] i d h t = absurd (omega (arith, h))
 any-at test k (x ∷ xs) zero d h t = or_left _ _ (ap (λ n. test (n, x)) (sym (none k)) ∙ t)
 any-at test k (x ∷ xs) (suc i) d h t = or_right (test (k, x)) _ (any-at test (k + 1) xs i d (omega (arith, h)) (ap (λ n. test (n, get_or xs i d)) (sym (shifted k i)) ∙ t))
@@ -42,12 +42,12 @@ any_two-at test k (x ∷ xs) (suc i) (suc j) d o h t =
     (any_two-at test (k + 1) xs i j d (omega (arith, o)) (omega (arith, h))
     (ap (λ n. test (n, get_or xs i d) (k + 1 + j, get_or xs j d)) (sym (shifted k i)) ∙ ap (λ n. test (k + suc i, get_or xs i d) (n, get_or xs j d)) (sym (shifted k j)) ∙ t))
 
-record HasOne {X : Type 0} (test : ℕ × X → Bool) (k : ℕ) (xs : List X) (d : X) : Type 0 where
-  place : ℕ
-  within : place < length xs
-  passes : test (k + place, get_or xs place d) ≡ true
+pub record HasOne {X : Type 0} (test : ℕ × X → Bool) (k : ℕ) (xs : List X) (d : X) : Type 0 where
+  pub place : ℕ
+  pub within : place < length xs
+  pub passes : test (k + place, get_or xs place d) ≡ true
 
-one-from : {X : Type 0} (test : ℕ × X → Bool) (k : ℕ) (xs : List X) (d : X) → list_any test (enumerate_from k xs) ≡ true → HasOne test k xs d
+pub one-from : {X : Type 0} (test : ℕ × X → Bool) (k : ℕ) (xs : List X) (d : X) → list_any test (enumerate_from k xs) ≡ true → HasOne test k xs d
 one-from test k [] d t = absurd (false≢true t)
 one-from test k (x ∷ xs) d t = by (or_cases (test (k, x)) _ t) (one-from test (k + 1) xs d)
   where
@@ -58,14 +58,14 @@ one-from test k (x ∷ xs) d t = by (or_cases (test (k, x)) _ t) (one-from test 
         moved : HasOne test (k + 1) xs d → HasOne test k (x ∷ xs) d
         moved m = record { place = suc m.place; within = omega (arith, m.within); passes = ap (λ n. test (n, get_or xs m.place d)) (shifted k m.place) ∙ m.passes }
 
-record HasTwo {X : Type 0} (test : ℕ × X → ℕ × X → Bool) (k : ℕ) (xs : List X) (d : X) : Type 0 where
-  first : ℕ
-  second : ℕ
-  in_order : first < second
-  within : second < length xs
-  passes : test (k + first, get_or xs first d) (k + second, get_or xs second d) ≡ true
+pub record HasTwo {X : Type 0} (test : ℕ × X → ℕ × X → Bool) (k : ℕ) (xs : List X) (d : X) : Type 0 where
+  pub first : ℕ
+  pub second : ℕ
+  pub in_order : first < second
+  pub within : second < length xs
+  pub passes : test (k + first, get_or xs first d) (k + second, get_or xs second d) ≡ true
 
-two-from : {X : Type 0} (test : ℕ × X → ℕ × X → Bool) (k : ℕ) (xs : List X) (d : X) → any_two test (enumerate_from k xs) ≡ true → HasTwo test k xs d
+pub two-from : {X : Type 0} (test : ℕ × X → ℕ × X → Bool) (k : ℕ) (xs : List X) (d : X) → any_two test (enumerate_from k xs) ≡ true → HasTwo test k xs d
 two-from test k [] d t = absurd (false≢true t)
 two-from test k (x ∷ xs) d t = by (or_cases _ _ t) (two-from test (k + 1) xs d)
   where
@@ -113,10 +113,10 @@ edge-between (p ∷ ps) i d h = edge-from p ps i d (omega (arith, h))
 edge-of : (ps : List Coordinates) (i : ℕ) (d : Edge) → IsTight ps → i + 1 < length ps → get_or (edges_of ps) i d ≡ edge_at ps i
 edge-of ps i d t h = ap (λ ts. get_or (edges_between ts) i d) (tight-tight ps t) ∙ edge-between ps i d h
 
-abbrev any_edge : Edge
+abbrev pub any_edge : Edge
 any_edge = edge_at [] 0
 
-pair-is : (ps : List Coordinates) (p : Point) (i j : ℕ) → IsTight ps → i < j → j + 1 < length ps →
+pub pair-is : (ps : List Coordinates) (p : Point) (i j : ℕ) → IsTight ps → i < j → j + 1 < length ps →
     meet_apart (is_closed ps) (length (edges_of ps)) p (0 + i, get_or (edges_of ps) i any_edge) (0 + j, get_or (edges_of ps) j any_edge) ≡ pair_meets ps i j p
 pair-is ps p i j t o h =
     ap (λ n. meet_apart (is_closed ps) (length (edges_of ps)) p (n, get_or (edges_of ps) i any_edge) (0 + j, get_or (edges_of ps) j any_edge)) (zero-more i)

@@ -3,3 +3,4 @@ pub mod Strands
 pub mod Tight
 pub mod Walks
 pub mod Pairs
+pub mod Changed

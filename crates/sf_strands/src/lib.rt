@@ -1,6 +1,7 @@
 //! Whether lines and rings meet themselves or one another.
 #![tactic(auto)]
 
+mod changed;
 pub mod laws;
 mod pairs;
 mod strands;
@@ -8,4 +9,5 @@ mod tangles;
 #[cfg(test)]
 mod tests;
 
+pub use changed::edge_meets_others;
 pub use tangles::{are_tangled, meets_itself};

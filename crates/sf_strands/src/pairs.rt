@@ -26,7 +26,7 @@ pub(crate) fn some_pair_meets(points: &[GridPoint]) -> bool
 }
 
 /// Whether two edges of a tight list share a point that isn't their common vertex as neighbours.
-fn does_pair_meet(points: &[GridPoint], earlier: usize, later: usize) -> bool
+pub(crate) fn does_pair_meet(points: &[GridPoint], earlier: usize, later: usize) -> bool
     requires tight { IsTight points.now }
     requires in_order { earlier < later }
     requires in_range { later + 1 < length points.now }

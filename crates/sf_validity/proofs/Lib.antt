@@ -1,3 +1,4 @@
+pub mod EditLaws
 pub mod RuleLaws
 pub mod RepeatLaws
 pub mod SimpleLaws

@@ -6,6 +6,7 @@ ghost use Rattle.sf_rules.specs.Validity.{IsValid};
 ghost use Rattle.sf_validity.specs.Held.{IsHeld};
 ghost use Rattle.sf_validity.specs.Refusals.{Refuses, RefusesChange};
 
+use super::changed::{check_changed, is_one_tight};
 use super::checks::check;
 use super::refusal::Refusal;
 use sf_geometry::Geometry;
@@ -97,9 +98,10 @@ impl Valid {
             (RefusesChange (insert_vertex self.old part ring index point)) }
         ensures unchanged { OnErr result (self.new ≡ self.old) }
     {
+        let was_one_tight = is_one_tight(&self.geometry);
         self.geometry
             .insert_vertex(alloc, part, ring, index, point)?;
-        if let Err(refusal) = check(alloc, &self.geometry) {
+        if let Err(refusal) = check_changed(alloc, &self.geometry, was_one_tight, index, 1) {
             // Taking it out again needs no memory.
             self.geometry.remove_vertex(part, ring, index).unwrap();
             return Err(refusal);
@@ -129,8 +131,9 @@ impl Valid {
             (RefusesChange (move_vertex self.old part ring index point)) }
         ensures unchanged { OnErr result (self.new ≡ self.old) }
     {
+        let was_one_tight = is_one_tight(&self.geometry);
         let old = self.geometry.move_vertex(part, ring, index, point)?;
-        if let Err(refusal) = check(alloc, &self.geometry) {
+        if let Err(refusal) = check_changed(alloc, &self.geometry, was_one_tight, index, 1) {
             self.geometry.move_vertex(part, ring, index, old).unwrap();
             return Err(refusal);
         }
@@ -163,7 +166,8 @@ impl Valid {
         };
         // On a copy: putting the vertex back could need memory.
         let without = self.geometry.without_vertex(alloc, part, ring, index)?;
-        check(alloc, &without)?;
+        let was_one_tight = is_one_tight(&self.geometry);
+        check_changed(alloc, &without, was_one_tight, index, 0)?;
         without.lies_on_grid();
         self.geometry = without;
         Ok(old)

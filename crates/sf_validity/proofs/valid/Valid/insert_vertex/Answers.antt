@@ -1,6 +1,7 @@
 use Rattle.std.proofs.Common.{◌∙◌, sym, subst}
 use Rattle.sf_geometry.specs.Vertices.{remove_vertex}
 use Rattle.sf_validity.specs.Held.{IsHeld}
+use Rattle.sf_validity.proofs.EditLaws.{edited-held, insert-edited}
 use Rattle.sf_validity.proofs.ValidLaws.{back-is, back-ok, insert-back}
 use Rattle.sf_validity.proofs.valid.Valid.insert_vertex.Goals as goal
 
@@ -24,3 +25,15 @@ returns-in-Err-clause-unchanged c =
     (insert-back c.self.inside.geometry c.insert_vertex.new.self c.args.part c.args.ring c.args.index c.args.point c.self.invariant.valid c.in_ok-insert_vertex.ensures.inserted)
     c.unwrap.ensures c.remove_vertex.ensures.removed
     ∙ c.self.view_is
+
+pub invariant_of-self-2 : goal.invariant_of-self-2
+invariant_of-self-2 c =
+    edited-held c.self.inside.geometry c.insert_vertex.new.self c.args.index 1 c.is_one_tight-was_one_tight.result
+    (insert-edited c.self.inside.geometry c.insert_vertex.new.self c.args.part c.args.ring c.args.index c.args.point c.self.invariant.valid c.in_ok-insert_vertex.ensures.inserted)
+    c.is_one_tight-was_one_tight.ensures c.in_default.ensures.valid c.lies_on_grid.ensures
+
+pub returns-clause-valid : goal.returns-clause-valid
+returns-clause-valid c =
+    edited-held c.self.inside.geometry c.insert_vertex.new.self c.args.index 1 c.is_one_tight-was_one_tight.result
+    (insert-edited c.self.inside.geometry c.insert_vertex.new.self c.args.part c.args.ring c.args.index c.args.point c.self.invariant.valid c.in_ok-insert_vertex.ensures.inserted)
+    c.is_one_tight-was_one_tight.ensures c.in_default.ensures.valid c.lies_on_grid.ensures

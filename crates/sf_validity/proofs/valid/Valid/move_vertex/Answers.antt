@@ -1,11 +1,12 @@
 use Rattle.std.proofs.Common.{◌∙◌, sym, subst}
 use Rattle.sf_geometry.specs.Vertices.{changed, exchange, move_vertex}
 use Rattle.sf_validity.specs.Held.{IsHeld}
+use Rattle.sf_validity.proofs.EditLaws.{edited-held, move-edited}
 use Rattle.sf_validity.proofs.ValidLaws.{back-is, back-ok, move-back, outcome-sized}
 use Rattle.sf_validity.proofs.valid.Valid.move_vertex.Goals as goal
 
-pub check-requires : goal.check-requires
-check-requires c =
+pub check_changed-requires : goal.check_changed-requires
+check_changed-requires c =
     outcome-sized (changed (exchange c.args.index c.args.point) c.args.part c.args.ring c.self.inside.geometry) c.move_vertex.new.self c.in_ok-old.ensures.moved
 
 pub move_vertex-requires-in-Err : goal.move_vertex-requires-in-Err
@@ -32,3 +33,15 @@ returns-in-Err-clause-unchanged c =
     (move-back c.self.inside.geometry c.move_vertex.new.self c.args.part c.args.ring c.args.index c.args.point c.in_ok-old.old c.self.invariant.valid c.in_ok-old.ensures.given c.in_ok-old.ensures.moved)
     c.unwrap.ensures c.move_vertex-in-Err.ensures.moved
     ∙ c.self.view_is
+
+pub invariant_of-self-2 : goal.invariant_of-self-2
+invariant_of-self-2 c =
+    edited-held c.self.inside.geometry c.move_vertex.new.self c.args.index 1 c.is_one_tight-was_one_tight.result
+    (move-edited c.self.inside.geometry c.move_vertex.new.self c.args.part c.args.ring c.args.index c.args.point c.self.invariant.valid c.in_ok-old.ensures.moved)
+    c.is_one_tight-was_one_tight.ensures c.in_default.ensures.valid c.lies_on_grid.ensures
+
+pub returns-clause-valid : goal.returns-clause-valid
+returns-clause-valid c =
+    edited-held c.self.inside.geometry c.move_vertex.new.self c.args.index 1 c.is_one_tight-was_one_tight.result
+    (move-edited c.self.inside.geometry c.move_vertex.new.self c.args.part c.args.ring c.args.index c.args.point c.self.invariant.valid c.in_ok-old.ensures.moved)
+    c.is_one_tight-was_one_tight.ensures c.in_default.ensures.valid c.lies_on_grid.ensures
