@@ -551,3 +551,114 @@ fn only_point_stays(rt: HostRuntime) -> Result<(), Fail> {
     assert!(rt; one.remove_vertex(alloc, 0, 0, 0).is_ok());
     Ok(())
 }
+
+/// One change of a vertex.
+#[derive(Drop)]
+enum Edit {
+    Insert(GridPoint),
+    Move(GridPoint),
+    Remove,
+}
+
+/// The polygon of one ring.
+fn one_ring(alloc: Global, ring: Places) -> Result<Geometry, Fail> {
+    let rings = lists(alloc, &[ring], 0, &WHOLE)?;
+    Ok(Geometry::Polygon(rings))
+}
+
+/// Why a valid polygon of this ring refuses a change, or None where it takes it.
+fn refused_change(
+    alloc: Global,
+    ring: Places,
+    index: u32,
+    edit: &Edit,
+) -> Result<Option<Refusal>, Fail> {
+    let mut polygon = valid(alloc, one_ring(alloc, ring)?)?;
+    Ok(match edit {
+        Edit::Insert(point) => polygon.insert_vertex(alloc, 0, 0, index, *point).err(),
+        Edit::Move(point) => polygon.move_vertex(alloc, 0, 0, index, *point).err(),
+        Edit::Remove => polygon.remove_vertex(alloc, 0, 0, index).err(),
+    })
+}
+
+/// Why a polygon of this ring can't be changed so, or None where it can; and the polygon.
+fn changed(
+    alloc: Global,
+    ring: Places,
+    index: u32,
+    edit: &Edit,
+) -> Result<(Option<sf_geometry::Refusal>, Geometry), Fail> {
+    let mut polygon = one_ring(alloc, ring)?;
+    if polygon.check_size().is_err() {
+        return Err("not sized".into());
+    }
+    let why = match edit {
+        Edit::Insert(point) => polygon.insert_vertex(alloc, 0, 0, index, *point).err(),
+        Edit::Move(point) => polygon.move_vertex(0, 0, index, *point).err(),
+        Edit::Remove => polygon.remove_vertex(0, 0, index).err(),
+    };
+    Ok((why, polygon))
+}
+
+/// Why the changed polygon is refused as a whole, or None where it is valid.
+fn refused_whole(
+    alloc: Global,
+    ring: Places,
+    index: u32,
+    edit: &Edit,
+) -> Result<Option<Refusal>, Fail> {
+    let (why, polygon) = changed(alloc, ring, index, edit)?;
+    match why {
+        Some(lower) => Ok(Some(lower.into())),
+        None => refusal(alloc, &polygon),
+    }
+}
+
+/// Whether a change is refused just as the changed polygon is.
+fn is_as_whole(alloc: Global, ring: Places, index: u32, edit: &Edit) -> Result<bool, Fail> {
+    let by_change = refused_change(alloc, ring, index, edit)?;
+    Ok(by_change == refused_whole(alloc, ring, index, edit)?)
+}
+
+/// Whether that holds of all changes at an index, to each point of a small grid.
+fn are_as_whole(alloc: Global, ring: Places, index: u32) -> Result<bool, Fail> {
+    for place in 0..36 {
+        let point = GridPoint::new(place % 6, place / 6).ok_or("off the grid")?;
+        if !is_as_whole(alloc, ring, index, &Edit::Insert(point))? {
+            return Ok(false);
+        }
+        if !is_as_whole(alloc, ring, index, &Edit::Move(point))? {
+            return Ok(false);
+        }
+    }
+    is_as_whole(alloc, ring, index, &Edit::Remove)
+}
+
+/// Small rings: a square, one with points repeated at its start and within, one whose points lie on
+/// one edge, one with a notch, a triangle.
+const RINGS: &[Places] = &[
+    &[(1, 1), (4, 1), (4, 4), (1, 4), (1, 1)],
+    &[
+        (1, 1),
+        (1, 1),
+        (4, 1),
+        (4, 4),
+        (4, 4),
+        (4, 4),
+        (1, 4),
+        (1, 1),
+    ],
+    &[(0, 0), (2, 0), (4, 0), (5, 0), (5, 5), (0, 5), (0, 0)],
+    &[(0, 0), (5, 0), (5, 5), (3, 5), (2, 1), (1, 5), (0, 0)],
+    &[(2, 0), (5, 5), (0, 4), (2, 0)],
+];
+
+#[test]
+fn changes_of_one_ring(rt: HostRuntime) -> Result<(), Fail> {
+    for ring in RINGS {
+        for index in 0..9 {
+            assert!(rt; are_as_whole(rt.alloc(), ring, index)?, "vertex {index}");
+        }
+    }
+    Ok(())
+}
