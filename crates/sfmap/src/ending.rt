@@ -1,4 +1,5 @@
 //! How a run ends before its time: its status, and its last words.
+use sf_drawing::RunFault;
 use sf_file::LoadFault;
 use sf_map::{AskedFault, DrawFault};
 use std::{fmt, io};
@@ -13,6 +14,17 @@ pub enum Ending {
     MissingLayer(String),
     Load(LoadFault),
     Draw(DrawFault),
+}
+
+impl From<RunFault> for Ending {
+    fn from(fault: RunFault) -> Ending {
+        match fault {
+            RunFault::Load(fault) => Ending::Load(fault),
+            RunFault::MissingLayer(name) => Ending::MissingLayer(name),
+            RunFault::Memory => Ending::Words(AskedFault::Memory),
+            RunFault::Draw(fault) => Ending::Draw(fault),
+        }
+    }
 }
 
 impl Ending {

@@ -5,8 +5,8 @@
 mod ending;
 
 use ending::Ending;
-use sf_file::load;
-use sf_map::{Asked, AskedFault, View, draw, options};
+use sf_drawing::draw_from;
+use sf_map::{Asked, AskedFault, options};
 use std::process::ExitCode;
 use std::rt::Env;
 use std::{env, io};
@@ -42,16 +42,8 @@ fn run(rt: &(impl Env + Input + Print + AllocGlobal)) -> Result<(), Ending> {
     let alloc = rt.alloc();
     let Asked { choice, width } = asked(rt)?;
     let mut input = rt.reader();
-    let store = load(alloc, &mut input).map_err(Ending::Load)?;
-    if let Some(name) = choice.missing_layer(&store) {
-        return Err(match String::from_str(alloc, name) {
-            Ok(name) => Ending::MissingLayer(name),
-            Err(_) => Ending::Words(AskedFault::Memory),
-        });
-    }
-    let view = View::of(&store, &choice, width);
     let mut output = io::writer(rt);
-    draw(alloc, &store, &choice, &view, &mut output).map_err(Ending::Draw)
+    draw_from(alloc, &mut input, &choice, width, &mut output).map_err(Ending::from)
 }
 
 fn main(rt: HostRuntime) -> ExitCode {
