@@ -9,6 +9,10 @@ use std::marker::Model;
 /// How many bytes are asked of a reader at a time.
 pub(crate) const CHUNK_LEN: usize = 65_536;
 
+/// How often a reader is asked at most. `Chunk` doesn't count; whoever reads in a loop does, so that a reader that
+/// never ends is a fault, and not a loop.
+pub const READS_MAX: u32 = 1_000_000_000;
+
 /// A reader failed, or was asked too often.
 #[derive(Clone, Copy, Debug, PartialEq, Eq)]
 pub struct ReadFault;

@@ -6,7 +6,7 @@ mod output;
 mod sending;
 mod window;
 
-pub use chunk::{Chunk, ReadFault};
+pub use chunk::{Chunk, READS_MAX, ReadFault};
 pub use output::Output;
 pub use sending::{WriteFault, flush, send};
 pub use window::{AHEAD_MAX, Window};

@@ -57,10 +57,11 @@ impl Output {
     /// # Errors
     ///
     /// Where the writer fails or takes no byte. A front of all that was put was written then, and
-    /// nothing should be put any more.
+    /// nothing is held any more, so that `finish` sends nothing behind a gap; nothing should be put.
     pub fn put<W: Write>(&mut self, writer: &mut W, bytes: &[u8]) -> Result<(), WriteFault>
         ensures ok { OnOk result (Puts (W.contents writer.old) (W.contents writer.new) self.old self.new bytes.now) }
         ensures broken { OnErr result (WritesFront (W.contents writer.old) (W.contents writer.new) (self.old ++ bytes.now)) }
+        ensures empty { OnErr result (self.new ≡ []) }
     {
         if bytes.len() > HELD_MAX - self.held.len() {
             self.send_held(writer)?;
@@ -76,6 +77,7 @@ impl Output {
     pub fn put_u8<W: Write>(&mut self, writer: &mut W, n: u8) -> Result<(), WriteFault>
         ensures ok { OnOk result (Puts (W.contents writer.old) (W.contents writer.new) self.old self.new (big_bytes 1 n)) }
         ensures broken { OnErr result (WritesFront (W.contents writer.old) (W.contents writer.new) (self.old ++ big_bytes 1 n)) }
+        ensures empty { OnErr result (self.new ≡ []) }
     {
         self.put(writer, &[n])
     }
@@ -84,6 +86,7 @@ impl Output {
     pub fn put_u16<W: Write>(&mut self, writer: &mut W, n: u16) -> Result<(), WriteFault>
         ensures ok { OnOk result (Puts (W.contents writer.old) (W.contents writer.new) self.old self.new (big_bytes 2 n)) }
         ensures broken { OnErr result (WritesFront (W.contents writer.old) (W.contents writer.new) (self.old ++ big_bytes 2 n)) }
+        ensures empty { OnErr result (self.new ≡ []) }
     {
         let mut bytes = [0; 2];
         BigEndian::write_u16(&mut bytes, n);
@@ -94,6 +97,7 @@ impl Output {
     pub fn put_u32<W: Write>(&mut self, writer: &mut W, n: u32) -> Result<(), WriteFault>
         ensures ok { OnOk result (Puts (W.contents writer.old) (W.contents writer.new) self.old self.new (big_bytes 4 n)) }
         ensures broken { OnErr result (WritesFront (W.contents writer.old) (W.contents writer.new) (self.old ++ big_bytes 4 n)) }
+        ensures empty { OnErr result (self.new ≡ []) }
     {
         let mut bytes = [0; 4];
         BigEndian::write_u32(&mut bytes, n);
@@ -106,6 +110,7 @@ impl Output {
             (big_bytes 8 (cast_unsigned w64 n))) }
         ensures broken { OnErr result (WritesFront (W.contents writer.old) (W.contents writer.new)
             (self.old ++ big_bytes 8 (cast_unsigned w64 n))) }
+        ensures empty { OnErr result (self.new ≡ []) }
     {
         let mut bytes = [0; 8];
         BigEndian::write_i64(&mut bytes, n);

@@ -3,16 +3,13 @@ ghost use Rattle.std.specs.Prelude.{◌≡◌, ◌+◌, ◌<◌, ◌≤◌, true
 ghost use Rattle.std.specs.Io.KnownBytes.{IsAtEnd};
 ghost use Rattle.sf_streams.specs.Streams.{ReadsAhead, ahead_max, nothing_ahead, without_front};
 
-use super::chunk::{CHUNK_LEN, Chunk, ReadFault};
+use super::chunk::{CHUNK_LEN, Chunk, READS_MAX, ReadFault};
 use std::alloc::{AllocError, Global};
 use std::io::Read;
 use std::marker::Model;
 
 /// How many bytes can be looked at together, in bytes.
 pub const AHEAD_MAX: usize = 131_072;
-
-/// How many reads there are at most.
-const READS_MAX: u32 = 1_000_000_000;
 
 /// The bytes of a reader that were read and not gone past, with the place in the input of the first of
 /// them. It has room for the longest field from the beginning. A reader is named at each call, and
