@@ -1,7 +1,7 @@
 -- How drawing ends.
 use Rattle.std.proofs.Common.{◌≡◌, ◌∙◌, ℕ, List, Option, Some, ap, refl, sym}
 use Rattle.sf_layers.specs.Content.{Content}
-use Rattle.sf_map.specs.Pictures.{Choice}
+use Rattle.sf_picture.specs.Pictures.{Choice}
 use Rattle.sf_drawing.specs.declared.running.RunFault.{RunFault}
 use Rattle.sf_drawing.specs.declared.running.RunFault.TheVariants.{Load, MissingLayer, Memory, Draw}
 use Rattle.sf_drawing.specs.Drawings.{EndsEarly, IsMissing, first_missing}

@@ -3,9 +3,9 @@ use Rattle.std.specs.Prelude.{◌≡◌, ℕ, ◌+◌, ◌*◌, ◌/◌, List, O
 use Rattle.sf_layers.specs.Content.{Content, has_layer}
 use Rattle.sf_streams.specs.Streams.{WritesFront}
 use Rattle.sf_loading.specs.Loading.{FailsBy, Loads}
-use Rattle.sf_map.specs.Pictures.{Choice, picture, row_height}
-use Rattle.sf_map.specs.Views.{HasAllShown, IsOver, IsRound, bar_length, box_shown, framing_height, map_height_max, share, shown_count}
-use Rattle.sf_map.specs.declared.view.View.{View}
+use Rattle.sf_picture.specs.Pictures.{Choice, picture, row_height}
+use Rattle.sf_picture.specs.Views.{HasAllShown, IsOver, IsRound, bar_length, box_shown, framing_height, map_height_max, share, shown_count}
+use Rattle.sf_picture.specs.declared.view.View.{View}
 use Rattle.sf_drawing.specs.declared.running.RunFault.{RunFault}
 use Rattle.sf_drawing.specs.declared.running.RunFault.TheVariants.{Load, MissingLayer, Memory, Draw}
 

@@ -6,7 +6,7 @@ ghost use Rattle.sf_drawing.specs.Drawings.{Breaks, Draws, DrawsFrom, EndsEarly,
 
 use sf_file::{LoadFault, load};
 use sf_layers::Store;
-use sf_map::{Choice, DrawFault, View, draw};
+use sf_picture::{Choice, DrawFault, View, draw};
 use std::alloc::Global;
 use std::io::{Read, Write};
 

@@ -1,7 +1,7 @@
 //! How a run ends before its time: its status, and its last words.
 use sf_drawing::RunFault;
 use sf_file::LoadFault;
-use sf_map::{AskedFault, DrawFault};
+use sf_picture::{AskedFault, DrawFault};
 use std::{fmt, io};
 
 /// Why a run ended before its time.

@@ -6,7 +6,7 @@ mod ending;
 
 use ending::Ending;
 use sf_drawing::draw_from;
-use sf_map::{Asked, AskedFault, options};
+use sf_picture::{Asked, AskedFault, options};
 use std::process::ExitCode;
 use std::rt::Env;
 use std::{env, io};

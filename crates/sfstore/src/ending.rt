@@ -2,7 +2,7 @@
 use sf_console::ServeFault;
 use sf_file::{LoadFault, SaveFault};
 use sf_run::RunFault;
-use sf_words::WordsFault;
+use sf_options::OptionsFault;
 use std::fmt;
 
 /// Why a run ended before its time.
@@ -11,7 +11,7 @@ pub enum Ending {
     Serve(ServeFault),
     /// The system's words are no texts.
     Arguments,
-    Words(WordsFault),
+    Words(OptionsFault),
     /// The file to load could not be opened.
     LoadOpen,
     Load(LoadFault),
@@ -35,8 +35,8 @@ impl Ending {
     pub fn status(&self) -> u8 {
         match self {
             Ending::Serve(_) => 1,
-            Ending::Arguments | Ending::Words(WordsFault::Memory) => 2,
-            Ending::Words(WordsFault::Refused(error)) => {
+            Ending::Arguments | Ending::Words(OptionsFault::Memory) => 2,
+            Ending::Words(OptionsFault::Refused(error)) => {
                 if error.exit_code() == 0 { 0 } else { 2 }
             }
             Ending::LoadOpen | Ending::Load(_) => 3,
@@ -50,8 +50,8 @@ impl fmt::Display for Ending {
         match self {
             Ending::Serve(fault) => writeln!(f, "fault serve {}", fault.name()),
             Ending::Arguments => writeln!(f, "error: a word of the command line is not UTF-8"),
-            Ending::Words(WordsFault::Memory) => writeln!(f, "fault words Memory"),
-            Ending::Words(WordsFault::Refused(error)) => write!(f, "{error}"),
+            Ending::Words(OptionsFault::Memory) => writeln!(f, "fault words Memory"),
+            Ending::Words(OptionsFault::Refused(error)) => write!(f, "{error}"),
             Ending::LoadOpen => writeln!(f, "fault load Open"),
             Ending::Load(LoadFault::Memory) => writeln!(f, "fault load Memory"),
             Ending::Load(LoadFault::Read) => writeln!(f, "fault load Read"),

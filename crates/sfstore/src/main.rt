@@ -5,8 +5,8 @@
 mod ending;
 
 use ending::Ending;
+use sf_options::{Options, OptionsFault, options};
 use sf_run::{Served, run_from};
-use sf_words::{Words, WordsFault, options};
 use std::process::ExitCode;
 use std::rt::{Env, Files};
 use std::{env, fs, io};
@@ -14,27 +14,27 @@ use std::{env, fs, io};
 /// Why the system's words could not be had.
 fn arguments_fault(error: &io::Error) -> Ending {
     if error.kind() == io::ErrorKind::OutOfMemory {
-        Ending::Words(WordsFault::Memory)
+        Ending::Words(OptionsFault::Memory)
     } else {
         Ending::Arguments
     }
 }
 
 /// What the words of the command line ask for.
-fn asked(rt: &(impl Env + AllocGlobal)) -> Result<Words, Ending> {
+fn asked(rt: &(impl Env + AllocGlobal)) -> Result<Options, Ending> {
     let alloc = rt.alloc();
     let arguments = env::args(rt).map_err(|error| arguments_fault(&error))?;
     let Ok(arguments) = arguments.collect::<Vec<String>>(alloc) else {
-        return Err(Ending::Words(WordsFault::Memory));
+        return Err(Ending::Words(OptionsFault::Memory));
     };
     let Ok(words) = arguments
         .iter()
         .map(|word| word.as_str())
         .collect::<Vec<&str>>(alloc)
     else {
-        return Err(Ending::Words(WordsFault::Memory));
+        return Err(Ending::Words(OptionsFault::Memory));
     };
-    options::words(alloc, words.as_slice()).map_err(Ending::Words)
+    options::asked(alloc, words.as_slice()).map_err(Ending::Words)
 }
 
 /// Answers all lines of the input, over the store of a file where one is named.

@@ -1,0 +1,9 @@
+//! What the words of the program's command line ask for.
+#![tactic(auto)]
+
+mod asked;
+pub mod options;
+#[cfg(test)]
+mod tests;
+
+pub use asked::{Options, OptionsFault};

@@ -1,0 +1,125 @@
+//! The words of the program's command line, read.
+ghost use Rattle.std.specs.Prelude.{◌≡◌, ℕ, List, map, codes, IfOk, string_bytes};
+ghost use Rattle.std.specs.Option.{option_map};
+ghost use Rattle.clap.specs.Words.{app_of, found_of, first_value, FailsBy};
+ghost use Rattle.sf_options.specs.Options.{program, program_matches, program_faults, given, IsRefusedBy};
+
+use super::asked::{Options, OptionsFault};
+use clap::error::ErrorKind;
+use clap::{Arg, ArgMatches, Command, Error};
+use std::alloc::{AllocError, Global};
+
+/// What the program is.
+const ABOUT: &str =
+    "A store of vector map features in named layers, where every edit can be undone exactly.\nReads a line of a command at a time from standard input, and answers each on standard output.";
+
+/// An example, and the commands.
+const EXAMPLE_AND_COMMANDS: &str = "Example:
+  sfstore --load parcels.sfs --save parcels.sfs < edits
+
+Commands, one on a line:
+  layer add NAME KIND             a layer more: of any kind, or of point, linestring, polygon,
+                                  multipoint, multilinestring or multipolygon alone
+  layer drop NAME                 the layer with its features
+  layer rename OLD NEW            another name
+  layer move NAME PLACE           another place in the drawing order, from 0 on
+  layers                          names and kinds, in drawing order
+  column add LAYER NAME TYPE      a column of int or text more
+  column drop LAYER NAME          the column with its values
+  columns LAYER                   names and types, in order
+  add LAYER WKT                   a feature of well-known text more
+  addhex LAYER HEX                a feature of well-known binary more
+  delete LAYER ID                 the feature
+  replace LAYER ID WKT            another geometry
+  vertex insert LAYER ID PART RING INDEX X Y
+  vertex move LAYER ID PART RING INDEX X Y
+  vertex remove LAYER ID PART RING INDEX
+  set LAYER ID COLUMN VALUE       a number, or a text in single quotes
+  unset LAYER ID COLUMN           no value
+  undo                            the last edit taken back
+  redo                            the last edit taken back done again
+  show LAYER                      features with their values
+  hex LAYER ID                    the geometry in well-known binary
+  box LAYER ID                    the least box round the geometry
+  simple LAYER ID                 whether the geometry is simple
+  relate LAYER ID WKT             the DE-9IM matrix of feature and geometry
+  match LAYER PATTERN WKT         features whose matrix matches nine letters of TF*012
+  query LAYER PREDICATE WKT       features that equal, intersect, touch .. the geometry: equals,
+                                  disjoint, intersects, touches, within, contains, crosses, overlaps";
+
+/// The command with its texts for the user, which change nothing of what it takes.
+fn described<'a>(command: Command<'a>) -> Command<'a>
+    ensures { app_of result ≡ app_of command.entry }
+{
+    command.about(ABOUT).after_help(EXAMPLE_AND_COMMANDS)
+}
+
+/// The command: two options, each with a file.
+fn command<'a>(alloc: Global) -> Result<Command<'a>, AllocError>
+    ensures { IfOk result (λ command. app_of command ≡ program) }
+{
+    let load = Arg::new(alloc, "load")
+        .long("load")
+        .value_name("FILE")
+        .help("Loads the store of this file before the first line");
+    let save = Arg::new(alloc, "save")
+        .long("save")
+        .value_name("FILE")
+        .help("Saves the store to this file after the last line");
+    described(Command::new(alloc, "sfstore"))
+        .arg(load)?
+        .arg(save)
+}
+
+/// What clap makes of the words.
+fn matches_of<'a>(alloc: Global, words: &'a [&'a str]) -> Result<ArgMatches<'a>, Error>
+    ensures values { IfOk result (λ m. (id : List ℕ) → first_value (found_of m) id
+        ≡ given id (program_matches (map (λ word. word.now) words.now))) }
+    ensures faults { FailsBy (program_faults (map (λ word. word.now) words.now)) result }
+{
+    command(alloc)?.try_get_matches_from(words)
+}
+
+/// The value of an option, as a text of its own.
+fn option_text(
+    alloc: Global,
+    matches: &ArgMatches<'_>,
+    id: &str,
+) -> Result<Option<String>, AllocError>
+    ensures { IfOk result (λ value. option_map string_bytes value
+        ≡ first_value (found_of matches.now) id.now) }
+{
+    match matches.get_str(id) {
+        None => Ok(None),
+        Some(value) => Ok(Some(String::from_str(alloc, value)?)),
+    }
+}
+
+/// Reads the words of the program's command line, of which the first is the program's name.
+///
+/// # Errors
+///
+/// `Refused` where the words are not those of the command or ask for help, `Memory` where no memory
+/// is found.
+pub fn asked<'a>(alloc: Global, words: &'a [&'a str]) -> Result<Options, OptionsFault>
+    // The values that the command's matches give the two options.
+    ensures load { IfOk result (λ asked. option_map string_bytes asked.load
+        ≡ given (codes "load") (program_matches (map (λ word. word.now) words.now))) }
+    ensures save { IfOk result (λ asked. option_map string_bytes asked.save
+        ≡ given (codes "save") (program_matches (map (λ word. word.now) words.now))) }
+
+    // Words are taken only where they have no fault, and refused only for one that they have.
+    ensures faults { IsRefusedBy (program_faults (map (λ word. word.now) words.now)) result }
+{
+    match matches_of(alloc, words) {
+        Ok(matches) => {
+            let load = option_text(alloc, &matches, "load")?;
+            let save = option_text(alloc, &matches, "save")?;
+            Ok(Options { load, save })
+        }
+        Err(error) => match error.kind() {
+            ErrorKind::OutOfMemory => Err(OptionsFault::Memory),
+            _ => Err(OptionsFault::Refused(error)),
+        },
+    }
+}
