@@ -1,5 +1,5 @@
 -- The editor whom the first word of a line names.
-use Rattle.std.proofs.Common.{◌≡◌, ◌≢◌, ℕ, ◌+◌, ◌-◌, ◌*◌, ◌^◌, ◌<◌, Bool, true, false, ◌&&◌, cond, nat_eq, nat_lt, nat_le, List, [], ◌∷◌, ◌++◌, drop, length, fold, Option, Some, None, MatchOption, Result, Ok, Err, if◌then◌else◌, refl, sym, ap, ◌∙◌, arith, rules}
+use Rattle.std.proofs.Common.{◌≡◌, ◌≢◌, ℕ, ◌+◌, ◌-◌, ◌*◌, ◌^◌, ◌<◌, Bool, true, false, ◌&&◌, cond, nat_eq, nat_lt, nat_le, List, [], ◌∷◌, ◌++◌, drop, length, fold, Option, Some, None, MatchOption, Result, Ok, Err, IsErrAnd, if◌then◌else◌, refl, sym, ap, ◌∙◌, subst, arith, rules}
 use denote.Ref.{Bor}
 use lib.Utf8
 use Rattle.std.specs.Char.{encode_utf8, is_ascii_digit}
@@ -11,10 +11,12 @@ use Rattle.std.proofs.lemmas.Bool.{eqb-true}
 use Rattle.std.proofs.lemmas.Bool.Decides.{nat_tests}
 use Rattle.std.proofs.lemmas.Str.Parse.{IsNumeralModel, numerals_by_fold, parse_digits}
 use Rattle.sf_refusals.specs.declared.refusal.Refusal.{Refusal}
-use Rattle.sf_refusals.specs.declared.refusal.Refusal.TheVariants.{Memory}
+use Rattle.sf_refusals.specs.declared.refusal.Refusal.TheVariants.{LineTooLong, Memory}
+use Rattle.sf_lines.specs.Lines.{line_max}
 use Rattle.sf_wkt.specs.Tokens.{digits_value}
 use Rattle.sf_commands.specs.declared.command.Command.{Command}
-use Rattle.sf_commands.specs.Commands.{behind_at, by_editor, editor_digits_max, editor_of, OrMemory}
+use Rattle.sf_commands.specs.Commands.{addressed, addressed_takes_memory, behind_at, by_editor, by_words, command_of, editor_digits_max, editor_of, made, takes_memory, words_take_memory, OrMemory, OrMemoryIf}
+use Rattle.sf_commands.specs.Words.{words, skip_word}
 
 -- ---- behind the `@`
 
@@ -90,13 +92,43 @@ editor_of-parsed digits r parses numeral =
 
 -- ---- the command
 
--- a command that was read, with its editor
-pub OrMemory-by_editor : (editor : ℕ) (expected : Result Command Refusal) (command : Command) → OrMemory expected (Ok command)
+OrMemory-by_editor : (editor : ℕ) (expected : Result Command Refusal) (command : Command) → OrMemory expected (Ok command)
     → OrMemory (by_editor editor expected) (Ok (editor, command))
 OrMemory-by_editor editor expected command is = ap (by_editor editor) is
 
--- a command that was refused
-pub OrMemory-by_editor-refused : (editor : ℕ) (expected : Result Command Refusal) (refusal : Refusal) → OrMemory expected (Err refusal)
+OrMemory-by_editor-refused : (editor : ℕ) (expected : Result Command Refusal) (refusal : Refusal) → OrMemory expected (Err refusal)
     → OrMemory (by_editor editor expected) (Err refusal)
 OrMemory-by_editor-refused editor expected Memory is = tt
 OrMemory-by_editor-refused editor expected refusal is = ap (by_editor editor) is
+
+-- a command that was read, with its editor
+pub OrMemoryIf-by_editor : (takes : Bool) (editor : ℕ) (expected : Result Command Refusal) (command : Command) → OrMemoryIf takes expected (Ok command)
+    → OrMemoryIf takes (by_editor editor expected) (Ok (editor, command))
+OrMemoryIf-by_editor true editor expected command is = OrMemory-by_editor editor expected command is
+OrMemoryIf-by_editor false editor expected command is = ap (by_editor editor) is
+
+-- a command that was refused
+OrMemoryIf-by_editor-refused : (takes : Bool) (editor : ℕ) (expected : Result Command Refusal) (refusal : Refusal) → OrMemoryIf takes expected (Err refusal)
+    → OrMemoryIf takes (by_editor editor expected) (Err refusal)
+OrMemoryIf-by_editor-refused true editor expected refusal is = OrMemory-by_editor-refused editor expected refusal is
+OrMemoryIf-by_editor-refused false editor expected refusal is = ap (by_editor editor) is
+
+-- what is said of a result, of a line that is not too long and was addressed so
+abbrev IsMadeOf : Bool → Result (ℕ × List ℕ) Refusal → Result (ℕ × Command) Refusal → Type 0
+IsMadeOf long at result =
+    OrMemoryIf (if long then false else addressed_takes_memory at)
+    (if long then Err LineTooLong else made at (λ at. by_editor at.0 (by_words (words at.1) (skip_word at.1)))) result
+
+-- the words behind the editor's were refused
+pub parse-refused : (line rest : List ℕ) (editor : ℕ) (refusal : Refusal) (result : Result (ℕ × Command) Refusal) → nat_lt line_max (length line) ≡ false
+    → addressed line ≡ Ok (editor, rest) → OrMemoryIf (words_take_memory (words rest)) (by_words (words rest) (skip_word rest)) (Err refusal)
+    → IsErrAnd result (λ e. e ≡ refusal) → OrMemoryIf (takes_memory line) (command_of line) result
+parse-refused line rest editor refusal result short at is passed =
+    subst (λ long. IsMadeOf long (addressed line) result) (sym short) (subst (λ a. IsMadeOf false a result) (sym at) (refused result passed))
+  where
+    refused : (r : Result (ℕ × Command) Refusal) → IsErrAnd r (λ e. e ≡ refusal)
+        → OrMemoryIf (words_take_memory (words rest)) (by_editor editor (by_words (words rest) (skip_word rest))) r
+    refused (Ok command) passed = absurd passed
+    refused (Err other) passed =
+        subst (λ e. OrMemoryIf (words_take_memory (words rest)) (by_editor editor (by_words (words rest) (skip_word rest))) (Err e)) (sym passed)
+        (OrMemoryIf-by_editor-refused (words_take_memory (words rest)) editor (by_words (words rest) (skip_word rest)) refusal is)

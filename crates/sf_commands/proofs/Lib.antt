@@ -9,4 +9,5 @@ pub mod QueryLemmas
 pub mod Computed
 pub mod ComputedQueries
 pub mod LawProofs
+pub mod JudgedProofs
 pub mod AddressLemmas

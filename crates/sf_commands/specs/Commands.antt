@@ -1,5 +1,5 @@
 -- The command of a line.
-use Rattle.std.specs.Prelude.{◌≡◌, ℕ, ◌^◌, ◌&&◌, List, [], ◌∷◌, length, Option, None, Some, Result, Ok, Err, nat_eq, nat_lt, nat_le, bytes_eq, codes, if◌then◌else◌}
+use Rattle.std.specs.Prelude.{◌≡◌, ℕ, ◌^◌, Bool, true, false, ◌&&◌, List, [], ◌∷◌, length, Option, None, Some, Result, Ok, Err, nat_eq, nat_lt, nat_le, bytes_eq, codes, if◌then◌else◌}
 use Rattle.std.specs.Char.{is_ascii_digit}
 use Rattle.std.specs.List.{list_all}
 use Rattle.std.specs.Map.{lookup}
@@ -370,3 +370,31 @@ command_of line = if nat_lt line_max (length line) then Err LineTooLong else add
 abbrev pub OrMemory : {T : Type 0} → Result T Refusal → Result T Refusal → Type 0
 OrMemory expected (Err Memory) = Unit {0}
 OrMemory expected result = result ≡ expected
+
+-- whether memory is taken for a command of this verb: not for what no text is kept of
+abbrev pub verb_takes_memory : Option Verb → Bool
+verb_takes_memory None = false
+verb_takes_memory (Some verbs.Undo) = false
+verb_takes_memory (Some verbs.Redo) = false
+verb_takes_memory (Some verbs.Layers) = false
+verb_takes_memory (Some verb) = true
+
+-- whether it is taken for the command of these words
+abbrev pub words_take_memory : List (List ℕ) → Bool
+words_take_memory [] = false
+words_take_memory (verb ∷ arguments) = verb_takes_memory (verb_of verb)
+
+-- whether it is taken for the command behind an editor's word, where that names one
+abbrev pub addressed_takes_memory : Result (ℕ × List ℕ) Refusal → Bool
+addressed_takes_memory (Ok at) = words_take_memory (words at.1)
+addressed_takes_memory (Err refusal) = false
+
+-- whether memory is taken for the command of a line: not for one that is too long, that names no editor where it should,
+-- that has no verb, or whose verb takes none
+abbrev pub takes_memory : List ℕ → Bool
+takes_memory line = if nat_lt line_max (length line) then false else addressed_takes_memory (addressed line)
+
+-- this result; or want of memory in its place, where memory is taken
+abbrev pub OrMemoryIf : {T : Type 0} → Bool → Result T Refusal → Result T Refusal → Type 0
+OrMemoryIf true expected result = OrMemory expected result
+OrMemoryIf false expected result = result ≡ expected

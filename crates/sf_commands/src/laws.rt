@@ -1,7 +1,13 @@
 //! Laws of the definitions, each proved as the contract of a function that does nothing.
-ghost use Rattle.sf_commands.specs.Laws.{CommandsBringGridPoints};
+ghost use Rattle.sf_commands.specs.Laws.{CommandsBringGridPoints, GivenGeometriesAreJudgedOverThePlane};
 
 /// The points that the edit of a line brings are on the grid.
 pub fn commands_bring_grid_points()
     ensures { CommandsBringGridPoints }
+{}
+
+/// A geometry that features are compared with is valid over all points of the plane. A line that is refused for a
+/// fault of shape spells a geometry of which that is the first one there.
+pub fn given_geometries_are_judged_over_the_plane()
+    ensures { GivenGeometriesAreJudgedOverThePlane }
 {}

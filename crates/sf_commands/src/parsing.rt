@@ -1,6 +1,6 @@
 //! Lines as commands: the verb of each, and whatever reads the words after it.
 ghost use Rattle.std.specs.Prelude.{◌≡◌};
-ghost use Rattle.sf_commands.specs.Commands.{command_of, by_words, by_verb, alone, OrMemory};
+ghost use Rattle.sf_commands.specs.Commands.{command_of, by_words, by_verb, alone, takes_memory, verb_takes_memory, words_take_memory, OrMemoryIf};
 ghost use Rattle.sf_commands.specs.declared.command.Command.TheVariants.{Undo, Redo};
 ghost use Rattle.sf_commands.specs.Words.{words as words_of, skip_word};
 
@@ -25,9 +25,10 @@ use std::alloc::Global;
 /// number of them, an editor's word that names none before all others, then `BadPattern` for a pattern that is none,
 /// then `Syntax` for a text that is no hexadecimal, the faults of a well-known text or binary, and those of a
 /// coordinate, x before y; last, of a geometry that features are compared with, its first fault. `Memory` may come in
-/// place of any of them.
+/// place of any of them where memory is taken: not for a line that is too long or whose editor's word names none, nor
+/// for one without a verb, whose verb is unknown, or that is `undo`, `redo` or `layers`.
 pub fn parse(alloc: Global, line: &str) -> Result<(u8, Command), Refusal>
-    ensures { OrMemory (command_of line.now) result }
+    ensures { OrMemoryIf (takes_memory line.now) (command_of line.now) result }
 {
     if line.len() > LINE_MAX {
         return Err(Refusal::LineTooLong);
@@ -39,7 +40,7 @@ pub fn parse(alloc: Global, line: &str) -> Result<(u8, Command), Refusal>
 
 /// The command of the words of a line, the editor's not among them.
 fn command_of_words(alloc: Global, words: Words<'_>) -> Result<Command, Refusal>
-    ensures { OrMemory (by_words (words_of words.entry) (skip_word words.entry)) result }
+    ensures { OrMemoryIf (words_take_memory (words_of words.entry)) (by_words (words_of words.entry) (skip_word words.entry)) result }
 {
     let mut words = words;
     let verb = verb_of(words.next()?);
@@ -48,7 +49,7 @@ fn command_of_words(alloc: Global, words: Words<'_>) -> Result<Command, Refusal>
 
 /// The command of a verb and the words after it.
 fn arguments_of(alloc: Global, verb: Option<Verb>, words: Words<'_>) -> Result<Command, Refusal>
-    ensures { OrMemory (by_verb verb words.entry) result }
+    ensures { OrMemoryIf (verb_takes_memory verb) (by_verb verb words.entry) result }
 {
     match verb {
         Some(Verb::Layer) => layer_arguments(alloc, words),

@@ -8,3 +8,4 @@ pub mod Rows
 pub mod RoundTrip
 pub mod Promises
 pub mod Loaded
+pub mod Judged

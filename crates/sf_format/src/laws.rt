@@ -1,5 +1,5 @@
 //! Laws of the definitions, each proved as the contract of a function that does nothing.
-ghost use Rattle.sf_format.specs.Laws.{CanonicalBytesLoad, CanonicalBytesDiffer, FirstVersionLoads, FirstVersionIsKept, FirstCanonicalBytesLoad, FilesAreWellFormed};
+ghost use Rattle.sf_format.specs.Laws.{CanonicalBytesLoad, CanonicalBytesDiffer, FirstVersionLoads, FirstVersionIsKept, FirstCanonicalBytesLoad, FilesAreJudgedOverThePlane, FilesAreWellFormed};
 
 /// The canonical bytes of a well-formed content load as it.
 pub fn canonical_bytes_load()
@@ -29,4 +29,10 @@ pub fn first_canonical_bytes_load()
 /// Only well-formed contents have files.
 pub fn files_are_well_formed()
     ensures { FilesAreWellFormed }
+{}
+
+/// A file that is refused for a fault of shape has at the place that is told a geometry of which that is the first
+/// fault over all points of the plane.
+pub fn files_are_judged_over_the_plane()
+    ensures { FilesAreJudgedOverThePlane }
 {}

@@ -1,0 +1,326 @@
+-- Where a file is refused for a fault of shape it has a geometry with that fault at the place that is told: what each
+-- reading of the format keeps of the place of what is left, and which faults it finds.
+use Rattle.std.proofs.Common.{◌≡◌, ℕ, zero, suc, ◌+◌, Bool, true, false, cond, ltb, ◌&&◌, not, List, [], ◌∷◌, ◌++◌, length, take, drop, Option, None, Some, Result, Ok, Err, IfErr, IfOk, codes, refl, sym, ap, ap₂, subst, ◌∙◌, ⊥, absurd, arith, bytes_eq, nat_eq}
+use Rattle.std.specs.Prelude.{is_some, nat_lt, nat_le}
+use Rattle.std.specs.Int.{w64, cast_signed}
+use Rattle.byteorder.specs.Endian.{big_number}
+use Rattle.sf_geometry.specs.declared.geometry.Geometry.{Geometry}
+use Rattle.sf_geometry.specs.Kinds.{kind_of}
+use Rattle.sf_geometry.specs.Parts.{LiesOnGrid}
+use Rattle.sf_geometry.specs.Size.{IsSized}
+use Rattle.sf_rules.specs.declared.fault.Fault.{Fault as ShapeFault}
+use Rattle.sf_rules.specs.Validity.{IsFirstFault, IsVerdict}
+use Rattle.sf_rules.specs.Verdicts.{first_fault}
+use Rattle.sf_rules.proofs.FirstLaws.{first_fault-over_plane}
+use Rattle.sf_wkb.specs.declared.fault.WkbFault.{WkbFault}
+use Rattle.sf_wkb.specs.declared.fault.WkbFault.TheVariants as binaries
+use Rattle.sf_wkb.specs.declared.grid.Grid.{Grid}
+use Rattle.sf_wkb.specs.Grammar.{read_in}
+use Rattle.sf_wkb.proofs.Sized.{read_is_sized}
+use Rattle.sf_features.specs.declared.column.Column.{Column}
+use Rattle.sf_features.specs.declared.column_type.ColumnType.{ColumnType}
+use Rattle.sf_features.specs.declared.column_type.ColumnType.TheVariants as types
+use Rattle.sf_features.specs.declared.attr_value.AttrValue.{AttrValue}
+use Rattle.sf_features.specs.declared.attr_value.AttrValue.TheVariants as values
+use Rattle.sf_features.specs.Names.{is_name}
+use Rattle.sf_features.specs.Columns.{named, numbered}
+use Rattle.sf_features.specs.Features.{FeatureContent}
+use Rattle.sf_features.specs.Values.{is_attr_text, text_max}
+use Rattle.sf_layers.specs.declared.layer_kind.LayerKind.{LayerKind}
+use Rattle.sf_layers.specs.Content.{Content, LayerContent, admits, has_layer}
+use Rattle.sf_layers.specs.WellFormed.{layers_max}
+use Rattle.sf_streams.specs.Streams.{Left}
+use Rattle.sf_format.specs.declared.defect.Defect.{Defect}
+use Rattle.sf_format.specs.declared.defect.Defect.TheVariants.{Truncated, Trailing, TooManyVertices, Wkb, Invalid, LayerExists, BadName, NoColumn, ColumnExists, WrongValue, WrongKind, IdsExhausted, ColumnsExhausted, BadFile}
+use Rattle.sf_format.specs.Readings.{Fault, Reads, Reading, and_then, ◌>>=◌, done, bytes, judged, field, number, sized, items, end}
+use Rattle.sf_format.specs.Laws.{FilesAreJudgedOverThePlane, HasFaultyGeometry}
+use Rattle.sf_format.specs.Format.{RowReading, row_max, allowed, present, last_number, name, kind_of_byte, type_of_byte, fresh_number, fresh_column_name, column, without_fault, admitted, geometry, typed_value, next_column_of, value, next_of, feature, fresh_layer_name, layer, layers, head, is_second, grid_of, grid_of_byte, file, value_of}
+use Rattle.sf_format.proofs.Again.{at}
+use Rattle.sf_format.proofs.Continuations.{column_after_type, column_after_number, value_after_column, geometry_after_size, feature_after_count, feature_after_geometry, feature_after_id, layer_after_feature_count, layer_after_columns, layer_after_column_count, layer_after_next_column, layer_after_next_id, layer_after_kind, layer_after_name, file_after_head, file_after_layers}
+use Rattle.sf_format.proofs.Loaded.{GivesSized}
+
+-- what is left of a text is what stands behind its place
+abbrev IsOf : List ℕ → Left → Type 0
+IsOf text left = left.bytes ≡ drop left.place text
+
+-- a geometry stands at the place, read so, and this is its first fault
+record Faulty (row : RowReading) (text : List ℕ) (place : ℕ) (fault : ShapeFault) : Type 0 where
+  size : ℕ
+  geometry : Geometry
+  is_there : row (take size (drop place text)) ≡ Ok geometry
+  first : IsFirstFault geometry fault
+
+-- a defect of another kind
+abbrev IsOther : Defect → Type 0
+IsOther defect = (fault : ShapeFault) → defect ≡ Invalid fault → ⊥
+
+-- of what was read of a text: what is left is of it, and a fault of shape is that of a geometry at its place
+abbrev Fits : {T : Type 0} → RowReading → List ℕ → Reads T → Type 0
+Fits row text (Ok x) = IsOf text x.1
+Fits row text (Err found) = (fault : ShapeFault) → found.defect ≡ Invalid fault → Faulty row text found.place fault
+
+abbrev Finds : {T : Type 0} → RowReading → List ℕ → Reading T → Type 0
+Finds row text read = (left : Left) → IsOf text left → Fits row text (read left)
+
+-- ---- readings made of others
+
+Fits-then : {A B : Type 0} (row : RowReading) (text : List ℕ) (r : Reads A) (next : A → Reading B) → Fits row text r → ((x : A) → Finds row text (next x)) → Fits row text (and_then r next)
+Fits-then row text (Ok x) next fits finds = finds x.0 x.1 fits
+Fits-then row text (Err found) next fits finds = fits
+
+Finds-then : {A B : Type 0} (row : RowReading) (text : List ℕ) (read : Reading A) (next : A → Reading B) → Finds row text read → ((x : A) → Finds row text (next x)) → Finds row text (read >>= next)
+Finds-then row text read next first second left is = Fits-then row text (read left) next (first left is) second
+
+Finds-done : {T : Type 0} (row : RowReading) (text : List ℕ) (x : T) → Finds row text (done x)
+Finds-done row text x left is = is
+
+Fits-judged : {B : Type 0} (row : RowReading) (text : List ℕ) (place : ℕ) (rest : Left) (r : Result B Defect) → IsOf text rest → IfErr r IsOther → Fits row text (judged place rest r)
+Fits-judged row text place rest (Ok value) is others = is
+Fits-judged row text place rest (Err defect) is others = λ fault same. absurd (others fault same)
+
+Finds-field : {A B : Type 0} (row : RowReading) (text : List ℕ) (read : Reading A) (rule : A → Result B Defect) → Finds row text read → ((x : A) → IfErr (rule x) IsOther) → Finds row text (field read rule)
+Finds-field row text read rule first others left is =
+    Fits-then row text (read left) (λ value rest. judged left.place rest (rule value)) (first left is) (λ x rest is. Fits-judged row text left.place rest (rule x) is (others x))
+
+drop-more : (m n : ℕ) (text : List ℕ) → drop m (drop n text) ≡ drop (n + m) text
+drop-more m zero text = refl
+drop-more zero (suc n) [] = refl
+drop-more (suc m) (suc n) [] = refl
+drop-more m (suc n) (b ∷ text) = drop-more m n text
+
+-- so many bytes further
+further : (text : List ℕ) (count : ℕ) (left : Left) → IsOf text left → drop count left.bytes ≡ drop (left.place + count) text
+further text count left is = ap (drop count) is ∙ drop-more count left.place text
+
+Finds-bytes : (row : RowReading) (text : List ℕ) (count : ℕ) → Finds row text (bytes count)
+Finds-bytes row text count left is = by_test (ltb (length left.bytes) count)
+  where
+    by_test : (b : Bool) → Fits {T = List ℕ} row text (cond b (Err (record { place = left.place + length left.bytes; defect = Truncated }))
+        (Ok (take count left.bytes, record { place = left.place + count; bytes = drop count left.bytes })))
+    by_test true = λ fault same. absurd cc
+    by_test false = further text count left is
+
+Finds-number : (row : RowReading) (text : List ℕ) (count : ℕ) → Finds row text (number count)
+Finds-number row text count = Finds-then row text (bytes count) (λ digits. done (big_number count digits)) (Finds-bytes row text count) (λ digits. Finds-done row text (big_number count digits))
+
+Finds-rule : {B : Type 0} (row : RowReading) (text : List ℕ) (count : ℕ) (rule : ℕ → Result B Defect) → ((n : ℕ) → IfErr (rule n) IsOther) → Finds row text (field (number count) rule)
+Finds-rule row text count rule others = Finds-field row text (number count) rule (Finds-number row text count) others
+
+Finds-sized : (row : RowReading) (text : List ℕ) (count : ℕ) (rule : ℕ → Result ℕ Defect) → ((n : ℕ) → IfErr (rule n) IsOther) → Finds row text (sized count rule)
+Finds-sized row text count rule others = Finds-then row text (field (number count) rule) bytes (Finds-rule row text count rule others) (λ size. Finds-bytes row text size)
+
+Finds-items : {X : Type 0} (row : RowReading) (text : List ℕ) (item : List X → Reading X) → ((earlier : List X) → Finds row text (item earlier)) → (count : ℕ) (earlier : List X) → Finds row text (items item count earlier)
+Finds-items row text item each zero earlier = Finds-done row text earlier
+Finds-items row text item each (suc count) earlier =
+    Finds-then row text (item earlier) (λ x. items item count (earlier ++ x ∷ [])) (each earlier) (λ x. Finds-items row text item each count (earlier ++ x ∷ []))
+
+-- ---- rules that find no fault of shape
+
+allowed_other : {T : Type 0} (test : Bool) (defect : Defect) (x : T) → IsOther defect → IfErr (allowed test defect x) IsOther
+allowed_other true defect x other = tt
+allowed_other false defect x other = other
+
+present_other : {T : Type 0} (o : Option T) (defect : Defect) → IsOther defect → IfErr (present o defect) IsOther
+present_other None defect other = other
+present_other (Some x) defect other = tt
+
+bad_name : IsOther BadName
+bad_name fault same = cc
+
+column_exists : IsOther ColumnExists
+column_exists fault same = cc
+
+layer_exists : IsOther LayerExists
+layer_exists fault same = cc
+
+no_column : IsOther NoColumn
+no_column fault same = cc
+
+wrong_value : IsOther WrongValue
+wrong_value fault same = cc
+
+wrong_kind : IsOther WrongKind
+wrong_kind fault same = cc
+
+ids_exhausted : IsOther IdsExhausted
+ids_exhausted fault same = cc
+
+columns_exhausted : IsOther ColumnsExhausted
+columns_exhausted fault same = cc
+
+too_many : IsOther TooManyVertices
+too_many fault same = cc
+
+-- ---- names, columns, values
+
+Finds-name : (row : RowReading) (text : List ℕ) → Finds row text name
+Finds-name row text = Finds-field row text _ _
+    (Finds-sized row text 1 _ (λ size. allowed_other (nat_le 1 size && nat_le size 32) BadName size bad_name))
+    (λ word. allowed_other (is_name word) BadName word bad_name)
+
+Finds-column : (row : RowReading) (text : List ℕ) (next : ℕ) (earlier : List Column) → Finds row text (column next earlier)
+Finds-column row text next earlier =
+    Finds-then row text (field (number 2) (fresh_number next earlier)) (column_after_number earlier)
+    (Finds-rule row text 2 (fresh_number next earlier) (λ n. allowed_other _ ColumnsExhausted n columns_exhausted))
+    (λ n. Finds-then row text (field (number 1) (λ byte. present (type_of_byte byte) WrongValue)) (column_after_type earlier n)
+    (Finds-rule row text 1 _ (λ byte. present_other (type_of_byte byte) WrongValue wrong_value))
+    (λ t. Finds-then row text (field name (fresh_column_name earlier)) (λ title. done (record { number = n; name = title; column_type = t }))
+    (Finds-field row text name (fresh_column_name earlier) (Finds-name row text) (λ title. allowed_other _ ColumnExists title column_exists))
+    (λ title. Finds-done row text (record { number = n; name = title; column_type = t }))))
+
+Finds-typed : (row : RowReading) (text : List ℕ) (t : ColumnType) → Finds row text (typed_value t)
+Finds-typed row text types.Int = Finds-then row text (number 8) (λ n. done (values.Int (cast_signed w64 n))) (Finds-number row text 8) (λ n. Finds-done row text (values.Int (cast_signed w64 n)))
+Finds-typed row text types.Text = Finds-field row text _ _
+    (Finds-sized row text 2 _ (λ size. allowed_other (nat_le size text_max) WrongValue size wrong_value))
+    (λ word. allowed_other (is_attr_text word) WrongValue (values.Text word) wrong_value)
+
+Finds-value : (row : RowReading) (text : List ℕ) (columns : List Column) (earlier : List (ℕ × AttrValue)) → Finds row text (value columns earlier)
+Finds-value row text columns earlier =
+    Finds-then row text (field (number 2) (next_column_of columns (last_number earlier))) value_after_column
+    (Finds-rule row text 2 (next_column_of columns (last_number earlier)) (λ n. present_other _ NoColumn no_column))
+    (λ c. Finds-then row text (typed_value c.column_type) (λ content. done (c.number, content)) (Finds-typed row text c.column_type) (λ content. Finds-done row text (c.number, content)))
+
+-- ---- a geometry
+
+-- what a reading gave of a geometry's bytes, which stand at the place
+Fits-admitted : (row : RowReading) (text : List ℕ) (kind : LayerKind) (place size : ℕ) (rest : Left) (r : Result Geometry WkbFault) → row (take size (drop place text)) ≡ r
+    → IfOk r (λ g. IsSized g × LiesOnGrid g) → IsOf text rest → Fits row text (judged place rest (admitted kind r))
+Fits-admitted row text kind place size rest (Err wkb) is_there sized is = λ fault same. absurd cc
+Fits-admitted row text kind place size rest (Ok shape) is_there sized is = by_kind (admits kind (kind_of shape))
+  where
+    by_verdict : (verdict : Option ShapeFault) → IsVerdict shape verdict → Fits row text (judged place rest (without_fault shape verdict))
+    by_verdict None valid = is
+    by_verdict (Some first) faulty = λ fault same.
+        let one : first ≡ fault = cc in
+        record { size = size; geometry = shape; is_there = is_there; first = subst (IsFirstFault shape) one faulty }
+
+    by_kind : (b : Bool) → Fits row text (judged place rest (cond b (without_fault shape (first_fault shape)) (Err WrongKind)))
+    by_kind true = by_verdict (first_fault shape) (first_fault-over_plane shape sized.0)
+    by_kind false = λ fault same. absurd cc
+
+Finds-row : (row : RowReading) (text : List ℕ) → GivesSized row → (kind : LayerKind) (size : ℕ) → Finds row text (geometry_after_size row kind size)
+Finds-row row text sized kind size left is = by_test (ltb (length left.bytes) size)
+  where
+    by_test : (b : Bool) → Fits {T = Geometry} row text (and_then (cond b (Err (record { place = left.place + length left.bytes; defect = Truncated }))
+        (Ok (take size left.bytes, record { place = left.place + size; bytes = drop size left.bytes }))) (λ word rest. judged left.place rest (admitted kind (row word))))
+    by_test true = λ fault same. absurd cc
+    by_test false = Fits-admitted row text kind left.place size (record { place = left.place + size; bytes = drop size left.bytes }) (row (take size left.bytes))
+        (ap (λ bs. row (take size bs)) (sym is)) (sized (take size left.bytes)) (further text size left is)
+
+Finds-geometry : (row : RowReading) (text : List ℕ) → GivesSized row → (kind : LayerKind) → Finds row text (geometry row kind)
+Finds-geometry row text sized kind =
+    Finds-then row text (field (number 4) (λ size. allowed (nat_le size row_max) TooManyVertices size)) (geometry_after_size row kind)
+    (Finds-rule row text 4 _ (λ size. allowed_other (nat_le size row_max) TooManyVertices size too_many)) (Finds-row row text sized kind)
+
+-- ---- features and layers
+
+Finds-feature : (row : RowReading) (text : List ℕ) → GivesSized row → (kind : LayerKind) (next_id : ℕ) (columns : List Column) (earlier : List (ℕ × FeatureContent))
+    → Finds row text (feature row kind next_id columns earlier)
+Finds-feature row text sized kind next_id columns earlier =
+    Finds-then row text (field (number 4) (next_of next_id (last_number earlier))) (feature_after_id row kind columns)
+    (Finds-rule row text 4 (next_of next_id (last_number earlier)) (λ n. allowed_other _ IdsExhausted n ids_exhausted))
+    (λ id. Finds-then row text (geometry row kind) (feature_after_geometry columns id) (Finds-geometry row text sized kind)
+    (λ shape. Finds-then row text (field (number 2) (λ n. allowed (nat_le n (length columns)) NoColumn n)) (feature_after_count columns id shape)
+    (Finds-rule row text 2 _ (λ n. allowed_other (nat_le n (length columns)) NoColumn n no_column))
+    (λ count. Finds-then row text (items (value columns) count []) (λ found. done (id, record { geometry = shape; values = found }))
+    (Finds-items row text (value columns) (Finds-value row text columns) count []) (λ found. Finds-done row text (id, record { geometry = shape; values = found })))))
+
+Finds-layer : (row : RowReading) (text : List ℕ) → GivesSized row → (earlier : Content) → Finds row text (layer row earlier)
+Finds-layer row text sized earlier =
+    Finds-then row text (field name (fresh_layer_name earlier)) (layer_after_name row)
+    (Finds-field row text name (fresh_layer_name earlier) (Finds-name row text) (λ title. allowed_other _ LayerExists title layer_exists))
+    (λ title. Finds-then row text (field (number 1) (λ byte. present (kind_of_byte byte) WrongKind)) (layer_after_kind row title)
+    (Finds-rule row text 1 _ (λ byte. present_other (kind_of_byte byte) WrongKind wrong_kind))
+    (λ kind. Finds-then row text (field (number 4) (λ n. allowed (nat_lt 0 n) IdsExhausted n)) (layer_after_next_id row title kind)
+    (Finds-rule row text 4 _ (λ n. allowed_other (nat_lt 0 n) IdsExhausted n ids_exhausted))
+    (λ next_id. Finds-then row text (field (number 2) (λ n. allowed (nat_lt 0 n) ColumnsExhausted n)) (layer_after_next_column row title kind next_id)
+    (Finds-rule row text 2 _ (λ n. allowed_other (nat_lt 0 n) ColumnsExhausted n columns_exhausted))
+    (λ next_column. Finds-then row text (field (number 2) (λ n. allowed (nat_lt n next_column) ColumnsExhausted n)) (layer_after_column_count row title kind next_id next_column)
+    (Finds-rule row text 2 _ (λ n. allowed_other (nat_lt n next_column) ColumnsExhausted n columns_exhausted))
+    (λ column_count. Finds-then row text (items (column next_column) column_count []) (layer_after_columns row title kind next_id next_column)
+    (Finds-items row text (column next_column) (Finds-column row text next_column) column_count [])
+    (λ columns. Finds-then row text (field (number 4) (λ n. allowed (nat_lt n next_id) IdsExhausted n)) (layer_after_feature_count row title kind next_id next_column columns)
+    (Finds-rule row text 4 _ (λ n. allowed_other (nat_lt n next_id) IdsExhausted n ids_exhausted))
+    (λ count. Finds-then row text (items (feature row kind next_id columns) count [])
+    (λ features. done (title, record { kind = kind; next_id = next_id; next_column = next_column; columns = columns; features = features }))
+    (Finds-items row text (feature row kind next_id columns) (Finds-feature row text sized kind next_id columns) count [])
+    (λ features. Finds-done row text (title, record { kind = kind; next_id = next_id; next_column = next_column; columns = columns; features = features })))))))))
+
+Finds-layers : (row : RowReading) (text : List ℕ) → GivesSized row → Finds row text (layers row)
+Finds-layers row text sized =
+    Finds-then row text (field (number 4) (λ n. allowed (nat_le n layers_max) IdsExhausted n)) (λ count. items (layer row) count [])
+    (Finds-rule row text 4 _ (λ n. allowed_other (nat_le n layers_max) IdsExhausted n ids_exhausted))
+    (λ count. Finds-items row text (layer row) (Finds-layer row text sized) count [])
+
+-- ---- the front and the end of a file, which have no fault of shape
+
+second_other : (word : List ℕ) → IfErr (is_second word) IsOther
+second_other word = by_test (bytes_eq word (codes "SFSTORE1"))
+  where
+    bad_file : IsOther BadFile
+    bad_file fault same = cc
+
+    by_test : (b : Bool) → IfErr (cond b (Ok false) (allowed (bytes_eq word (codes "SFSTORE2")) BadFile true)) IsOther
+    by_test true = tt
+    by_test false = allowed_other (bytes_eq word (codes "SFSTORE2")) BadFile true bad_file
+
+Finds-grid : (row : RowReading) (text : List ℕ) (second : Bool) → Finds row text (grid_of second)
+Finds-grid row text false left is = is
+Finds-grid row text true = Finds-rule row text 1 grid_of_byte (λ byte. allowed_other (nat_eq byte 24) BadFile _ bad_file)
+  where
+    bad_file : IsOther BadFile
+    bad_file fault same = cc
+
+Finds-head : (row : RowReading) (text : List ℕ) → Finds row text head
+Finds-head row text = Finds-then row text (field (bytes 8) is_second) grid_of (Finds-field row text (bytes 8) is_second (Finds-bytes row text 8) second_other) (Finds-grid row text)
+
+Fits-end : (row : RowReading) (text : List ℕ) (left : Left) → IsOf text left → Fits row text (end left)
+Fits-end row text left is = by_bytes left.bytes left.place is
+  where
+    by_bytes : (rest : List ℕ) (place : ℕ) → rest ≡ drop place text → Fits row text (end (record { place = place; bytes = rest }))
+    by_bytes [] place is = is
+    by_bytes (b ∷ more) place is = λ fault same. absurd cc
+
+Finds-rest : (row : RowReading) (text : List ℕ) → GivesSized row → Finds row text (layers row >>= file_after_layers)
+Finds-rest row text sized =
+    Finds-then row text (layers row) file_after_layers (Finds-layers row text sized)
+    (λ content. Finds-then row text end (λ ended. done content) (Fits-end row text) (λ ended. Finds-done row text content))
+
+-- ---- the whole file
+
+-- a reading that finds no geometry, for the front of a file, where none stands
+no_row : RowReading
+no_row text = Err binaries.Truncated
+
+none_there : (text : List ℕ) (place : ℕ) (fault : ShapeFault) → Faulty no_row text place fault → ⊥
+none_there text place fault faulty = by_row faulty.is_there
+  where
+    by_row : no_row (take faulty.size (drop place text)) ≡ Ok faulty.geometry → ⊥
+    by_row is = cc
+
+by_rest : (row : RowReading) (text : List ℕ) (place : ℕ) (fault : ShapeFault) (r : Reads Content) → Fits row text r
+    → value_of r ≡ Err (record { place = place; defect = Invalid fault }) → Faulty row text place fault
+by_rest row text place fault (Ok x) fits refused = absurd cc
+by_rest row text place fault (Err found) fits refused =
+    let same : found ≡ record { place = place; defect = Invalid fault } = cc in
+    subst (λ p. Faulty row text p fault) (ap (λ f. f.place) same) (fits fault (ap (λ f. f.defect) same))
+
+by_head : (text : List ℕ) (place : ℕ) (fault : ShapeFault) (front : Reads Grid) → head (at 0 text) ≡ front → Fits no_row text front
+    → value_of (and_then front file_after_head) ≡ Err (record { place = place; defect = Invalid fault }) → HasFaultyGeometry text place fault
+by_head text place fault (Ok x) is fits refused =
+    let faulty = by_rest (read_in x.0) text place fault (file_after_head x.0 x.1) (Finds-rest (read_in x.0) text (read_is_sized x.0) x.1 fits) refused in
+    record {
+      grid = x.0;
+      behind_head = x.1;
+      told = is;
+      size = faulty.size;
+      geometry = faulty.geometry;
+      is_there = faulty.is_there;
+      first = faulty.first;
+    }
+by_head text place fault (Err found) is fits refused =
+    let same : found ≡ record { place = place; defect = Invalid fault } = cc in
+    absurd (none_there text found.place fault (fits fault (ap (λ f. f.defect) same)))
+
+pub files-are-judged : FilesAreJudgedOverThePlane
+files-are-judged text place fault refused = by_head text place fault (head (at 0 text)) refl (Finds-head no_row text (at 0 text) refl) refused
