@@ -170,7 +170,7 @@ one_fault first fault is = sym (its_fault first) ∙ ap fault_of is ∙ its_faul
 
 faultless_judged : (t : List ℕ) (geometry : Geometry) (verdict : Option Fault) → read t ≡ Ok geometry → IsVerdict geometry verdict → GivenJudged t (faultless geometry verdict)
 faultless_judged t geometry None is valid = (is, valid)
-faultless_judged t geometry (Some first) is faulty fault same =
+faultless_judged t geometry (Some first) is faulty = λ fault same.
     record { given = geometry; spelled = is; first = subst (IsFirstFault geometry) (one_fault first fault same) faulty }
 
 read_judged : (t : List ℕ) (r : Result Geometry WktFault) → read t ≡ r → IfOk r IsSized → GivenJudged t (valid_of r)

@@ -29,16 +29,16 @@ move_turn old new text (Err refusal) e is h = inr (sym (ap (λ p. p.0) h))
 line_turn : (old new : Machine) (line : Reading) (text : List ℕ) → IsAnswered old line text new → LeadsOrStays (turn_of line) old new
 line_turn old new Blank text answered = answered.1
 line_turn old new (Unreadable refusal) text answered = answered.1
-line_turn old new (Asked (Err refusal)) text (inl replied) = sym (ap (λ p. p.0) replied)
-line_turn old new (Asked (Err refusal)) text (inr refused) = refused.1
-line_turn old new (Asked (Ok (editor, commands.Edit edit))) text (inl replied) = edit_turn old new text (edited editor old edit) (edited editor old edit) refl replied
-line_turn old new (Asked (Ok (editor, commands.Edit edit))) text (inr refused) = inr refused.1
-line_turn old new (Asked (Ok (editor, commands.Undo))) text (inl replied) = move_turn old new text (undone editor old) (undone editor old) refl replied
-line_turn old new (Asked (Ok (editor, commands.Undo))) text (inr refused) = inr refused.1
-line_turn old new (Asked (Ok (editor, commands.Redo))) text (inl replied) = move_turn old new text (redone editor old) (redone editor old) refl replied
-line_turn old new (Asked (Ok (editor, commands.Redo))) text (inr refused) = inr refused.1
-line_turn old new (Asked (Ok (editor, command))) text (inl replied) = sym (ap (λ p. p.0) replied)
-line_turn old new (Asked (Ok (editor, command))) text (inr refused) = refused.1
+line_turn old new (Asked takes (Err refusal)) text (inl replied) = sym (ap (λ p. p.0) replied)
+line_turn old new (Asked takes (Err refusal)) text (inr refused) = refused.1
+line_turn old new (Asked takes (Ok (editor, commands.Edit edit))) text (inl replied) = edit_turn old new text (edited editor old edit) (edited editor old edit) refl replied
+line_turn old new (Asked takes (Ok (editor, commands.Edit edit))) text (inr refused) = inr refused.1
+line_turn old new (Asked takes (Ok (editor, commands.Undo))) text (inl replied) = move_turn old new text (undone editor old) (undone editor old) refl replied
+line_turn old new (Asked takes (Ok (editor, commands.Undo))) text (inr refused) = inr refused.1
+line_turn old new (Asked takes (Ok (editor, commands.Redo))) text (inl replied) = move_turn old new text (redone editor old) (redone editor old) refl replied
+line_turn old new (Asked takes (Ok (editor, commands.Redo))) text (inr refused) = inr refused.1
+line_turn old new (Asked takes (Ok (editor, command))) text (inl replied) = sym (ap (λ p. p.0) replied)
+line_turn old new (Asked takes (Ok (editor, command))) text (inr refused) = refused.1
 
 -- the lines' turns lead where the session leads
 one_more : (old mid new : Machine) (turn : Option Turn) (lines : List Reading) → LeadsOrStays turn old mid → LeadInTurn mid (filter_map turn_of lines) new

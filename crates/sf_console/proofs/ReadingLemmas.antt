@@ -13,25 +13,37 @@ use Rattle.sf_lines.proofs.LineLemmas.{lines_of-whole, lines_of-unfed, lines_of-
 use Rattle.sf_wkt.specs.Tokens.{is_blank}
 use Rattle.sf_history.specs.History.{Machine}
 use Rattle.sf_commands.specs.declared.command.Command.{Command}
-use Rattle.sf_commands.specs.Commands.{command_of, OrMemory}
+use Rattle.sf_commands.specs.Commands.{command_of, takes_memory, OrMemoryIf}
 use Rattle.sf_console.specs.declared.reply.Reply.{Reply}
-use Rattle.sf_console.specs.Answers.{refusal_line, reply_text}
+use Rattle.sf_console.specs.Answers.{refusal_line, reply, reply_text}
 use Rattle.sf_console.specs.Readings.{Reading, Blank, Unreadable, Asked, reading, text_reading, readings_of, whole_readings_of}
-use Rattle.sf_console.specs.Session.{IsAnswered, IsLastAnswered}
+use Rattle.sf_console.specs.Session.{IsAnswered, IsLastAnswered, MayWant}
 
 -- what a text is, by two tests
 abbrev reading_by : Bool → Bool → List ℕ → Reading
-reading_by utf8 blank text = cond (not utf8) (Unreadable BadCommand) (cond blank Blank (Asked (command_of text)))
+reading_by utf8 blank text = cond (not utf8) (Unreadable BadCommand) (cond blank Blank (Asked (takes_memory text) (command_of text)))
 
 pub text_reading-by : (text : List ℕ) (utf8 blank : Bool) → is_utf8 text ≡ utf8 → list_all is_blank text ≡ blank → text_reading text ≡ reading_by utf8 blank text
 text_reading-by text utf8 blank u b = ap (λ x. reading_by x (list_all is_blank text) text) u ∙ ap (λ x. reading_by utf8 x text) b
 
--- a command that is read, or refused for want of memory, is carried out as the line's own
-pub IsAnswered-asked : (old new : Machine) (text : List ℕ) (expected r : Result (ℕ × Command) Refusal)
-    → OrMemory expected r → IsAnswered old (Asked r) text new → IsAnswered old (Asked expected) text new
-IsAnswered-asked old new text expected (Err Memory) or (inl e) = inr (sym (ap (λ p. p.1) e), sym (ap (λ p. p.0) e))
-IsAnswered-asked old new text expected (Err Memory) or (inr e) = inr e
-IsAnswered-asked old new text expected r or gives = subst (λ x. IsAnswered old (Asked x) text new) or gives
+-- memory may be wanting for what takes it as it is carried out, whether or not reading takes any
+carried : (takes : Bool) (old : Machine) (command : Result (ℕ × Command) Refusal) → MayWant old false command → MayWant old takes command
+carried takes old command (inl none) = absurd cc
+carried takes old command (inr may) = inr may
+
+-- what answers a command that was read answers the line's own
+read_as : (takes : Bool) (old new : Machine) (text : List ℕ) (expected r : Result (ℕ × Command) Refusal) → r ≡ expected
+    → IsAnswered old (Asked false r) text new → IsAnswered old (Asked takes expected) text new
+read_as takes old new text expected r is (inl replied) = inl (ap (reply old) (sym is) ∙ replied)
+read_as takes old new text expected r is (inr refused) = inr (refused.0, refused.1, carried takes old expected (subst (MayWant old false) is refused.2))
+
+-- a command that is read, or refused for want of memory where reading takes some, is carried out as the line's own
+pub IsAnswered-asked : (takes : Bool) (old new : Machine) (text : List ℕ) (expected r : Result (ℕ × Command) Refusal)
+    → OrMemoryIf takes expected r → IsAnswered old (Asked false r) text new → IsAnswered old (Asked takes expected) text new
+IsAnswered-asked false old new text expected r is gives = read_as false old new text expected r is gives
+IsAnswered-asked true old new text expected (Err Memory) or (inl e) = inr (sym (ap (λ p. p.1) e), sym (ap (λ p. p.0) e), inl refl)
+IsAnswered-asked true old new text expected (Err Memory) or (inr e) = inr (e.0, e.1, inl refl)
+IsAnswered-asked true old new text expected r is gives = read_as true old new text expected r is gives
 
 -- the text of a refusal that was passed on
 pub refused_text : (r : Result Reply Refusal) (refusal : Refusal) → IsErrAnd r (λ e. e ≡ refusal) → reply_text r ≡ refusal_line refusal
@@ -39,11 +51,11 @@ refused_text (Ok reply) refusal is = absurd is
 refused_text (Err e) refusal is = ap refusal_line is
 
 -- a command that was refused as it was read
-pub IsAnswered-refused : (old : Machine) (expected : Result (ℕ × Command) Refusal) (refusal : Refusal) (r : Result Reply Refusal)
-    → OrMemory expected (Err refusal) → IsErrAnd r (λ e. e ≡ refusal) → IsAnswered old (Asked expected) (reply_text r) old
-IsAnswered-refused old expected refusal r or is =
-    subst (λ text. IsAnswered old (Asked expected) text old) (sym (refused_text r refusal is))
-    (IsAnswered-asked old old (refusal_line refusal) expected (Err refusal) or (inl refl))
+pub IsAnswered-refused : (takes : Bool) (old : Machine) (expected : Result (ℕ × Command) Refusal) (refusal : Refusal) (r : Result Reply Refusal)
+    → OrMemoryIf takes expected (Err refusal) → IsErrAnd r (λ e. e ≡ refusal) → IsAnswered old (Asked takes expected) (reply_text r) old
+IsAnswered-refused takes old expected refusal r or is =
+    subst (λ text. IsAnswered old (Asked takes expected) text old) (sym (refused_text r refusal is))
+    (IsAnswered-asked takes old old (refusal_line refusal) expected (Err refusal) or (inl refl))
 
 pub not_utf8 : (bs : List ℕ) → (IsUtf8 bs → ⊥) → is_utf8 bs ≡ false
 not_utf8 bs none = at_test (is_utf8 bs) refl

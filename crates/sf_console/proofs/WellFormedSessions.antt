@@ -17,7 +17,7 @@ use Rattle.sf_steps.proofs.StepsFine.{IsWellFormed-step}
 use Rattle.sf_history.specs.History.{Kept, Machine, after_step, back_to, forth_to, fresh}
 use Rattle.sf_commands.specs.declared.command.Command.{Command}
 use Rattle.sf_commands.specs.declared.command.Command.TheVariants as commands
-use Rattle.sf_commands.specs.Commands.{command_of}
+use Rattle.sf_commands.specs.Commands.{command_of, takes_memory}
 use Rattle.sf_commands.proofs.LawProofs.{commands_bring_grid_points}
 use Rattle.sf_console.specs.Answers.{edit_reply, history_reply, reply}
 use Rattle.sf_console.specs.Readings.{Reading, Blank, Unreadable, Asked, reading, readings_of, text_reading, whole_readings_of}
@@ -68,7 +68,7 @@ after_command machine command brings fine = fine
 
 -- the same of a line
 abbrev LineBrings : Reading → Type 0
-LineBrings (Asked command) = Brings command
+LineBrings (Asked takes command) = Brings command
 LineBrings other = Unit {0}
 
 by_test : (b : Bool) (one other : Reading) → LineBrings one → LineBrings other → LineBrings (if b then one else other)
@@ -78,7 +78,7 @@ by_test false one other first second = second
 text_brings : (text : List ℕ) → LineBrings (text_reading text)
 text_brings text =
     by_test (not (is_utf8 text)) (Unreadable BadCommand) _ tt
-    (by_test (list_all is_blank text) Blank (Asked (command_of text)) tt (commands_bring_grid_points text))
+    (by_test (list_all is_blank text) Blank (Asked (takes_memory text) (command_of text)) tt (commands_bring_grid_points text))
 
 line_brings : (line : Line) → LineBrings (reading line)
 line_brings line = by_test (nat_lt line_max (length line.bytes)) (Unreadable LineTooLong) _ tt (text_brings (text_of line))
@@ -90,8 +90,8 @@ lines_bring (line ∷ lines) = (line_brings line, lines_bring lines)
 after_line : (old new : Machine) (line : Reading) (text : List ℕ) → LineBrings line → AreWellFormed old → IsAnswered old line text new → AreWellFormed new
 after_line old new Blank text brings fine answered = subst AreWellFormed (sym answered.1) fine
 after_line old new (Unreadable refusal) text brings fine answered = subst AreWellFormed (sym answered.1) fine
-after_line old new (Asked command) text brings fine (inl replied) = subst AreWellFormed (ap (λ p. p.0) replied) (after_command old command brings fine)
-after_line old new (Asked command) text brings fine (inr refused) = subst AreWellFormed (sym refused.1) fine
+after_line old new (Asked takes command) text brings fine (inl replied) = subst AreWellFormed (ap (λ p. p.0) replied) (after_command old command brings fine)
+after_line old new (Asked takes command) text brings fine (inr refused) = subst AreWellFormed (sym refused.1) fine
 
 -- ---- lines
 

@@ -1,5 +1,5 @@
 -- What the lines of the input are.
-use Rattle.std.specs.Prelude.{ℕ, not, List, length, map, Result, nat_lt, if◌then◌else◌}
+use Rattle.std.specs.Prelude.{ℕ, Bool, not, List, length, map, Result, nat_lt, if◌then◌else◌}
 use Rattle.std.specs.List.{list_all}
 use Rattle.std.specs.Str.{is_utf8}
 use Rattle.sf_refusals.specs.declared.refusal.Refusal.{Refusal}
@@ -7,17 +7,18 @@ use Rattle.sf_refusals.specs.declared.refusal.Refusal.TheVariants.{BadCommand, L
 use Rattle.sf_lines.specs.Lines.{Line, line_max, lines_of, ended_lines, text_of}
 use Rattle.sf_wkt.specs.Tokens.{is_blank}
 use Rattle.sf_commands.specs.declared.command.Command.{Command}
-use Rattle.sf_commands.specs.Commands.{command_of}
+use Rattle.sf_commands.specs.Commands.{command_of, takes_memory}
 
--- what a line is: without an answer, refused whatever memory there is, or a command with its editor or its refusal
+-- what a line is: without an answer, refused whatever memory there is, or a command with its editor or its refusal, beside
+-- whether memory is taken for reading it
 pub data Reading : Type 0 where
   Blank : Reading
   Unreadable : Refusal → Reading
-  Asked : Result (ℕ × Command) Refusal → Reading
+  Asked : Bool → Result (ℕ × Command) Refusal → Reading
 
 -- what a text is that is not too long
 abbrev pub text_reading : List ℕ → Reading
-text_reading text = if not (is_utf8 text) then Unreadable BadCommand else if list_all is_blank text then Blank else Asked (command_of text)
+text_reading text = if not (is_utf8 text) then Unreadable BadCommand else if list_all is_blank text then Blank else Asked (takes_memory text) (command_of text)
 
 -- what a line is
 abbrev pub reading : Line → Reading

@@ -1,5 +1,5 @@
 //! A line, and its reply.
-ghost use Rattle.std.specs.Prelude.{◌≡◌, ◌⊎◌, ℕ, List, Ok, Err, true, map, MatchResult};
+ghost use Rattle.std.specs.Prelude.{◌≡◌, ◌⊎◌, ℕ, List, Ok, Err, false, true, map, MatchResult};
 ghost use Rattle.sf_layers.specs.Content.{layer_of};
 ghost use Rattle.sf_lines.specs.Buffers.{IsBufferOf};
 ghost use Rattle.sf_console.specs.Answers.{reply_text, refusal_line, rows, rows_of, layer_row, column_rows as column_rows_of, feature_rows as feature_rows_of, found, told, hex_text, simple_text, box_text, related_text, found_rows};
@@ -66,14 +66,15 @@ fn answer_text(alloc: Global, editor: &mut Editor, bytes: &[u8]) -> Result<Reply
     execute(alloc, editor, asker, command)
 }
 
-/// Carries a command out, of the editor of that number.
+/// Carries a command out, of the editor of that number. Nothing is read any more, so memory may be wanting only for what
+/// takes it here.
 fn execute(
     alloc: Global,
     editor: &mut Editor,
     asker: u8,
     command: Command,
 ) -> Result<Reply, Refusal>
-    ensures { IsAnswered editor.old (Asked (Ok (asker, command))) (reply_text result) editor.new }
+    ensures { IsAnswered editor.old (Asked false (Ok (asker, command))) (reply_text result) editor.new }
 {
     match command {
         Command::Edit(edit) => match editor.edit_as(alloc, asker, edit) {

@@ -1,8 +1,9 @@
 -- Where a file is refused for a fault of shape it has a geometry with that fault at the place that is told: what each
 -- reading of the format keeps of the place of what is left, and which faults it finds.
-use Rattle.std.proofs.Common.{◌≡◌, ℕ, zero, suc, ◌+◌, Bool, true, false, cond, ltb, ◌&&◌, not, List, [], ◌∷◌, ◌++◌, length, take, drop, Option, None, Some, Result, Ok, Err, IfErr, IfOk, codes, refl, sym, ap, ap₂, subst, ◌∙◌, ⊥, absurd, arith, bytes_eq, nat_eq}
+use Rattle.std.proofs.Common.{◌≡◌, ℕ, zero, suc, ◌+◌, Bool, true, false, cond, ltb, ◌&&◌, not, List, [], ◌∷◌, ◌++◌, length, take, drop, Option, None, Some, Result, Ok, Err, IfErr, IfOk, codes, refl, sym, ap, ap₂, subst, ◌∙◌, arith, bytes_eq, nat_eq}
 use Rattle.std.specs.Prelude.{is_some, nat_lt, nat_le}
 use Rattle.std.specs.Int.{w64, cast_signed}
+use Rattle.std.proofs.lemmas.List.{drop-drop}
 use Rattle.byteorder.specs.Endian.{big_number}
 use Rattle.sf_geometry.specs.declared.geometry.Geometry.{Geometry}
 use Rattle.sf_geometry.specs.Kinds.{kind_of}
@@ -82,15 +83,9 @@ Finds-field : {A B : Type 0} (row : RowReading) (text : List ℕ) (read : Readin
 Finds-field row text read rule first others left is =
     Fits-then row text (read left) (λ value rest. judged left.place rest (rule value)) (first left is) (λ x rest is. Fits-judged row text left.place rest (rule x) is (others x))
 
-drop-more : (m n : ℕ) (text : List ℕ) → drop m (drop n text) ≡ drop (n + m) text
-drop-more m zero text = refl
-drop-more zero (suc n) [] = refl
-drop-more (suc m) (suc n) [] = refl
-drop-more m (suc n) (b ∷ text) = drop-more m n text
-
 -- so many bytes further
 further : (text : List ℕ) (count : ℕ) (left : Left) → IsOf text left → drop count left.bytes ≡ drop (left.place + count) text
-further text count left is = ap (drop count) is ∙ drop-more count left.place text
+further text count left is = ap (drop count) is ∙ drop-drop count left.place text
 
 Finds-bytes : (row : RowReading) (text : List ℕ) (count : ℕ) → Finds row text (bytes count)
 Finds-bytes row text count left is = by_test (ltb (length left.bytes) count)
@@ -166,7 +161,7 @@ Finds-column row text next earlier =
     (Finds-rule row text 1 _ (λ byte. present_other (type_of_byte byte) WrongValue wrong_value))
     (λ t. Finds-then row text (field name (fresh_column_name earlier)) (λ title. done (record { number = n; name = title; column_type = t }))
     (Finds-field row text name (fresh_column_name earlier) (Finds-name row text) (λ title. allowed_other _ ColumnExists title column_exists))
-    (λ title. Finds-done row text (record { number = n; name = title; column_type = t }))))
+    (λ title. Finds-done {T = Column} row text (record { number = n; name = title; column_type = t }))))
 
 Finds-typed : (row : RowReading) (text : List ℕ) (t : ColumnType) → Finds row text (typed_value t)
 Finds-typed row text types.Int = Finds-then row text (number 8) (λ n. done (values.Int (cast_signed w64 n))) (Finds-number row text 8) (λ n. Finds-done row text (values.Int (cast_signed w64 n)))
@@ -178,7 +173,7 @@ Finds-value : (row : RowReading) (text : List ℕ) (columns : List Column) (earl
 Finds-value row text columns earlier =
     Finds-then row text (field (number 2) (next_column_of columns (last_number earlier))) value_after_column
     (Finds-rule row text 2 (next_column_of columns (last_number earlier)) (λ n. present_other _ NoColumn no_column))
-    (λ c. Finds-then row text (typed_value c.column_type) (λ content. done (c.number, content)) (Finds-typed row text c.column_type) (λ content. Finds-done row text (c.number, content)))
+    (λ c. Finds-then row text (typed_value c.column_type) (λ content. done (c.number, content)) (Finds-typed row text c.column_type) (λ content. Finds-done {T = ℕ × AttrValue} row text (c.number, content)))
 
 -- ---- a geometry
 
@@ -223,7 +218,7 @@ Finds-feature row text sized kind next_id columns earlier =
     (λ shape. Finds-then row text (field (number 2) (λ n. allowed (nat_le n (length columns)) NoColumn n)) (feature_after_count columns id shape)
     (Finds-rule row text 2 _ (λ n. allowed_other (nat_le n (length columns)) NoColumn n no_column))
     (λ count. Finds-then row text (items (value columns) count []) (λ found. done (id, record { geometry = shape; values = found }))
-    (Finds-items row text (value columns) (Finds-value row text columns) count []) (λ found. Finds-done row text (id, record { geometry = shape; values = found })))))
+    (Finds-items row text (value columns) (Finds-value row text columns) count []) (λ found. Finds-done {T = ℕ × FeatureContent} row text (id, record { geometry = shape; values = found })))))
 
 Finds-layer : (row : RowReading) (text : List ℕ) → GivesSized row → (earlier : Content) → Finds row text (layer row earlier)
 Finds-layer row text sized earlier =
@@ -244,7 +239,7 @@ Finds-layer row text sized earlier =
     (λ count. Finds-then row text (items (feature row kind next_id columns) count [])
     (λ features. done (title, record { kind = kind; next_id = next_id; next_column = next_column; columns = columns; features = features }))
     (Finds-items row text (feature row kind next_id columns) (Finds-feature row text sized kind next_id columns) count [])
-    (λ features. Finds-done row text (title, record { kind = kind; next_id = next_id; next_column = next_column; columns = columns; features = features })))))))))
+    (λ features. Finds-done {T = List ℕ × LayerContent} row text (title, record { kind = kind; next_id = next_id; next_column = next_column; columns = columns; features = features })))))))))
 
 Finds-layers : (row : RowReading) (text : List ℕ) → GivesSized row → Finds row text (layers row)
 Finds-layers row text sized =
@@ -265,7 +260,7 @@ second_other word = by_test (bytes_eq word (codes "SFSTORE1"))
     by_test false = allowed_other (bytes_eq word (codes "SFSTORE2")) BadFile true bad_file
 
 Finds-grid : (row : RowReading) (text : List ℕ) (second : Bool) → Finds row text (grid_of second)
-Finds-grid row text false left is = is
+Finds-grid row text false = λ left is. is
 Finds-grid row text true = Finds-rule row text 1 grid_of_byte (λ byte. allowed_other (nat_eq byte 24) BadFile _ bad_file)
   where
     bad_file : IsOther BadFile
@@ -289,7 +284,7 @@ Finds-rest row text sized =
 -- ---- the whole file
 
 -- a reading that finds no geometry, for the front of a file, where none stands
-no_row : RowReading
+abbrev no_row : RowReading
 no_row text = Err binaries.Truncated
 
 none_there : (text : List ℕ) (place : ℕ) (fault : ShapeFault) → Faulty no_row text place fault → ⊥

@@ -4,7 +4,7 @@ use Rattle.std.specs.Str.{is_utf8}
 use Rattle.std.proofs.lemmas.Str.{is_utf8-from_IsUtf8}
 use Rattle.sf_refusals.specs.declared.refusal.Refusal.TheVariants.{BadCommand}
 use Rattle.sf_wkt.specs.Tokens.{is_blank}
-use Rattle.sf_commands.specs.Commands.{command_of, OrMemory}
+use Rattle.sf_commands.specs.Commands.{command_of, takes_memory, OrMemoryIf}
 use Rattle.sf_console.specs.Answers.{reply_text, refusal_line}
 use Rattle.sf_console.specs.Session.{IsAnswered}
 use Rattle.sf_console.proofs.ReadingLemmas.{not_utf8, text_reading-by, IsAnswered-asked, IsAnswered-refused}
@@ -28,15 +28,15 @@ returns-in_err-asker c =
     let line = c.args.bytes.now in
     let text : is_utf8 line ≡ true = is_utf8-from_IsUtf8 line c.in-Ok.ensures.cases.1 in
     let command : list_all is_blank line ≡ false = ap (list_all is_blank) (sym c.in-Ok.ensures.cases.0) ∙ sym c.is_blank_text.ensures ∙ c.if-is_blank_text.false in
-    let parsed : OrMemory (command_of line) (Err c.in_err-asker.field-0.0) = subst (λ l. OrMemory (command_of l) (Err c.in_err-asker.field-0.0)) c.in-Ok.ensures.cases.0 c.in_err-asker.ensures in
+    let parsed : OrMemoryIf (takes_memory line) (command_of line) (Err c.in_err-asker.field-0.0) = subst (λ l. OrMemoryIf (takes_memory l) (command_of l) (Err c.in_err-asker.field-0.0)) c.in-Ok.ensures.cases.0 c.in_err-asker.ensures in
     subst (λ r. IsAnswered c.args.editor.now r (reply_text c.from_residual.result) c.args.editor.now) (sym (text_reading-by line true false text command))
-    (IsAnswered-refused c.args.editor.now (command_of line) c.in_err-asker.field-0.0 c.from_residual.result parsed c.from_residual.ensures.1)
+    (IsAnswered-refused (takes_memory line) c.args.editor.now (command_of line) c.in_err-asker.field-0.0 c.from_residual.result parsed c.from_residual.ensures.1)
 
 pub returns : goal.returns
 returns c =
     let line = c.args.bytes.now in
     let text : is_utf8 line ≡ true = is_utf8-from_IsUtf8 line c.in-Ok.ensures.cases.1 in
     let command : list_all is_blank line ≡ false = ap (list_all is_blank) (sym c.in-Ok.ensures.cases.0) ∙ sym c.is_blank_text.ensures ∙ c.if-is_blank_text.false in
-    let parsed : OrMemory (command_of line) (Ok (c.in_ok-asker.asker, c.in_ok-asker.command)) = subst (λ l. OrMemory (command_of l) (Ok (c.in_ok-asker.asker, c.in_ok-asker.command))) c.in-Ok.ensures.cases.0 c.in_ok-asker.ensures in
+    let parsed : OrMemoryIf (takes_memory line) (command_of line) (Ok (c.in_ok-asker.asker, c.in_ok-asker.command)) = subst (λ l. OrMemoryIf (takes_memory l) (command_of l) (Ok (c.in_ok-asker.asker, c.in_ok-asker.command))) c.in-Ok.ensures.cases.0 c.in_ok-asker.ensures in
     subst (λ r. IsAnswered c.args.editor.now r (reply_text c.execute.result) c.execute.new.editor) (sym (text_reading-by line true false text command))
-    (IsAnswered-asked c.args.editor.now c.execute.new.editor (reply_text c.execute.result) (command_of line) (Ok (c.in_ok-asker.asker, c.in_ok-asker.command)) parsed c.execute.ensures)
+    (IsAnswered-asked (takes_memory line) c.args.editor.now c.execute.new.editor (reply_text c.execute.result) (command_of line) (Ok (c.in_ok-asker.asker, c.in_ok-asker.command)) parsed c.execute.ensures)
