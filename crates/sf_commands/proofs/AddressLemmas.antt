@@ -1,5 +1,5 @@
 -- The editor whom the first word of a line names.
-use Rattle.std.proofs.Common.{◌≡◌, ◌≢◌, ℕ, ◌+◌, ◌-◌, ◌*◌, ◌^◌, ◌<◌, Bool, true, false, ◌&&◌, cond, nat_eq, nat_lt, nat_le, List, [], ◌∷◌, ◌++◌, drop, length, fold, Option, Some, None, MatchOption, Result, Ok, Err, IsErrAnd, if◌then◌else◌, refl, sym, ap, ◌∙◌, subst, arith, rules}
+use Rattle.std.proofs.Common.{◌≡◌, ◌≢◌, ℕ, ◌+◌, ◌-◌, ◌*◌, ◌^◌, ◌<◌, ◌≤◌, Bool, true, false, ◌&&◌, cond, nat_eq, nat_lt, nat_le, List, [], ◌∷◌, ◌++◌, drop, length, fold, Option, Some, None, MatchOption, Result, Ok, Err, IsErrAnd, if◌then◌else◌, refl, sym, ap, ◌∙◌, subst, arith, rules}
 use denote.Ref.{Bor}
 use lib.Utf8
 use Rattle.std.specs.Char.{encode_utf8, is_ascii_digit}
@@ -9,6 +9,7 @@ use Rattle.std.specs.Str.Parse.{ParsesUnsigned}
 use Rattle.std.specs.Str.Pattern.{FindsCharPrefix, StripsPrefix}
 use Rattle.std.proofs.lemmas.Bool.{eqb-true}
 use Rattle.std.proofs.lemmas.Bool.Decides.{nat_tests}
+use Rattle.std.proofs.lemmas.Grind.{common_steps}
 use Rattle.std.proofs.lemmas.Str.Parse.{IsNumeralModel, numerals_by_fold, parse_digits}
 use Rattle.sf_refusals.specs.declared.refusal.Refusal.{Refusal}
 use Rattle.sf_refusals.specs.declared.refusal.Refusal.TheVariants.{LineTooLong, Memory}
@@ -119,12 +120,15 @@ IsMadeOf long at result =
     OrMemoryIf (if long then false else addressed_takes_memory at)
     (if long then Err LineTooLong else made at (λ at. by_editor at.0 (by_words (words at.1) (skip_word at.1)))) result
 
+not_longer : (n : ℕ) → n ≤ line_max → nat_lt line_max n ≡ false
+not_longer n short = grind (arith, common_steps)
+
 -- the words behind the editor's were refused
-pub parse-refused : (line rest : List ℕ) (editor : ℕ) (refusal : Refusal) (result : Result (ℕ × Command) Refusal) → nat_lt line_max (length line) ≡ false
+pub parse-refused : (line rest : List ℕ) (editor : ℕ) (refusal : Refusal) (result : Result (ℕ × Command) Refusal) → length line ≤ line_max
     → addressed line ≡ Ok (editor, rest) → OrMemoryIf (words_take_memory (words rest)) (by_words (words rest) (skip_word rest)) (Err refusal)
     → IsErrAnd result (λ e. e ≡ refusal) → OrMemoryIf (takes_memory line) (command_of line) result
 parse-refused line rest editor refusal result short at is passed =
-    subst (λ long. IsMadeOf long (addressed line) result) (sym short) (subst (λ a. IsMadeOf false a result) (sym at) (refused result passed))
+    subst (λ long. IsMadeOf long (addressed line) result) (sym (not_longer (length line) short)) (subst (λ a. IsMadeOf false a result) (sym at) (refused result passed))
   where
     refused : (r : Result (ℕ × Command) Refusal) → IsErrAnd r (λ e. e ≡ refusal)
         → OrMemoryIf (words_take_memory (words rest)) (by_editor editor (by_words (words rest) (skip_word rest))) r
