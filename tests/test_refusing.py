@@ -1,7 +1,8 @@
-"""Each growth within a line refused in turn: indexes that are given up, and steps of the history, from within."""
+"""What only the library tells: each growth within a line refused in turn, and readers that never end."""
 
 from __future__ import annotations
 
+import subprocess
 import unittest
 
 from preloaded import Preloaded
@@ -78,6 +79,26 @@ class Refusing(Preloaded):
                 for line in (COLUMNS, ROWS):
                     self.assertEqual(told.looks[2].told[line], dropped.told[line])
                     self.assertEqual(told.looks[3].told[line], whole.told[line])
+
+
+READS_MAX = 1_000_000_000
+"""How often a reader is asked at most, by the documents."""
+
+
+@unittest.skipUnless(PROGRAM.is_file(), "sf_refusing is not built")
+class Endless(unittest.TestCase):
+    """Readers that give one byte at each call, for ever: some twenty seconds of a calm processor for each way."""
+
+    def check(self, line: str) -> None:
+        """Asks for the count of calls after which reading is given up."""
+        told = subprocess.run([PROGRAM], input=f"{line}\n", capture_output=True, text=True, timeout=600, check=True)
+        self.assertEqual(told.stdout, f"calls {READS_MAX}\n")
+
+    def test_serving_gives_up_a_reader_that_never_ends(self) -> None:
+        self.check("served")
+
+    def test_loading_gives_up_a_reader_that_never_ends(self) -> None:
+        self.check("ahead")
 
 
 if __name__ == "__main__":

@@ -11,6 +11,8 @@ pub(crate) enum Answer {
     /// From here on it does no more.
     Ample,
     Truth(bool),
+    /// How often a reader was asked.
+    Calls(u64),
     /// How many steps are in the past, and how many in the future.
     Depths(usize, usize),
     Found(Found),
@@ -31,6 +33,7 @@ impl Answer {
             Answer::Scarce => output.write_all(b"scarce\n"),
             Answer::Ample => output.write_all(b"ample\n"),
             Answer::Truth(is) => writeln!(output, "{is}"),
+            Answer::Calls(calls) => writeln!(output, "calls {calls}"),
             Answer::Depths(past, future) => writeln!(output, "{past} {future}"),
             Answer::Found(found) => {
                 write!(output, "{} of", found.looked)?;

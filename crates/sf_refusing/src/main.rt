@@ -7,6 +7,7 @@
 mod answer;
 mod asking;
 mod boxes;
+mod endless;
 
 use answer::Answer;
 use sf_console::{Editor, ServeFault, serve};
@@ -27,6 +28,8 @@ fn answer_line<W: Write>(
     let answer = match verb {
         "scarce" => Answer::Scarce,
         "ample" => Answer::Ample,
+        "served" => Answer::of(endless::served(alloc, output)),
+        "ahead" => Answer::of(endless::ahead(alloc)),
         "depths" => asking::depths(editor),
         "indexed" => Answer::of(asking::indexed(editor.store(), rest)),
         "boxes" => Answer::of(asking::boxes(alloc, editor.store(), rest)),
