@@ -4,7 +4,8 @@
 Eight edits in turn: a point added, a number and a text set, the point's vertex moved, the number set again and
 the text cleared, the geometry replaced, and every other feature deleted, else its number cleared. A session has
 1,000 to 1,000,000 edits over one layer and over 1,000 layers, each with a column of numbers and one of texts. A
-further session moves the vertices of a line of 4,096 points 10,000 times. Each line of the result has the seconds
+further session moves the vertices of a line of 4,096 points 10,000 times, one those of a ring of 4,095 edges, which
+stays simple, and one puts a vertex into a ring of 4,094 edges and takes it out again, each 5,000 times. Each line of the result has the seconds
 of the edits, of as many undos and of as many redos, how often they are those of the size before, and the peak
 memory of the edits in bytes for each. A program whose answers are others than the expected ones ends the script
 with an error.
@@ -65,6 +66,36 @@ def vertex_moves():
         yield f"vertex move l 1 0 0 {vertex} {vertex} {n % GRID}\n", OK
 
 
+def ring_of(edges):
+    """The lines that add a polygon of one ring: a zigzag from left to right, and two corners high above it."""
+    low = [(2 * n, n % 2) for n in range(edges - 2)]
+    corners = [(low[-1][0], 100), (0, 100), low[0]]
+    text = ", ".join(f"{x} {y}" for x, y in low + corners)
+    yield "layer add l polygon\n", OK
+    yield f"add l POLYGON (({text}))\n", "ok 1\n"
+
+
+def inner_vertices(edges):
+    """Vertices of the zigzag but for its ends, in no order, each with its x."""
+    for n in range(MOVES):
+        vertex = n * 1_597 % (edges - 4) + 1
+        yield vertex, 2 * vertex
+
+
+def ring_moves(edges):
+    """Moves of the ring's vertices up and down."""
+    for n, (vertex, x) in enumerate(inner_vertices(edges)):
+        yield f"vertex move l 1 0 0 {vertex} {x} {n % 50}\n", OK
+
+
+def ring_insertions(edges):
+    """Vertices of the ring put in, and taken out at once."""
+    for n, (vertex, x) in enumerate(inner_vertices(edges)):
+        if n % 2 == 0:
+            yield f"vertex insert l 1 0 0 {vertex} {x - 1} {n % 50}\n", OK
+            yield f"vertex remove l 1 0 0 {vertex}\n", OK
+
+
 def steps(word, count):
     """As many undos or redos."""
     return repeat((f"{word}\n", OK), count)
@@ -112,6 +143,8 @@ def main():
                     before,
                 )
         report(folder, "vertices", 1, line_of_vertices, vertex_moves, MOVES, None)
+        report(folder, "ring", 1, lambda: ring_of(VERTICES - 1), lambda: ring_moves(VERTICES - 1), MOVES, None)
+        report(folder, "in, out", 1, lambda: ring_of(VERTICES - 2), lambda: ring_insertions(VERTICES - 2), MOVES, None)
 
 
 if __name__ == "__main__":
