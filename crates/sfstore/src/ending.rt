@@ -1,8 +1,8 @@
 //! How a run ends before its time: its status, and its last words.
 use sf_console::ServeFault;
 use sf_file::{LoadFault, SaveFault};
-use sf_run::RunFault;
 use sf_options::OptionsFault;
+use sf_run::RunFault;
 use std::fmt;
 
 /// Why a run ended before its time.
