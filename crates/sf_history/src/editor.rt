@@ -21,6 +21,13 @@ pub struct Editor {
     editors: Vec<u8>,
 }
 
+/// How many edits can be undone, and how many redone.
+#[derive(Clone, Copy, Debug, PartialEq, Eq)]
+pub struct Depths {
+    pub past: usize,
+    pub future: usize,
+}
+
 impl Model for Editor {
     ghost use Rattle.std.specs.Prelude.{◌≡◌, ◌+◌, length, reverse, take, drop};
     ghost use Rattle.sf_history.specs.History.{Machine, past_of, future_of, FitInTurn, AcceptedInTurn};
@@ -199,9 +206,12 @@ impl Editor {
     }
 
     /// How many edits can be undone, and how many redone.
-    pub fn depths(&self) -> (usize, usize)
-        ensures { result ≡ (length self.now.past, length self.now.future) }
+    pub fn depths(&self) -> Depths
+        ensures { result ≡ record { past = length self.now.past; future = length self.now.future } }
     {
-        (self.done.len(), self.undone.len())
+        Depths {
+            past: self.done.len(),
+            future: self.undone.len(),
+        }
     }
 }

@@ -4,5 +4,5 @@
 mod editor;
 pub mod laws;
 
-pub use editor::Editor;
+pub use editor::{Depths, Editor};
 pub use sf_refusals::Refusal;

@@ -15,6 +15,3 @@ mod values;
 
 pub use load_fault::LoadFault;
 pub use loading::load;
-
-#[cfg(test)]
-mod tests;

@@ -16,6 +16,3 @@ pub use choice::Choice;
 pub use draw_fault::DrawFault;
 pub use drawing::draw;
 pub use view::View;
-
-#[cfg(test)]
-mod tests;

@@ -5,7 +5,7 @@ use super::answer::Answer;
 use super::boxes::{all_of, boxes_of, has, tree_of};
 use sf_commands::{Command, parse};
 use sf_geometry::Extent;
-use sf_history::Editor;
+use sf_history::{Depths, Editor};
 use sf_layers::{Layer, Store};
 use sf_query::{Ask, query};
 use sf_refusals::Refusal;
@@ -16,7 +16,7 @@ use std::io::Write;
 
 /// How many steps an editor has in its past, and how many in its future.
 pub(crate) fn depths(editor: &Editor) -> Answer {
-    let (past, future) = editor.depths();
+    let Depths { past, future } = editor.depths();
     Answer::Depths(past, future)
 }
 

@@ -10,6 +10,3 @@ mod saving;
 
 pub use save_fault::SaveFault;
 pub use saving::save;
-
-#[cfg(test)]
-mod tests;

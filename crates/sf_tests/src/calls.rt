@@ -1,5 +1,5 @@
 //! Public calls that take memory, each with ample memory.
-use sf_console::{Command, Editor, parse};
+use sf_console::{Command, Depths, Editor, parse};
 use sf_edits::Answer;
 use std::alloc::Global;
 use std::test::Fail;
@@ -65,11 +65,11 @@ fn editor_edits_undoes_and_redoes(rt: HostRuntime) -> Result<(), Fail> {
         };
         assert!(rt; matches!(editor.edit(rt.alloc(), edit), Ok(given) if given == answer));
     }
-    assert_eq!(rt; editor.depths(), (3, 0));
+    assert_eq!(rt; editor.depths(), Depths { past: 3, future: 0 });
     assert!(rt; editor.undo(rt.alloc()).is_ok());
-    assert_eq!(rt; editor.depths(), (2, 1));
+    assert_eq!(rt; editor.depths(), Depths { past: 2, future: 1 });
     assert!(rt; editor.redo(rt.alloc()).is_ok());
-    assert_eq!(rt; editor.depths(), (3, 0));
+    assert_eq!(rt; editor.depths(), Depths { past: 3, future: 0 });
     assert_eq!(rt; editor.store().layer_count(), 1);
     assert_eq!(rt; editor.into_store().layer_count(), 1);
     Ok(())

@@ -1,6 +1,6 @@
 //! Several editors of one store: their lines, and whose steps they undo and redo.
 use super::support::other_answer;
-use sf_console::{Command, Editor, Refusal, parse};
+use sf_console::{Command, Depths, Editor, Refusal, parse};
 use sf_edits::Edit;
 use std::alloc::Global;
 use std::test::Fail;
@@ -101,7 +101,7 @@ fn refusals_name_the_owner(rt: HostRuntime) {
     for (line, refusal) in OWNERS {
         assert_eq!(rt; asked(rt.alloc(), &mut editor, line), refusal);
     }
-    assert_eq!(rt; editor.depths(), (3, 0));
+    assert_eq!(rt; editor.depths(), Depths { past: 3, future: 0 });
     assert_eq!(rt; editor.undo(rt.alloc()), Err(Refusal::NotYours(2)));
     assert_eq!(rt; editor.redo(rt.alloc()), Err(Refusal::NothingToRedo));
 }

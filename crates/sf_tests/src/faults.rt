@@ -3,7 +3,7 @@
 ghost use Rattle.std.specs.Prelude.{◌≡◌, IfOk};
 
 use super::support::{other_answer, put};
-use sf_console::{Editor, ServeFault, serve};
+use sf_console::{Depths, Editor, ServeFault, serve};
 use sf_file::{LoadFault, SaveFault, load, save};
 use sf_layers::Store;
 use std::alloc::Global;
@@ -254,6 +254,12 @@ fn saving_end(saved: Result<(), SaveFault>) -> &'static str {
     }
 }
 
+/// How many edits of an editor can be undone, and how many redone.
+fn depths_of(editor: &Editor) -> (usize, usize) {
+    let Depths { past, future } = editor.depths();
+    (past, future)
+}
+
 /// The name of a fault where there was one.
 fn end_after(has_failed: bool, fault: &'static str) -> &'static str {
     if has_failed { fault } else { "ok" }
@@ -305,7 +311,7 @@ fn served_from(alloc: Global, step: usize, trouble: Trouble) -> Outcome {
         read: read_of(reader.bytes),
         front: front_of(writer.taken.as_slice(), OUTPUT.as_bytes()),
         flushed: writer.flushed,
-        depths: editor.depths(),
+        depths: depths_of(&editor),
         has_failed: reader.trouble.has_failed,
         went_on: reader.trouble.went_on,
     }
@@ -354,7 +360,7 @@ fn served_to(alloc: Global, step: usize, writes: Trouble, flushes: Trouble) -> O
         read: read_of(reader.bytes),
         front: front_of(writer.taken.as_slice(), OUTPUT.as_bytes()),
         flushed: writer.flushed,
-        depths: editor.depths(),
+        depths: depths_of(&editor),
         has_failed: writer.has_failed(),
         went_on: writer.went_on,
     }

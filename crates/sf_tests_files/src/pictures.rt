@@ -1,13 +1,9 @@
-ghost use Rattle.std.specs.Prelude.{IfOk};
-ghost use Rattle.sf_layers.specs.WellFormed.{IsLayer};
+//! Pictures drawn, and the options that ask for them.
 
-use super::{AskedFault, Choice, DrawFault, View, draw, options};
-use sf_geometry::{Extent, Geometry, Kind};
-use sf_grid::GridPoint;
-use sf_layers::{Feature, Layer, LayerKind, Store, Text};
-use sf_validity::validate;
+use crate::support::{Gauge, town};
+use sf_geometry::Extent;
+use sf_picture::{AskedFault, Choice, DrawFault, View, draw, options};
 use std::alloc::Global;
-use std::io::{self, ErrorKind, Write};
 use std::test::Fail;
 
 /// What a picture has before and behind its style.
@@ -17,31 +13,6 @@ const HEAD: &str =
 const MAP: &str =
     "</style>\n<rect class='background' width='100%' height='100%'/>\n<svg class='map' width='200' height='200' viewBox='0 0 2 2' data-corner='2 5'>\n<g transform='scale(1 -1)'>\n<g id='wells' class='layer tint-0'>\n<path id='wells-1' class='feature point' d='M1 -1h0'/>\n</g>\n</g>\n</svg>\n<rect class='frame' width='200' height='200'/>\n<g class='scale' transform='translate(10 215)'><path d='M0 0v6h100v-6'/><text x='108' y='8'>1 grid step</text></g>\n<g class='entry tint-0' transform='translate(10 235)'><rect class='swatch' width='14' height='14'/><text x='22' y='12'>wells</text></g>\n</svg>\n";
 
-/// A layer of points with one feature, the point 3 4.
-fn wells(alloc: Global) -> Result<Layer, Fail>
-    ensures { IfOk result IsLayer }
-{
-    let point = GridPoint::new(3, 4).ok_or("off the grid")?;
-    let Ok(valid) = validate(alloc, Geometry::Point(point)) else {
-        return Err(Fail::from("no memory"));
-    };
-    let mut layer = Layer::new(alloc, LayerKind::Only(Kind::Point));
-    match layer.push_feature(alloc, Feature::new(alloc, valid)) {
-        Ok(_) => Ok(layer),
-        Err(_) => Err(Fail::from("no memory")),
-    }
-}
-
-/// A store with that layer alone.
-fn town(alloc: Global) -> Result<Store, Fail> {
-    let mut store = Store::new(alloc);
-    let name = Text::from_string(String::from_str(alloc, "wells")?);
-    match store.put_layer(alloc, 0, name, wells(alloc)?) {
-        Ok(()) => Ok(store),
-        Err(_) => Err(Fail::from("no memory")),
-    }
-}
-
 /// The names of layers.
 fn names(alloc: Global, given: &[&str]) -> Result<Vec<String>, Fail> {
     let mut names = Vec::new(alloc);
@@ -49,32 +20,6 @@ fn names(alloc: Global, given: &[&str]) -> Result<Vec<String>, Fail> {
         names.push(String::from_str(alloc, name)?)?;
     }
     Ok(names)
-}
-
-/// A writer that takes some bytes at a time, and only so many in all.
-#[derive(Drop)]
-struct Gauge {
-    bytes: Vec<u8>,
-    step: usize,
-    room: usize,
-    can_flush: bool,
-}
-
-impl Write for Gauge {
-    fn write(&mut self, buf: &[u8]) -> io::Result<usize> {
-        let count = buf.len().min(self.step).min(self.room);
-        self.bytes.extend_from_slice(&buf[..count])?;
-        self.room -= count;
-        Ok(count)
-    }
-
-    fn flush(&mut self) -> io::Result<()> {
-        if self.can_flush {
-            Ok(())
-        } else {
-            Err(io::Error::from(ErrorKind::Other))
-        }
-    }
 }
 
 #[test]

@@ -1,6 +1,8 @@
-use super::*;
+//! Layers and their features put into a store, and indexes looked at.
+
 use sf_geometry::{Extent, Geometry, Kind};
 use sf_grid::GridPoint;
+use sf_layers::{AttrValue, ColumnType, Feature, Layer, LayerKind, Store, Text};
 use sf_rtree::SpatialIndex;
 use sf_validity::validate;
 use std::alloc::Global;

@@ -8,7 +8,7 @@ use Rattle.sf_features.specs.Features.{plain_feature}
 use Rattle.sf_layers.specs.declared.layer_kind.LayerKind.TheVariants.{Only}
 use Rattle.sf_layers.specs.Content.{empty_layer, with_next_feature}
 use Rattle.sf_layers.specs.WellFormed.{IsLayer}
-use Rattle.sf_saving.proofs.tests.wells.Goals as goal
+use Rattle.sf_tests_files.proofs.support.wells.Goals as goal
 
 -- a layer of points with one feature
 IsLayer-one : (point : Coordinates) → IsHeld (geometries.Point point) → IsLayer (with_next_feature (plain_feature (geometries.Point point)) (empty_layer (Only Point)))

@@ -8,7 +8,7 @@ use Rattle.sf_features.specs.Features.{FeatureContent, plain_feature}
 use Rattle.sf_layers.specs.Content.{Content, change_at, with_feature, with_next_id}
 use Rattle.sf_layers.specs.WellFormed.{IsWellFormed}
 use Rattle.sf_validity.specs.Held.{IsHeld}
-use Rattle.sf_layers.proofs.tests.layer_and_feature_are_put.Goals as goal
+use Rattle.sf_tests_store.proofs.layers.layer_and_feature_are_put.Goals as goal
 
 -- a content of one layer of points, named "wells"
 abbrev wells : ℕ → List (ℕ × FeatureContent) → Content

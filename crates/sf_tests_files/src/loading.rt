@@ -1,6 +1,8 @@
-use super::{LoadFault, load};
+//! Files loaded, whole, cut and damaged.
+
 use sf_geometry::Geometry;
 use sf_layers::{LayerKind, Store};
+use sf_loading::{LoadFault, load};
 use std::alloc::Global;
 use std::io::{self, Read};
 use std::process::Abort;

@@ -4,7 +4,7 @@ ghost use Rattle.std.specs.Prelude.{◌≡◌, Ok, IfOk, IsOk, OnOk};
 ghost use Rattle.sf_steps.specs.Inverses.{Carries, Fits, Restores, Reverts, described};
 ghost use Rattle.sf_steps.specs.Steps.{step};
 
-use super::*;
+use sf_edits::{Edit, Inverse, Reverted, apply, reapply, revert};
 use sf_geometry::{Geometry, Sequence};
 use sf_grid::GridPoint;
 use sf_layers::{AttrValue, ColumnType, Layer, LayerKind, Store, Text};
