@@ -38,7 +38,11 @@ pub(crate) fn served<W: Write>(alloc: Global, output: &mut W) -> Result<Answer, 
 pub(crate) fn ahead(alloc: Global) -> Result<Answer, Refusal> {
     let mut reader = Endless { calls: 0 };
     let mut window = Window::new(alloc)?;
-    while goes_on(&mut window, &mut reader) {}
+    for _ in 0..u64::MAX {
+        if !goes_on(&mut window, &mut reader) {
+            break;
+        }
+    }
     Ok(Answer::Calls(reader.calls))
 }
 
