@@ -1,0 +1,2 @@
+-- (to come)
+use Rattle.sf_contact.specs.Absence.{AbsenceIsTold}

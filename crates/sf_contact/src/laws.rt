@@ -1,0 +1,9 @@
+//! Laws of contact, each the contract of a function that does nothing.
+
+ghost use Rattle.sf_contact.specs.Absence.{AbsenceIsTold};
+
+/// Valid geometries share no point where no point of the plane is on an edge of each, and no point, and no first point
+/// of a line or ring, of either is in the other.
+pub fn absence_is_told()
+    ensures { AbsenceIsTold }
+{}

@@ -1,0 +1,4 @@
+//! Contact of two geometries, and that they have none, by edges and first points alone: no walk, and no memory.
+#![tactic(auto)]
+
+pub mod laws;
