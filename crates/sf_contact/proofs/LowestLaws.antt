@@ -112,7 +112,7 @@ one_height u v w h l column on_w on_h =
         refl
 
 -- both are in the column of p, so each is in the other's
-one_column : (p w h : Point) → IsPoint p → InColumn p w → InColumn p h → w.x *ℤ pos h.d ≡ h.x *ℤ pos w.d
+pub one_column : (p w h : Point) → IsPoint p → InColumn p w → InColumn p h → w.x *ℤ pos h.d ≡ h.x *ℤ pos w.d
 one_column p w h i in_w in_h =
     eq_from_mul (w.x *ℤ pos h.d) (h.x *ℤ pos w.d) p.d i.positive
     (swapped w.x (pos h.d) (pos p.d) ∙ ap (λ z. z *ℤ pos h.d) in_w ∙ swapped p.x (pos w.d) (pos h.d) ∙ ap (λ z. z *ℤ pos w.d) (sym in_h) ∙ swapped h.x (pos p.d) (pos w.d))

@@ -2,22 +2,18 @@
 use Rattle.std.specs.Prelude.{Bool, false, ◌||◌, List, [], ◌∷◌, IsFalse}
 use Rattle.std.specs.List.{list_any}
 use Rattle.sf_grid.specs.Plane.{Coordinates, Point as PlanePoint, grid_point}
+use Rattle.sf_grid.specs.Edge.{on_edge}
 use Rattle.sf_geometry.specs.declared.geometry.Geometry.{Geometry}
-use Rattle.sf_geometry.specs.declared.geometry.Geometry.TheVariants.{Point, LineString, Polygon, MultiPoint, MultiLineString, MultiPolygon}
-use Rattle.sf_geometry.specs.PointSets.{on_line, on_polygon}
+use Rattle.sf_geometry.specs.declared.geometry.Geometry.TheVariants.{Point, MultiPoint}
+use Rattle.sf_geometry.specs.Parts.{edges_of, lists_of}
 use Rattle.sf_rules.specs.Validity.{IsValid}
 use Rattle.sf_relate.specs.Contact.{is_in}
-use Rattle.sf_relate.specs.EdgeContact.{Share, on_lines, on_polygons}
+use Rattle.sf_relate.specs.EdgeContact.{Share}
 use Rattle.sf_relate.specs.Told.{ShareNone}
 
--- q is on an edge of the geometry; points have none
+-- q is on an edge of a line or ring of the geometry; points have none
 abbrev pub on_edges : Geometry → PlanePoint → Bool
-on_edges (Point p) q = false
-on_edges (LineString ps) q = on_line ps q
-on_edges (Polygon rings) q = on_polygon rings q
-on_edges (MultiPoint ps) q = false
-on_edges (MultiLineString lines) q = on_lines lines q
-on_edges (MultiPolygon polygons) q = on_polygons polygons q
+on_edges geometry q = list_any (λ e. on_edge e q) (edges_of geometry)
 
 -- no point of the plane is on an edge of each
 abbrev pub EdgesAreApart : Geometry → Geometry → Type 0
@@ -31,11 +27,8 @@ begins_in b (p ∷ ps) = is_in b (grid_point p)
 -- a point, or the first point of a line or of a ring, of the first geometry is in b
 abbrev pub has_start_in : Geometry → Geometry → Bool
 has_start_in (Point p) b = is_in b (grid_point p)
-has_start_in (LineString ps) b = begins_in b ps
-has_start_in (Polygon rings) b = list_any (begins_in b) rings
 has_start_in (MultiPoint ps) b = list_any (λ p. is_in b (grid_point p)) ps
-has_start_in (MultiLineString lines) b = list_any (begins_in b) lines
-has_start_in (MultiPolygon polygons) b = list_any (λ rings. list_any (begins_in b) rings) polygons
+has_start_in geometry b = list_any (begins_in b) (lists_of geometry)
 
 -- valid geometries share no point where their edges share none and no part of either begins in the other
 abbrev pub AbsenceIsTold : Type 0
