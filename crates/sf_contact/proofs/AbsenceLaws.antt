@@ -1,19 +1,19 @@
 -- Geometries that share a point have edges that share one, or a part of either begins in the other.
-use Rattle.std.proofs.Common.{◌≡◌, refl, ap, sym, ◌∙◌, subst, ℤ, pos, ◌*ℤ◌, ◌<ℤ◌, ◌≤ℤ◌, arith, Bool, true, false, ◌&&◌, ◌||◌, not, List, [], ◌∷◌, ◌++◌, ◌⊎◌, inl, inr, ⊎_elim}
-use Rattle.std.specs.Prelude.{IsFalse, IsTrue, count_by}
+use Rattle.std.proofs.Common.{◌≡◌, refl, ap, sym, ◌∙◌, subst, ℤ, pos, ◌*ℤ◌, ◌≤ℤ◌, arith, Bool, true, false, ◌||◌, not, List, [], ◌∷◌, ◌++◌, ◌⊎◌, inl, inr, ⊎_elim}
+use Rattle.std.specs.Prelude.{count_by}
 use Rattle.std.specs.List.{AllByRecursion, flat_map, list_any}
 use Rattle.std.proofs.lemmas.Bool.{and_from, and_parts, both_ways, false_from_ne_true, or_cases, or_left, or_right}
 use Rattle.std.proofs.lemmas.Int.{by_lt_z, ints}
 use Rattle.std.proofs.lemmas.List.Folds.{list_any-append}
 use Rattle.sf_grid.specs.Plane.{Coordinates, IsPoint, IsSamePoint, Point as PlanePoint, grid_point, same_point}
 use Rattle.sf_grid.specs.Edge.{Edge as Line, IsOnEdge, edge_above, edge_between, on_edge}
-use Rattle.sf_grid.specs.EvenOdd.{edges_above, is_odd}
+use Rattle.sf_grid.specs.EvenOdd.{is_odd}
 use Rattle.sf_grid.proofs.CallerLemmas.{on_edge-same_point, test_from_eq}
-use Rattle.sf_slabs.proofs.CallerLemmas.{each-map, each-parts}
+use Rattle.sf_slabs.proofs.CallerLemmas.{each-parts}
 use Rattle.sf_geometry.specs.declared.geometry.Geometry.{Geometry}
 use Rattle.sf_geometry.specs.declared.geometry.Geometry.TheVariants.{Point, LineString, Polygon, MultiPoint, MultiLineString, MultiPolygon}
-use Rattle.sf_geometry.specs.Lists.{edges_between, edges_from, edges_of as edges_of_list, ends_of, is_closed, tight}
-use Rattle.sf_geometry.specs.Parts.{edges_of, joined, lists_of}
+use Rattle.sf_geometry.specs.Lists.{edges_between, edges_from, edges_of as edges_of_list, ends_of, is_closed}
+use Rattle.sf_geometry.specs.Parts.{edges_of, joined}
 use Rattle.sf_geometry.specs.PointSets.{in_boundary, in_interior, is_among, on_line}
 use Rattle.sf_plane.specs.Boxes.{IsClosedChain}
 use Rattle.sf_plane.proofs.CombineLaws.{or_union, start_on_edge}
@@ -27,12 +27,11 @@ use Rattle.sf_paths.proofs.PathLaws.{edge_has_one_parity}
 use Rattle.sf_paths.proofs.SlantLaws.{end_on_edge, is_grid}
 use Rattle.sf_paths.proofs.UprightLaws.{IsClearUp, IsUp, up}
 use Rattle.sf_relate.specs.declared.place.Place.{Place}
-use Rattle.sf_relate.specs.declared.place.Place.TheVariants.{Interior, Boundary, Exterior}
+use Rattle.sf_relate.specs.declared.place.Place.TheVariants.{Interior, Boundary}
 use Rattle.sf_relate.specs.declared.shape.Shape.{Shape}
 use Rattle.sf_relate.specs.declared.shape.Shape.TheVariants.{Points, Lines, Areas}
 use Rattle.sf_relate.specs.AllPieces.{all_pieces}
-use Rattle.sf_relate.specs.Contact.{SharePoint, is_in}
-use Rattle.sf_relate.specs.EdgeContact.{Share}
+use Rattle.sf_relate.specs.Contact.{is_in}
 use Rattle.sf_relate.specs.Locating.{area_place, edges_place, place_by_tests}
 use Rattle.sf_relate.specs.Places.{is_place, shape_of}
 use Rattle.sf_relate.proofs.EnvelopeLaws.{valid-closed}
@@ -40,8 +39,8 @@ use Rattle.sf_relate.proofs.PlaceLaws.{end-on, odd-some-count, tight-of}
 use Rattle.sf_relate.proofs.SetLaws.{boundary_union, interior_union, second_has}
 use Rattle.sf_relate.proofs.SharedLaws.{one_cell}
 use Rattle.sf_relate.proofs.TestedPlaces.{tests_tell_places}
-use Rattle.sf_contact.specs.Absence.{AbsenceIsTold, EdgesAreApart, begins_in, has_start_in, on_edges}
-use Rattle.sf_contact.proofs.LowestLaws.{InColumn, IsClearBelow, IsLower, IsUnder, Lowest, lowest, one_column}
+use Rattle.sf_contact.specs.Absence.{AbsenceIsTold, begins_in, has_start_in, on_edges}
+use Rattle.sf_contact.proofs.LowestLaws.{IsClearBelow, lowest, one_column}
 
 -- q is on one of these edges
 abbrev on_one : List Line → PlanePoint → Bool

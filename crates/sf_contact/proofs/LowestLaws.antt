@@ -1,13 +1,12 @@
 -- Straight up from a point, the lowest point that is on an edge of a list.
-use Rattle.std.proofs.Common.{◌≡◌, ℕ, ◌<◌, arith, refl, ap, sym, ◌∙◌, subst, ℤ, pos, ◌+ℤ◌, ◌-ℤ◌, ◌*ℤ◌, ◌<ℤ◌, ◌≤ℤ◌, Bool, true, false, ◌&&◌, ◌||◌, List, [], ◌∷◌, ◌⊎◌, inl, inr, ⊎_elim}
+use Rattle.std.proofs.Common.{◌≡◌, arith, refl, ap, sym, ◌∙◌, subst, ℤ, pos, ◌+ℤ◌, ◌-ℤ◌, ◌*ℤ◌, ◌<ℤ◌, ◌≤ℤ◌, true, false, ◌&&◌, List, [], ◌∷◌, ◌⊎◌, inl, inr, ⊎_elim}
 use Rattle.std.specs.Prelude.{int_le, int_lt}
 use Rattle.std.specs.Int.{int_max, int_min}
 use Rattle.std.specs.List.{AllByRecursion, list_any}
 use Rattle.std.proofs.lemmas.Bool.{and_from, and_parts, both_ways, or_cases, or_left, or_right}
 use Rattle.std.proofs.lemmas.Int.{by_lt_z, clamps, ints}
-use Rattle.sf_grid.specs.Fraction.{Fraction}
-use Rattle.sf_grid.specs.Plane.{Coordinates, IsPoint, Point, grid_point, x_of, y_of}
-use Rattle.sf_grid.specs.Edge.{Edge as Line, IsOnEdge, below_rightward, cross, edge_above, edge_between, on_edge, within}
+use Rattle.sf_grid.specs.Plane.{Coordinates, IsPoint, Point, grid_point, y_of}
+use Rattle.sf_grid.specs.Edge.{Edge as Line, IsOnEdge, below_rightward, cross, edge_above, edge_between, on_edge}
 use Rattle.sf_grid.proofs.CallerLemmas.{abs_of_run, dif, eq_from_mul, le_from_mul, le_from_test, lies, lt_from_mul, lt_from_test, mul, mul_le, num, on_edge-same_point, on_edge-swap, ring, run_pos, sum, test_from_eq, var}
 use Rattle.sf_grid.proofs.FractionLaws.{le-trans}
 use Rattle.sf_plane.proofs.CombineLaws.{start_on_edge}
