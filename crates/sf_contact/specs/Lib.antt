@@ -1,1 +1,2 @@
 pub mod Absence
+pub mod Pairs

@@ -1,4 +1,5 @@
 //! Contact of two geometries, and that they have none, by edges and first points alone: no walk, and no memory.
 #![tactic(auto)]
 
+mod edges;
 pub mod laws;

@@ -1,0 +1,16 @@
+use Rattle.std.proofs.Common.{◌∙◌, ap, sym, subst, ◌+◌, ◌∷◌, [], drop}
+use Rattle.std.proofs.lemmas.List.{drop_more}
+use Rattle.sf_geometry.specs.PointSets.{on_line}
+use Rattle.sf_relate.specs.EdgeContact.{Share, on_lines}
+use Rattle.sf_contact.proofs.PairLaws.{next-member, of-false}
+use Rattle.sf_contact.proofs.edges.lines_have_meeting.Goals as goal
+
+pub loop-line-preserved : goal.loop-line-preserved
+loop-line-preserved c =
+    let all = c.args.lines.now in
+    let index = c.loop-line.line-index in
+    let item = c.line-item.result in
+    next-member on_line item (drop (index + 1) all) (drop index all) (on_lines all) (on_line (c.args.from ∷ c.args.to ∷ []))
+    (drop_more all index item c.loop-line-test.true ∙ ap (λ x. x ∷ drop (index + 1) all) (sym c.line-item.is))
+    (subst (λ xs. ¬ (Share (on_line xs) (on_line (c.args.from ∷ c.args.to ∷ [])))) c.as_slice.ensures (of-false c.line_has_meeting.result (on_line c.as_slice.result.now) (on_line (c.args.from ∷ c.args.to ∷ [])) c.line_has_meeting.ensures c.if-line_has_meeting.false))
+    c.loop-line.invariant

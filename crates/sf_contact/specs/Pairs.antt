@@ -1,0 +1,15 @@
+-- What a search for a point that two sets share tells.
+use Rattle.std.specs.Prelude.{Bool, true, false}
+use Rattle.sf_grid.specs.Plane.{Coordinates, Point as PlanePoint}
+use Rattle.sf_geometry.specs.declared.extent.Extent.{Extent}
+use Rattle.sf_geometry.specs.Envelope.{extent_at, extent_with}
+use Rattle.sf_relate.specs.EdgeContact.{Share}
+
+-- whether both sets have a point of the plane
+abbrev pub Tells : Bool → (PlanePoint → Bool) → (PlanePoint → Bool) → Type 0
+Tells true a b = Share a b
+Tells false a b = ¬ (Share a b)
+
+-- the box of an edge, by its ends
+abbrev pub extent_between : Coordinates → Coordinates → Extent
+extent_between a b = extent_with (extent_at a) b
