@@ -1,3 +1,4 @@
 pub mod LowestLaws
 pub mod AbsenceLaws
 pub mod PairLaws
+pub mod StartLaws

@@ -1,5 +1,9 @@
 //! Contact of two geometries, and that they have none, by edges and first points alone: no walk, and no memory.
 #![tactic(auto)]
 
+mod contact;
 mod edges;
 pub mod laws;
+mod starts;
+
+pub use contact::contact_between;
