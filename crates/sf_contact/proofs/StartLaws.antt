@@ -1,17 +1,16 @@
 -- A part that begins in the other geometry is contact; where none does, the edges decide.
 use Rattle.std.proofs.Common.{◌≡◌, refl, ap, sym, ◌∙◌, arith, ℕ, Bool, true, false, ◌||◌, List, [], ◌∷◌, ◌++◌, length, nat_lt, ⊎_elim}
-use Rattle.std.specs.Prelude.{IsTrue}
 use Rattle.std.specs.List.{AllByRecursion, flat_map, list_any}
 use Rattle.std.proofs.lemmas.Bool.{both_ways, false_from_ne_true, or_cases, or_left, or_right}
 use Rattle.std.proofs.lemmas.List.Folds.{list_any-append}
-use Rattle.sf_grid.specs.Plane.{Coordinates, Point as PlanePoint, grid_point, same_point}
-use Rattle.sf_grid.specs.Edge.{edge_between, on_edge}
+use Rattle.sf_grid.specs.Plane.{Coordinates, grid_point, same_point}
+use Rattle.sf_grid.specs.Edge.{on_edge}
 use Rattle.sf_grid.proofs.CallerLemmas.{same_point_is_equivalence}
 use Rattle.sf_slabs.proofs.CallerLemmas.{each-map, each-parts}
 use Rattle.sf_geometry.specs.declared.geometry.Geometry.{Geometry}
 use Rattle.sf_geometry.specs.declared.geometry.Geometry.TheVariants.{Point, LineString, Polygon, MultiPoint, MultiLineString, MultiPolygon}
 use Rattle.sf_geometry.specs.Lists.{edges_between, edges_of as edges_of_list, tight}
-use Rattle.sf_geometry.specs.Parts.{edges_of, joined, lines_of, lists_of, polygons_of, rings_of}
+use Rattle.sf_geometry.specs.Parts.{joined, lines_of, polygons_of, rings_of}
 use Rattle.sf_geometry.specs.PointSets.{is_among}
 use Rattle.sf_rules.specs.Conditions.{Applies}
 use Rattle.sf_rules.specs.Rules.{Rule, line_rules, polygon_rules, ring_rules}
@@ -19,7 +18,6 @@ use Rattle.sf_rules.specs.Validity.{IsValid}
 use Rattle.sf_rules.proofs.MemberLaws.{each-of_flat}
 use Rattle.sf_plane.proofs.CombineLaws.{start_on_edge}
 use Rattle.sf_paths.proofs.SlantLaws.{is_grid}
-use Rattle.sf_polygons.proofs.TestLaws.{any-follows}
 use Rattle.sf_relate.specs.Contact.{SharePoint, is_in}
 use Rattle.sf_relate.specs.EdgeContact.{Share}
 use Rattle.sf_relate.specs.Matrices.{matrix_of}

@@ -1,4 +1,4 @@
-use Rattle.std.proofs.Common.{◌≡◌, ◌∙◌, ap, sym, subst, false}
+use Rattle.std.proofs.Common.{◌≡◌, ◌∙◌, sym, subst, false}
 use Rattle.sf_contact.specs.Absence.{has_start_in, on_edges}
 use Rattle.sf_contact.specs.Pairs.{Tells}
 use Rattle.sf_contact.proofs.StartLaws.{IsContact, contact-by-edges, contact-by-other, contact-by-start}

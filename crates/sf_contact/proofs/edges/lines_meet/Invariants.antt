@@ -1,4 +1,4 @@
-use Rattle.std.proofs.Common.{◌∷◌, [], drop}
+use Rattle.std.proofs.Common.{drop}
 use Rattle.sf_contact.specs.Absence.{on_edges}
 use Rattle.sf_relate.specs.EdgeContact.{on_lines}
 use Rattle.sf_contact.proofs.PairLaws.{IsLeft}
