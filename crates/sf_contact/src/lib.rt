@@ -7,3 +7,6 @@ pub mod laws;
 mod starts;
 
 pub use contact::contact_between;
+
+#[cfg(test)]
+mod tests;
