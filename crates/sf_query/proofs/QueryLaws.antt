@@ -1,6 +1,6 @@
 -- What a query may pass over, and that its answers are those over the plane.
 use Rattle.std.proofs.Common.{◌≡◌, ◌∙◌, ℕ, ◌+◌, ◌<◌, ◌≤◌, ◌++◌, ◌&&◌, Bool, Bor, true, false, List, [], ◌∷◌, filter, length, take, take_all, get_or, option_copied, Option, None, Some, Ok, IfSome, IsSome, IsTrue, IsFalse, refl, ap, sym, subst, arith}
-use Rattle.std.proofs.lemmas.Bool.{false≢true, not-false}
+use Rattle.std.proofs.lemmas.Bool.{both_ways, false≢true, not-false}
 use Rattle.std.proofs.lemmas.Map.Entries.{length-keys_of}
 use Rattle.std.specs.Prelude.{bytes_eq, cond, not}
 use Rattle.std.specs.List.{AllByRecursion}
@@ -26,6 +26,7 @@ use Rattle.sf_relate.specs.Patterns.{has_contact}
 use Rattle.sf_relate.specs.Places.{IsPlaceOf}
 use Rattle.sf_relate.specs.PointPredicates.{TellsOfPoint}
 use Rattle.sf_relate.specs.Predicates.{holds}
+use Rattle.sf_relate.specs.Told.{ShareNone}
 use Rattle.sf_relate.proofs.ContactLaws.{patterns_need_contact, predicates_need_contact}
 use Rattle.sf_relate.proofs.EnvelopeLaws.{apart_has_no_contact, valid-closed}
 use Rattle.sf_relate.proofs.SetLaws.{matrices_are_over_the_plane}
@@ -55,6 +56,10 @@ intersects-told predicate a b d e is contact =
 pub disjoint-told : (predicate : Predicate) (a b : Geometry) (d e : Dim) → predicate ≡ Disjoint → IsTrue (has_contact (matrix_of a b)) → false ≡ holds predicate d e (matrix_of a b)
 disjoint-told predicate a b d e is contact =
     sym (ap (λ p. holds p d e (matrix_of a b)) is ∙ (contact_is_shared a b).disjoint d e ∙ ap not contact)
+
+-- where contact is denied no point is shared
+pub apart-known : (told : Bool) (a b : Geometry) → told ≡ has_contact (matrix_of a b) → told ≡ false → ShareNone a b
+apart-known told a b is none share = both_ways told none (is ∙ (contact_is_shared a b).shared.1 share)
 
 -- the matrix of a feature's geometry tells whether it is as asked
 pub told-by-matrix : (ask : Ask) (a b : Geometry) (matrix : Matrix) (r : Bool) → matrix.0 ≡ matrix_of a b → r ≡ is_answered ask a b matrix.0 → r ≡ is_asked ask a b

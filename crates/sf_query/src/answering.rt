@@ -4,17 +4,19 @@ ghost use Rattle.std.specs.Prelude.{◌≡◌, IfOk, IfSome, IsTrue};
 ghost use Rattle.sf_geometry.specs.Envelope.{envelope_of};
 ghost use Rattle.sf_rules.specs.Validity.{IsValid};
 ghost use Rattle.sf_relate.specs.Matrices.{matrix_of};
-ghost use Rattle.sf_relate.specs.Patterns.{has_contact};
+ghost use Rattle.sf_relate.specs.Patterns.{matches};
 ghost use Rattle.sf_relate.specs.Predicates.{holds};
+ghost use Rattle.sf_relate.specs.Told.{ShareNone};
 ghost use Rattle.sf_prepared.specs.Boxes.{AreEdgesOf};
 ghost use Rattle.sf_query.specs.Answers.{dim_of_geometry, is_answered, is_asked};
 
 use super::ask::Ask;
+use sf_contact::contact_between;
 use sf_geometry::{Extent, Geometry};
 use sf_prepared::Prepared;
 use sf_relate::{
-    Matrix, Predicate, are_apart, dimension, holds, holds_between, holds_of_point, locate,
-    match_between, matrix_apart, shares_edge_point, shares_first_point,
+    Matrix, Pattern, Predicate, are_apart, dimension, holds, holds_between, holds_of_point, locate,
+    match_between, matrix_apart, shares_first_point,
 };
 use sf_validity::Valid;
 use std::alloc::{AllocError, Global};
@@ -99,7 +101,7 @@ pub(crate) fn is_asked(
     ensures { IfOk result (λ answer. answer ≡ is_asked ask.now geometry.now given.now) }
 {
     match ask {
-        Ask::Matching(pattern) => match_between(alloc, &[*pattern], geometry, given),
+        Ask::Matching(pattern) => is_matched(alloc, *pattern, geometry, given),
         Ask::Named(predicate) => match told_by_points(*predicate, geometry, given) {
             Some(answer) => Ok(answer),
             None => holds_between(alloc, *predicate, geometry, given),
@@ -107,7 +109,32 @@ pub(crate) fn is_asked(
     }
 }
 
-/// Whether the predicate holds, where a Point's place or a first point tells it.
+/// Whether the matrix of two geometries matches a pattern.
+fn is_matched(
+    alloc: Global,
+    pattern: Pattern,
+    geometry: &Valid,
+    given: &Valid,
+) -> Result<bool, AllocError>
+    ensures { IfOk result (λ answer. answer ≡ matches pattern (matrix_of geometry.now given.now)) }
+{
+    if are_known_apart(geometry, given) {
+        return Ok(pattern.matches(&matrix_apart(geometry, given)));
+    }
+    match_between(alloc, &[pattern], geometry, given)
+}
+
+/// Whether edges and first points show that two geometries share no point. If not, nothing is known.
+fn are_known_apart(geometry: &Valid, given: &Valid) -> bool
+    ensures { IsTrue result → ShareNone geometry.now given.now }
+{
+    match contact_between(geometry, given) {
+        Some(has_contact) => !has_contact,
+        None => false,
+    }
+}
+
+/// Whether the predicate holds, where a Point's place, or contact, tells it.
 fn told_by_points(predicate: Predicate, geometry: &Valid, given: &Valid) -> Option<bool>
     ensures { IfSome result (λ answer. answer ≡ holds predicate
         (dim_of_geometry geometry.now) (dim_of_geometry given.now)
@@ -119,22 +146,47 @@ fn told_by_points(predicate: Predicate, geometry: &Valid, given: &Valid) -> Opti
     }
 }
 
-/// Whether the predicate holds, where it goes by contact alone and a first point or an edge shows that.
+/// Whether the predicate holds, where two geometries have no contact, or it goes by contact alone.
 fn told_by_contact(predicate: Predicate, geometry: &Valid, given: &Valid) -> Option<bool>
     ensures { IfSome result (λ answer. answer ≡ holds predicate
         (dim_of_geometry geometry.now) (dim_of_geometry given.now)
         (matrix_of geometry.now given.now)) }
 {
+    let Some(has_contact) = contact_between(geometry, given) else {
+        return told_by_first_points(predicate, geometry, given);
+    };
+    if !has_contact {
+        return Some(holds_apart(predicate, geometry, given));
+    }
     match predicate {
-        Predicate::Intersects if shows_contact(geometry, given) => Some(true),
-        Predicate::Disjoint if shows_contact(geometry, given) => Some(false),
+        Predicate::Intersects => Some(true),
+        Predicate::Disjoint => Some(false),
         _ => None,
     }
 }
 
-/// Whether first points or edges show that two geometries have contact. If not, nothing is known.
-fn shows_contact(geometry: &Valid, given: &Valid) -> bool
-    ensures { IsTrue result → IsTrue (has_contact (matrix_of geometry.now given.now)) }
+/// Whether the predicate holds of two geometries that share no point.
+fn holds_apart(predicate: Predicate, geometry: &Valid, given: &Valid) -> bool
+    requires { ShareNone geometry.now given.now }
+    ensures { result ≡ holds predicate
+        (dim_of_geometry geometry.now) (dim_of_geometry given.now)
+        (matrix_of geometry.now given.now) }
 {
-    shares_first_point(geometry, given) || shares_edge_point(geometry, given)
+    let matrix = matrix_apart(geometry, given);
+    let own = dimension(geometry.geometry());
+    let other = dimension(given.geometry());
+    holds(predicate, own, other, &matrix)
+}
+
+/// Whether the predicate holds, where it goes by contact alone and a first point shows that.
+fn told_by_first_points(predicate: Predicate, geometry: &Valid, given: &Valid) -> Option<bool>
+    ensures { IfSome result (λ answer. answer ≡ holds predicate
+        (dim_of_geometry geometry.now) (dim_of_geometry given.now)
+        (matrix_of geometry.now given.now)) }
+{
+    match predicate {
+        Predicate::Intersects if shares_first_point(geometry, given) => Some(true),
+        Predicate::Disjoint if shares_first_point(geometry, given) => Some(false),
+        _ => None,
+    }
 }
