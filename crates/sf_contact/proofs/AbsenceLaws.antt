@@ -283,8 +283,8 @@ areas-begin : (a b : Geometry) (q : PlanePoint) → IsValid a → IsValid b → 
 areas-begin a b q va vb sa sb apart i off_a off_b in_a in_b =
     let above = found (λ e. edge_above e q) (edges_of a) (sym (inside a q va sa i off_a) ∙ in_a) in
     let low = lowest q above.e (edges_of a ++ edges_of b) i above.passes
-        (λ w on. list_any-append (λ e. on_edge e w) (edges_of a) (edges_of b) ∙ or_left (on_one (edges_of a) w) (on_one (edges_of b) w) (above.among w on))
-        (off-both (edges_of a) (edges_of b) q off_a off_b) in
+    (λ w on. list_any-append (λ e. on_edge e w) (edges_of a) (edges_of b) ∙ or_left (on_one (edges_of a) w) (on_one (edges_of b) w) (above.among w on))
+    (off-both (edges_of a) (edges_of b) q off_a off_b) in
     let clear = each-parts (IsClearBelow q low.r) (edges_of a) (edges_of b) low.clear in
     ⊎_elim
     (λ on_a. inl (rises-begin a b q low.r vb sb (λ w j on_b on_a. apart w j on_a on_b) low.up off_b in_b clear.1 on_a))

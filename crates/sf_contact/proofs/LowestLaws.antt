@@ -182,8 +182,8 @@ slanted u v p r l up =
           up = record { is_first = up.is_first; is_second = is_point; column = sym (above_of-column u v p); rises = over_p };
           under = weak ((above_of u v p).y *ℤ pos r.d) (r.y *ℤ pos (above_of u v p).d) lower;
           clear = λ w i column over below on.
-          not-both ((above_of u v p).y *ℤ pos w.d) (w.y *ℤ pos (above_of u v p).d)
-          (as-low ((above_of u v p).y *ℤ pos w.d) (w.y *ℤ pos (above_of u v p).d) (sym (same w i column on))) below;
+              not-both ((above_of u v p).y *ℤ pos w.d) (w.y *ℤ pos (above_of u v p).d)
+              (as-low ((above_of u v p).y *ℤ pos w.d) (w.y *ℤ pos (above_of u v p).d) (sym (same w i column on))) below;
           on = inr on_h;
         })
         (λ over_r.
@@ -324,8 +324,7 @@ descend : (p r : Point) (all es : List Line) → IsUp p r → list_any (λ e. on
 descend p r all [] up on among off = (record { r = r; up = up; on = on; clear = tt }, self (r.y *ℤ pos r.d))
 descend p r all (e ∷ es) up on among off =
     let l = lower p r e up off.0 in
-    let rest = descend p l.s all es l.up (on_all l) (λ w h. among w (or_right (on_edge e w) (list_any (λ f. on_edge f w) es) h)) off.1 in
-    (
+    let rest = descend p l.s all es l.up (on_all l) (λ w h. among w (or_right (on_edge e w) (list_any (λ f. on_edge f w) es) h)) off.1 in (
       record { r = rest.0.r; up = rest.0.up; on = rest.0.on; clear = (clear-lower p rest.0.r l.s e l.up.is_second rest.1 l.clear, rest.0.clear) },
       under-trans rest.0.r l.s r l.up.is_second rest.1 l.under,
     )

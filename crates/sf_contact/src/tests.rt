@@ -46,7 +46,8 @@ const WORKED: &[(usize, usize, bool)] = &[
 ];
 
 /// A polygon of 17 points.
-const LARGE: &str = "POLYGON ((0 0, 1 0, 2 0, 3 0, 4 0, 5 0, 6 0, 7 0, 8 0, 8 1, 8 2, 8 3, 8 4, 8 5, 8 6, 8 7, 0 0))";
+const LARGE: &str =
+    "POLYGON ((0 0, 1 0, 2 0, 3 0, 4 0, 5 0, 6 0, 7 0, 8 0, 8 1, 8 2, 8 3, 8 4, 8 5, 8 6, 8 7, 0 0))";
 
 /// The geometry of a text.
 fn valid(alloc: Global, text: &str) -> Result<Valid, Fail> {
@@ -84,7 +85,11 @@ fn told_otherwise(
 #[test]
 fn contact_is_told_as_by_a_walk(rt: HostRuntime) -> Result<(), Fail> {
     for first in SMALL {
-        assert_eq!(rt; told_otherwise(rt.alloc(), first, SMALL)?, None, "beside {first}");
+        assert_eq!(rt;
+            told_otherwise(rt.alloc(), first, SMALL)?,
+            None,
+            "beside {first}"
+        );
     }
     Ok(())
 }
