@@ -45,6 +45,9 @@ const WORKED: &[(usize, usize, bool)] = &[
     (13, 15, false),
 ];
 
+/// A line of 16 points, as many as a small geometry has.
+const BOUND: &str = "LINESTRING (4 4, 4 5, 4 6, 4 7, 4 8, 4 9, 4 11, 4 12, 4 13, 4 14, 4 15, 4 16, 4 17, 4 18, 4 19, 4 20)";
+
 /// A polygon of 17 points.
 const LARGE: &str =
     "POLYGON ((0 0, 1 0, 2 0, 3 0, 4 0, 5 0, 6 0, 7 0, 8 0, 8 1, 8 2, 8 3, 8 4, 8 5, 8 6, 8 7, 0 0))";
@@ -101,6 +104,13 @@ fn worked_pairs(rt: HostRuntime) -> Result<(), Fail> {
         let b = valid(rt.alloc(), SMALL.get(*second).ok_or("no second")?)?;
         assert_eq!(rt; contact_between(&a, &b), Some(*wanted), "{first} {second}");
     }
+    Ok(())
+}
+
+#[test]
+fn one_is_small(rt: HostRuntime) -> Result<(), Fail> {
+    assert_eq!(rt; told_otherwise(rt.alloc(), LARGE, SMALL)?, None);
+    assert_eq!(rt; told_otherwise(rt.alloc(), LARGE, &[BOUND])?, None);
     Ok(())
 }
 
