@@ -1,8 +1,9 @@
 #!/usr/bin/env python3
 """Times questions that need not the whole matrix, beside `relate`, which does.
 
-Rings of several sizes that cross the border of a window of four edges are asked for by each predicate; two stars that
-overlap are asked about each other. Printed is processor time for each feature or question, with its line: the
+Rings of several sizes that cross the border of a window of four edges are asked for by each predicate, and rings round
+one place with a window in the corner of their box, which share no point with it; two stars that overlap are asked about
+each other. Printed is processor time for each feature or question, with its line: the
 difference of runs with and without the questions, the least of some.
 
     rt run is needed once in crates/sfstore (it builds the program); then: bench/questions.py
@@ -19,6 +20,7 @@ PROGRAM = Path(__file__).resolve().parent.parent / "crates" / "sfstore" / "out" 
 FEATURES = 400
 RUNS = 3
 WINDOW = "POLYGON ((-1000 -10, 500000 -10, 500000 10, -1000 10, -1000 -10))"
+CORNER = "POLYGON ((330 330, 395 330, 395 395, 330 395, 330 330))"
 
 
 def ring(count: int, x: int, y: int, radii: tuple[int, int]) -> str:
@@ -44,13 +46,24 @@ def cost(before: list[str], asked: list[str]) -> float:
     return (seconds(before + asked) - seconds(before)) * 1e6
 
 
+def asked_of_each(before: list[str], window: str, count: int, where: str) -> None:
+    """Each predicate by a window, of the rings of so many edges that the lines before have added."""
+    times = max(40, 8_000 // count)
+    for predicate in ("intersects", "disjoint", "within", "overlaps", "touches"):
+        each = cost(before, [f"query a {predicate} {window}"] * times) / times / FEATURES
+        print(f"window {where} rings of {count}: {predicate} {each:.2f} us for each feature")
+
+
+def corners(count: int) -> None:
+    """A window in the corner of the box of rings of so many edges, which share no point with it."""
+    before = ["layer add a polygon", *[f"add a {ring(count, 0, 0, (400, 400))}"] * FEATURES]
+    asked_of_each(before, CORNER, count, "in the corner of")
+
+
 def windows(count: int) -> None:
     """A window over rings of so many edges, each of which crosses its border."""
     before = ["layer add a polygon", *(f"add a {ring(count, k * 1000, 0, (400, 400))}" for k in range(FEATURES))]
-    times = max(40, 8_000 // count)
-    for predicate in ("intersects", "disjoint", "within", "overlaps", "touches"):
-        each = cost(before, [f"query a {predicate} {WINDOW}"] * times) / times / FEATURES
-        print(f"window over rings of {count}: {predicate} {each:.2f} us for each feature")
+    asked_of_each(before, WINDOW, count, "over")
     asked = [f"relate a {k + 1} {WINDOW}" for k in range(FEATURES)]
     each = cost(before, asked * 5) / 5 / FEATURES
     print(f"window over rings of {count}: relate {each:.2f} us for each line")
@@ -70,6 +83,7 @@ def stars(count: int) -> None:
 def main() -> None:
     for count in (8, 64, 512):
         windows(count)
+        corners(count)
     for count in (64, 512, 4_095):
         stars(count)
 
