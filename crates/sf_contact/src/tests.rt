@@ -46,7 +46,8 @@ const WORKED: &[(usize, usize, bool)] = &[
 ];
 
 /// A line of 16 points, as many as a small geometry has.
-const BOUND: &str = "LINESTRING (4 4, 4 5, 4 6, 4 7, 4 8, 4 9, 4 11, 4 12, 4 13, 4 14, 4 15, 4 16, 4 17, 4 18, 4 19, 4 20)";
+const BOUND: &str =
+    "LINESTRING (4 4, 4 5, 4 6, 4 7, 4 8, 4 9, 4 11, 4 12, 4 13, 4 14, 4 15, 4 16, 4 17, 4 18, 4 19, 4 20)";
 
 /// A polygon of 17 points.
 const LARGE: &str =
