@@ -1,0 +1,19 @@
+//! Laws of exchanged stretches, each the contract of a function that does nothing.
+
+ghost use Rattle.sf_exchange.specs.Exchange.{OtherRingsAreOneSided, RingsAgreeOutside, SharesAreKept};
+
+/// Outside of a box that has all ends of the old and of the new edges, the same points are on the ring before and after,
+/// and inside of it.
+pub fn rings_agree_outside()
+    ensures { RingsAgreeOutside }
+{}
+
+/// With a ring that has no point of the box it shares the same pieces before and after.
+pub fn shares_are_kept()
+    ensures { SharesAreKept }
+{}
+
+/// A closed ring that has no point of a box has all of it inside, or none.
+pub fn other_rings_are_one_sided()
+    ensures { OtherRingsAreOneSided }
+{}
