@@ -1,2 +1,3 @@
 pub mod OneLaws
 pub mod ExchangeLaws
+pub mod PointLaws

@@ -1,6 +1,6 @@
 //! Laws of exchanged stretches, each the contract of a function that does nothing.
 
-ghost use Rattle.sf_exchange.specs.Exchange.{OtherRingsAreOneSided, RingsAgreeOutside, SharesAreKept};
+ghost use Rattle.sf_exchange.specs.Exchange.{BoxesApartAreOff, OtherRingsAreOneSided, PointsAreExchanged, RingsAgreeOutside, SharesAreKept};
 
 /// Outside of a box that has all ends of the old and of the new edges, the same points are on the ring before and after,
 /// and inside of it.
@@ -16,4 +16,14 @@ pub fn shares_are_kept()
 /// A closed ring that has no point of a box has all of it inside, or none.
 pub fn other_rings_are_one_sided()
     ensures { OtherRingsAreOneSided }
+{}
+
+/// Points of a ring that are exchanged for others are such a stretch, in a box that has them and their neighbours.
+pub fn points_are_exchanged()
+    ensures { PointsAreExchanged }
+{}
+
+/// Edges in a box have no point of another one that shares no point with it.
+pub fn boxes_apart_are_off()
+    ensures { BoxesApartAreOff }
 {}
