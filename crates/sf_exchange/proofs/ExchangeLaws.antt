@@ -126,7 +126,7 @@ share-kept-back box r s other p q x off i = ap (λ b. not (same_point p q) && b)
         ∙ ap (λ b. list_any (λ f. on_both e f p && on_both e f q) (edges_of s) || b) (each es h.1)
 
 -- ---- another ring, off the box: the box is inside it, or outside
-off-line : (box : Box) (es : List Line) (p : Point) → AllByRecursion (IsOffBox box) es → IsPoint p → in_box box p ≡ true → list_any (λ e. on_edge e p) es ≡ false
+pub off-line : (box : Box) (es : List Line) (p : Point) → AllByRecursion (IsOffBox box) es → IsPoint p → in_box box p ≡ true → list_any (λ e. on_edge e p) es ≡ false
 off-line box [] p off i h = refl
 off-line box (e ∷ es) p off i h = ap (λ b. b || list_any (λ f. on_edge f p) es) (by_test (on_edge e p) refl) ∙ off-line box es p off.1 i h
   where

@@ -1,3 +1,4 @@
 pub mod OneLaws
 pub mod ExchangeLaws
 pub mod PointLaws
+pub mod KeptLaws

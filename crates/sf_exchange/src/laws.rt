@@ -1,6 +1,7 @@
 //! Laws of exchanged stretches, each the contract of a function that does nothing.
 
 ghost use Rattle.sf_exchange.specs.Exchange.{BoxesApartAreOff, OtherRingsAreOneSided, PointsAreExchanged, RingsAgreeOutside, SharesAreKept};
+ghost use Rattle.sf_exchange.specs.Kept.{PolygonsAreKept};
 
 /// Outside of a box that has all ends of the old and of the new edges, the same points are on the ring before and after,
 /// and inside of it.
@@ -26,4 +27,10 @@ pub fn points_are_exchanged()
 /// Edges in a box have no point of another one that shares no point with it.
 pub fn boxes_apart_are_off()
     ensures { BoxesApartAreOff }
+{}
+
+/// The rules on the whole that held of polygons hold where of one of them the shell, or a hole, had a stretch exchanged
+/// in a box that all other rings are off, the holes and the other polygons beside it.
+pub fn polygons_are_kept()
+    ensures { PolygonsAreKept }
 {}
