@@ -219,15 +219,21 @@ polygons_are_kept box at front back was is has x f b none = (pieces, (outside, (
 
     outside : Applies (AtPoint (λ p. list_any (λ rings. in_hole_outside rings p) (front ++ is ∷ back))) → ⊥
     outside (p, i, any) =
-        none.1.0 (p, i,
-        any-exchanged (λ rings. in_hole_outside rings p) (λ rings. in_hole_outside rings p) front back was is
-        (each-same (λ rings. in_hole_outside rings p) front) (each-same (λ rings. in_hole_outside rings p) back) (outside-kept box at was is p has x i) any)
+        none.1.0 (
+          p,
+          i,
+          any-exchanged (λ rings. in_hole_outside rings p) (λ rings. in_hole_outside rings p) front back was is
+              (each-same (λ rings. in_hole_outside rings p) front) (each-same (λ rings. in_hole_outside rings p) back) (outside-kept box at was is p has x i) any,
+        )
 
     nested : Applies (AtPoint (λ p. list_any (λ rings. in_two_holes rings p) (front ++ is ∷ back))) → ⊥
     nested (p, i, any) =
-        none.1.1.0 (p, i,
-        any-exchanged (λ rings. in_two_holes rings p) (λ rings. in_two_holes rings p) front back was is
-        (each-same (λ rings. in_two_holes rings p) front) (each-same (λ rings. in_two_holes rings p) back) (nested-kept box at was is p has x i) any)
+        none.1.1.0 (
+          p,
+          i,
+          any-exchanged (λ rings. in_two_holes rings p) (λ rings. in_two_holes rings p) front back was is
+              (each-same (λ rings. in_two_holes rings p) front) (each-same (λ rings. in_two_holes rings p) back) (nested-kept box at was is p has x i) any,
+        )
 
     overlap : Applies (AtPoint (in_two_polygons (front ++ is ∷ back))) → ⊥
     overlap (p, i, any) = none.1.1.1.0 (p, i, overlap-kept box at front back was is p has x f b i any)
