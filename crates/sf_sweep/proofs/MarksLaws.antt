@@ -1,6 +1,6 @@
 -- Marks of groups, of which a row has those that are given and further ones; and groups that fit into a row.
 use Rattle.std.proofs.Common.{◌≡◌, refl, ap, sym, ◌∙◌, subst, ℕ, ◌+◌, ◌≤◌, ◌<◌, arith, zero, suc, Bool, ◌&&◌, List, [], ◌∷◌, ◌++◌, length, take, inl, inr}
-use Rattle.std.specs.Prelude.{Err, Ok, OnOk, Result, map, max}
+use Rattle.std.specs.Prelude.{map, max}
 use Rattle.std.specs.List.{All, AllByRecursion}
 use Rattle.std.proofs.lemmas.List.Elements.{All-from_recursion}
 use Rattle.sf_grid.specs.EvenOdd.{is_odd}
@@ -100,12 +100,10 @@ handed-all k pieces groups areal after old new few h =
     }
 
 -- a row has the first k marks, and further ones
-pub handed-row : {Content E : Type 0} (r : Result (Unit {0}) E) (k : ℕ) (pieces : List Piece) (groups : List ℕ) (areal more row : List Bool) (after : Content → Item → Content) (old new : Content) →
-    group_count groups < k → row ≡ take k areal ++ more →
-    OnOk r (WereHanded pieces groups row after old new) → OnOk r (WereHanded pieces groups areal after old new)
-handed-row (Ok t) k pieces groups areal more row after old new few e h =
+pub handed-row : {Content : Type 0} (k : ℕ) (pieces : List Piece) (groups : List ℕ) (areal more row : List Bool) (after : Content → Item → Content) (old new : Content) →
+    group_count groups < k → row ≡ take k areal ++ more → WereHanded pieces groups row after old new → WereHanded pieces groups areal after old new
+handed-row k pieces groups areal more row after old new few e h =
     handed-all k pieces groups areal after old new few (handed-first pieces groups (take k areal) more after old new (subst (λ bs. WereHanded pieces groups bs after old new) e h))
-handed-row (Err f) k pieces groups areal more row after old new few e h = tt
 
 -- ---- groups
 pub groups-few : (n : ℕ) (groups : List ℕ) → group_count groups ≤ n → All (λ g. g < n) groups

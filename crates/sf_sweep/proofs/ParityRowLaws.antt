@@ -1,8 +1,8 @@
 -- The row of parities below the last of some edges.
-use Rattle.std.proofs.Common.{◌≡◌, refl, ap, sym, ◌∙◌, subst, ℕ, zero, suc, ◌<◌, arith, Bool, true, false, ◌&&◌, List, [], ◌∷◌, ◌++◌, length, map}
-use Rattle.std.specs.Prelude.{slice_index, slice_index_or}
+use Rattle.std.proofs.Common.{◌≡◌, refl, ap, sym, ◌∙◌, subst, ℕ, zero, suc, ◌-◌, ◌<◌, arith, Bool, true, false, ◌&&◌, List, [], ◌∷◌, ◌++◌, drop, length, map, take}
+use Rattle.std.specs.Prelude.{replicate, slice_index, slice_index_or}
 use Rattle.std.specs.List.{All, AllByRecursion}
-use Rattle.std.proofs.lemmas.List.{map-append}
+use Rattle.std.proofs.lemmas.List.{drop-replicate, length-take, map-append}
 use Rattle.sf_grid.specs.EvenOdd.{is_odd}
 use Rattle.sf_columns.specs.declared.active.Active.{Active}
 use Rattle.sf_columns.specs.Fronts.{pieces_of}
@@ -52,15 +52,27 @@ zero-odd (a ∷ areal) (k ∷ ks) = ap (λ b. b ∷ parities areal (map (λ _. 0
 row-of_none : (areal : List Bool) (groups : List ℕ) → parities areal (counts groups []) ≡ map (λ _. false) areal
 row-of_none areal groups = zero-odd areal (numbers 0 (group_count groups))
 
-abbrev all_false : ℕ → List Bool
-all_false zero = []
-all_false (suc n) = false ∷ all_false n
-
-false-each : (areal : List Bool) → map (λ _. false) areal ≡ all_false (length areal)
+false-each : (areal : List Bool) → map (λ _. false) areal ≡ replicate (length areal) false
 false-each [] = refl
 false-each (a ∷ areal) = ap (λ bs. false ∷ bs) (false-each areal)
 
-pub row-below_none : (areal : List Bool) (groups : List ℕ) (es : List Active) → length es ≡ 0 → length areal ≡ 8 →
-    false ∷ false ∷ false ∷ false ∷ false ∷ false ∷ false ∷ false ∷ [] ≡ parities areal (counts groups (pieces_of es))
-row-below_none areal groups [] none eight = sym (row-of_none areal groups ∙ false-each areal ∙ ap all_false eight)
-row-below_none areal groups (e ∷ es) none eight = absurd (omega (arith, none))
+row-of_empty : (n : ℕ) → take n [] ++ replicate (n - 0) false ≡ replicate n false
+row-of_empty n = by n (omega arith)
+  where
+    by : (n : ℕ) → n - 0 ≡ n → take n [] ++ replicate (n - 0) false ≡ replicate n false
+    by zero e = ap (λ m. replicate m false) e
+    by (suc n) e = ap (λ m. replicate m false) e
+
+-- the row of no mark
+pub row-below_none : (areal : List Bool) (groups : List ℕ) (es : List Active) (n : ℕ) → length es ≡ 0 → length areal ≡ n →
+    take n [] ++ replicate (n - 0) false ≡ parities areal (counts groups (pieces_of es))
+row-below_none areal groups [] n none wide =
+    row-of_empty n ∙ sym (row-of_none areal groups ∙ false-each areal ∙ ap (λ m. replicate m false) wide)
+row-below_none areal groups (e ∷ es) n none wide = absurd (omega (arith, none))
+
+-- ---- the first marks in a row, and none behind them
+pub row-filled : (n : ℕ) (marks first upper lower : List Bool) → first ≡ take n marks → upper ≡ first → lower ≡ drop (length first) (replicate n false) →
+    upper ++ lower ≡ take n marks ++ replicate (n - length marks) false
+row-filled n marks first upper lower is written kept =
+    let rest : lower ≡ replicate (n - length marks) false = kept ∙ drop-replicate (length first) n false ∙ ap (λ m. replicate m false) (omega (arith, ap length is, length-take n marks)) in
+    cc

@@ -5,10 +5,10 @@ use Rattle.sf_sweep.specs.declared.quick.Quick.{Quick}
 use Rattle.sf_sweep.specs.Cuts.{HasBenchRoom}
 
 -- with a place for each of so many pieces, and room for so many vertices and groups
-pub record IsFresh (pieces vertices groups : ℕ) (q : Quick) : Type 0 where
+pub record IsFresh {Row : Type 0} (pieces vertices groups : ℕ) (q : Quick Row) : Type 0 where
   pub no_edge : q.front.order.items ≡ []
   pub no_meeting : q.front.meetings ≡ replicate pieces Never
-  pub odd : length q.odd.items ≡ pieces
+  pub odd : length q.odd ≡ pieces
   pub room : pieces ≤ vec_capacity q.front.order
   pub tail_room : pieces ≤ vec_capacity q.front.tail
   pub bench_room : HasBenchRoom (pieces + vertices) pieces q.bench

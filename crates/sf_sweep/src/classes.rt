@@ -7,13 +7,20 @@ ghost use Rattle.sf_cells.specs.Pieces.{HasLength};
 ghost use Rattle.sf_classes.specs.Classes.{WereHanded};
 
 use crate::quick::Quick;
+use crate::row::{Bits, Row};
 use sf_cells::CellSink;
 use sf_columns::{Piece, Role, Vertex, vertices};
 use sf_slabs::{walk, walk_sorted};
 use std::alloc::{AllocError, Global};
 
-/// How many groups a row of parities has.
-const ROW: usize = 8;
+/// How many groups a row of parities has: short rows where groups are few, since rows are copied for
+/// each edge that is passed.
+const SHORT: usize = 8;
+
+const LONG: usize = 64;
+
+/// One more than a geometry of 4,096 points has rings, each of four points at least.
+const LONGEST: usize = 1025;
 
 /// How many edges are over a vertex on the average, at most, where `walk` is quicker.
 const FEW: usize = 4;
@@ -22,8 +29,8 @@ const FEW: usize = 4;
 /// of its class with at least its dimension, and for each cell such an item. Items are of one class
 /// if they have the same counts on them and, of each group that `areal` marks, the same parity of
 /// edges above; no more than that parity may be read from the counts above. A group should be
-/// marked only if its edges are closed chains: else the answer is as right, but slow. Where the groups
-/// fill a row, or cells are few, it hands out all cells. Where memory is wanting the sink is left as it
+/// marked only if its edges are closed chains: else the answer is as right, but slow. Where groups are
+/// more than 1,024, or cells few, it hands out all cells. Where memory is wanting the sink is left as it
 /// was.
 /// A sink that is full may be handed no further item: those that are left would change nothing in it.
 pub fn walk_classes<S: CellSink>(
@@ -41,25 +48,32 @@ pub fn walk_classes<S: CellSink>(
         (S.content sink.old) (S.content sink.new)) }
     ensures err { OnErr result (sink.new ≡ sink.old) }
 {
-    if group_count(groups) >= ROW {
-        return walk(alloc, pieces, groups, sink);
+    let count = group_count(groups);
+    if count < SHORT {
+        sweep_in_rows::<Bits<SHORT>, S>(alloc, pieces, groups, areal, sink)
+    } else if count < LONG {
+        sweep_in_rows::<Bits<LONG>, S>(alloc, pieces, groups, areal, sink)
+    } else if count < LONGEST {
+        sweep_in_rows::<Bits<LONGEST>, S>(alloc, pieces, groups, areal, sink)
+    } else {
+        walk(alloc, pieces, groups, sink)
     }
-    sweep_marked(alloc, pieces, groups, &row_of(areal), sink)
 }
 
-/// The same, where a row has all groups. All room is made before the first item.
-fn sweep_marked<S: CellSink>(
+/// The same by rows of this kind, which have more groups than there are. All room is made before the
+/// first item.
+fn sweep_in_rows<R: Row, S: CellSink>(
     alloc: Global,
     pieces: &[Piece],
     groups: &[u32],
-    areal: &[bool; 8],
+    areal: &[bool],
     sink: &mut S,
 ) -> Result<(), AllocError>
     requires have_length { All HasLength pieces.now }
     requires few { length pieces.now ≤ 65535 }
     requires one_group_each { length groups.now ≡ length pieces.now }
     requires groups_in_range { All (λ g. g < length pieces.now) groups.now }
-    requires few_groups { group_count_of groups.now ≤ 8 }
+    requires fewer_groups { group_count_of groups.now < R.width }
     ensures ok { OnOk result (WereHanded pieces.now groups.now areal.now S.after
         (S.content sink.old) (S.content sink.new)) }
     ensures err { OnErr result (sink.new ≡ sink.old) }
@@ -68,8 +82,9 @@ fn sweep_marked<S: CellSink>(
     if are_under_few(vertices.as_slice()) {
         return walk_sorted(alloc, pieces, groups, vertices.as_slice(), sink);
     }
-    let mut quick = Quick::new(alloc, pieces.len(), vertices.len(), group_count(groups))?;
-    quick.run(sink, pieces, groups, areal, vertices.as_slice());
+    let mut quick = Quick::<R>::new(alloc, pieces.len(), vertices.len(), group_count(groups))?;
+    let marks = R::of(areal);
+    quick.run(sink, pieces, groups, marks.as_slice(), vertices.as_slice());
     Ok(())
 }
 
@@ -90,23 +105,6 @@ fn are_under_few(vertices: &[Vertex]) -> bool
         total = total.saturating_add(over);
     }
     total <= FEW * vertices.len()
-}
-
-/// The marks of the first groups, as many as a row has: those that aren't there aren't asked for.
-fn row_of(areal: &[bool]) -> [bool; 8]
-    ensures { result ≡ take 8 areal.now ++ replicate (8 - length areal.now) false }
-{
-    let first = first_marks(areal);
-    let mut row = [false; 8];
-    row.split_at_mut(first.len()).0.copy_from_slice(first);
-    row
-}
-
-/// The first marks, as many as a row has.
-fn first_marks(areal: &[bool]) -> &[bool]
-    ensures { result.now ≡ take 8 areal.now }
-{
-    areal.get(..ROW).unwrap_or(areal)
 }
 
 /// How many groups there are: the greatest number plus one, or 0.

@@ -13,12 +13,13 @@ ghost use Rattle.sf_sweep.specs.Nearest.{meeting_of};
 ghost use Rattle.sf_sweep.specs.Within.{IsAt, IsBehindColumn};
 
 use crate::quick::Quick;
+use crate::row::Row;
 use crate::window::next_window;
 use sf_cells::CellSink;
 use sf_columns::{Contact, Piece, Vertex, next_column};
 use sf_grid::{Frac, FracPoint, GridPoint};
 
-impl Quick {
+impl<R: Row> Quick<R> {
     /// Hands out what changes in the column `x`, in which these vertices lie, and right of it; and goes
     /// on to the edges right of it.
     pub fn column<S: CellSink>(
@@ -26,29 +27,30 @@ impl Quick {
         sink: &mut S,
         x: &Frac,
         groups: &[u32],
-        areal: &[bool; 8],
+        areal: &[bool],
         vertices: &[Vertex],
     )
         requires at { IsAt x.now groups.now areal.now self.old.front.order.items self.old.front.meetings
-            self.old.odd.items 0 vertices.now }
+            self.old.odd 0 vertices.now }
         requires few { length groups.now + length vertices.now < 2 ^ 30 }
-        requires few_groups { All (λ g. g < 8) groups.now }
-        requires few_counts { group_count groups.now ≤ 8 }
+        requires wide { length areal.now ≡ R.width }
+        requires few_groups { All (λ g. g < R.width) groups.now }
+        requires few_counts { group_count groups.now ≤ R.width }
         requires meetings { length self.old.front.meetings ≡ length groups.now }
-        requires odd { length self.old.odd.items ≡ length groups.now }
+        requires odd { length self.old.odd ≡ length groups.now }
         requires room { length groups.now ≤ vec_capacity self.old.front.order }
         requires tail_room { length groups.now ≤ vec_capacity self.old.front.tail }
         requires bench_room { HasBenchRoom (length groups.now + length vertices.now) (length groups.now) self.old.bench }
         requires none_on { self.old.tallies.on.items ≡ counts groups.now [] }
         requires counted { length self.old.tallies.above.items ≡ group_count groups.now }
         ensures behind { (s : IsAt x.now groups.now areal.now self.old.front.order.items self.old.front.meetings
-            self.old.odd.items 0 vertices.now)
-            → IsBehindColumn s self.new.front.order.items self.new.front.meetings self.new.odd.items
+            self.old.odd 0 vertices.now)
+            → IsBehindColumn s self.new.front.order.items self.new.front.meetings self.new.odd
             S.after (S.content sink.old) (S.content sink.new) }
         ensures none_on { self.new.tallies.on.items ≡ counts groups.now [] }
         ensures counted { length self.new.tallies.above.items ≡ group_count groups.now }
         ensures meetings { length self.new.front.meetings ≡ length self.old.front.meetings }
-        ensures odd { length self.new.odd.items ≡ length self.old.odd.items }
+        ensures odd { length self.new.odd ≡ length self.old.odd }
         ensures room { vec_capacity self.old.front.order ≤ vec_capacity self.new.front.order }
         ensures tail_room { vec_capacity self.old.front.tail ≤ vec_capacity self.new.front.tail }
         ensures bench_room { KeepsBenchRoom self.old.bench self.new.bench }
@@ -72,19 +74,20 @@ impl Quick {
         sink: &mut S,
         pieces: &[Piece],
         groups: &[u32],
-        areal: &[bool; 8],
+        areal: &[bool],
         vertices: &[Vertex],
     )
         requires few { length pieces.now ≤ 65535 }
         requires few_vertices { length vertices.now ≤ 131070 }
         requires one_group_each { length groups.now ≡ length pieces.now }
-        requires few_groups { All (λ g. g < 8) groups.now }
-        requires few_counts { group_count groups.now ≤ 8 }
+        requires wide { length areal.now ≡ R.width }
+        requires few_groups { All (λ g. g < R.width) groups.now }
+        requires few_counts { group_count groups.now ≤ R.width }
         requires all { IsPermutation (all_vertices 0 pieces.now) vertices.now }
         requires in_order { IsSortedBy vertex_before vertices.now }
         requires no_edge { self.old.front.order.items ≡ [] }
         requires no_meeting { self.old.front.meetings ≡ replicate (length groups.now) Never }
-        requires odd { length self.old.odd.items ≡ length groups.now }
+        requires odd { length self.old.odd ≡ length groups.now }
         requires room { length groups.now ≤ vec_capacity self.old.front.order }
         requires tail_room { length groups.now ≤ vec_capacity self.old.front.tail }
         requires bench_room { HasBenchRoom (length groups.now + length vertices.now) (length groups.now) self.old.bench }

@@ -11,6 +11,7 @@ mod nearest;
 mod parities;
 mod quick;
 mod repair;
+mod row;
 mod settle;
 mod sides;
 mod window;

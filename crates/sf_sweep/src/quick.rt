@@ -19,6 +19,7 @@ use crate::cutting::{Bench, hand_window};
 use crate::front::{Front, gather};
 use crate::parities::{last_row, put_counts, store};
 use crate::repair::repair;
+use crate::row::{Row, Rows};
 use crate::sides::{above_len, reached_len};
 use crate::window::Window;
 use sf_cells::{CellSink, Tallies};
@@ -29,27 +30,27 @@ use std::alloc::{AllocError, Global};
 /// The edges right of the last point of the sweep; by pieces, the parities of what is above each; and
 /// the room that the sweep works in.
 #[derive(Drop)]
-pub struct Quick {
+pub struct Quick<R: Row> {
     pub front: Front,
-    pub odd: Vec<[bool; 8]>,
+    pub odd: Rows<R>,
     pub bench: Bench,
     pub tallies: Tallies,
 }
 
-impl Quick {
+impl<R: Row> Quick<R> {
     /// No edge, and room for so many pieces, vertices and groups.
     pub fn new(
         alloc: Global,
         pieces: usize,
         vertices: usize,
         groups: usize,
-    ) -> Result<Quick, AllocError>
+    ) -> Result<Quick<R>, AllocError>
         requires few { pieces ≤ 65535 }
         requires few_vertices { vertices ≤ 131070 }
         ensures { IfOk result (λ q. IsFresh pieces vertices groups q) }
     {
         let front = Front::new(alloc, pieces)?;
-        let odd = Vec::from_elem(alloc, [false; 8], pieces)?;
+        let odd = Rows::new(alloc, pieces)?;
         let bench = Bench::new(alloc, pieces + vertices, pieces)?;
         let on = Vec::from_elem(alloc, 0, groups)?;
         let above = Vec::from_elem(alloc, 0, groups)?;
@@ -69,7 +70,7 @@ impl Quick {
         sink: &mut S,
         x: &Frac,
         groups: &[u32],
-        areal: &[bool; 8],
+        areal: &[bool],
         from: usize,
         to: usize,
         here: &[Vertex],
@@ -79,15 +80,16 @@ impl Quick {
         requires order { All (λ e. e.piece < length groups.now) self.old.front.order.items }
         requires here { All (λ v. v.piece < length groups.now) here.now }
         requires few { vec_len self.old.front.order + length here.now < 2 ^ 30 }
-        requires few_groups { All (λ g. g < 8) groups.now }
-        requires few_counts { group_count groups.now ≤ 8 }
+        requires wide { length areal.now ≡ R.width }
+        requires few_groups { All (λ g. g < R.width) groups.now }
+        requires few_counts { group_count groups.now ≤ R.width }
         requires meetings { length self.old.front.meetings ≡ length groups.now }
-        requires odd { length self.old.odd.items ≡ length groups.now }
+        requires odd { length self.old.odd ≡ length groups.now }
         requires apart { AreApart x.now (drop from (take to self.old.front.order.items))
             (contacts_of self.old.front.meetings (drop from (take to self.old.front.order.items))) }
         requires balanced { IsBalancedWindow groups.now x.now (drop from (take to self.old.front.order.items))
             (contacts_of self.old.front.meetings (drop from (take to self.old.front.order.items))) here.now }
-        requires stored { AreParities areal.now groups.now self.old.odd.items (counts groups.now []) (take from self.old.front.order.items) }
+        requires stored { AreParities areal.now groups.now self.old.odd (counts groups.now []) (take from self.old.front.order.items) }
         requires room { vec_len self.old.front.order + length (pieces_with begins here.now) ≤ vec_capacity self.old.front.order }
         requires tail_room { vec_len self.old.front.order ≤ vec_capacity self.old.front.tail }
         requires bench_room { HasBenchRoom (vec_len self.old.front.order + length here.now)
@@ -105,20 +107,20 @@ impl Quick {
         ensures settled { WereSettled x.now (take from self.old.front.order.items) self.new.bench.order.items
             (drop to self.old.front.order.items) self.new.bench.contacts.items
             (forgotten self.old.front.meetings (drop from (take to self.old.front.order.items))) self.new.front.meetings }
-        ensures stored { self.new.odd.items ≡ stored areal.now groups.now self.old.odd.items
+        ensures stored { self.new.odd ≡ stored areal.now groups.now self.old.odd
             (parities areal.now (counts groups.now (pieces_of (take from self.old.front.order.items)))) self.new.bench.order.items }
         ensures end { result ≡ from + length self.new.bench.order.items }
         ensures none_on { self.new.tallies.on.items ≡ counts groups.now [] }
         ensures counted { length self.new.tallies.above.items ≡ group_count groups.now }
         ensures meetings { length self.new.front.meetings ≡ length self.old.front.meetings }
-        ensures odd { length self.new.odd.items ≡ length self.old.odd.items }
+        ensures odd { length self.new.odd ≡ length self.old.odd }
         ensures room { vec_capacity self.old.front.order ≤ vec_capacity self.new.front.order }
         ensures tail_room { vec_capacity self.old.front.tail ≤ vec_capacity self.new.front.tail }
         ensures bench_room { KeepsBenchRoom self.old.bench self.new.bench }
     {
         let (above, came) = self.front.order.as_slice().split_at(to).0.split_at(from);
-        let row = last_row(areal, groups, self.odd.as_slice(), above);
-        put_counts(&mut self.tallies.above, &row);
+        let row = last_row(areal, groups, &self.odd, above);
+        put_counts(&mut self.tallies.above, row.as_slice());
         gather(
             self.front.meetings.as_slice(),
             came,
@@ -147,7 +149,7 @@ impl Quick {
         &mut self,
         sink: &mut S,
         groups: &[u32],
-        areal: &[bool; 8],
+        areal: &[bool],
         from: usize,
         to: usize,
     )
@@ -155,24 +157,25 @@ impl Quick {
         requires within { to ≤ vec_len self.old.front.order }
         requires order { All (λ e. e.piece < length groups.now) self.old.front.order.items }
         requires few { vec_len self.old.front.order < 2 ^ 30 }
-        requires few_groups { All (λ g. g < 8) groups.now }
-        requires few_counts { group_count groups.now ≤ 8 }
-        requires odd { length self.old.odd.items ≡ length groups.now }
+        requires wide { length areal.now ≡ R.width }
+        requires few_groups { All (λ g. g < R.width) groups.now }
+        requires few_counts { group_count groups.now ≤ R.width }
+        requires odd { length self.old.odd ≡ length groups.now }
         requires apart { IsLastApart None self.old.front.meetings (drop from (take to self.old.front.order.items)) }
-        requires stored { AreParities areal.now groups.now self.old.odd.items (counts groups.now []) (take from self.old.front.order.items) }
+        requires stored { AreParities areal.now groups.now self.old.odd (counts groups.now []) (take from self.old.front.order.items) }
         requires none_on { self.old.tallies.on.items ≡ counts groups.now [] }
         requires counted { length self.old.tallies.above.items ≡ group_count groups.now }
         ensures repaired { IsRepaired areal.now groups.now self.old.front.meetings (drop from (take to self.old.front.order.items))
             (parities areal.now (counts groups.now (pieces_of (take from self.old.front.order.items))))
-            self.old.odd.items self.new.odd.items S.after (S.content sink.old) (S.content sink.new) }
+            self.old.odd self.new.odd S.after (S.content sink.old) (S.content sink.new) }
         ensures front { self.new.front ≡ self.old.front }
         ensures bench { self.new.bench ≡ self.old.bench }
-        ensures odd { length self.new.odd.items ≡ length self.old.odd.items }
+        ensures odd { length self.new.odd ≡ length self.old.odd }
         ensures none_on { self.new.tallies.on.items ≡ counts groups.now [] }
         ensures counted { length self.new.tallies.above.items ≡ group_count groups.now }
     {
         let (above, passing) = self.front.order.as_slice().split_at(to).0.split_at(from);
-        let row = last_row(areal, groups, self.odd.as_slice(), above);
+        let row = last_row(areal, groups, &self.odd, above);
         repair(
             sink,
             groups,
@@ -192,18 +195,19 @@ impl Quick {
         sink: &mut S,
         x: &Frac,
         groups: &[u32],
-        areal: &[bool; 8],
+        areal: &[bool],
         from: usize,
         window: &Window,
         here: &[Vertex],
     ) -> usize
         requires at { IsAtWindow x.now groups.now areal.now self.old.front.order.items self.old.front.meetings
-            self.old.odd.items from here.now window.now }
+            self.old.odd from here.now window.now }
         requires few { vec_len self.old.front.order + length here.now < 2 ^ 30 }
-        requires few_groups { All (λ g. g < 8) groups.now }
-        requires few_counts { group_count groups.now ≤ 8 }
+        requires wide { length areal.now ≡ R.width }
+        requires few_groups { All (λ g. g < R.width) groups.now }
+        requires few_counts { group_count groups.now ≤ R.width }
         requires meetings { length self.old.front.meetings ≡ length groups.now }
-        requires odd { length self.old.odd.items ≡ length groups.now }
+        requires odd { length self.old.odd ≡ length groups.now }
         requires room { vec_len self.old.front.order + length (pieces_with begins here.now) ≤ vec_capacity self.old.front.order }
         requires tail_room { vec_len self.old.front.order ≤ vec_capacity self.old.front.tail }
         requires bench_room { HasBenchRoom (vec_len self.old.front.order + length here.now)
@@ -211,13 +215,13 @@ impl Quick {
         requires none_on { self.old.tallies.on.items ≡ counts groups.now [] }
         requires counted { length self.old.tallies.above.items ≡ group_count groups.now }
         ensures behind { (s : IsAtWindow x.now groups.now areal.now self.old.front.order.items self.old.front.meetings
-            self.old.odd.items from here.now window.now)
-            → IsBehindWindow s self.new.front.order.items self.new.front.meetings self.new.odd.items result
+            self.old.odd from here.now window.now)
+            → IsBehindWindow s self.new.front.order.items self.new.front.meetings self.new.odd result
             S.after (S.content sink.old) (S.content sink.new) }
         ensures none_on { self.new.tallies.on.items ≡ counts groups.now [] }
         ensures counted { length self.new.tallies.above.items ≡ group_count groups.now }
         ensures meetings { length self.new.front.meetings ≡ length self.old.front.meetings }
-        ensures odd { length self.new.odd.items ≡ length self.old.odd.items }
+        ensures odd { length self.new.odd ≡ length self.old.odd }
         ensures room { vec_capacity self.old.front.order ≤ vec_capacity self.new.front.order }
         ensures tail_room { vec_capacity self.old.front.tail ≤ vec_capacity self.new.front.tail }
         ensures bench_room { KeepsBenchRoom self.old.bench self.new.bench }

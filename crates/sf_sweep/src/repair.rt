@@ -11,44 +11,47 @@ ghost use Rattle.sf_sweep.specs.Repairs.{IsRepaired};
 
 use crate::bundle::bundle_len;
 use crate::parities::{put_counts, store};
+use crate::row::{Row, Rows};
 use sf_cells::{CellSink, Tallies, add_edges, take_edges};
 use sf_columns::{Active, Contact};
 
 /// Hands out the bundles of a slab from the top, each with the gap below it, until what is stored of
 /// the parities above one is right; and stores those of the ones that were handed out.
-pub fn repair<S: CellSink>(
+pub fn repair<R: Row, S: CellSink>(
     sink: &mut S,
     groups: &[u32],
-    areal: &[bool; 8],
+    areal: &[bool],
     contacts: &[Contact],
     order: &[Active],
-    above: &[bool; 8],
-    table: &mut [[bool; 8]],
+    above: &R,
+    table: &mut Rows<R>,
     tallies: &mut Tallies,
 )
+    requires wide { length areal.now ≡ R.width }
     requires grouped { All (λ e. e.piece < length groups.now) order.now }
-    requires few_groups { All (λ g. g < 8) groups.now }
-    requires few_counts { group_count groups.now ≤ 8 }
+    requires few_groups { All (λ g. g < R.width) groups.now }
+    requires few_counts { group_count groups.now ≤ R.width }
     requires few { length order.now < 2 ^ 32 }
     requires room { length table.old ≡ length groups.now }
     requires apart { IsLastApart None contacts.now order.now }
     requires none_on { tallies.old.on.items ≡ counts groups.now [] }
     requires counted { length tallies.old.above.items ≡ group_count groups.now }
-    ensures repaired { IsRepaired areal.now groups.now contacts.now order.now above.now
+    ensures repaired { IsRepaired areal.now groups.now contacts.now order.now (R.bits above.now)
         table.old table.new S.after (S.content sink.old) (S.content sink.new) }
+    ensures len { length table.new ≡ length table.old }
     ensures none_on { tallies.new.on.items ≡ counts groups.now [] }
     ensures counted { length tallies.new.above.items ≡ group_count groups.now }
 {
     let mut rest = order;
     let mut odd = *above;
     while let Some(first) = rest.first() {
-        if table[first.piece as usize] == odd {
+        if table.at(first.piece).is_same(&odd) {
             return;
         }
         let (bundle, lower) = rest.split_at(bundle_len(contacts, rest));
-        hand_bundle(sink, groups, tallies, &odd, bundle);
+        hand_bundle(sink, groups, tallies, odd.as_slice(), bundle);
         odd = store(areal, groups, table, &odd, bundle);
-        hand_gap(sink, tallies, &odd);
+        hand_gap(sink, tallies, odd.as_slice());
         rest = lower;
     }
 }
@@ -58,13 +61,13 @@ fn hand_bundle<S: CellSink>(
     sink: &mut S,
     groups: &[u32],
     tallies: &mut Tallies,
-    odd: &[bool; 8],
+    odd: &[bool],
     bundle: &[Active],
 )
     requires grouped { All (λ e. e.piece < length groups.now) bundle.now }
     requires few { length bundle.now < 2 ^ 32 }
     requires none_on { tallies.old.on.items ≡ counts groups.now [] }
-    requires few_groups { length tallies.old.above.items ≤ 8 }
+    requires few_groups { length tallies.old.above.items ≤ length odd.now }
     ensures handed { S.content sink.new ≡ S.after (S.content sink.old)
         (item 1 (counts groups.now (pieces_of bundle.now)) (map as_count (take (length tallies.old.above.items) odd.now))) }
     ensures none_on { tallies.new.on.items ≡ counts groups.now [] }
@@ -77,8 +80,8 @@ fn hand_bundle<S: CellSink>(
 }
 
 /// Hands out a gap of a slab below these parities.
-fn hand_gap<S: CellSink>(sink: &mut S, tallies: &mut Tallies, odd: &[bool; 8])
-    requires few_groups { length tallies.old.above.items ≤ 8 }
+fn hand_gap<S: CellSink>(sink: &mut S, tallies: &mut Tallies, odd: &[bool])
+    requires few_groups { length tallies.old.above.items ≤ length odd.now }
     ensures handed { S.content sink.new ≡ S.after (S.content sink.old)
         (item 2 tallies.old.on.items (map as_count (take (length tallies.old.above.items) odd.now))) }
     ensures on { tallies.new.on ≡ tallies.old.on }

@@ -1,7 +1,7 @@
-use Rattle.std.proofs.Common.{◌<◌, arith, rules, ap, ◌∙◌, length, map, take}
+use Rattle.std.proofs.Common.{refl, sym, ◌<◌, arith, rules, ap, ◌∙◌, length, map, take}
+use Rattle.sf_columns.specs.Fronts.{pieces_of}
+use Rattle.sf_cells.specs.Groups.{counts}
 use Rattle.sf_sweep.specs.Parities.{as_count}
-use Rattle.std.specs.Cmp.{booleans_Decides}
-use Rattle.std.proofs.lemmas.Slice.Eq.{slice_eq-Decides}
 use Rattle.sf_cells.specs.Hands.{item}
 use Rattle.sf_sweep.proofs.RepairLaws.{agrees-at, repaired-none, repaired-turn, run-within}
 use Rattle.sf_sweep.proofs.repair.repair.Goals as goal
@@ -9,21 +9,22 @@ use Rattle.sf_sweep.proofs.repair.repair.Goals as goal
 pub loop-first-init : goal.loop-first-init
 loop-first-init g c =
     record {
-      so_far = repaired-none c.args.areal.now c.args.groups.now c.args.contacts.now c.args.order.now c.args.above.now c.args.table.now g.S.CellSink.after (g.S.CellSink.content c.args.sink.now) c.requires.apart;
+      so_far = repaired-none c.args.areal.now c.args.groups.now c.args.contacts.now c.args.order.now (g.R.Row.bits c.args.above.now) c.args.table.now g.S.CellSink.after (g.S.CellSink.content c.args.sink.now) c.requires.apart;
       grouped = c.requires.grouped;
       few = c.requires.few;
       room = c.requires.room;
+      len = refl;
       none_on = c.requires.none_on;
       counted = c.requires.counted;
     }
 
-pub returns-then-eq-clause-repaired : goal.returns-then-eq-clause-repaired
-returns-then-eq-clause-repaired g c =
+pub returns-then-is_same-clause-repaired : goal.returns-then-is_same-clause-repaired
+returns-then-is_same-clause-repaired g c =
     record {
       done = c.loop-first.invariant.so_far.done;
       left = c.loop-first.rest.now;
       handed = c.loop-first.invariant.so_far.handed;
-      agrees = agrees-at c.loop-first.table _ c.loop-first.odd c.loop-first.rest.now c.in-Some.first.now (search rules) (search rules) ((slice_eq-Decides booleans_Decides _ _ _ c.eq.ensures).0 c.if-eq.true) c.loop-first.invariant.so_far.row;
+      agrees = agrees-at c.loop-first.table _ (g.R.Row.bits c.loop-first.odd) c.loop-first.rest.now c.in-Some.first.now (search rules) (search rules) (sym c.at.ensures ∙ c.is_same.ensures.0 c.if-is_same.true) c.loop-first.invariant.so_far.row;
     }
 
 pub split_at-requires : goal.split_at-requires
@@ -34,15 +35,17 @@ split_at-requires g c =
 pub loop-first-preserved : goal.loop-first-preserved
 loop-first-preserved g c =
     record {
-      so_far = repaired-turn c.args.areal.now c.args.groups.now c.args.contacts.now c.args.order.now c.args.above.now c.args.table.now c.loop-first.table c.store-odd.new.table
+      so_far = repaired-turn c.args.areal.now c.args.groups.now c.args.contacts.now c.args.order.now (g.R.Row.bits c.args.above.now) c.args.table.now c.loop-first.table c.store-odd.new.table
           g.S.CellSink.after (g.S.CellSink.content c.args.sink.now) (g.S.CellSink.content c.loop-first.sink) (g.S.CellSink.content c.hand_bundle.new.sink) (g.S.CellSink.content c.hand_gap.new.sink)
-          c.loop-first.odd c.store-odd.result c.loop-first.rest.now c.split_at.result.0.now c.split_at.result.1.now c.bundle_len.result
+          (g.R.Row.bits c.loop-first.odd) (g.R.Row.bits c.store-odd.result) c.loop-first.rest.now c.split_at.result.0.now c.split_at.result.1.now c.bundle_len.result
           (length c.loop-first.tallies.above.items) (length c.hand_bundle.new.tallies.above.items) (search rules) c.requires.grouped c.loop-first.invariant.counted
-          (c.hand_bundle.ensures.counted ∙ c.loop-first.invariant.counted) c.bundle_len.ensures c.split_at.ensures.front c.split_at.ensures.back c.hand_bundle.ensures.handed
-          (c.hand_gap.ensures.handed ∙ ap (λ ns. g.S.CellSink.after (g.S.CellSink.content c.hand_bundle.new.sink) (item 2 ns (map as_count (take (length c.hand_bundle.new.tallies.above.items) c.store-odd.result)))) c.hand_bundle.ensures.none_on) c.store-odd.ensures.table c.store-odd.ensures.below c.loop-first.invariant.so_far;
+          (c.hand_bundle.ensures.counted ∙ c.loop-first.invariant.counted) c.bundle_len.ensures c.split_at.ensures.front c.split_at.ensures.back
+          (c.hand_bundle.ensures.handed ∙ ap (λ bits. g.S.CellSink.after (g.S.CellSink.content c.loop-first.sink) (item 1 (counts c.args.groups.now (pieces_of c.split_at.result.0.now)) (map as_count (take (length c.loop-first.tallies.above.items) bits)))) c.as_slice.ensures.bits)
+          (c.hand_gap.ensures.handed ∙ ap (λ bits. g.S.CellSink.after (g.S.CellSink.content c.hand_bundle.new.sink) (item 2 c.hand_bundle.new.tallies.on.items (map as_count (take (length c.hand_bundle.new.tallies.above.items) bits)))) c.as_slice-in-Some.ensures.bits ∙ ap (λ ns. g.S.CellSink.after (g.S.CellSink.content c.hand_bundle.new.sink) (item 2 ns (map as_count (take (length c.hand_bundle.new.tallies.above.items) (g.R.Row.bits c.store-odd.result))))) c.hand_bundle.ensures.none_on) c.store-odd.ensures.table c.store-odd.ensures.below c.loop-first.invariant.so_far;
       grouped = search rules;
       few = omega (arith, c.loop-first.invariant.few, ap length c.split_at.ensures.back);
-      room = search rules;
+      room = c.store-odd.ensures.len ∙ c.loop-first.invariant.room;
+      len = c.store-odd.ensures.len ∙ c.loop-first.invariant.len;
       none_on = ap (λ t. t.items) c.hand_gap.ensures.on ∙ c.hand_bundle.ensures.none_on;
       counted = c.hand_gap.ensures.counted ∙ c.hand_bundle.ensures.counted ∙ c.loop-first.invariant.counted;
     }

@@ -8,11 +8,11 @@ use Rattle.sf_sweep.proofs.quick.Quick.column.Given as goal
 abbrev pub invariant-loop-window : goal.invariant-loop-window
 invariant-loop-window g l =
     record {
-      since : (s : IsAt l.x l.groups l.areal l.fn.self.front.order.items l.fn.self.front.meetings l.fn.self.odd.items 0 l.vertices)
-          → IsSince s l.self.front.order.items l.self.front.meetings l.self.odd.items l.from l.left g.S.CellSink.after (g.S.CellSink.content l.fn.sink) (g.S.CellSink.content l.sink);
+      since : (s : IsAt l.x l.groups l.areal l.fn.self.front.order.items l.fn.self.front.meetings l.fn.self.odd 0 l.vertices)
+          → IsSince s l.self.front.order.items l.self.front.meetings l.self.odd l.from l.left g.S.CellSink.after (g.S.CellSink.content l.fn.sink) (g.S.CellSink.content l.sink);
       fewer : length l.left ≤ length l.vertices;
       meetings : length l.self.front.meetings ≡ length l.groups;
-      odd : length l.self.odd.items ≡ length l.groups;
+      odd : length l.self.odd ≡ length l.groups;
       room : vec_capacity l.fn.self.front.order ≤ vec_capacity l.self.front.order;
       tail_room : vec_capacity l.fn.self.front.tail ≤ vec_capacity l.self.front.tail;
       bench_room : KeepsBenchRoom l.fn.self.bench l.self.bench;

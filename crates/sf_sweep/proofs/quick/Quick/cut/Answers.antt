@@ -7,7 +7,7 @@ use Rattle.sf_sweep.proofs.quick.Quick.cut.Goals as goal
 
 pub hand_window-requires-clause-few_above : goal.hand_window-requires-clause-few_above
 hand_window-requires-clause-few_above g c =
-    parities-few _ (take (length c.deref_mut.result.now) c.last_row-row.result)
+    parities-few _ (take (length c.deref_mut.result.now) c.as_slice-2.result.now)
     (with_items_is c.args.self.now.tallies.above c.put_counts.new.counts (c.put_counts.auto.counts ∙ c.deref_mut.ensures.len) ∙ c.put_counts.ensures)
 
 pub exchange-requires-clause-room : goal.exchange-requires-clause-room

@@ -24,7 +24,7 @@ loop-next-init g c =
     let next = c.next_place-next.result in
     let old = g.S.CellSink.content c.args.sink.now in
     let new = g.S.CellSink.content c.cell.new.self in
-    let kept = first-kept groups areal order table q.odd.items (length groups) c.requires.no_edge c.requires.no_meeting in
+    let kept = first-kept groups areal order table q.odd (length groups) c.requires.no_edge c.requires.no_meeting in
     let coming : IsComingNext next vs (contacts_of table order) =
     next-of_first table order c.first.result next vs kept.never kept.alone c.first.ensures.some c.first.ensures.none c.next_place-next.ensures.some c.next_place-next.ensures.none in
     let handed : new ≡ g.S.CellSink.after old (item 2 (counts groups []) (counts groups [])) =
@@ -55,7 +55,7 @@ column-requires-clause-at g c =
     let x = c.in-Some.x in
     let order = l.self.front.order.items in
     let table = l.self.front.meetings in
-    let odd = l.self.odd.items in
+    let odd = l.self.odd in
     let s : StandsBefore pieces x order (contacts_of table order) l.ahead.now = subst (λ o. Stands pieces o order (contacts_of table order) l.ahead.now) c.in-Some.is l.invariant.stands in
     at-column pieces groups areal x order table odd l.ahead.now c.split_at.result.0.now c.column_len.result c.requires.one_group_each s l.invariant.kept c.column_len.ensures.value c.split_at.ensures.front
 
@@ -85,7 +85,7 @@ loop-next-smaller g c =
     let x = c.in-Some.x in
     let order = l.self.front.order.items in
     let table = l.self.front.meetings in
-    let odd = l.self.odd.items in
+    let odd = l.self.odd in
     let s : StandsBefore pieces x order (contacts_of table order) l.ahead.now = subst (λ o. Stands pieces o order (contacts_of table order) l.ahead.now) c.in-Some.is l.invariant.stands in
     let m = c.column.new.self in
     let old = g.S.CellSink.content c.args.sink.now in
@@ -95,14 +95,14 @@ loop-next-smaller g c =
     let b = c.column.ensures.behind at in
     let kept =
     kept-behind pieces groups areal x order table odd l.ahead.now c.split_at.result.0.now c.column_len.result c.requires.one_group_each s l.invariant.kept c.column_len.ensures.value c.split_at.ensures.front
-    c.split_at.result.1.now c.split_at.ensures.back m.front.order.items m.front.meetings m.odd.items g.S.CellSink.after old mid new b in
+    c.split_at.result.1.now c.split_at.ensures.back m.front.order.items m.front.meetings m.odd g.S.CellSink.after old mid new b in
     let next = c.next_place-next-in-Some.result in
     let coming : IsComingNext next c.split_at.result.1.now (contacts_of m.front.meetings m.front.order.items) =
     next-of_first m.front.meetings m.front.order.items c.first-in-Some.result next c.split_at.result.1.now kept.never kept.alone c.first-in-Some.ensures.some c.first-in-Some.ensures.none
     c.next_place-next-in-Some.ensures.some c.next_place-next-in-Some.ensures.none in
     subst (λ o. left pieces next < left pieces o) (sym c.in-Some.is)
     (fewer-behind pieces groups areal x order table odd l.ahead.now c.split_at.result.0.now c.column_len.result c.requires.one_group_each s l.invariant.kept c.column_len.ensures.value c.split_at.ensures.front
-    c.split_at.result.1.now c.split_at.ensures.back m.front.order.items m.front.meetings m.odd.items g.S.CellSink.after old mid new b next coming)
+    c.split_at.result.1.now c.split_at.ensures.back m.front.order.items m.front.meetings m.odd g.S.CellSink.after old mid new b next coming)
 
 pub loop-next-preserved : goal.loop-next-preserved
 loop-next-preserved g c =
@@ -113,7 +113,7 @@ loop-next-preserved g c =
     let x = c.in-Some.x in
     let order = l.self.front.order.items in
     let table = l.self.front.meetings in
-    let odd = l.self.odd.items in
+    let odd = l.self.odd in
     let s : StandsBefore pieces x order (contacts_of table order) l.ahead.now = subst (λ o. Stands pieces o order (contacts_of table order) l.ahead.now) c.in-Some.is l.invariant.stands in
     let m = c.column.new.self in
     let old = g.S.CellSink.content c.args.sink.now in
@@ -123,17 +123,17 @@ loop-next-preserved g c =
     let b = c.column.ensures.behind at in
     let kept =
     kept-behind pieces groups areal x order table odd l.ahead.now c.split_at.result.0.now c.column_len.result c.requires.one_group_each s l.invariant.kept c.column_len.ensures.value c.split_at.ensures.front
-    c.split_at.result.1.now c.split_at.ensures.back m.front.order.items m.front.meetings m.odd.items g.S.CellSink.after old mid new b in
+    c.split_at.result.1.now c.split_at.ensures.back m.front.order.items m.front.meetings m.odd g.S.CellSink.after old mid new b in
     let next = c.next_place-next-in-Some.result in
     let coming : IsComingNext next c.split_at.result.1.now (contacts_of m.front.meetings m.front.order.items) =
     next-of_first m.front.meetings m.front.order.items c.first-in-Some.result next c.split_at.result.1.now kept.never kept.alone c.first-in-Some.ensures.some c.first-in-Some.ensures.none
     c.next_place-next-in-Some.ensures.some c.next_place-next-in-Some.ensures.none in
     record {
       stands = stands-behind pieces groups areal x order table odd l.ahead.now c.split_at.result.0.now c.column_len.result c.requires.one_group_each s l.invariant.kept c.column_len.ensures.value c.split_at.ensures.front
-          c.split_at.result.1.now c.split_at.ensures.back m.front.order.items m.front.meetings m.odd.items g.S.CellSink.after old mid new b next coming;
+          c.split_at.result.1.now c.split_at.ensures.back m.front.order.items m.front.meetings m.odd g.S.CellSink.after old mid new b next coming;
       kept = kept;
       handed = handed-behind pieces groups areal x order table odd l.ahead.now c.split_at.result.0.now c.column_len.result c.requires.one_group_each s l.invariant.kept c.column_len.ensures.value c.split_at.ensures.front
-          c.split_at.result.1.now c.split_at.ensures.back m.front.order.items m.front.meetings m.odd.items g.S.CellSink.after old mid new b next coming
+          c.split_at.result.1.now c.split_at.ensures.back m.front.order.items m.front.meetings m.odd g.S.CellSink.after old mid new b next coming
           (subst (λ o. HaveHanded pieces groups areal order table o g.S.CellSink.after old mid) c.in-Some.is l.invariant.handed);
       fewer = omega (arith, l.invariant.fewer, c.split_at.ensures.back_len);
       meetings = c.column.ensures.meetings ∙ l.invariant.meetings;

@@ -12,11 +12,11 @@ abbrev pub invariant-loop-next : goal.invariant-loop-next
 invariant-loop-next g l =
     record {
       stands : Stands l.pieces l.next l.self.front.order.items (contacts_of l.self.front.meetings l.self.front.order.items) l.ahead;
-      kept : IsKept l.groups l.areal l.self.front.order.items l.self.front.meetings l.self.odd.items;
+      kept : IsKept l.groups l.areal l.self.front.order.items l.self.front.meetings l.self.odd;
       handed : HaveHanded l.pieces l.groups l.areal l.self.front.order.items l.self.front.meetings l.next g.S.CellSink.after (g.S.CellSink.content l.fn.sink) (g.S.CellSink.content l.sink);
       fewer : length l.ahead ≤ length l.vertices;
       meetings : length l.self.front.meetings ≡ length l.groups;
-      odd : length l.self.odd.items ≡ length l.groups;
+      odd : length l.self.odd ≡ length l.groups;
       room : vec_capacity l.fn.self.front.order ≤ vec_capacity l.self.front.order;
       tail_room : vec_capacity l.fn.self.front.tail ≤ vec_capacity l.self.front.tail;
       bench_room : KeepsBenchRoom l.fn.self.bench l.self.bench;

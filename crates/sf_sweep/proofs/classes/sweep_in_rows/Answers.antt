@@ -1,9 +1,9 @@
-use Rattle.std.proofs.Common.{sym, subst, ap, ◌∙◌, ◌≤◌, length, rules, replicate}
+use Rattle.std.proofs.Common.{arith, false, sym, subst, ap, ◌∙◌, ◌-◌, ◌≤◌, length, rules, replicate}
 use Rattle.sf_cells.proofs.CallerLemmas.{counts_none}
 use Rattle.sf_classes.proofs.ClassLaws.{handed-walk}
 use Rattle.sf_slabs.proofs.SweepLaws.{few-number, vertices-few}
-use Rattle.sf_sweep.proofs.MarksLaws.{groups-few}
-use Rattle.sf_sweep.proofs.classes.sweep_marked.Goals as goal
+use Rattle.sf_sweep.proofs.MarksLaws.{groups-few, handed-row}
+use Rattle.sf_sweep.proofs.classes.sweep_in_rows.Goals as goal
 
 pub are_under_few-requires : goal.are_under_few-requires
 are_under_few-requires g c =
@@ -23,11 +23,11 @@ new-requires-clause-few_vertices g c =
 
 pub run-requires-clause-few_vertices : goal.run-requires-clause-few_vertices
 run-requires-clause-few_vertices g c =
-    subst (λ vs. length vs ≤ 131070) (sym c.as_slice-2.ensures.value)
+    subst (λ vs. length vs ≤ 131070) (sym c.as_slice-3.ensures.value)
     (vertices-few c.args.pieces.now c.in_ok-vertices.vertices.items c.requires.few c.in_ok-vertices.ensures.all)
 
 pub run-requires-clause-few_groups : goal.run-requires-clause-few_groups
-run-requires-clause-few_groups g c = groups-few 8 c.args.groups.now c.requires.few_groups
+run-requires-clause-few_groups g c = groups-few g.R.Row.width c.args.groups.now (omega (arith, c.requires.fewer_groups))
 
 pub run-requires-clause-none_on : goal.run-requires-clause-none_on
 run-requires-clause-none_on g c = c.in_ok-quick.ensures.none_on ∙ ap (λ n. replicate n 0) c.group_count.ensures ∙ sym (counts_none c.args.groups.now)
@@ -37,3 +37,8 @@ run-requires-clause-none_above g c = c.in_ok-quick.ensures.none_above ∙ ap (λ
 
 pub returns-then-are_under_few-clause-ok : goal.returns-then-are_under_few-clause-ok
 returns-then-are_under_few-clause-ok g c = handed-walk c.walk_sorted.result c.args.pieces.now c.args.groups.now c.args.areal.now _ _ _ c.walk_sorted.ensures.ok
+
+pub returns-clause-ok : goal.returns-clause-ok
+returns-clause-ok g c =
+    handed-row g.R.Row.width c.args.pieces.now c.args.groups.now c.args.areal.now (replicate (g.R.Row.width - length c.args.areal.now) false) c.as_slice-2.result.now
+    g.S.CellSink.after (g.S.CellSink.content c.args.sink.now) (g.S.CellSink.content c.run.new.sink) c.requires.fewer_groups (c.as_slice-2.ensures.bits ∙ c.of-marks.ensures) c.run.ensures
