@@ -1,5 +1,7 @@
 -- What a walk over polygons finds is right of their points: overlaps and shared pieces; and where all are of one colour there are none.
 use Rattle.std.proofs.Common.{◌≡◌, refl, ap, sym, ◌∙◌, subst, ℕ, suc, ◌<◌, ◌≤◌, ◌^◌, ◌==◌, arith, Option, is_some, Bool, true, false, ◌&&◌, ◌||◌, not, List, [], ◌∷◌, ◌++◌, append_assoc, map, length, nat_le, nat_lt, replicate, slice_index}
+use Rattle.std.specs.Prelude.{IsTrue, if◌then◌else◌}
+use Rattle.sf_cells.specs.Groups.{Item}
 use Rattle.std.specs.List.{AllByRecursion, count_by, flat_map, list_all, list_any, zip}
 use Rattle.std.proofs.lemmas.Bool.{and_from, and_parts, both_ways, eqb-true}
 use Rattle.std.proofs.lemmas.List.{length-map}
@@ -30,8 +32,8 @@ use Rattle.sf_polygons.proofs.PieceLaws.{parity, rings_of}
 use Rattle.sf_polygons.proofs.PolygonLaws.{told-inside}
 use Rattle.sf_polygons.proofs.SizeLaws.{few-boxes, few-pieces, polygon-groups, polygons-grouped}
 use Rattle.sf_polygons.proofs.TestLaws.{any-and, any-flat, any-map, any-same, count-each, count-map, count-same, map-join, none-of, odd-and, odd-joined, odd-map, odd-same, odd_many, one-of, or-right, two-count, two-flat, two-map, two-of}
-use Rattle.sf_polygons.proofs.WalkLaws.{gathered, overlap-by, passes-somewhere}
-use Rattle.sf_polygons.proofs.WithinLaws.{counted-alike, flag-shared, group-odd, group-on, is-inside}
+use Rattle.sf_polygons.proofs.WalkLaws.{gathered, gathered-unless, overlap-by, passes-somewhere}
+use Rattle.sf_polygons.proofs.WithinLaws.{counted-alike, flag-shared, group-odd, group-on, is-inside, unmet}
 
 -- a polygon's rings and its colour
 abbrev Grouped : Type 0
@@ -122,9 +124,19 @@ across-shared polygons s = (
       (any_two (λ rings others. list_any (λ r. list_any (λ t. share_piece r t s.0 s.1) others) rings) polygons) s.4,
 )
 
-unmet : (t : Bool) → (t ≡ true → ⊥) → t ≡ false
-unmet true h = absurd (h refl)
-unmet false h = refl
+-- ---- the sink, cell by cell
+polygon-meet : (f : PolygonFaults) (i : Item) → (with_polygon_cell f i).meet ≡ (f.meet || is_shared i)
+polygon-meet f i = by f.meet refl
+  where
+    by : (b : Bool) → f.meet ≡ b → (if b then f else (record { meet = is_shared i; overlap = f.overlap || is_overlap i })).meet ≡ (b || is_shared i)
+    by true e = e
+    by false e = refl
+
+polygon-stays : (f : PolygonFaults) (i : Item) → f.meet ≡ true → (with_polygon_cell f i).meet ≡ true
+polygon-stays f i e = polygon-meet f i ∙ ap (λ b. b || is_shared i) e
+
+polygon-overlap : (f : PolygonFaults) (i : Item) → f.meet ≡ false → (with_polygon_cell f i).overlap ≡ (f.overlap || is_overlap i)
+polygon-overlap f i e = ap (λ b. (if b then f else (record { meet = is_shared i; overlap = f.overlap || is_overlap i })).overlap) e
 
 polygon-faults : (polygons : List (List (List Coordinates))) (colours : List ℕ) (found : PolygonFaults) → AllByRecursion IsSound (joined polygons) → IsColouring (map polygon_box polygons) colours
     → WereHanded (pieces_of (pieces_in (polygons_in polygons colours))) (groups_of (pieces_in (polygons_in polygons colours))) (replicate (length polygons) true) with_polygon_cell
@@ -134,8 +146,12 @@ polygon-faults polygons colours found sound h handed =
     let rings = polygons_in polygons colours in
     let closed = each-closed polygons sound in
     let start : PolygonFaults = record { meet = false; overlap = false } in
-    let meet = ap (λ (f : PolygonFaults). f.meet) handed.handed ∙ gathered (λ (f : PolygonFaults). f.meet) with_polygon_cell is_shared (λ f i. refl) start handed.items in
-    let overlap = ap (λ (f : PolygonFaults). f.overlap) handed.handed ∙ gathered (λ (f : PolygonFaults). f.overlap) with_polygon_cell is_overlap (λ f i. refl) start handed.items in
+    let meet = ap (λ (f : PolygonFaults). f.meet) handed.handed ∙ gathered (λ (f : PolygonFaults). f.meet) with_polygon_cell is_shared polygon-meet start handed.items in
+    let overlap : ¬ (IsTrue found.meet) → found.overlap ≡ list_any is_overlap handed.items =
+    λ n.
+    ap (λ (f : PolygonFaults). f.overlap) handed.handed
+    ∙ gathered-unless (λ (f : PolygonFaults). f.meet) (λ (f : PolygonFaults). f.overlap) with_polygon_cell is_overlap polygon-stays polygon-overlap start handed.items
+    (ap (λ (f : PolygonFaults). f.meet) (sym handed.handed) ∙ unmet found.meet n) in
     let same = rings-are polygons colours (h.one_each ∙ length-map polygons polygon_box) in
     let shared = flag-shared rings (replicate (length polygons) true) handed.items found.meet (subst (AllByRecursion IsSound) (sym same) sound) handed.represent meet in
     let somewhere = passes-somewhere (length polygons) (pieces_in rings) handed.items is_overlap overlap-by (polygon-groups polygons colours h) handed.represent in
@@ -144,12 +160,12 @@ polygon-faults polygons colours found sound h handed =
       meet = λ t. subst P same (shared.0 t);
       meet_found = λ s. shared.1 (subst P (sym same) (across-shared polygons s));
       overlap =
-          λ within apart. (
+          λ n within apart. (
             λ t.
-                let s = somewhere.0 (sym overlap ∙ t) in
+                let s = somewhere.0 (sym (overlap n) ∙ t) in
                 (s.0, s.1.0, sym (overlap-at polygons colours s.0 s.1.0 closed h (unmet _ (λ k. within (s.0, s.1.0, k))) (unmet _ (λ k. apart (s.0, s.1.0, k)))) ∙ s.1.1),
             λ s.
-                overlap
+                overlap n
                 ∙ somewhere.1 (s.0, (s.1, overlap-at polygons colours s.0 s.1 closed h (unmet _ (λ k. within (s.0, s.1, k))) (unmet _ (λ k. apart (s.0, s.1, k))) ∙ s.2)),
           );
     }
@@ -220,7 +236,7 @@ no-faults polygons colours sound h zeros =
           (two.back (λ rings others. is_near (polygon_box rings) s.0 && is_near (polygon_box others) s.0)
           (and_from _ _ ((polygon-near two.first s.0 s.2 two.first_has).on_near on.first) ((polygon-near two.second s.0 s.2 two.second_has).on_near on.second))));
       overlap =
-          λ within apart. (
+          λ n within apart. (
             λ t. absurd (both_ways false refl t),
             λ s.
                 let two = two-of AreClosed (λ rings others. in_polygon rings s.0 && in_polygon others s.0) polygons closed s.2 in

@@ -90,6 +90,12 @@ points-either t xs ys a b h k =
       | inr y ↦ inr (s.0, s.1, s.2, s.3, y)
     ])
 
+not-first : (a b : Bool) → ¬ (IsTrue (a || b)) → ¬ (IsTrue a)
+not-first a b n t = n (ap (λ c. c || b) t)
+
+not-second : (a b : Bool) → ¬ (IsTrue (a || b)) → ¬ (IsTrue b)
+not-second a b n t = n (or-right a b t)
+
 pub faults-more : (polygons : List (List (List Coordinates))) (k : ℕ) (rings : List (List Coordinates)) (found more next : RingFaults) → k < length polygons
     → rings ≡ slice_index_or polygons k rings → AreRingFaults (take k polygons) found → AreRingFaults (rings ∷ []) more → next ≡ both_faults found more
     → AreRingFaults (take (k + 1) polygons) next
@@ -99,8 +105,8 @@ faults-more polygons k rings found more next l e h m n =
     let both : AreRingFaults (xs ++ ys) (both_faults found more) =
     record {
       meet = points-either (λ rs p q. any_two (λ r s. share_piece r s p q) rs) xs ys found.meet more.meet h.meet m.meet;
-      outside = point-either in_hole_outside xs ys found.outside more.outside h.outside m.outside;
-      nested = point-either in_two_holes xs ys found.nested more.nested h.nested m.nested;
+      outside = λ n. point-either in_hole_outside xs ys found.outside more.outside (h.outside (not-first found.meet more.meet n)) (m.outside (not-second found.meet more.meet n));
+      nested = λ n. point-either in_two_holes xs ys found.nested more.nested (h.nested (not-first found.meet more.meet n)) (m.nested (not-second found.meet more.meet n));
     } in
     subst (AreRingFaults (take (k + 1) polygons)) (sym n)
     (subst (λ ps. AreRingFaults ps (both_faults found more)) (ap (λ r. xs ++ r ∷ []) e ∙ sym (take_more polygons k rings l)) both)
@@ -141,25 +147,31 @@ first-is polygons within between h k = by_flags (within.meet || between.meet) re
     not-so : (b : Bool) (P : Type 0) → b ≡ false → (P → IsTrue b) → ¬ P
     not-so b P e f p = both_ways b e (f p)
 
+    apart : (within.meet || between.meet) ≡ false → ¬ (IsTrue within.meet)
+    apart e = not-first within.meet between.meet (both_ways (within.meet || between.meet) e)
+
+    alone : (within.meet || between.meet) ≡ false → ¬ (IsTrue between.meet)
+    alone e = not-second within.meet between.meet (both_ways (within.meet || between.meet) e)
+
     by_flags : (a : Bool) → (within.meet || between.meet) ≡ a → (b : Bool) → within.outside ≡ b → (c : Bool) → within.nested ≡ c → (d : Bool) → between.overlap ≡ d
         → IsFirstIn (polygon_rules polygons) (if a then Some RingsMeet else (if b then Some HoleOutside else (if c then Some HolesNested else (if d then Some PolygonsOverlap else None))))
     by_flags true e b f c g d i = inl ((meets polygons within between h k).0 e, refl)
-    by_flags false e true f c g d i = inr (not-so (within.meet || between.meet) (Applies (pieces_shared polygons)) e (meets polygons within between h k).1, inl (h.outside.0 f, refl))
+    by_flags false e true f c g d i = inr (not-so (within.meet || between.meet) (Applies (pieces_shared polygons)) e (meets polygons within between h k).1, inl ((h.outside (apart e)).0 f, refl))
     by_flags false e false f true g d i =
         inr (
           not-so (within.meet || between.meet) (Applies (pieces_shared polygons)) e (meets polygons within between h k).1,
-          inr (not-so within.outside (Applies (holes_outside polygons)) f h.outside.1, inl (h.nested.0 g, refl)),
+          inr (not-so within.outside (Applies (holes_outside polygons)) f (h.outside (apart e)).1, inl ((h.nested (apart e)).0 g, refl)),
         )
     by_flags false e false f false g true i =
-        let outside = not-so within.outside (Applies (holes_outside polygons)) f h.outside.1 in
-        let nested = not-so within.nested (Applies (holes_nested polygons)) g h.nested.1 in
+        let outside = not-so within.outside (Applies (holes_outside polygons)) f (h.outside (apart e)).1 in
+        let nested = not-so within.nested (Applies (holes_nested polygons)) g (h.nested (apart e)).1 in
         inr (
           not-so (within.meet || between.meet) (Applies (pieces_shared polygons)) e (meets polygons within between h k).1,
-          inr (outside, inr (nested, inl ((k.overlap outside nested).0 i, refl))),
+          inr (outside, inr (nested, inl ((k.overlap (alone e) outside nested).0 i, refl))),
         )
     by_flags false e false f false g false i =
-        let outside = not-so within.outside (Applies (holes_outside polygons)) f h.outside.1 in
-        let nested = not-so within.nested (Applies (holes_nested polygons)) g h.nested.1 in (
+        let outside = not-so within.outside (Applies (holes_outside polygons)) f (h.outside (apart e)).1 in
+        let nested = not-so within.nested (Applies (holes_nested polygons)) g (h.nested (apart e)).1 in (
           not-so (within.meet || between.meet) (Applies (pieces_shared polygons)) e (meets polygons within between h k).1,
-          (outside, (nested, (not-so between.overlap (Applies (polygons_overlap polygons)) i (k.overlap outside nested).1, tt))),
+          (outside, (nested, (not-so between.overlap (Applies (polygons_overlap polygons)) i (k.overlap (alone e) outside nested).1, tt))),
         )

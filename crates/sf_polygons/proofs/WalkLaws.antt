@@ -2,7 +2,7 @@
 use Rattle.std.proofs.Common.{◌≡◌, refl, ap, sym, ◌∙◌, ℕ, zero, suc, ◌+◌, ◌≤◌, ◌==◌, arith, Bool, true, false, ◌&&◌, ◌||◌, not, List, [], ◌∷◌, map, drop, length, nat_le, nat_lt, replicate, inl, inr}
 use Rattle.std.specs.Prelude.{◌↔◌, IsTrue, sum}
 use Rattle.std.specs.List.{AllByRecursion, count_by, fold, list_any, zip}
-use Rattle.std.proofs.lemmas.Bool.{and_from, and_parts}
+use Rattle.std.proofs.lemmas.Bool.{and_from, and_parts, both_ways}
 use Rattle.std.proofs.lemmas.List.{length-map}
 use Rattle.sf_grid.specs.EvenOdd.{is_odd}
 use Rattle.sf_grid.specs.Plane.{IsPoint, Point}
@@ -29,6 +29,21 @@ pub gathered : {S : Type 0} (flag : S → Bool) (after : S → Item → S) (test
 gathered flag after test h s [] = sym (or-none (flag s))
 gathered flag after test h s (i ∷ is) =
     gathered flag after test h (after s i) is ∙ ap (λ b. b || list_any test is) (h s i) ∙ or-more (flag s) (test i) (list_any test is)
+
+-- ---- what was gathered until something is over, from when on nothing changes
+over-stays : {S : Type 0} (over : S → Bool) (after : S → Item → S) → ((s : S) (i : Item) → over s ≡ true → over (after s i) ≡ true) → (s : S) (items : List Item) → over s ≡ true → over (fold after s items) ≡ true
+over-stays over after stays s [] e = e
+over-stays over after stays s (i ∷ is) e = over-stays over after stays (after s i) is (stays s i e)
+
+pub gathered-unless : {S : Type 0} (over flag : S → Bool) (after : S → Item → S) (test : Item → Bool) → ((s : S) (i : Item) → over s ≡ true → over (after s i) ≡ true)
+    → ((s : S) (i : Item) → over s ≡ false → flag (after s i) ≡ (flag s || test i))
+    → (s : S) (items : List Item) → over (fold after s items) ≡ false → flag (fold after s items) ≡ (flag s || list_any test items)
+gathered-unless over flag after test stays step s [] e = sym (or-none (flag s))
+gathered-unless over flag after test stays step s (i ∷ is) e = by (over s) refl (gathered-unless over flag after test stays step (after s i) is e)
+  where
+    by : (b : Bool) → over s ≡ b → flag (fold after (after s i) is) ≡ (flag (after s i) || list_any test is) → flag (fold after (after s i) is) ≡ (flag s || (test i || list_any test is))
+    by true now later = absurd (both_ways (over (fold after (after s i) is)) e (over-stays over after stays (after s i) is (stays s i now)))
+    by false now later = later ∙ ap (λ b. b || list_any test is) (step s i now) ∙ or-more (flag s) (test i) (list_any test is)
 
 -- ---- two edges on a cell
 shared-upward : (areal : List Bool) → IsUpward areal is_shared

@@ -1,7 +1,7 @@
 -- What a walk over a polygon's rings finds is right of its points: holes outside their shell, holes in one another, shared pieces.
 use Rattle.std.proofs.Common.{◌≡◌, refl, ap, sym, ◌∙◌, subst, ℕ, suc, ◌+◌, ◌<◌, ◌≤◌, ◌^◌, ◌==◌, arith, Option, is_some, Bool, true, false, ◌&&◌, ◌||◌, not, List, [], ◌∷◌, map, drop, length, nat_le, nat_lt, replicate, slice_index}
-use Rattle.std.specs.Prelude.{◌↔◌, IsTrue}
-use Rattle.std.specs.List.{All, AllByRecursion, count_by, flat_map, list_any, zip}
+use Rattle.std.specs.Prelude.{◌↔◌, IsTrue, if◌then◌else◌}
+use Rattle.std.specs.List.{All, AllByRecursion, count_by, flat_map, fold, list_any, zip}
 use Rattle.std.proofs.lemmas.List.{length-append, length-map}
 use Rattle.std.proofs.lemmas.List.Elements.{All-from_recursion}
 use Rattle.sf_grid.specs.EvenOdd.{is_odd}
@@ -33,7 +33,7 @@ use Rattle.sf_polygons.proofs.NearLaws.{alone-near, hole-near, is_near}
 use Rattle.sf_polygons.proofs.PieceLaws.{odd-group, on-group, parity, pieces-are, rings_of}
 use Rattle.sf_polygons.proofs.SizeLaws.{few-boxes, few-pieces, few-rings, ring-groups, rings-grouped, rings_in}
 use Rattle.sf_polygons.proofs.TestLaws.{any-map, any-never, any-same, count-map, count-same, odd-map, odd-never, odd-same, odd_many, or-none, some-count, two-count, xor}
-use Rattle.sf_polygons.proofs.WalkLaws.{gathered, length-counts, nested-by, outside-by, passes-somewhere, shared-cells}
+use Rattle.sf_polygons.proofs.WalkLaws.{gathered, gathered-unless, length-counts, nested-by, outside-by, passes-somewhere, shared-cells}
 
 -- ---- counts of the groups from 1 on
 next-group : (c : ℕ) → (0 == suc c) ≡ false
@@ -199,6 +199,27 @@ flag-shared rings areal items flag sound h e =
       λ s. told ∙ somewhere-shared (rings_of rings) s,
     )
 
+-- ---- the sink, cell by cell
+ring-meet : (f : RingFaults) (i : Item) → (with_ring_cell f i).meet ≡ (f.meet || is_shared i)
+ring-meet f i = by f.meet refl
+  where
+    by : (b : Bool) → f.meet ≡ b → (if b then f else (record { meet = is_shared i; outside = f.outside || is_outside i; nested = f.nested || is_nested i })).meet ≡ (b || is_shared i)
+    by true e = e
+    by false e = refl
+
+ring-stays : (f : RingFaults) (i : Item) → f.meet ≡ true → (with_ring_cell f i).meet ≡ true
+ring-stays f i e = ring-meet f i ∙ ap (λ b. b || is_shared i) e
+
+ring-outside : (f : RingFaults) (i : Item) → f.meet ≡ false → (with_ring_cell f i).outside ≡ (f.outside || is_outside i)
+ring-outside f i e = ap (λ b. (if b then f else (record { meet = is_shared i; outside = f.outside || is_outside i; nested = f.nested || is_nested i })).outside) e
+
+ring-nested : (f : RingFaults) (i : Item) → f.meet ≡ false → (with_ring_cell f i).nested ≡ (f.nested || is_nested i)
+ring-nested f i e = ap (λ b. (if b then f else (record { meet = is_shared i; outside = f.outside || is_outside i; nested = f.nested || is_nested i })).nested) e
+
+pub unmet : (b : Bool) → ¬ (IsTrue b) → b ≡ false
+unmet true h = absurd (h refl)
+unmet false h = refl
+
 pub ring-faults : (shell : List Coordinates) (holes : List (List Coordinates)) (colours : List ℕ) (found : RingFaults) → AllByRecursion IsSound (shell ∷ holes)
     → IsColouring (map box_of holes) colours
     → WereHanded (pieces_of (pieces_in (rings_in shell holes colours))) (groups_of (pieces_in (rings_in shell holes colours))) (replicate (length (shell ∷ holes)) true) with_ring_cell
@@ -208,9 +229,12 @@ ring-faults shell holes colours found sound h handed =
     let rings = rings_in shell holes colours in
     let closed = each-map IsSound (λ ring. is_closed ring ≡ true) holes (λ ring s. s.closed) sound.1 in
     let start : RingFaults = record { meet = false; outside = false; nested = false } in
-    let meet = ap (λ (f : RingFaults). f.meet) handed.handed ∙ gathered (λ (f : RingFaults). f.meet) with_ring_cell is_shared (λ f i. refl) start handed.items in
-    let outside = ap (λ (f : RingFaults). f.outside) handed.handed ∙ gathered (λ (f : RingFaults). f.outside) with_ring_cell is_outside (λ f i. refl) start handed.items in
-    let nested = ap (λ (f : RingFaults). f.nested) handed.handed ∙ gathered (λ (f : RingFaults). f.nested) with_ring_cell is_nested (λ f i. refl) start handed.items in
+    let meet = ap (λ (f : RingFaults). f.meet) handed.handed ∙ gathered (λ (f : RingFaults). f.meet) with_ring_cell is_shared ring-meet start handed.items in
+    let none : ¬ (IsTrue found.meet) → (fold with_ring_cell start handed.items).meet ≡ false = λ n. ap (λ (f : RingFaults). f.meet) (sym handed.handed) ∙ unmet found.meet n in
+    let outside : ¬ (IsTrue found.meet) → found.outside ≡ list_any is_outside handed.items =
+    λ n. ap (λ (f : RingFaults). f.outside) handed.handed ∙ gathered-unless (λ (f : RingFaults). f.meet) (λ (f : RingFaults). f.outside) with_ring_cell is_outside ring-stays ring-outside start handed.items (none n) in
+    let nested : ¬ (IsTrue found.meet) → found.nested ≡ list_any is_nested handed.items =
+    λ n. ap (λ (f : RingFaults). f.nested) handed.handed ∙ gathered-unless (λ (f : RingFaults). f.meet) (λ (f : RingFaults). f.nested) with_ring_cell is_nested ring-stays ring-nested start handed.items (none n) in
     let same = rings-are shell holes colours (h.one_each ∙ length-map holes box_of) in
     let shared = flag-shared rings (replicate (length (shell ∷ holes)) true) handed.items found.meet (subst (AllByRecursion IsSound) (sym same) sound) handed.represent meet in
     let few = ring-groups shell holes colours h in
@@ -222,20 +246,20 @@ ring-faults shell holes colours found sound h handed =
         λ t. let s = subst P same (shared.0 t) in (s.0, s.1, s.2, s.3, or-none (any_two (λ r q. share_piece r q s.0 s.1) (shell ∷ holes)) ∙ s.4),
         λ s. shared.1 (subst P (sym same) (s.0, s.1, s.2, s.3, sym (or-none (any_two (λ r q. share_piece r q s.0 s.1) (shell ∷ holes))) ∙ s.4)),
       );
-      outside = (
+      outside = λ n. (
         λ t.
-            let s = is_outside_somewhere.0 (sym outside ∙ t) in
+            let s = is_outside_somewhere.0 (sym (outside n) ∙ t) in
             (s.0, s.1.0, or-none (in_hole_outside (shell ∷ holes) s.0) ∙ sym (outside-at shell holes colours s.0 s.1.0 closed h) ∙ s.1.1),
         λ s.
-            outside
+            outside n
             ∙ is_outside_somewhere.1 (s.0, (s.1, outside-at shell holes colours s.0 s.1 closed h ∙ sym (or-none (in_hole_outside (shell ∷ holes) s.0)) ∙ s.2)),
       );
-      nested = (
+      nested = λ n. (
         λ t.
-            let s = is_nested_somewhere.0 (sym nested ∙ t) in
+            let s = is_nested_somewhere.0 (sym (nested n) ∙ t) in
             (s.0, s.1.0, or-none (in_two_holes (shell ∷ holes) s.0) ∙ sym (nested-at shell holes colours s.0 s.1.0 closed h) ∙ s.1.1),
         λ s.
-            nested
+            nested n
             ∙ is_nested_somewhere.1 (s.0, (s.1, nested-at shell holes colours s.0 s.1 closed h ∙ sym (or-none (in_two_holes (shell ∷ holes) s.0)) ∙ s.2)),
       );
     }

@@ -12,13 +12,13 @@ use Rattle.sf_polygons.specs.declared.found.RingFaults.{RingFaults}
 use Rattle.sf_polygons.specs.declared.found.PolygonFaults.{PolygonFaults}
 use Rattle.sf_polygons.specs.Tests.{is_nested, is_outside, is_overlap, is_shared}
 
--- with what a further cell shows
+-- with what a further cell shows: nothing more once two rings share a piece, which is the first of all faults
 abbrev pub with_ring_cell : RingFaults → Item → RingFaults
 with_ring_cell found i =
-    record { meet = found.meet || is_shared i; outside = found.outside || is_outside i; nested = found.nested || is_nested i }
+    if found.meet then found else (record { meet = is_shared i; outside = found.outside || is_outside i; nested = found.nested || is_nested i })
 
 abbrev pub with_polygon_cell : PolygonFaults → Item → PolygonFaults
-with_polygon_cell found i = record { meet = found.meet || is_shared i; overlap = found.overlap || is_overlap i }
+with_polygon_cell found i = if found.meet then found else (record { meet = is_shared i; overlap = found.overlap || is_overlap i })
 
 -- of one polygon's rings two share a piece; of two polygons' rings; of all rings
 abbrev pub ring_pieces_shared : List (List (List Coordinates)) → Condition
@@ -41,18 +41,18 @@ holes_nested polygons = AtPoint (λ p. list_any (λ rings. in_two_holes rings p)
 abbrev pub polygons_overlap : List (List (List Coordinates)) → Condition
 polygons_overlap polygons = AtPoint (in_two_polygons polygons)
 
--- the faults of each polygon by itself
+-- the faults of each polygon by itself; where two rings share a piece, nothing is said of the others
 pub record AreRingFaults (polygons : List (List (List Coordinates))) (found : RingFaults) : Type 0 where
   pub meet : IsTrue found.meet ↔ Applies (ring_pieces_shared polygons)
-  pub outside : IsTrue found.outside ↔ Applies (holes_outside polygons)
-  pub nested : IsTrue found.nested ↔ Applies (holes_nested polygons)
+  pub outside : ¬ (IsTrue found.meet) → IsTrue found.outside ↔ Applies (holes_outside polygons)
+  pub nested : ¬ (IsTrue found.meet) → IsTrue found.nested ↔ Applies (holes_nested polygons)
 
 -- the faults of polygons among one another. Where two rings of one polygon share a piece, it may be found or not; an
--- overlap is told only where no hole is outside its shell or in another hole.
+-- overlap is told only where no shared piece was found and no hole is outside its shell or in another hole.
 pub record ArePolygonFaults (polygons : List (List (List Coordinates))) (found : PolygonFaults) : Type 0 where
   pub meet : IsTrue found.meet → Applies (pieces_shared polygons)
   pub meet_found : Applies (polygon_pieces_shared polygons) → IsTrue found.meet
-  pub overlap : ¬ (Applies (holes_outside polygons)) → ¬ (Applies (holes_nested polygons)) → IsTrue found.overlap ↔ Applies (polygons_overlap polygons)
+  pub overlap : ¬ (IsTrue found.meet) → ¬ (Applies (holes_outside polygons)) → ¬ (Applies (holes_nested polygons)) → IsTrue found.overlap ↔ Applies (polygons_overlap polygons)
 
 -- the faults of some polygons and of others
 abbrev pub both_faults : RingFaults → RingFaults → RingFaults

@@ -7,7 +7,8 @@ ghost use Rattle.sf_polygons.specs.Tests.{is_inside as is_inside_by, is_within a
 use sf_pieces::CellSink;
 
 /// What is wrong with how the rings of single polygons lie. In a walk the shell is group 0, and
-/// each other group is of holes of which at most one has a point.
+/// each other group is of holes of which at most one has a point. Rings that share a piece are the
+/// first fault of all, so once it is found the others are not looked for any more.
 #[derive(Clone, Copy)]
 pub(crate) struct RingFaults {
     /// Two rings share a piece.
@@ -19,7 +20,7 @@ pub(crate) struct RingFaults {
 }
 
 /// What is wrong with how polygons lie to one another. In a walk each group is of polygons of
-/// which at most one has a point.
+/// which at most one has a point. Once a shared piece is found, an overlap is not looked for any more.
 #[derive(Clone, Copy)]
 pub(crate) struct PolygonFaults {
     /// Two rings share a piece.
@@ -39,13 +40,15 @@ impl CellSink for RingFaults {
     ghost after = { with_ring_cell };
 
     fn cell(&mut self, dim: u8, on: &[u32], above: &[u32]) {
-        self.meet = self.meet || is_shared(dim, on);
-        self.outside = self.outside || is_outside(on, above);
-        self.nested = self.nested || count_inside(on, above, 1) >= 2;
+        if !self.meet {
+            self.meet = is_shared(dim, on);
+            self.outside = self.outside || is_outside(on, above);
+            self.nested = self.nested || count_inside(on, above, 1) >= 2;
+        }
     }
 
     fn is_full(&self) -> bool {
-        self.meet && self.outside && self.nested
+        self.meet
     }
 }
 
@@ -60,12 +63,14 @@ impl CellSink for PolygonFaults {
     ghost after = { with_polygon_cell };
 
     fn cell(&mut self, dim: u8, on: &[u32], above: &[u32]) {
-        self.meet = self.meet || is_shared(dim, on);
-        self.overlap = self.overlap || count_inside(on, above, 0) >= 2;
+        if !self.meet {
+            self.meet = is_shared(dim, on);
+            self.overlap = self.overlap || count_inside(on, above, 0) >= 2;
+        }
     }
 
     fn is_full(&self) -> bool {
-        self.meet && self.overlap
+        self.meet
     }
 }
 
