@@ -2,7 +2,7 @@
 //! those of a walk over the same edges.
 
 use crate::outlines::{Outline, close};
-use crate::polygons::{far_triangles, polygon, touching, with_holes};
+use crate::polygons::{far_triangles, polygon, touching, with_holes, with_slivers};
 use crate::shape::Shape;
 use crate::timing::{Figure, Repeated, Work};
 use sf_geometry::{Geometry, Sequence};
@@ -13,6 +13,9 @@ const OUTLINES: [Outline; 3] = [Outline::Smooth, Outline::Star, Outline::Comb];
 
 /// How many edges the rings have.
 const SIZES: [u16; 9] = [4, 8, 16, 32, 64, 80, 256, 1024, 4095];
+
+/// How many holes there are whose boxes have points in common.
+const SLIVERS: [u16; 4] = [6, 9, 63, 1022];
 
 /// How many times the calls of a row are timed in each round.
 const TIMES: u32 = 7;
@@ -111,6 +114,9 @@ pub(crate) fn run(rt: &HostRuntime, rounds: u32) -> io::Result<()> {
     let alloc = rt.alloc();
     for outline in &OUTLINES {
         measure_rings(rt, outline, rounds)?;
+    }
+    for holes in SLIVERS {
+        measure_polygons(rt, "slivers", with_slivers(alloc, holes)?, rounds)?;
     }
     measure_polygons(rt, "100 holes", with_holes(alloc, 100)?, rounds)?;
     measure_polygons(

@@ -1,3 +1,4 @@
+pub mod EdgeContactLaws
 pub mod LowestLaws
 pub mod AbsenceLaws
 pub mod PairLaws

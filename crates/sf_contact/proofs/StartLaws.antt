@@ -19,7 +19,7 @@ use Rattle.sf_rules.proofs.MemberLaws.{each-of_flat}
 use Rattle.sf_plane.proofs.CombineLaws.{start_on_edge}
 use Rattle.sf_paths.proofs.SlantLaws.{is_grid}
 use Rattle.sf_relate.specs.Contact.{SharePoint, is_in}
-use Rattle.sf_relate.specs.EdgeContact.{Share}
+use Rattle.sf_contact.specs.EdgeContact.{Share}
 use Rattle.sf_relate.specs.Matrices.{matrix_of}
 use Rattle.sf_relate.specs.Patterns.{has_contact}
 use Rattle.sf_relate.proofs.PlaceLaws.{tight-of}

@@ -8,7 +8,7 @@ use Rattle.sf_geometry.specs.declared.geometry.Geometry.TheVariants.{Point, Mult
 use Rattle.sf_geometry.specs.Parts.{edges_of, lists_of}
 use Rattle.sf_rules.specs.Validity.{IsValid}
 use Rattle.sf_relate.specs.Contact.{is_in}
-use Rattle.sf_relate.specs.EdgeContact.{Share}
+use Rattle.sf_contact.specs.EdgeContact.{Share}
 use Rattle.sf_relate.specs.Told.{ShareNone}
 
 -- q is on an edge of a line or ring of the geometry; points have none

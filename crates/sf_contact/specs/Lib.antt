@@ -1,2 +1,3 @@
 pub mod Absence
+pub mod EdgeContact
 pub mod Pairs

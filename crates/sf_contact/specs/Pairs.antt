@@ -3,7 +3,7 @@ use Rattle.std.specs.Prelude.{Bool, true, false}
 use Rattle.sf_grid.specs.Plane.{Coordinates, Point as PlanePoint}
 use Rattle.sf_geometry.specs.declared.extent.Extent.{Extent}
 use Rattle.sf_geometry.specs.Envelope.{extent_at, extent_with}
-use Rattle.sf_relate.specs.EdgeContact.{Share}
+use Rattle.sf_contact.specs.EdgeContact.{Share}
 
 -- whether both sets have a point of the plane
 abbrev pub Tells : Bool → (PlanePoint → Bool) → (PlanePoint → Bool) → Type 0

@@ -5,7 +5,7 @@ ghost use Rattle.std.specs.Int.{int_max, int_min};
 ghost use Rattle.sf_geometry.specs.Envelope.{envelope_of, extents_meet};
 ghost use Rattle.sf_geometry.specs.PointSets.{on_line};
 ghost use Rattle.sf_rules.specs.Validity.{IsValid};
-ghost use Rattle.sf_relate.specs.EdgeContact.{on_lines, on_polygons};
+ghost use Rattle.sf_contact.specs.EdgeContact.{on_lines, on_polygons};
 ghost use Rattle.sf_contact.specs.Absence.{on_edges};
 ghost use Rattle.sf_contact.specs.Pairs.{Tells, extent_between};
 

@@ -95,47 +95,18 @@ fn reindex(alloc: Global, store: &mut Store, place: Option<usize>)
 // has none, and one that is new has its index.
 fn place_after_edit(store: &Store, inverse: &Inverse) -> Option<usize> {
     match inverse {
-        Inverse::TakeLayer | Inverse::PutLayer { .. } => None,
         Inverse::RenameLayer { place, .. } => Some(*place),
-        Inverse::MoveLayer { name, .. } => store.place(name.as_str()),
-        Inverse::TakeColumn { layer }
-        | Inverse::PutColumn { layer, .. }
-        | Inverse::TakeFeature { layer, .. }
-        | Inverse::PutFeature { layer, .. }
-        | Inverse::PutGeometry { layer, .. }
-        | Inverse::TakeVertex { layer, .. }
-        | Inverse::MoveVertex { layer, .. }
-        | Inverse::PutVertex { layer, .. }
-        | Inverse::PutValue { layer, .. } => store.place(layer.as_str()),
+        _ => store.place(inverse.layer_name()?.as_str()),
     }
 }
 
-// The same once the edit is taken back.
+// The same once the edit is taken back: one that added the layer has left none.
 fn place_after_undo(store: &Store, reverted: &Reverted) -> Option<usize> {
     match &reverted.kept {
         Kept::AddFeature { layer, .. } | Kept::ReplaceGeometry { layer, .. } => {
             store.place(layer.as_str())
         }
-        Kept::Other(edit) => place_of_named(store, edit),
-    }
-}
-
-// The place of the layer that an edit which was taken back names.
-fn place_of_named(store: &Store, edit: &Edit) -> Option<usize> {
-    match edit {
-        Edit::AddLayer { .. } => None,
-        Edit::DropLayer { name } | Edit::RenameLayer { name, .. } | Edit::MoveLayer { name, .. } =>
-            { store.place(name.as_str()) }
-        Edit::AddColumn { layer, .. }
-        | Edit::DropColumn { layer, .. }
-        | Edit::AddFeature { layer, .. }
-        | Edit::DeleteFeature { layer, .. }
-        | Edit::ReplaceGeometry { layer, .. }
-        | Edit::InsertVertex { layer, .. }
-        | Edit::MoveVertex { layer, .. }
-        | Edit::RemoveVertex { layer, .. }
-        | Edit::SetValue { layer, .. }
-        | Edit::ClearValue { layer, .. } => store.place(layer.as_str()),
+        Kept::Other(edit) => store.place(edit.layer_name().as_str()),
     }
 }
 

@@ -18,6 +18,5 @@ pub mod TestedPlaces
 pub mod PointLaws
 pub mod FirstLaws
 pub mod QuestionLaws
-pub mod EdgeContactLaws
 pub mod ToldLaws
 pub mod NearbyLaws

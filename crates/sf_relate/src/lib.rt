@@ -1,7 +1,6 @@
 //! DE-9IM matrices of two geometries, patterns, and the named predicates.
 #![tactic(auto)]
 
-mod edge_contact;
 mod first_points;
 mod grouping;
 pub mod laws;
@@ -23,7 +22,6 @@ mod sink;
 mod tests;
 mod told;
 
-pub use edge_contact::shares_edge_point;
 pub use first_points::shares_first_point;
 pub use letter::Letter;
 pub use locating::locate;

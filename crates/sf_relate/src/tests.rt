@@ -2,7 +2,7 @@
 
 use crate::{
     Dim, Pattern, Place, Predicate, Refusal, dimension, holds, holds_between, holds_of_point,
-    locate, match_between, relate, shares_edge_point, shares_first_point,
+    locate, match_between, relate, shares_first_point,
 };
 use sf_geometry::{Geometry, Sequence};
 use sf_grid::GridPoint;
@@ -485,40 +485,6 @@ fn is_answered_alike(alloc: Global, case: &Case) -> Result<bool, Fail> {
 fn questions_are_answered_as_by_the_matrix(rt: HostRuntime) -> Result<(), Fail> {
     for case in CASES {
         assert!(rt; is_answered_alike(rt.alloc(), case)?, "of {}", case.matrix);
-    }
-    Ok(())
-}
-
-/// Two geometries, and whether edges show that they have contact.
-const CONTACTS: &[(Made, Made, bool)] = &[
-    (Made::Polygon(&[SQUARE]), Made::Polygon(&[ACROSS]), true),
-    (Made::Polygon(&[SQUARE]), Made::Polygon(&[BESIDE]), true),
-    (Made::Line(RISING), Made::Line(FALLING), true),
-    (
-        Made::Lines(&[FALLING, RISING]),
-        Made::Polygons(&[&[LARGE, HOLE], &[ISLAND]]),
-        true,
-    ),
-    (
-        Made::Polygons(&[&[LARGE, HOLE], &[ISLAND]]),
-        Made::Line(UPRIGHT),
-        false,
-    ),
-    (
-        Made::Polygon(&[LARGE, HOLE]),
-        Made::Polygon(&[ISLAND]),
-        false,
-    ),
-    (Made::Point(5, 5), Made::Line(RISING), false),
-];
-
-#[test]
-fn edges_show_contact(rt: HostRuntime) -> Result<(), Fail> {
-    for (first, second, wanted) in CONTACTS {
-        let first = first.valid(rt.alloc())?;
-        let second = second.valid(rt.alloc())?;
-        assert_eq!(rt; shares_edge_point(&first, &second), *wanted);
-        assert_eq!(rt; shares_edge_point(&second, &first), *wanted);
     }
     Ok(())
 }

@@ -22,6 +22,23 @@ use Rattle.sf_steps.specs.declared.refusal.Refusal.{Refusal}
 use Rattle.sf_steps.specs.declared.refusal.Refusal.TheVariants.{Memory}
 use Rattle.sf_steps.specs.Steps.{column_in, number_in, next_id_of, step, memory_may_replace}
 
+-- the name of the layer that an inverse changes; None where that is the last one, one that isn't there, or one that
+-- is known by its place
+abbrev pub inverse_layer : Inverse → Option (List ℕ)
+inverse_layer TakeLayer = None
+inverse_layer (PutLayer name place stored layer) = None
+inverse_layer (RenameLayer name place stored) = None
+inverse_layer (MoveLayer name place) = Some name
+inverse_layer (TakeColumn name) = Some name
+inverse_layer (PutColumn name column_name place column values) = Some name
+inverse_layer (TakeFeature name id) = Some name
+inverse_layer (PutFeature name id feature) = Some name
+inverse_layer (PutGeometry name id old) = Some name
+inverse_layer (TakeVertex name id part ring index) = Some name
+inverse_layer (MoveVertex name id part ring index old) = Some name
+inverse_layer (PutVertex name id part ring index old) = Some name
+inverse_layer (PutValue name id column old) = Some name
+
 -- ---- what an inverse describes
 
 -- the layer with a column put in at a place, and its values put into their features

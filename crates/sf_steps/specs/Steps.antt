@@ -23,6 +23,23 @@ use Rattle.sf_steps.specs.declared.refusal.Refusal.{Refusal}
 use Rattle.sf_steps.specs.declared.refusal.Refusal.TheVariants.{Invalid, NoLayer, LayerExists, BadName, NoFeature, NoColumn, ColumnExists, WrongValue, WrongKind, IdsExhausted, ColumnsExhausted, BadPlace}
 use Rattle.sf_steps.specs.Refusals.{from_geometry}
 
+-- the name of the layer that an edit adds, changes or takes out
+abbrev pub edit_layer : Edit → List ℕ
+edit_layer (AddLayer name kind) = name
+edit_layer (DropLayer name) = name
+edit_layer (RenameLayer name new_name) = name
+edit_layer (MoveLayer name place) = name
+edit_layer (AddColumn name column column_type) = name
+edit_layer (DropColumn name column) = name
+edit_layer (AddFeature name geometry) = name
+edit_layer (DeleteFeature name id) = name
+edit_layer (ReplaceGeometry name id geometry) = name
+edit_layer (InsertVertex name id part ring index point) = name
+edit_layer (MoveVertex name id part ring index point) = name
+edit_layer (RemoveVertex name id part ring index) = name
+edit_layer (SetValue name id column value) = name
+edit_layer (ClearValue name id column) = name
+
 -- ---- checks
 
 -- a check: nothing where the test passes, else its refusal

@@ -1,3 +1,6 @@
+ghost use Rattle.std.specs.Prelude.{◌≡◌};
+ghost use Rattle.sf_steps.specs.Steps.{edit_layer};
+
 use sf_geometry::Geometry;
 use sf_grid::GridPoint;
 use sf_layers::{AttrValue, ColumnType, LayerKind, Text};
@@ -91,4 +94,28 @@ pub enum Edit {
         id: u32,
         column: Text,
     },
+}
+
+impl Edit {
+    /// The name of the layer that it adds, changes or takes out.
+    pub fn layer_name(&self) -> &Text
+        ensures { result.now ≡ edit_layer self.now }
+    {
+        match self {
+            Edit::AddLayer { name, .. }
+            | Edit::DropLayer { name }
+            | Edit::RenameLayer { name, .. }
+            | Edit::MoveLayer { name, .. } => name,
+            Edit::AddColumn { layer, .. }
+            | Edit::DropColumn { layer, .. }
+            | Edit::AddFeature { layer, .. }
+            | Edit::DeleteFeature { layer, .. }
+            | Edit::ReplaceGeometry { layer, .. }
+            | Edit::InsertVertex { layer, .. }
+            | Edit::MoveVertex { layer, .. }
+            | Edit::RemoveVertex { layer, .. }
+            | Edit::SetValue { layer, .. }
+            | Edit::ClearValue { layer, .. } => layer,
+        }
+    }
 }

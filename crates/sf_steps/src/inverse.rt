@@ -1,5 +1,5 @@
-ghost use Rattle.std.specs.Prelude.{◌≡◌};
-ghost use Rattle.sf_steps.specs.Inverses.{answer_of, weight};
+ghost use Rattle.std.specs.Prelude.{◌≡◌, IfNone as OnNone, IfSome, None, Some};
+ghost use Rattle.sf_steps.specs.Inverses.{answer_of, inverse_layer, weight};
 
 use super::answer::Answer;
 use super::weight::{feature_weight, layer_weight};
@@ -98,6 +98,27 @@ pub enum Inverse {
 }
 
 impl Inverse {
+    /// The name of the layer that it changes; None where that is the last one, one that isn't there, or one
+    /// that it knows by its place.
+    pub fn layer_name(&self) -> Option<&Text>
+        ensures some { IfSome result (λ name. inverse_layer self.now ≡ Some name.now) }
+        ensures none { OnNone result (inverse_layer self.now ≡ None) }
+    {
+        match self {
+            Inverse::TakeLayer | Inverse::PutLayer { .. } | Inverse::RenameLayer { .. } => None,
+            Inverse::MoveLayer { name, .. } => Some(name),
+            Inverse::TakeColumn { layer }
+            | Inverse::PutColumn { layer, .. }
+            | Inverse::TakeFeature { layer, .. }
+            | Inverse::PutFeature { layer, .. }
+            | Inverse::PutGeometry { layer, .. }
+            | Inverse::TakeVertex { layer, .. }
+            | Inverse::MoveVertex { layer, .. }
+            | Inverse::PutVertex { layer, .. }
+            | Inverse::PutValue { layer, .. } => Some(layer),
+        }
+    }
+
     /// What the edit answered.
     pub fn answer(&self) -> Answer
         ensures { result ≡ answer_of self.now }

@@ -49,10 +49,37 @@ fn parse_reads_commands(rt: HostRuntime) {
     }
 }
 
+/// What the edit of a line answers.
+fn answer_to(alloc: Global, editor: &mut Editor, line: &str) -> Result<Answer, Fail> {
+    let Ok((0, Command::Edit(edit))) = parse(alloc, line) else {
+        return Err(Fail::from("no edit"));
+    };
+    match editor.edit(alloc, edit) {
+        Ok(answer) => Ok(answer),
+        Err(_) => Err(Fail::from("refused")),
+    }
+}
+
+/// The depths after an undo.
+fn depths_undone(alloc: Global, editor: &mut Editor) -> Result<Depths, Fail> {
+    match editor.undo(alloc) {
+        Ok(_) => Ok(editor.depths()),
+        Err(_) => Err(Fail::from("not undone")),
+    }
+}
+
+/// The depths after a redo.
+fn depths_done_again(alloc: Global, editor: &mut Editor) -> Result<Depths, Fail> {
+    match editor.redo(alloc) {
+        Ok(_) => Ok(editor.depths()),
+        Err(_) => Err(Fail::from("not done again")),
+    }
+}
+
 #[test]
 fn editor_edits_undoes_and_redoes(rt: HostRuntime) -> Result<(), Fail> {
     let mut editor = Editor::new(rt.alloc());
-    for (line, answer) in [
+    for (line, wanted) in [
         ("layer add w any", Answer::Done),
         ("add w POINT (3 -4)", Answer::Id(1)),
         (
@@ -60,16 +87,12 @@ fn editor_edits_undoes_and_redoes(rt: HostRuntime) -> Result<(), Fail> {
             Answer::Id(2),
         ),
     ] {
-        let Ok((0, Command::Edit(edit))) = parse(rt.alloc(), line) else {
-            return Err(Fail::from("no edit"));
-        };
-        assert!(rt; matches!(editor.edit(rt.alloc(), edit), Ok(given) if given == answer));
+        let answer = answer_to(rt.alloc(), &mut editor, line)?;
+        assert!(rt; answer == wanted);
     }
     assert_eq!(rt; editor.depths(), Depths { past: 3, future: 0 });
-    assert!(rt; editor.undo(rt.alloc()).is_ok());
-    assert_eq!(rt; editor.depths(), Depths { past: 2, future: 1 });
-    assert!(rt; editor.redo(rt.alloc()).is_ok());
-    assert_eq!(rt; editor.depths(), Depths { past: 3, future: 0 });
+    assert_eq!(rt; depths_undone(rt.alloc(), &mut editor)?, Depths { past: 2, future: 1 });
+    assert_eq!(rt; depths_done_again(rt.alloc(), &mut editor)?, Depths { past: 3, future: 0 });
     assert_eq!(rt; editor.store().layer_count(), 1);
     assert_eq!(rt; editor.into_store().layer_count(), 1);
     Ok(())

@@ -17,8 +17,11 @@ const PIECES: usize = 20;
 /// How many sets of random pieces there are.
 const SETS: u64 = 2_000;
 
-/// More marks than the sweep has room for; those behind the groups mark nothing.
-const MARKS: usize = 12;
+/// How many marks there are behind the groups, which mark nothing.
+const FURTHER: usize = 9;
+
+/// The marks of the groups.
+type Marks = [bool; GROUPS];
 
 /// How many counts of a group there can be on a cell: a group has seven pieces at most.
 const COUNTS: usize = 8;
@@ -26,23 +29,27 @@ const COUNTS: usize = 8;
 /// How many classes there are, by the counts on a cell and the parities above it.
 const CLASSES: usize = 4_096;
 
-/// The greatest dimension that was handed out of each class, plus one; 0 where none was.
+/// The greatest dimension that was handed out of each class, plus one; 0 where none was. The groups are those
+/// from `base` on.
 #[derive(Drop)]
 struct Greatest {
-    areal: [bool; MARKS],
+    areal: Marks,
+    base: usize,
     dims: Vec<u8>,
 }
 
 impl Greatest {
-    fn new(alloc: Global, areal: [bool; MARKS]) -> Result<Greatest, Fail> {
+    fn new(alloc: Global, areal: Marks, base: usize) -> Result<Greatest, Fail> {
         Ok(Greatest {
             areal,
+            base,
             dims: vec![in alloc; 0; CLASSES]?,
         })
     }
 
     fn put(&mut self, dim: u8, on: &[u32], above: &[u32]) {
-        if let Some(greatest) = self.dims.get_mut(class_of(&self.areal, on, above)) {
+        let class = class_of(&self.areal, from_base(on, self.base), from_base(above, self.base));
+        if let Some(greatest) = self.dims.get_mut(class) {
             *greatest = (*greatest).max(dim.saturating_add(1));
         }
     }
@@ -64,13 +71,18 @@ impl CellSink for Greatest {
     }
 }
 
+/// The counts of the groups from `base` on.
+fn from_base(counts: &[u32], base: usize) -> &[u32] {
+    counts.get(base..).unwrap_or(&[])
+}
+
 /// The number of a class.
-fn class_of(areal: &[bool; MARKS], on: &[u32], above: &[u32]) -> usize {
+fn class_of(areal: &Marks, on: &[u32], above: &[u32]) -> usize {
     let mut class = 0usize;
     for group in 0..GROUPS {
         class = class.wrapping_mul(COUNTS).wrapping_add(count_of(on, group));
     }
-    for (group, marked) in areal.iter().take(GROUPS).enumerate() {
+    for (group, marked) in areal.iter().enumerate() {
         let odd = *marked && count_of(above, group) % 2 == 1;
         class = class.wrapping_mul(2).wrapping_add(odd as usize);
     }
@@ -83,11 +95,10 @@ fn count_of(counts: &[u32], group: usize) -> usize {
 }
 
 /// How many of the pieces with these numbers are in each group.
-fn counts_by(groups: &[u32], pieces: &[u32]) -> [u32; GROUPS] {
+fn counts_by(pieces: &[u32]) -> [u32; GROUPS] {
     let mut counts = [0u32; GROUPS];
     for piece in pieces {
-        let group = groups.get(*piece as usize).copied().unwrap_or(0);
-        if let Some(count) = counts.get_mut(group as usize) {
+        if let Some(count) = counts.get_mut(*piece as usize % GROUPS) {
             *count = count.wrapping_add(1);
         }
     }
@@ -106,13 +117,44 @@ fn piece(ends: &[i32; 4]) -> Result<Piece, Fail> {
     }
 }
 
-/// Whether the sweep over these pieces hands out the classes of their cells.
-fn does_agree(alloc: Global, all: &[[i32; 4]], areal: [bool; MARKS]) -> Result<bool, Fail> {
+/// The pieces, and so many dots above them in one of their columns.
+fn pieces_and_dots(alloc: Global, all: &[[i32; 4]], dots: usize) -> Result<Vec<Piece>, Fail> {
     let mut pieces = Vec::new(alloc);
-    let mut groups = Vec::new(alloc);
-    for (number, ends) in all.iter().enumerate() {
+    for ends in all {
         pieces.push(piece(ends)?)?;
-        groups.push((number % GROUPS) as u32)?;
+    }
+    for dot in 0..dots as i32 {
+        let y = dot.wrapping_add(10);
+        pieces.push(piece(&[0, y, 0, y])?)?;
+    }
+    Ok(pieces)
+}
+
+/// Marks of all groups, where those from `base` on have these: below them no piece is, nor behind them.
+fn all_marks(alloc: Global, areal: &Marks, base: usize) -> Result<Vec<bool>, Fail> {
+    let mut all = vec![in alloc; true; base]?;
+    for mark in areal {
+        all.push(*mark)?;
+    }
+    for _ in 0..FURTHER {
+        all.push(true)?;
+    }
+    Ok(all)
+}
+
+/// Whether the sweep over these pieces, and dots above them, hands out the classes of their cells. The groups
+/// are those from `base` on, by turns.
+fn does_agree(
+    alloc: Global,
+    all: &[[i32; 4]],
+    areal: Marks,
+    base: usize,
+    dots: usize,
+) -> Result<bool, Fail> {
+    let pieces = pieces_and_dots(alloc, all, dots)?;
+    let mut groups = Vec::new(alloc);
+    for number in 0..pieces.len() {
+        groups.push((number % GROUPS).wrapping_add(base) as u32)?;
     }
     let (pieces, groups) = (pieces.as_slice(), groups.as_slice());
     if pieces.len() != groups.len()
@@ -122,21 +164,22 @@ fn does_agree(alloc: Global, all: &[[i32; 4]], areal: [bool; MARKS]) -> Result<b
     {
         return Err(Fail::from("other pieces"));
     }
-    let mut found = Greatest::new(alloc, areal)?;
-    walk_classes(alloc, pieces, groups, &areal, &mut found)?;
-    let mut wanted = Greatest::new(alloc, areal)?;
+    let marks = all_marks(alloc, &areal, base)?;
+    let mut found = Greatest::new(alloc, areal, base)?;
+    walk_classes(alloc, pieces, groups, marks.as_slice(), &mut found)?;
+    let mut wanted = Greatest::new(alloc, areal, 0)?;
     for cell in decompose(alloc, pieces)?.as_slice() {
-        let on = counts_by(groups, cell.on.as_slice());
-        let above = counts_by(groups, cell.above.as_slice());
+        let on = counts_by(cell.on.as_slice());
+        let above = counts_by(cell.above.as_slice());
         wanted.put(cell.dim, &on, &above);
     }
     Ok(found.dims.as_slice() == wanted.dims.as_slice())
 }
 
 /// The marks by the lowest bits of a number.
-fn marks(bits: u64) -> [bool; MARKS] {
-    let mut areal = [true; MARKS];
-    for (group, mark) in areal.iter_mut().enumerate().take(GROUPS) {
+fn marks(bits: u64) -> Marks {
+    let mut areal = [true; GROUPS];
+    for (group, mark) in areal.iter_mut().enumerate() {
         *mark = (bits >> group) & 1 == 1;
     }
     areal
@@ -268,7 +311,7 @@ fn hard_sets(rt: HostRuntime) -> Result<(), Fail> {
     ] {
         for bits in 0..8 {
             assert!(rt;
-                does_agree(rt.alloc(), pieces, marks(bits))?,
+                does_agree(rt.alloc(), pieces, marks(bits), 0, 0)?,
                 "{name}, {bits}"
             );
         }
@@ -280,7 +323,33 @@ fn hard_sets(rt: HostRuntime) -> Result<(), Fail> {
 fn random_sets(rt: HostRuntime) -> Result<(), Fail> {
     for first in 0..SETS {
         let pieces = random_pieces(first);
-        assert!(rt; does_agree(rt.alloc(), &pieces, marks(first))?, "{first}");
+        assert!(rt; does_agree(rt.alloc(), &pieces, marks(first), 0, 0)?, "{first}");
+    }
+    Ok(())
+}
+
+/// The first of three groups, and how many dots there are beside the pieces, so that no number of a group is
+/// above that of the pieces; and how many sets are tried. With 7 groups, 8, 63, 64, 1,024 and 1,025 they are
+/// the most of a kind of row, or one more.
+const BASES: &[(usize, usize, u64)] = &[
+    (4, 0, 100),
+    (5, 0, 100),
+    (60, 50, 50),
+    (61, 50, 50),
+    (1_021, 1_010, 4),
+    (1_022, 1_010, 4),
+];
+
+#[test]
+fn many_groups(rt: HostRuntime) -> Result<(), Fail> {
+    for (base, dots, sets) in BASES {
+        for first in 0..*sets {
+            let pieces = random_pieces(first);
+            assert!(rt;
+                does_agree(rt.alloc(), &pieces, marks(first), *base, *dots)?,
+                "{base}, {first}"
+            );
+        }
     }
     Ok(())
 }

@@ -1,5 +1,5 @@
 use Rattle.std.proofs.Common.{◌∙◌, sym}
-use Rattle.sf_relate.proofs.EdgeContactLaws.{shared-along, shared-at}
+use Rattle.sf_contact.proofs.EdgeContactLaws.{shared-along, shared-at}
 use Rattle.sf_contact.proofs.PairLaws.{apart-pairs}
 use Rattle.sf_contact.proofs.edges.do_pairs_meet.Goals as goal
 

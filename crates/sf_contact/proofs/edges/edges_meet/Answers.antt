@@ -1,5 +1,5 @@
 use Rattle.std.proofs.Common.{◌∙◌, ap, sym}
-use Rattle.sf_relate.specs.EdgeContact.{on_lines, on_polygons}
+use Rattle.sf_contact.specs.EdgeContact.{on_lines, on_polygons}
 use Rattle.sf_contact.specs.Absence.{on_edges}
 use Rattle.sf_contact.proofs.PairLaws.{lines-edges, polygons-edges, rings-edges, tells-same}
 use Rattle.sf_contact.proofs.edges.edges_meet.Goals as goal

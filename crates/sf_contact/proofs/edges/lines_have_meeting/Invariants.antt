@@ -1,6 +1,6 @@
 use Rattle.std.proofs.Common.{◌∷◌, [], drop}
 use Rattle.sf_geometry.specs.PointSets.{on_line}
-use Rattle.sf_relate.specs.EdgeContact.{on_lines}
+use Rattle.sf_contact.specs.EdgeContact.{on_lines}
 use Rattle.sf_contact.proofs.PairLaws.{IsLeft}
 use Rattle.sf_contact.proofs.edges.lines_have_meeting.Given as goal
 

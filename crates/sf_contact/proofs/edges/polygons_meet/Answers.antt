@@ -1,6 +1,6 @@
 use Rattle.std.proofs.Common.{◌∙◌, ap, sym, subst, ◌+◌, ◌∷◌, drop}
 use Rattle.std.proofs.lemmas.List.{drop_more}
-use Rattle.sf_relate.specs.EdgeContact.{Share, on_lines, on_polygons}
+use Rattle.sf_contact.specs.EdgeContact.{Share, on_lines, on_polygons}
 use Rattle.sf_contact.specs.Absence.{on_edges}
 use Rattle.sf_contact.proofs.PairLaws.{next-member, of-false}
 use Rattle.sf_contact.proofs.edges.polygons_meet.Goals as goal

@@ -1,6 +1,6 @@
 use Rattle.std.proofs.Common.{drop}
 use Rattle.sf_contact.specs.Absence.{on_edges}
-use Rattle.sf_relate.specs.EdgeContact.{on_polygons}
+use Rattle.sf_contact.specs.EdgeContact.{on_polygons}
 use Rattle.sf_contact.proofs.PairLaws.{IsLeft}
 use Rattle.sf_contact.proofs.edges.polygons_meet.Given as goal
 

@@ -15,7 +15,7 @@ use Rattle.sf_geometry.specs.PointSets.{in_boundary, in_interior, in_polygon, on
 use Rattle.sf_geometry.proofs.ListLaws.{edges-step}
 use Rattle.sf_strands.proofs.EndLaws.{grid-IsPoint, start-on}
 use Rattle.sf_relate.specs.Contact.{SharePoint, is_in}
-use Rattle.sf_relate.specs.EdgeContact.{Share, on_lines, on_polygons}
+use Rattle.sf_contact.specs.EdgeContact.{Share, on_lines, on_polygons}
 use Rattle.sf_relate.proofs.FirstLaws.{in-lines}
 use Rattle.sf_relate.proofs.NeighbourLaws.{line-step}
 
@@ -25,19 +25,6 @@ Leads a b = (q : PlanePoint) → a q ≡ true → b q ≡ true
 
 pub share-first : {a b c : PlanePoint → Bool} → Share a b → Leads a c → Share c b
 share-first s l = record { q = s.q; is_point = s.is_point; in_first = l s.q s.in_first; in_second = s.in_second }
-
-pub share-second : {a b c : PlanePoint → Bool} → Share a b → Leads b c → Share a c
-share-second s l = record { q = s.q; is_point = s.is_point; in_first = s.in_first; in_second = l s.q s.in_second }
-
--- what is shared by what two geometries are is shared by them
-pub share-point : (a b f g : Geometry) → f ≡ a → g ≡ b → Share (is_in f) (is_in g) → SharePoint a b
-share-point a b f g e h s =
-    record {
-      q = s.q;
-      is_point = s.is_point;
-      in_first = subst (λ z. IsTrue (is_in z s.q)) e s.in_first;
-      in_second = subst (λ z. IsTrue (is_in z s.q)) h s.in_second;
-    }
 
 -- ---- edges of a geometry are in it
 pub line-in : (ps : List Coordinates) → Leads (on_line ps) (is_in (LineString ps))
@@ -51,34 +38,6 @@ rings-in rings q h = or_right (in_polygon rings q) (on_polygon rings q) h
 
 pub polygons-in : (polygons : List (List (List Coordinates))) → Leads (on_polygons polygons) (is_in (MultiPolygon polygons))
 polygons-in polygons q h = or_right (in_interior (MultiPolygon polygons) q) (in_boundary (MultiPolygon polygons) q) h
-
--- ---- from one edge of a list to all
-pub first-leads : (p r : Coordinates) (rs : List Coordinates) → Leads (on_line (p ∷ r ∷ [])) (on_line (p ∷ r ∷ rs))
-first-leads p r rs q h = line-step p r rs q ∙ or_left (on_line (p ∷ r ∷ []) q) (on_line (r ∷ rs) q) h
-
-pub later-leads : (p r : Coordinates) (rs : List Coordinates) → Leads (on_line (r ∷ rs)) (on_line (p ∷ r ∷ rs))
-later-leads p r rs q h = line-step p r rs q ∙ or_right (on_line (p ∷ r ∷ []) q) (on_line (r ∷ rs) q) h
-
--- what is left of a list is in it
-any-drop : {X : Type 0} (test : X → Bool) (xs : List X) (i : ℕ) → list_any test (drop i xs) ≡ true → list_any test xs ≡ true
-any-drop test [] zero h = h
-any-drop test [] (suc i) h = h
-any-drop test (x ∷ xs) zero h = h
-any-drop test (x ∷ xs) (suc i) h = or_right (test x) (list_any test xs) (any-drop test xs i h)
-
-pub member-leads : {X : Type 0} (has : X → PlanePoint → Bool) (xs : List X) (i : ℕ) (x : X) (rest : List X) → drop i xs ≡ x ∷ rest →
-    Leads (has x) (λ q. list_any (λ y. has y q) xs)
-member-leads has xs i x rest e q h =
-    any-drop (λ y. has y q) xs i (ap (λ ys. list_any (λ y. has y q) ys) e ∙ or_left (has x q) (list_any (λ y. has y q) rest) h)
-
--- the same of the points of a line, from one to the next
-pub pair-leads : (p r : Coordinates) (rest left : List Coordinates) (whole : PlanePoint → Bool) → left ≡ r ∷ rest →
-    Leads (on_line (p ∷ left)) whole → Leads (on_line (p ∷ r ∷ [])) whole
-pair-leads p r rest left whole e l q h = l q (ap (λ ps. on_line (p ∷ ps) q) e ∙ first-leads p r rest q h)
-
-pub next-leads : (p r : Coordinates) (rest left : List Coordinates) (whole : PlanePoint → Bool) → left ≡ r ∷ rest →
-    Leads (on_line (p ∷ left)) whole → Leads (on_line (r ∷ rest)) whole
-next-leads p r rest left whole e l q h = l q (ap (λ ps. on_line (p ∷ ps) q) e ∙ later-leads p r rest q h)
 
 -- ---- two edges
 pair-has : (p r : Coordinates) (q : PlanePoint) → is_same p r ≡ false → IsOnEdge (edge_between p r) q → on_line (p ∷ r ∷ []) q ≡ true
