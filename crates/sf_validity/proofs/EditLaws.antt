@@ -1,31 +1,31 @@
--- A polygon of one ring with one vertex changed: where the new edges meet no other one, it is valid as it was before.
-use Rattle.std.proofs.Common.{◌≡◌, refl, ap, sym, ◌∙◌, subst, ℕ, zero, suc, ◌+◌, ◌-◌, ◌<◌, ◌≤◌, arith, Bool, true, false, not, List, [], ◌∷◌, ◌++◌, length, slice_set, nat_eq, nat_lt, IsTrue, inl, inr}
-use Rattle.std.specs.Prelude.{Option, Some, None, Ok, insert, remove, nat_le, option_map, if◌then◌else◌}
+-- Polygons with one vertex of one ring changed: what was put where in their rings, and the edges of the changed ring.
+use Rattle.std.proofs.Common.{◌≡◌, refl, ap, sym, ◌∙◌, subst, ℕ, zero, suc, ◌+◌, ◌-◌, ◌<◌, ◌≤◌, arith, Bool, true, false, not, List, [], ◌∷◌, ◌++◌, length, slice_set, nat_eq, nat_lt, IsTrue}
+use Rattle.std.specs.Prelude.{Option, Some, None, Ok, insert, remove, nat_le, option_and_then, option_map, slice_get, if◌then◌else◌}
+use Rattle.std.specs.List.{AllByRecursion}
 use Rattle.std.proofs.lemmas.Bool.{false≢true}
 use Rattle.std.proofs.lemmas.List.{length-append}
 use Rattle.sf_grid.specs.Plane.{Coordinates}
 use Rattle.sf_geometry.specs.declared.geometry.Geometry.{Geometry}
-use Rattle.sf_geometry.specs.declared.geometry.Geometry.TheVariants.{Polygon}
+use Rattle.sf_geometry.specs.declared.geometry.Geometry.TheVariants.{Point, LineString, Polygon, MultiPoint, MultiLineString, MultiPolygon}
 use Rattle.sf_geometry.specs.Lists.{is_closed, is_same, last_from, tight}
-use Rattle.sf_geometry.specs.Parts.{LiesOnGrid}
-use Rattle.sf_geometry.specs.Size.{IsSized}
-use Rattle.sf_geometry.specs.Vertices.{Change, changed, exchange, insertion, removal, ring_of, ring_vertices, insert_vertex, move_vertex, remove_vertex}
+use Rattle.sf_geometry.specs.Parts.{LiesOnGrid, polygons_of}
+use Rattle.sf_geometry.specs.Vertices.{Change, change_at, change_ring, changed, exchange, insertion, one_point, removal, ring_of, ring_vertices, insert_vertex, move_vertex, remove_vertex, vertex_of, vertices_of}
 use Rattle.sf_geometry.proofs.BackLaws.{HasRings, IsRing, outcome-some}
 use Rattle.sf_geometry.proofs.ListLaws.{tight_length-other, tight_length-same}
+use Rattle.sf_slabs.proofs.CallerLemmas.{each-parts}
 use Rattle.sf_rules.specs.Conditions.{Applies, AtPoint}
 use Rattle.sf_rules.specs.Shapes.{meets_itself}
-use Rattle.sf_rules.specs.Rules.{polygon_rules, rules_of}
-use Rattle.sf_rules.specs.Validity.{IsValid, NoneApplies}
-use Rattle.sf_rules.specs.declared.fault.Fault.TheVariants.{RingNotSimple}
+use Rattle.sf_rules.specs.Validity.{IsValid}
+use Rattle.sf_rules.proofs.MemberLaws.{each-of_flat}
 use Rattle.sf_strands.specs.Changed.{edge_meets}
 use Rattle.sf_strands.specs.Pairs.{edge_at, point_of}
 use Rattle.sf_strands.specs.Tight.{IsTight, IsTightFrom}
 use Rattle.sf_strands.proofs.ChangedLaws.{IsReplaced, kept-simple}
 use Rattle.sf_strands.proofs.TightLaws.{tight-tight}
-use Rattle.sf_validity.specs.Changed.{IsEdited, IsInside, IsOneTight, IsRespliced, IsSpliced, NoneMeets}
+use Rattle.sf_validity.specs.Beside.{ring_in, stood}
+use Rattle.sf_validity.specs.Changed.{IsChange, IsEdited, IsRespliced, IsSpliced, IsTightAt, NoneMeets}
 use Rattle.sf_validity.specs.Held.{IsHeld}
-use Rattle.sf_validity.specs.Refusals.{Refuses}
-use Rattle.sf_validity.specs.declared.refusal.Refusal.TheVariants.{Invalid}
+use Rattle.sf_validity.specs.declared.changed.Stretch.{Stretch}
 use Rattle.sf_validity.proofs.ValidLaws.{tight-short, valid-rings}
 
 -- ---- tight lists, by their length
@@ -101,14 +101,14 @@ replaced front olds news back h k =
       after = λ i l. edge-behind front news olds back i (length front - 1 + (length news + 1) + i) (length front - 1 + (length olds + 1) + i) (omega (arith, h)) (omega (arith, h));
     }
 
-spliced-simple : (old new : List Coordinates) (index count : ℕ) (s : IsSpliced old new index count) → 0 < index → 0 < length s.back → IsTight old → IsTight new
+pub spliced-simple : (old new : List Coordinates) (index count : ℕ) (olds : List Coordinates) (s : IsSpliced old new index count olds) → 0 < index → 0 < length s.back → IsTight old → IsTight new
     → NoneMeets new (index - 1) (index + count) → ¬ (Applies (AtPoint (meets_itself old))) → ¬ (Applies (AtPoint (meets_itself new)))
-spliced-simple old new index count s later ended t u none simple =
-    let r : IsReplaced old new (length s.front - 1) (length s.olds + 1) (length s.news + 1) (length s.back - 1) =
-    subst (λ ps. IsReplaced ps new (length s.front - 1) (length s.olds + 1) (length s.news + 1) (length s.back - 1)) (sym s.was)
-    (subst (λ ps. IsReplaced (s.front ++ (s.olds ++ s.back)) ps (length s.front - 1) (length s.olds + 1) (length s.news + 1) (length s.back - 1)) (sym s.is)
-    (replaced s.front s.olds s.news s.back (omega (arith, later, s.placed)) ended)) in
-    kept-simple old new (length s.front - 1) (length s.olds + 1) (length s.news + 1) (length s.back - 1) t u r simple
+spliced-simple old new index count olds s later ended t u none simple =
+    let r : IsReplaced old new (length s.front - 1) (length olds + 1) (length s.news + 1) (length s.back - 1) =
+    subst (λ ps. IsReplaced ps new (length s.front - 1) (length olds + 1) (length s.news + 1) (length s.back - 1)) (sym s.was)
+    (subst (λ ps. IsReplaced (s.front ++ (olds ++ s.back)) ps (length s.front - 1) (length olds + 1) (length s.news + 1) (length s.back - 1)) (sym s.is)
+    (replaced s.front olds s.news s.back (omega (arith, later, s.placed)) ended)) in
+    kept-simple old new (length s.front - 1) (length olds + 1) (length s.news + 1) (length s.back - 1) t u r simple
     (λ n l m. none n (omega (arith, l, s.placed)) (omega (arith, m, s.placed, s.counted, later)))
 
 -- ---- one more edge
@@ -119,11 +119,8 @@ none-further ring first n none last k l m a = by (nat_lt k n) refl
     by true test = none k l (grind (arith, test)) a
     by false test = let same : k ≡ n = grind (arith, test, m) in last (subst (λ i. Applies (AtPoint (edge_meets ring i))) same a)
 
--- ---- the rules of a polygon of one ring
-one-alone : (ring : List Coordinates) → NoneApplies (polygon_rules ((ring ∷ []) ∷ []))
-one-alone ring = (λ h. false≢true h.4, (λ h. false≢true h.2, (λ h. false≢true h.2, (λ h. false≢true h.2, tt))))
-
-is-open : (ring : List Coordinates) → IsTrue (is_closed ring) → ¬ (IsTrue (not (is_closed ring)))
+-- ---- the rules of a ring
+pub is-open : (ring : List Coordinates) → IsTrue (is_closed ring) → ¬ (IsTrue (not (is_closed ring)))
 is-open ring closed = by (is_closed ring) closed
   where
     by : (t : Bool) → IsTrue t → ¬ (IsTrue (not t))
@@ -133,45 +130,17 @@ is-open ring closed = by (is_closed ring) closed
 is-short : (n : ℕ) → 4 ≤ n → ¬ (IsTrue (nat_lt n 4))
 is-short n h e = grind (arith, h, e)
 
-tight-many : (ring : List Coordinates) → IsTight ring → 4 ≤ length ring → ¬ (IsTrue (nat_lt (length (tight ring)) 4))
+pub tight-many : (ring : List Coordinates) → IsTight ring → 4 ≤ length ring → ¬ (IsTrue (nat_lt (length (tight ring)) 4))
 tight-many ring t many = is-short (length (tight ring)) (subst (λ n. 4 ≤ n) (sym (ap length (tight-tight ring t))) many)
-
-one-valid : (ring : List Coordinates) (index count : ℕ) → IsInside ring index count → IsSized (Polygon (ring ∷ [])) → ¬ (Applies (AtPoint (meets_itself ring))) → IsValid (Polygon (ring ∷ []))
-one-valid ring index count inside sized simple =
-    record { sized = sized; faultless = (is-open ring inside.closed, (tight-many ring inside.tight inside.many, (simple, one-alone ring))) }
-
-pub one-refused : (g : Geometry) (ring : List Coordinates) (index count : ℕ) → g ≡ Polygon (ring ∷ []) → IsInside ring index count → Applies (AtPoint (meets_itself ring)) → Refuses g (Invalid RingNotSimple)
-one-refused g ring index count is inside meets =
-    subst (λ h. Refuses h (Invalid RingNotSimple)) (sym is)
-    (inr (is-open ring inside.closed, inr (tight-many ring inside.tight inside.many, inl (meets, refl))))
-
-one-simple : (g : Geometry) (ring : List Coordinates) → IsValid g → g ≡ Polygon (ring ∷ []) → ¬ (Applies (AtPoint (meets_itself ring)))
-one-simple g ring valid is = (subst (λ h. NoneApplies (rules_of h)) is valid.faultless).1.1.0
-
-same-ring : (g : Geometry) (r s : List Coordinates) → g ≡ Polygon (r ∷ []) → g ≡ Polygon (s ∷ []) → r ≡ s
-same-ring g r s e f = cc
-
-pub edited-valid : (g : Geometry) (ring : List Coordinates) (index count : ℕ) → g ≡ Polygon (ring ∷ []) → IsInside ring index count → IsSized g → NoneMeets ring (index - 1) (index + count)
-    → (before : Geometry) → IsEdited before g index count → IsOneTight before → IsValid g
-edited-valid g ring index count is inside sized none before edited one =
-    let e = edited.1 one.ring one.is inside.later in
-    let s : IsSpliced one.ring e.new index count = e.spliced in
-    let same : e.new ≡ ring = same-ring g e.new ring e.is is in
-    let simple : ¬ (Applies (AtPoint (meets_itself e.new))) =
-    spliced-simple one.ring e.new index count s inside.later e.ended one.tight (subst IsTight (sym same) inside.tight)
-    (subst (λ ps. NoneMeets ps (index - 1) (index + count)) (sym same) none) (one-simple before one.ring edited.0 one.is) in
-    subst IsValid (sym is)
-    (one-valid ring index count inside (subst IsSized is sized) (subst (λ ps. ¬ (Applies (AtPoint (meets_itself ps)))) same simple))
 
 -- ---- one vertex changed
 some_same : {X : Type 0} {a b : X} → Some a ≡ Some b → a ≡ b
 some_same e = cc
 
-later-spliced : (v : Coordinates) (vs ws : List Coordinates) (index count : ℕ) → IsSpliced vs ws index count → IsSpliced (v ∷ vs) (v ∷ ws) (suc index) count
-later-spliced v vs ws index count s =
+later-spliced : (v : Coordinates) (vs ws : List Coordinates) (index count : ℕ) (olds : List Coordinates) → IsSpliced vs ws index count olds → IsSpliced (v ∷ vs) (v ∷ ws) (suc index) count olds
+later-spliced v vs ws index count olds s =
     record {
       front = v ∷ s.front;
-      olds = s.olds;
       news = s.news;
       back = s.back;
       was = ap (λ us. v ∷ us) s.was;
@@ -180,46 +149,46 @@ later-spliced v vs ws index count s =
       counted = s.counted;
     }
 
-insert-spliced : (vs : List Coordinates) (index : ℕ) (p : Coordinates) → index ≤ length vs → IsSpliced vs (insert vs index p) index 1
-insert-spliced [] zero p h = record { front = []; olds = []; news = p ∷ []; back = []; was = refl; is = refl; placed = refl; counted = refl }
+insert-spliced : (vs : List Coordinates) (index : ℕ) (p : Coordinates) → index ≤ length vs → IsSpliced vs (insert vs index p) index 1 []
+insert-spliced [] zero p h = record { front = []; news = p ∷ []; back = []; was = refl; is = refl; placed = refl; counted = refl }
 insert-spliced [] (suc index) p h = absurd (omega (arith, h))
-insert-spliced (v ∷ vs) zero p h = record { front = []; olds = []; news = p ∷ []; back = v ∷ vs; was = refl; is = refl; placed = refl; counted = refl }
-insert-spliced (v ∷ vs) (suc index) p h = later-spliced v vs (insert vs index p) index 1 (insert-spliced vs index p (omega (arith, h)))
+insert-spliced (v ∷ vs) zero p h = record { front = []; news = p ∷ []; back = v ∷ vs; was = refl; is = refl; placed = refl; counted = refl }
+insert-spliced (v ∷ vs) (suc index) p h = later-spliced v vs (insert vs index p) index 1 [] (insert-spliced vs index p (omega (arith, h)))
 
-set-spliced : (vs : List Coordinates) (index : ℕ) (p : Coordinates) → index < length vs → IsSpliced vs (slice_set vs index p) index 1
-set-spliced [] index p h = absurd (omega (arith, h))
-set-spliced (v ∷ vs) zero p h = record { front = []; olds = v ∷ []; news = p ∷ []; back = vs; was = refl; is = refl; placed = refl; counted = refl }
-set-spliced (v ∷ vs) (suc index) p h = later-spliced v vs (slice_set vs index p) index 1 (set-spliced vs index p (omega (arith, h)))
+set-spliced : (vs : List Coordinates) (index : ℕ) (p old : Coordinates) → slice_get vs index ≡ Some old → IsSpliced vs (slice_set vs index p) index 1 (old ∷ [])
+set-spliced [] index p old at = absurd cc
+set-spliced (v ∷ vs) zero p old at = record { front = []; news = p ∷ []; back = vs; was = ap (λ u. u ∷ vs) (some_same at); is = refl; placed = refl; counted = refl }
+set-spliced (v ∷ vs) (suc index) p old at = later-spliced v vs (slice_set vs index p) index 1 (old ∷ []) (set-spliced vs index p old at)
 
-remove-spliced : (vs : List Coordinates) (index : ℕ) → index < length vs → IsSpliced vs (remove vs index) index 0
-remove-spliced [] index h = absurd (omega (arith, h))
-remove-spliced (v ∷ vs) zero h = record { front = []; olds = v ∷ []; news = []; back = vs; was = refl; is = refl; placed = refl; counted = refl }
-remove-spliced (v ∷ vs) (suc index) h = later-spliced v vs (remove vs index) index 0 (remove-spliced vs index (omega (arith, h)))
+remove-spliced : (vs : List Coordinates) (index : ℕ) (old : Coordinates) → slice_get vs index ≡ Some old → IsSpliced vs (remove vs index) index 0 (old ∷ [])
+remove-spliced [] index old at = absurd cc
+remove-spliced (v ∷ vs) zero old at = record { front = []; news = []; back = vs; was = ap (λ u. u ∷ vs) (some_same at); is = refl; placed = refl; counted = refl }
+remove-spliced (v ∷ vs) (suc index) old at = later-spliced v vs (remove vs index) index 0 (old ∷ []) (remove-spliced vs index old at)
 
--- wherever the change can be made, it puts so many points at the index
-abbrev Splices : Change → ℕ → ℕ → Type 0
-Splices c index count = (vs ws : List Coordinates) → c vs ≡ Some ws → IsSpliced vs ws index count
+-- where the change can be made of these vertices, it puts so many points at the index, in place of others
+abbrev Splices : Change → ℕ → ℕ → List Coordinates → List Coordinates → Type 0
+Splices c index count olds vs = (ws : List Coordinates) → c vs ≡ Some ws → IsSpliced vs ws index count olds
 
-insertion-splices : (index : ℕ) (p : Coordinates) (vs ws : List Coordinates) → insertion index p vs ≡ Some ws → IsSpliced vs ws index 1
+insertion-splices : (index : ℕ) (p : Coordinates) (vs : List Coordinates) → Splices (insertion index p) index 1 [] vs
 insertion-splices index p vs ws e = by (nat_le index (length vs)) refl e
   where
-    by : (t : Bool) → nat_le index (length vs) ≡ t → (if t then Some (insert vs index p) else None) ≡ Some ws → IsSpliced vs ws index 1
+    by : (t : Bool) → nat_le index (length vs) ≡ t → (if t then Some (insert vs index p) else None) ≡ Some ws → IsSpliced vs ws index 1 []
     by false test e = absurd cc
-    by true test e = subst (λ us. IsSpliced vs us index 1) (some_same e) (insert-spliced vs index p (grind (arith, test)))
+    by true test e = subst (λ us. IsSpliced vs us index 1 []) (some_same e) (insert-spliced vs index p (grind (arith, test)))
 
-exchange-splices : (index : ℕ) (p : Coordinates) (vs ws : List Coordinates) → exchange index p vs ≡ Some ws → IsSpliced vs ws index 1
-exchange-splices index p vs ws e = by (nat_lt index (length vs)) refl e
+exchange-splices : (index : ℕ) (p old : Coordinates) (vs : List Coordinates) → slice_get vs index ≡ Some old → Splices (exchange index p) index 1 (old ∷ []) vs
+exchange-splices index p old vs at ws e = by (nat_lt index (length vs)) e
   where
-    by : (t : Bool) → nat_lt index (length vs) ≡ t → (if t then Some (slice_set vs index p) else None) ≡ Some ws → IsSpliced vs ws index 1
-    by false test e = absurd cc
-    by true test e = subst (λ us. IsSpliced vs us index 1) (some_same e) (set-spliced vs index p (grind (arith, test)))
+    by : (t : Bool) → (if t then Some (slice_set vs index p) else None) ≡ Some ws → IsSpliced vs ws index 1 (old ∷ [])
+    by false e = absurd cc
+    by true e = subst (λ us. IsSpliced vs us index 1 (old ∷ [])) (some_same e) (set-spliced vs index p old at)
 
-removal-splices : (index : ℕ) (vs ws : List Coordinates) → removal index vs ≡ Some ws → IsSpliced vs ws index 0
-removal-splices index vs ws e = by (nat_lt index (length vs)) refl e
+removal-splices : (index : ℕ) (old : Coordinates) (vs : List Coordinates) → slice_get vs index ≡ Some old → Splices (removal index) index 0 (old ∷ []) vs
+removal-splices index old vs at ws e = by (nat_lt index (length vs)) e
   where
-    by : (t : Bool) → nat_lt index (length vs) ≡ t → (if t then Some (remove vs index) else None) ≡ Some ws → IsSpliced vs ws index 0
-    by false test e = absurd cc
-    by true test e = subst (λ us. IsSpliced vs us index 0) (some_same e) (remove-spliced vs index (grind (arith, test)))
+    by : (t : Bool) → (if t then Some (remove vs index) else None) ≡ Some ws → IsSpliced vs ws index 0 (old ∷ [])
+    by false e = absurd cc
+    by true e = subst (λ us. IsSpliced vs us index 0 (old ∷ [])) (some_same e) (remove-spliced vs index old at)
 
 -- ---- the same of a ring
 behind : (xs ys zs us : List Coordinates) → (xs ++ (ys ++ zs)) ++ us ≡ xs ++ (ys ++ (zs ++ us))
@@ -231,17 +200,19 @@ pushed-some : (xs : List Coordinates) (y : Coordinates) → 0 < length (xs ++ y 
 pushed-some [] y = omega arith
 pushed-some (x ∷ xs) y = omega arith
 
-ring-spliced : (front olds news back vs ws : List Coordinates) (h : Geometry) (index count : ℕ) → vs ≡ front ++ (olds ++ back) → ws ≡ front ++ (news ++ back) → length front ≡ index → length news ≡ count
-    → 0 < index → h ≡ Polygon (ring_of ws ∷ []) → IsRespliced (ring_of vs) h index count
-ring-spliced [] olds news back vs ws h index count was is placed counted later e = absurd (omega (arith, placed, later))
-ring-spliced (f ∷ fs) olds news back vs ws h index count was is placed counted later e =
+-- a ring with points exchanged, and a point behind them
+record HasSplice (old new : List Coordinates) (index count : ℕ) (olds : List Coordinates) : Type 0 where
+  spliced : IsSpliced old new index count olds
+  ended : 0 < length spliced.back
+
+ring-spliced : (front olds news back vs ws : List Coordinates) (index count : ℕ) → vs ≡ front ++ (olds ++ back) → ws ≡ front ++ (news ++ back) → length front ≡ index → length news ≡ count
+    → 0 < index → HasSplice (ring_of vs) (ring_of ws) index count olds
+ring-spliced [] olds news back vs ws index count was is placed counted later = absurd (omega (arith, placed, later))
+ring-spliced (f ∷ fs) olds news back vs ws index count was is placed counted later =
     record {
-      new = ring_of ws;
-      is = e;
       spliced =
           record {
             front = f ∷ fs;
-            olds = olds;
             news = news;
             back = back ++ f ∷ [];
             was = ap ring_of was ∙ ap (λ us. f ∷ us) (behind fs olds back (f ∷ []));
@@ -252,34 +223,192 @@ ring-spliced (f ∷ fs) olds news back vs ws h index count was is placed counted
       ended = pushed-some back f;
     }
 
--- ---- of a geometry
-respliced : (c : Change) (r : List Coordinates) (h : Geometry) (part ring index count : ℕ) → Splices c index count → IsRing r → 0 < index
-    → changed c part ring (Polygon (r ∷ [])) ≡ Some h → IsRespliced r h index count
-respliced c r h zero zero index count splices is later e = by (c (ring_vertices r)) refl e
+changed-ring : (c : Change) (r s : List Coordinates) (index count : ℕ) (olds : List Coordinates) → Splices c index count olds (ring_vertices r) → IsRing r → 0 < index → change_ring c r ≡ Some s → HasSplice r s index count olds
+changed-ring c r s index count olds splices is later e = by (c (ring_vertices r)) refl e
   where
-    by : (found : Option (List Coordinates)) → c (ring_vertices r) ≡ found → option_map Polygon (option_map (slice_set (r ∷ []) zero) (option_map ring_of found)) ≡ Some h → IsRespliced r h index count
+    by : (found : Option (List Coordinates)) → c (ring_vertices r) ≡ found → option_map ring_of found ≡ Some s → HasSplice r s index count olds
     by None did e = absurd cc
     by (Some ws) did e =
-        let s = splices (ring_vertices r) ws did in
-        subst (λ ps. IsRespliced ps h index count) is
-        (ring-spliced s.front s.olds s.news s.back (ring_vertices r) ws h index count s.was s.is s.placed s.counted later (sym (some_same e)))
-respliced c r h zero (suc ring) index count splices is later e = absurd cc
-respliced c r h (suc part) ring index count splices is later e = absurd cc
+        let x = splices ws did in
+        subst (λ ps. HasSplice r ps index count olds) (some_same e)
+        (subst (λ ps. HasSplice ps (ring_of ws) index count olds) is
+        (ring-spliced x.front olds x.news x.back (ring_vertices r) ws index count x.was x.is x.placed x.counted later))
 
-edited : (c : Change) (g h : Geometry) (part ring index count : ℕ) → Splices c index count → IsValid g → changed c part ring g ≡ Some h → IsEdited g h index count
-edited c g h part ring index count splices valid e =
-    (valid, λ r is later. respliced c r h part ring index count splices (subst HasRings is (valid-rings g valid)).0 later (subst (λ k. changed c part ring k ≡ Some h) is e))
+-- ---- a member of a list changed
+record IsMember {X : Type 0} (f : X → Option X) (n : ℕ) (xs ys : List X) : Type 0 where
+  front : List X
+  back : List X
+  old : X
+  new : X
+  was : xs ≡ front ++ old ∷ back
+  is : ys ≡ front ++ new ∷ back
+  placed : length front ≡ n
+  got : slice_get xs n ≡ Some old
+  did : f old ≡ Some new
 
-pub insert-edited : (g h : Geometry) (part ring index : ℕ) (p : Coordinates) → IsValid g → insert_vertex g part ring index p ≡ Ok h → IsEdited g h index 1
-insert-edited g h part ring index p valid e = edited (insertion index p) g h part ring index 1 (insertion-splices index p) valid (outcome-some (changed (insertion index p) part ring g) h e).0
+later-member : {X : Type 0} (f : X → Option X) (n : ℕ) (x : X) (xs ys : List X) → IsMember f n xs ys → IsMember f (suc n) (x ∷ xs) (x ∷ ys)
+later-member f n x xs ys m = record {
+  front = x ∷ m.front;
+  back = m.back;
+  old = m.old;
+  new = m.new;
+  was = ap (λ zs. x ∷ zs) m.was;
+  is = ap (λ zs. x ∷ zs) m.is;
+  placed = ap suc m.placed;
+  got = m.got;
+  did = m.did;
+}
 
-pub move-edited : (g h : Geometry) (part ring index : ℕ) (p : Coordinates) → IsValid g → move_vertex g part ring index p ≡ Ok h → IsEdited g h index 1
-move-edited g h part ring index p valid e = edited (exchange index p) g h part ring index 1 (exchange-splices index p) valid (outcome-some (changed (exchange index p) part ring g) h e).0
+member : {X : Type 0} (f : X → Option X) (n : ℕ) (xs ys : List X) → change_at n f xs ≡ Some ys → IsMember f n xs ys
+member f n [] ys e = absurd cc
+member {X} f zero (x ∷ xs) ys e = by (f x) refl e
+  where
+    by : (found : Option X) → f x ≡ found → option_map (slice_set (x ∷ xs) zero) found ≡ Some ys → IsMember f zero (x ∷ xs) ys
+    by None did e = absurd cc
+    by (Some y) did e = record { front = []; back = xs; old = x; new = y; was = refl; is = sym (some_same e); placed = refl; got = refl; did = did }
+member {X} f (suc n) (x ∷ xs) ys e = by (option_and_then f (slice_get xs n)) refl e (member f n xs)
+  where
+    by : (found : Option X) → option_and_then f (slice_get xs n) ≡ found → option_map (slice_set (x ∷ xs) (suc n)) found ≡ Some ys
+        → ((zs : List X) → change_at n f xs ≡ Some zs → IsMember f n xs zs) → IsMember f (suc n) (x ∷ xs) ys
+    by None did e shorter = absurd cc
+    by (Some y) did e shorter =
+        subst (λ zs. IsMember f (suc n) (x ∷ xs) zs) (some_same e)
+        (later-member f n x xs (slice_set xs n y) (shorter (slice_set xs n y) (ap (option_map (slice_set xs n)) did)))
 
-pub remove-edited : (g h : Geometry) (part ring index : ℕ) → IsValid g → remove_vertex g part ring index ≡ Ok h → IsEdited g h index 0
-remove-edited g h part ring index valid e = edited (removal index) g h part ring index 0 (removal-splices index) valid (outcome-some (changed (removal index) part ring g) h e).0
+-- ---- of polygons
+member-ring : (rings front back : List (List Coordinates)) (old : List Coordinates) → rings ≡ front ++ old ∷ back → AllByRecursion IsRing rings → IsRing old
+member-ring rings front back old was are = (each-parts IsRing front (old ∷ back) (subst (AllByRecursion IsRing) was are)).1.0
+
+respliced : (c : Change) (before after front back : List (List (List Coordinates))) (rings others : List (List Coordinates)) (part ring index count : ℕ) (olds : List Coordinates)
+    → ((vs : List Coordinates) → option_map ring_vertices (slice_get rings ring) ≡ Some vs → Splices c index count olds vs) → AllByRecursion IsRing rings → 0 < index
+    → before ≡ front ++ rings ∷ back → after ≡ front ++ others ∷ back → length front ≡ part → change_at ring (change_ring c) rings ≡ Some others → IsRespliced before after part ring index count olds
+respliced c before after front back rings others part ring index count olds splices are later was is placed did =
+    let m = member (change_ring c) ring rings others did in
+    let x = changed-ring c m.old m.new index count olds (splices (ring_vertices m.old) (ap (option_map ring_vertices) m.got)) (member-ring rings m.front m.back m.old m.was are) later m.did in
+    record {
+      front = front;
+      back = back;
+      ring_front = m.front;
+      ring_back = m.back;
+      old = m.old;
+      new = m.new;
+      was = was ∙ ap (λ rs. front ++ rs ∷ back) m.was;
+      is = is ∙ ap (λ rs. front ++ rs ∷ back) m.is;
+      placed = placed;
+      ring_placed = m.placed;
+      spliced = x.spliced;
+      ended = x.ended;
+    }
+
+-- ---- of a geometry
+-- wherever the part and ring have vertices, the change puts so many points at the index, in place of others
+abbrev SplicesAt : Change → Geometry → ℕ → ℕ → ℕ → ℕ → List Coordinates → Type 0
+SplicesAt c g part ring index count olds = (vs : List Coordinates) → vertices_of g part ring ≡ Some vs → Splices c index count olds vs
+
+kind-of : {X : Type 0} (kind : X → Geometry) (found : Option X) (h : Geometry) → option_map kind found ≡ Some h → (y : X) × ((found ≡ Some y) × (kind y ≡ h))
+kind-of kind None h e = absurd cc
+kind-of kind (Some y) h e = (y, (refl, some_same e))
+
+-- a geometry of another kind has no polygons
+no-ring : (h : Geometry) (part ring : ℕ) (points : List Coordinates) → polygons_of h ≡ [] → ring_in (polygons_of h) part ring ≡ Some points → ⊥
+no-ring h part ring points none at = none-there (sym (ap (λ ps. ring_in ps part ring) none) ∙ at)
+  where
+    none-there : ◌≡◌ {A = Option (List Coordinates)} None (Some points) → ⊥
+    none-there e = cc
+
+-- what is said of the rings of a changed geometry
+abbrev HasChanged : Geometry → Geometry → ℕ → ℕ → ℕ → ℕ → List Coordinates → Type 0
+HasChanged g h part ring index count olds =
+    (points : List Coordinates) → ring_in (polygons_of h) part ring ≡ Some points → 0 < index → IsRespliced (polygons_of g) (polygons_of h) part ring index count olds
+
+other-kind : {X : Type 0} (kind : X → Geometry) (found : Option X) (g h : Geometry) (part ring index count : ℕ) (olds : List Coordinates) → ((y : X) → polygons_of (kind y) ≡ []) → option_map kind found ≡ Some h
+    → HasChanged g h part ring index count olds
+other-kind kind found g h part ring index count olds none e points at later =
+    let k = kind-of kind found h e in
+    absurd (no-ring h part ring points (ap polygons_of (sym k.1.1) ∙ none k.0) at)
+
+has-changed : (c : Change) (g h : Geometry) (part ring index count : ℕ) (olds : List Coordinates) → SplicesAt c g part ring index count olds → HasRings g → changed c part ring g ≡ Some h
+    → HasChanged g h part ring index count olds
+has-changed c (Point p) h zero zero index count olds splices are e = by (c (p ∷ [])) e
+  where
+    by : (found : Option (List Coordinates)) → option_and_then one_point found ≡ Some h → HasChanged (Point p) h zero zero index count olds
+    by None e = absurd cc
+    by (Some []) e = absurd cc
+    by (Some (q ∷ [])) e = λ points at later. absurd (no-ring h zero zero points (ap polygons_of (sym (some_same e))) at)
+    by (Some (q ∷ r ∷ qs)) e = absurd cc
+has-changed c (Point p) h zero (suc ring) index count olds splices are e = absurd cc
+has-changed c (Point p) h (suc part) ring index count olds splices are e = absurd cc
+has-changed c (LineString ps) h zero zero index count olds splices are e = other-kind LineString (c ps) (LineString ps) h zero zero index count olds (λ y. refl) e
+has-changed c (LineString ps) h zero (suc ring) index count olds splices are e = absurd cc
+has-changed c (LineString ps) h (suc part) ring index count olds splices are e = absurd cc
+has-changed c (Polygon rings) h zero ring index count olds splices are e =
+    let k = kind-of Polygon (change_at ring (change_ring c) rings) h e in
+    λ points at later.
+    respliced c (rings ∷ []) (polygons_of h) [] [] rings k.0 zero ring index count olds splices (each-parts IsRing rings [] are).0 later refl (ap polygons_of (sym k.1.1)) refl k.1.0
+has-changed c (Polygon rings) h (suc part) ring index count olds splices are e = absurd cc
+has-changed c (MultiPoint ps) h zero zero index count olds splices are e = other-kind MultiPoint (c ps) (MultiPoint ps) h zero zero index count olds (λ y. refl) e
+has-changed c (MultiPoint ps) h zero (suc ring) index count olds splices are e = absurd cc
+has-changed c (MultiPoint ps) h (suc part) ring index count olds splices are e = absurd cc
+has-changed c (MultiLineString lines) h part zero index count olds splices are e =
+    other-kind MultiLineString (change_at part c lines) (MultiLineString lines) h part zero index count olds (λ y. refl) e
+has-changed c (MultiLineString lines) h part (suc ring) index count olds splices are e = absurd cc
+has-changed c (MultiPolygon polygons) h part ring index count olds splices are e =
+    let k = kind-of MultiPolygon (change_at part (change_at ring (change_ring c)) polygons) h e in
+    let m = member (change_at ring (change_ring c)) part polygons k.0 k.1.0 in
+    let each = each-of_flat IsRing (λ (rings : List (List Coordinates)). rings) polygons are in
+    λ points at later.
+    respliced c polygons (polygons_of h) m.front m.back m.old m.new part ring index count olds
+    (λ vs there. splices vs (ap (option_and_then (λ rs. option_map ring_vertices (slice_get rs ring))) m.got ∙ there))
+    (each-parts (AllByRecursion IsRing) m.front (m.old ∷ m.back) (subst (AllByRecursion (AllByRecursion IsRing)) m.was each)).1.0 later
+    m.was (ap polygons_of (sym k.1.1) ∙ m.is) m.placed m.did
+
+edited : (c : Change) (g h : Geometry) (s : Stretch) → SplicesAt c g s.part s.ring s.index s.count (stood s.gone) → IsValid g → changed c s.part s.ring g ≡ Some h → IsEdited g h s
+edited c g h s splices valid e = (valid, has-changed c g h s.part s.ring s.index s.count (stood s.gone) splices (valid-rings g valid) e)
+
+-- the vertex that stood there is that of the list
+stands : (g : Geometry) (part ring index : ℕ) (old : Coordinates) (vs : List Coordinates) → vertex_of g part ring index ≡ Some old → vertices_of g part ring ≡ Some vs → slice_get vs index ≡ Some old
+stands g part ring index old vs there at = ap (option_and_then (λ us. slice_get us index)) (sym at) ∙ there
+
+abbrev pub inserted : ℕ → ℕ → ℕ → Stretch
+inserted part ring index = record { part = part; ring = ring; index = index; count = 1; gone = None }
+
+abbrev pub moved : ℕ → ℕ → ℕ → Coordinates → Stretch
+moved part ring index old = record { part = part; ring = ring; index = index; count = 1; gone = Some old }
+
+abbrev pub removed : ℕ → ℕ → ℕ → Coordinates → Stretch
+removed part ring index old = record { part = part; ring = ring; index = index; count = 0; gone = Some old }
+
+-- what is known of a change of a valid geometry
+pub insert-change : (g h : Geometry) (part ring index : ℕ) (p : Coordinates) (was : Bool) → IsValid g → insert_vertex g part ring index p ≡ Ok h → (IsTrue was → IsTightAt g part ring)
+    → IsChange g h was (inserted part ring index)
+insert-change g h part ring index p was valid e tight =
+    record {
+      edited =
+          edited (insertion index p) g h (inserted part ring index) (λ vs at. insertion-splices index p vs) valid
+          (outcome-some (changed (insertion index p) part ring g) h e).0;
+      tight = tight;
+    }
+
+pub move-change : (g h : Geometry) (part ring index : ℕ) (p old : Coordinates) (was : Bool) → IsValid g → vertex_of g part ring index ≡ Some old → move_vertex g part ring index p ≡ Ok h
+    → (IsTrue was → IsTightAt g part ring) → IsChange g h was (moved part ring index old)
+move-change g h part ring index p old was valid there e tight =
+    record {
+      edited =
+          edited (exchange index p) g h (moved part ring index old) (λ vs at. exchange-splices index p old vs (stands g part ring index old vs there at)) valid
+          (outcome-some (changed (exchange index p) part ring g) h e).0;
+      tight = tight;
+    }
+
+pub remove-change : (g h : Geometry) (part ring index : ℕ) (old : Coordinates) (was : Bool) → IsValid g → vertex_of g part ring index ≡ Some old → remove_vertex g part ring index ≡ Ok h
+    → (IsTrue was → IsTightAt g part ring) → IsChange g h was (removed part ring index old)
+remove-change g h part ring index old was valid there e tight =
+    record {
+      edited =
+          edited (removal index) g h (removed part ring index old) (λ vs at. removal-splices index old vs (stands g part ring index old vs there at)) valid
+          (outcome-some (changed (removal index) part ring g) h e).0;
+      tight = tight;
+    }
 
 -- what was found valid, and lies on the grid
-pub edited-held : (g h : Geometry) (index count : ℕ) (one : Bool) → IsEdited g h index count → (IsTrue one → IsOneTight g)
-    → ((before : Geometry) → IsEdited before h index count → (IsTrue one → IsOneTight before) → IsValid h) → LiesOnGrid h → IsHeld h
-edited-held g h index count one e t valid lies = record { valid = valid g e t; on_grid = lies }
+pub changed-held : (g h : Geometry) (was : Bool) (s : Stretch) → IsChange g h was s → ((before : Geometry) → IsChange before h was s → IsValid h) → LiesOnGrid h → IsHeld h
+changed-held g h was s change valid lies = record { valid = valid g change; on_grid = lies }

@@ -3,3 +3,6 @@ pub mod RuleLaws
 pub mod RepeatLaws
 pub mod SimpleLaws
 pub mod ValidLaws
+pub mod BesideLaws
+pub mod StretchLaws
+pub mod WholeLaws

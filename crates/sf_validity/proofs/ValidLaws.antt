@@ -45,7 +45,7 @@ ring-is (p ∷ q ∷ qs) closed many =
     longer : (n : ℕ) → suc (suc n) - 1 ≡ suc (suc n - 1)
     longer n = omega arith
 
-not_not : (b : Bool) → ¬ (IsTrue (not b)) → b ≡ true
+pub not_not : (b : Bool) → ¬ (IsTrue (not b)) → b ≡ true
 not_not true h = refl
 not_not false h = absurd (h refl)
 
@@ -61,11 +61,11 @@ ring-valid ring n =
     ring-is ring (not_not (is_closed ring) n.0)
     (omega (arith, not_less (length (tight ring)) 4 n.1.0, tight-short ring))
 
-none-left : (rules others : List Rule) → NoneApplies (rules ++ others) → NoneApplies rules
+pub none-left : (rules others : List Rule) → NoneApplies (rules ++ others) → NoneApplies rules
 none-left [] others n = tt
 none-left (rule ∷ rules) others n = (n.0, none-left rules others n.1)
 
-none-right : (rules others : List Rule) → NoneApplies (rules ++ others) → NoneApplies others
+pub none-right : (rules others : List Rule) → NoneApplies (rules ++ others) → NoneApplies others
 none-right [] others n = n
 none-right (rule ∷ rules) others n = none-right rules others n.1
 

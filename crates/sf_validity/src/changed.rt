@@ -1,35 +1,47 @@
-//! The rules after a change of one vertex: where a polygon of one ring was valid, its new edges
-//! against all others decide.
+//! The rules after a change of one vertex: where a polygon was valid, and all other rings are apart from what
+//! changed, its new edges against all others of the ring decide.
 
-ghost use Rattle.std.specs.Prelude.{◌≡◌, ◌+◌, ◌-◌, ◌<◌, ◌∷◌, [], IfErr, IfSome, IsTrue, OnOk, length};
+ghost use Rattle.std.specs.Prelude.{◌≡◌, ◌+◌, ◌-◌, ◌<◌, IfErr, IfSome, IsTrue, OnOk, Some, length};
 ghost use Rattle.sf_geometry.specs.declared.geometry.Geometry.{Geometry as Shape};
+ghost use Rattle.sf_geometry.specs.Parts.{polygons_of as polygons_of_geometry};
 ghost use Rattle.sf_geometry.specs.Size.{IsSized};
 ghost use Rattle.sf_rules.specs.Conditions.{Applies, Condition};
 ghost use Rattle.sf_rules.specs.Shapes.{meets_itself};
 ghost use Rattle.sf_rules.specs.Validity.{IsValid};
 ghost use Rattle.sf_strands.specs.Tight.{IsTight};
-ghost use Rattle.sf_validity.specs.Changed.{IsEdited, IsInside, IsOneTight, NoneMeets};
+ghost use Rattle.sf_validity.specs.Beside.{ring_in};
+ghost use Rattle.sf_validity.specs.Changed.{IsChange, IsInside, IsTightAt, NoneMeets};
 ghost use Rattle.sf_validity.specs.Refusals.{Refuses};
 
+use super::beside::{is_alone, polygons_of};
 use super::checks::check;
 use super::refusal::Refusal;
-use sf_geometry::{Geometry, is_closed, tight_length};
+use sf_geometry::{Geometry, Sequence, is_closed, tight_length};
 use sf_grid::GridPoint;
 use sf_rules::Fault;
 use std::alloc::Global;
 
-/// Whether a geometry is a polygon of one ring of which no two neighbours are equal.
-pub(crate) fn is_one_tight(geometry: &Geometry) -> bool
-    ensures { IsTrue result → IsOneTight geometry.now }
+/// New points in the ring of a part and number: so many from an index on, and the point that stood there, if any.
+#[derive(Drop)]
+pub(crate) struct Stretch {
+    pub(crate) part: u32,
+    pub(crate) ring: u32,
+    pub(crate) index: u32,
+    pub(crate) count: u32,
+    pub(crate) gone: Option<GridPoint>,
+}
+
+/// Whether a geometry has a ring of this part and number, and no two neighbours in it are equal.
+pub(crate) fn is_tight_at(geometry: &Geometry, part: u32, ring: u32) -> bool
+    ensures { IsTrue result → IsTightAt geometry.now part ring }
 {
-    match only_ring(geometry) {
+    match ring_at(polygons_of(geometry), part as usize, ring as usize) {
         Some(points) => is_tight(points),
         None => false,
     }
 }
 
-/// Whether a geometry is valid in which so many points stand at an index where others stood, and
-/// that was a valid one before, told whether it was one tight ring.
+/// Whether a geometry is valid that was a valid one before such a change, told whether the ring was tight.
 ///
 /// # Errors
 ///
@@ -37,42 +49,49 @@ pub(crate) fn is_one_tight(geometry: &Geometry) -> bool
 pub(crate) fn check_changed(
     alloc: Global,
     geometry: &Geometry,
-    was_one_tight: bool,
-    index: u32,
-    count: u32,
+    was_tight: bool,
+    stretch: &Stretch,
 ) -> Result<(), Refusal>
     requires { IsSized geometry.now }
-    ensures valid { OnOk result ((before : Shape) → IsEdited before geometry.now index count
-        → (IsTrue was_one_tight → IsOneTight before) → IsValid geometry.now) }
-    ensures refused { IfErr result (Refuses geometry.now) }
+    ensures valid { OnOk result ((before : Shape)
+        → IsChange before geometry.now was_tight stretch.now → IsValid geometry.now) }
+    ensures refused { IfErr result (λ refusal. (before : Shape)
+        → IsChange before geometry.now was_tight stretch.now → Refuses geometry.now refusal) }
 {
-    if !was_one_tight {
+    if !was_tight {
         return check(alloc, geometry);
     }
-    let Some(points) = only_ring(geometry) else {
+    let polygons = polygons_of(geometry);
+    let Some(points) = ring_at(polygons, stretch.part as usize, stretch.ring as usize) else {
         return check(alloc, geometry);
     };
-    if !is_inside(points, index as usize, count as usize) {
+    if !is_inside(points, stretch.index as usize, stretch.count as usize) {
         return check(alloc, geometry);
     }
-    if does_new_edge_meet(points, index as usize, count as usize) {
+    if !is_alone(polygons, points, stretch) {
+        return check(alloc, geometry);
+    }
+    if does_new_edge_meet(points, stretch.index as usize, stretch.count as usize) {
         return Err(Refusal::Invalid(Fault::RingNotSimple));
     }
     Ok(())
 }
 
-/// The ring of a polygon that has only one.
-fn only_ring(geometry: &Geometry) -> Option<&[GridPoint]>
-    ensures { IfSome result (λ points. geometry.now ≡ Shape.Polygon (points.now ∷ [])) }
+/// The ring of a part and number, or None where there is none.
+fn ring_at(
+    polygons: &[Sequence<Sequence<GridPoint>>],
+    part: usize,
+    ring: usize,
+) -> Option<&[GridPoint]>
+    ensures { IfSome result (λ points. ring_in polygons.now part ring ≡ Some points.now) }
 {
-    let Geometry::Polygon(rings) = geometry else {
-        return None;
-    };
-    let rings = rings.as_slice();
-    if rings.len() != 1 {
-        return None;
+    match polygons.get(part) {
+        Some(rings) => match rings.as_slice().get(ring) {
+            Some(points) => Some(points.as_slice()),
+            None => None,
+        },
+        None => None,
     }
-    Some(rings[0].as_slice())
 }
 
 /// Whether no two neighbours in a list are equal.

@@ -1,6 +1,7 @@
 //! Valid geometries: what is checked of a geometry, and a type that holds only valid ones.
 #![tactic(auto)]
 
+mod beside;
 mod changed;
 mod checks;
 mod refusal;

@@ -560,85 +560,89 @@ enum Edit {
     Remove,
 }
 
-/// The polygon of one ring.
-fn one_ring(alloc: Global, ring: Places) -> Result<Geometry, Fail> {
-    let rings = lists(alloc, &[ring], 0, &WHOLE)?;
-    Ok(Geometry::Polygon(rings))
+/// A vertex of polygons, each as its rings.
+#[derive(Drop)]
+struct Vertex {
+    polygons: &'static [&'static [Places]],
+    part: u32,
+    ring: u32,
+    index: u32,
 }
 
-/// Why a valid polygon of this ring refuses a change, or None where it takes it.
-fn refused_change(
-    alloc: Global,
-    ring: Places,
-    index: u32,
-    edit: &Edit,
-) -> Result<Option<Refusal>, Fail> {
-    let mut polygon = valid(alloc, one_ring(alloc, ring)?)?;
+/// One polygon as it is, several as a MultiPolygon.
+fn shape(alloc: Global, all: &[&[Places]]) -> Result<Geometry, Fail> {
+    if let [rings] = all {
+        return Ok(Geometry::Polygon(lists(alloc, rings, 0, &WHOLE)?));
+    }
+    polygons(alloc, all, 0, &WHOLE)
+}
+
+/// Why valid polygons refuse a change of a vertex, or None where they take it.
+fn refused_change(alloc: Global, vertex: &Vertex, edit: &Edit) -> Result<Option<Refusal>, Fail> {
+    let (part, ring, index) = (vertex.part, vertex.ring, vertex.index);
+    let mut shape = valid(alloc, shape(alloc, vertex.polygons)?)?;
     Ok(match edit {
-        Edit::Insert(point) => polygon.insert_vertex(alloc, 0, 0, index, *point).err(),
-        Edit::Move(point) => polygon.move_vertex(alloc, 0, 0, index, *point).err(),
-        Edit::Remove => polygon.remove_vertex(alloc, 0, 0, index).err(),
+        Edit::Insert(point) => shape.insert_vertex(alloc, part, ring, index, *point).err(),
+        Edit::Move(point) => shape.move_vertex(alloc, part, ring, index, *point).err(),
+        Edit::Remove => shape.remove_vertex(alloc, part, ring, index).err(),
     })
 }
 
-/// Why a polygon of this ring can't be changed so, or None where it can; and the polygon.
+/// Why polygons can't be changed so, or None where they can; and the polygons.
 fn changed(
     alloc: Global,
-    ring: Places,
-    index: u32,
+    vertex: &Vertex,
     edit: &Edit,
 ) -> Result<(Option<sf_geometry::Refusal>, Geometry), Fail> {
-    let mut polygon = one_ring(alloc, ring)?;
-    if polygon.check_size().is_err() {
+    let (part, ring, index) = (vertex.part, vertex.ring, vertex.index);
+    let mut shape = shape(alloc, vertex.polygons)?;
+    if shape.check_size().is_err() {
         return Err("not sized".into());
     }
     let why = match edit {
-        Edit::Insert(point) => polygon.insert_vertex(alloc, 0, 0, index, *point).err(),
-        Edit::Move(point) => polygon.move_vertex(0, 0, index, *point).err(),
-        Edit::Remove => polygon.remove_vertex(0, 0, index).err(),
+        Edit::Insert(point) => shape.insert_vertex(alloc, part, ring, index, *point).err(),
+        Edit::Move(point) => shape.move_vertex(part, ring, index, *point).err(),
+        Edit::Remove => shape.remove_vertex(part, ring, index).err(),
     };
-    Ok((why, polygon))
+    Ok((why, shape))
 }
 
-/// Why the changed polygon is refused as a whole, or None where it is valid.
-fn refused_whole(
-    alloc: Global,
-    ring: Places,
-    index: u32,
-    edit: &Edit,
-) -> Result<Option<Refusal>, Fail> {
-    let (why, polygon) = changed(alloc, ring, index, edit)?;
+/// Why the changed polygons are refused as a whole, or None where they are valid.
+fn refused_whole(alloc: Global, vertex: &Vertex, edit: &Edit) -> Result<Option<Refusal>, Fail> {
+    let (why, shape) = changed(alloc, vertex, edit)?;
     match why {
         Some(lower) => Ok(Some(lower.into())),
-        None => refusal(alloc, &polygon),
+        None => refusal(alloc, &shape),
     }
 }
 
-/// Whether a change is refused just as the changed polygon is.
-fn is_as_whole(alloc: Global, ring: Places, index: u32, edit: &Edit) -> Result<bool, Fail> {
-    let by_change = refused_change(alloc, ring, index, edit)?;
-    Ok(by_change == refused_whole(alloc, ring, index, edit)?)
+/// Whether a change is refused just as the changed polygons are.
+fn is_as_whole(alloc: Global, vertex: &Vertex, edit: &Edit) -> Result<bool, Fail> {
+    let by_change = refused_change(alloc, vertex, edit)?;
+    Ok(by_change == refused_whole(alloc, vertex, edit)?)
 }
 
-/// Whether that holds of all changes at an index, to each point of a small grid.
-fn are_as_whole(alloc: Global, ring: Places, index: u32) -> Result<bool, Fail> {
-    for place in 0..36 {
-        let point = GridPoint::new(place % 6, place / 6).ok_or("off the grid")?;
-        if !is_as_whole(alloc, ring, index, &Edit::Insert(point))? {
-            return Ok(false);
-        }
-        if !is_as_whole(alloc, ring, index, &Edit::Move(point))? {
-            return Ok(false);
+/// Whether that holds of all changes of a vertex, to each point of a small grid.
+fn are_as_whole(alloc: Global, vertex: &Vertex, side: i32) -> Result<bool, Fail> {
+    for x in 0..side {
+        for y in 0..side {
+            let point = GridPoint::new(x, y).ok_or("off the grid")?;
+            if !is_as_whole(alloc, vertex, &Edit::Insert(point))? {
+                return Ok(false);
+            }
+            if !is_as_whole(alloc, vertex, &Edit::Move(point))? {
+                return Ok(false);
+            }
         }
     }
-    is_as_whole(alloc, ring, index, &Edit::Remove)
+    is_as_whole(alloc, vertex, &Edit::Remove)
 }
 
 /// Small rings: a square, one with points repeated at its start and within, one whose points lie on
 /// one edge, one with a notch, a triangle.
-const RINGS: &[Places] = &[
-    &[(1, 1), (4, 1), (4, 4), (1, 4), (1, 1)],
-    &[
+const RINGS: &[&[&[Places]]] = &[
+    &[&[&[(1, 1), (4, 1), (4, 4), (1, 4), (1, 1)]]],
+    &[&[&[
         (1, 1),
         (1, 1),
         (4, 1),
@@ -647,17 +651,120 @@ const RINGS: &[Places] = &[
         (4, 4),
         (1, 4),
         (1, 1),
-    ],
-    &[(0, 0), (2, 0), (4, 0), (5, 0), (5, 5), (0, 5), (0, 0)],
-    &[(0, 0), (5, 0), (5, 5), (3, 5), (2, 1), (1, 5), (0, 0)],
-    &[(2, 0), (5, 5), (0, 4), (2, 0)],
+    ]]],
+    &[&[&[(0, 0), (2, 0), (4, 0), (5, 0), (5, 5), (0, 5), (0, 0)]]],
+    &[&[&[(0, 0), (5, 0), (5, 5), (3, 5), (2, 1), (1, 5), (0, 0)]]],
+    &[&[&[(2, 0), (5, 5), (0, 4), (2, 0)]]],
 ];
 
 #[test]
 fn changes_of_one_ring(rt: HostRuntime) -> Result<(), Fail> {
-    for ring in RINGS {
+    for polygons in RINGS {
         for index in 0..9 {
-            assert!(rt; are_as_whole(rt.alloc(), ring, index)?, "vertex {index}");
+            let vertex = Vertex {
+                polygons,
+                part: 0,
+                ring: 0,
+                index,
+            };
+            assert!(rt; are_as_whole(rt.alloc(), &vertex, 6)?, "vertex {index}");
+        }
+    }
+    Ok(())
+}
+
+/// A shell with two holes, that touch one another.
+const HOLED: &[Places] = &[
+    &[
+        (0, 0),
+        (4, 0),
+        (8, 0),
+        (8, 8),
+        (5, 8),
+        (0, 8),
+        (0, 4),
+        (0, 0),
+    ],
+    &[(2, 2), (3, 2), (4, 3), (3, 3), (2, 4), (2, 2)],
+    &[(4, 3), (6, 3), (6, 6), (5, 5), (4, 3)],
+];
+
+/// Rings of a shell with holes, and of two polygons, one in a hole of the other, which touch.
+const OTHERS: &[Vertex] = &[
+    Vertex {
+        polygons: &[HOLED],
+        part: 0,
+        ring: 0,
+        index: 7,
+    },
+    Vertex {
+        polygons: &[HOLED],
+        part: 0,
+        ring: 1,
+        index: 5,
+    },
+    Vertex {
+        polygons: &[HOLED],
+        part: 0,
+        ring: 2,
+        index: 4,
+    },
+    Vertex {
+        polygons: &[ISLAND, SEA],
+        part: 0,
+        ring: 0,
+        index: 4,
+    },
+    Vertex {
+        polygons: &[ISLAND, SEA],
+        part: 1,
+        ring: 0,
+        index: 4,
+    },
+    Vertex {
+        polygons: &[ISLAND, SEA],
+        part: 1,
+        ring: 1,
+        index: 4,
+    },
+    Vertex {
+        polygons: &[ISLAND, SEA],
+        part: 1,
+        ring: 2,
+        index: 1,
+    },
+    Vertex {
+        polygons: &[ISLAND, SEA],
+        part: 2,
+        ring: 0,
+        index: 1,
+    },
+];
+
+const ISLAND: &[Places] = &[&[(3, 3), (5, 3), (6, 4), (3, 5), (3, 3)]];
+
+const SEA: &[Places] = &[
+    &[(0, 0), (8, 0), (8, 8), (0, 8), (0, 0)],
+    &[(2, 2), (6, 2), (6, 6), (2, 6), (2, 2)],
+];
+
+/// Each vertex of the ring up to the one that is named.
+#[test]
+fn changes_of_one_ring_of_several(rt: HostRuntime) -> Result<(), Fail> {
+    for last in OTHERS {
+        for index in 0..last.index + 1 {
+            let vertex = Vertex {
+                polygons: last.polygons,
+                part: last.part,
+                ring: last.ring,
+                index,
+            };
+            assert!(rt;
+                are_as_whole(rt.alloc(), &vertex, 9)?,
+                "part {}, ring {}, vertex {index}",
+                last.part,
+                last.ring
+            );
         }
     }
     Ok(())

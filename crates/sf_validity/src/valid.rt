@@ -6,7 +6,7 @@ ghost use Rattle.sf_rules.specs.Validity.{IsValid};
 ghost use Rattle.sf_validity.specs.Held.{IsHeld};
 ghost use Rattle.sf_validity.specs.Refusals.{Refuses, RefusesChange};
 
-use super::changed::{check_changed, is_one_tight};
+use super::changed::{Stretch, check_changed, is_tight_at};
 use super::checks::check;
 use super::refusal::Refusal;
 use sf_geometry::Geometry;
@@ -98,10 +98,17 @@ impl Valid {
             (RefusesChange (insert_vertex self.old part ring index point)) }
         ensures unchanged { OnErr result (self.new ≡ self.old) }
     {
-        let was_one_tight = is_one_tight(&self.geometry);
+        let was_tight = is_tight_at(&self.geometry, part, ring);
         self.geometry
             .insert_vertex(alloc, part, ring, index, point)?;
-        if let Err(refusal) = check_changed(alloc, &self.geometry, was_one_tight, index, 1) {
+        let stretch = Stretch {
+            part,
+            ring,
+            index,
+            count: 1,
+            gone: None,
+        };
+        if let Err(refusal) = check_changed(alloc, &self.geometry, was_tight, &stretch) {
             // Taking it out again needs no memory.
             self.geometry.remove_vertex(part, ring, index).unwrap();
             return Err(refusal);
@@ -131,9 +138,16 @@ impl Valid {
             (RefusesChange (move_vertex self.old part ring index point)) }
         ensures unchanged { OnErr result (self.new ≡ self.old) }
     {
-        let was_one_tight = is_one_tight(&self.geometry);
+        let was_tight = is_tight_at(&self.geometry, part, ring);
         let old = self.geometry.move_vertex(part, ring, index, point)?;
-        if let Err(refusal) = check_changed(alloc, &self.geometry, was_one_tight, index, 1) {
+        let stretch = Stretch {
+            part,
+            ring,
+            index,
+            count: 1,
+            gone: Some(old),
+        };
+        if let Err(refusal) = check_changed(alloc, &self.geometry, was_tight, &stretch) {
             self.geometry.move_vertex(part, ring, index, old).unwrap();
             return Err(refusal);
         }
@@ -166,8 +180,15 @@ impl Valid {
         };
         // On a copy: putting the vertex back could need memory.
         let without = self.geometry.without_vertex(alloc, part, ring, index)?;
-        let was_one_tight = is_one_tight(&self.geometry);
-        check_changed(alloc, &without, was_one_tight, index, 0)?;
+        let was_tight = is_tight_at(&self.geometry, part, ring);
+        let stretch = Stretch {
+            part,
+            ring,
+            index,
+            count: 0,
+            gone: Some(old),
+        };
+        check_changed(alloc, &without, was_tight, &stretch)?;
         without.lies_on_grid();
         self.geometry = without;
         Ok(old)
