@@ -1,11 +1,11 @@
 //! Calls that are timed, and the least of their times.
 
-use crate::cells::{sweep_once, walk_often};
+use crate::cells::{sweep_once, table_once, walk_often};
 use crate::shape::Shape;
 use crate::sized::SizedGeometry;
 use sf_geometry::Geometry;
 use sf_refusals::Refusal;
-use sf_relate::relate;
+use sf_relate::{Predicate, holds_between, relate};
 use sf_validity::{Valid, check, is_simple, validate};
 use std::alloc::{AllocError, Global};
 use std::fmt::{self, Display, Formatter, Write};
@@ -21,6 +21,10 @@ pub(crate) enum Work {
     IsSimple(Valid),
     /// The matrix of two geometries.
     Relate(Valid, Valid),
+    /// Whether two geometries overlap.
+    Overlap(Valid, Valid),
+    /// The edges of two geometries, and the table of their ends.
+    Table(Valid, Valid),
     /// A walk with a sink that folds the cells.
     Walk(Shape),
     /// A sweep over the classes of cells with a sink that folds them, and which groups are of rings.
@@ -45,6 +49,10 @@ enum Answer {
     NotSimple,
     /// The entries of a matrix, folded into a word.
     Related(u64),
+    Overlap,
+    NoOverlap,
+    /// How many ends of edges there are.
+    Tabled(usize),
     Folded(u64),
     /// The x of the first point, without its sign.
     Read(u32),
@@ -60,6 +68,9 @@ impl Answer {
             Answer::Simple => "simple",
             Answer::NotSimple => "not simple",
             Answer::Related(_) => "related",
+            Answer::Overlap => "overlap",
+            Answer::NoOverlap => "no overlap",
+            Answer::Tabled(_) => "tabled",
             Answer::Folded(_) => "walked",
             Answer::Read(_) => "read",
             Answer::Written(_) => "written",
@@ -73,9 +84,11 @@ impl Answer {
             Answer::Valid => 100,
             Answer::Simple => 101,
             Answer::NotSimple => 102,
+            Answer::Overlap => 103,
+            Answer::NoOverlap => 104,
             Answer::Related(word) | Answer::Folded(word) => *word,
             Answer::Read(x) => u64::from(*x),
-            Answer::Written(length) => *length as u64,
+            Answer::Written(length) | Answer::Tabled(length) => *length as u64,
             Answer::Refused(refusal) => u64::from(refusal.number()),
         }
     }
@@ -95,6 +108,24 @@ impl Work {
         match (valid(alloc, first), valid(alloc, second)) {
             (Ok(first), Ok(second)) => Work::Relate(first, second),
             (Err(refusal), _) | (_, Err(refusal)) => Work::Refused(refusal),
+        }
+    }
+
+    /// Whether the same two geometries overlap.
+    pub(crate) fn overlapping(self) -> Work {
+        match self {
+            Work::Relate(first, second) => Work::Overlap(first, second),
+            other => other,
+        }
+    }
+
+    /// The edges of the same two geometries, and the table of their ends.
+    pub(crate) fn tabling(self) -> Work {
+        match self {
+            Work::Relate(first, second) | Work::Overlap(first, second) => {
+                Work::Table(first, second)
+            }
+            other => other,
         }
     }
 
@@ -125,6 +156,8 @@ impl Work {
             Work::Check(geometry) => checked(alloc, geometry),
             Work::IsSimple(valid) => asked(alloc, valid),
             Work::Relate(first, second) => related(alloc, first, second),
+            Work::Overlap(first, second) => overlapping(alloc, first, second),
+            Work::Table(first, second) => tabled(alloc, first, second),
             Work::Walk(shape) => folded(walk_often(alloc, shape, 1)),
             Work::Sweep(shape, areal) => folded(sweep_once(alloc, shape, areal)),
             Work::ReadText(text) => answer_of(sf_wkt::read(alloc, text.as_str())),
@@ -262,6 +295,24 @@ fn related(alloc: Global, first: &Valid, second: &Valid) -> Answer {
             });
             Answer::Related(word)
         }
+        Err(_) => Answer::Refused(Refusal::Memory),
+    }
+}
+
+fn overlapping(alloc: Global, first: &Valid, second: &Valid) -> Answer {
+    match holds_between(alloc, Predicate::Overlaps, first, second) {
+        Ok(true) => Answer::Overlap,
+        Ok(false) => Answer::NoOverlap,
+        Err(_) => Answer::Refused(Refusal::Memory),
+    }
+}
+
+fn tabled(alloc: Global, first: &Valid, second: &Valid) -> Answer {
+    let table = Shape::of_both(alloc, first.geometry(), second.geometry()).and_then(
+        |shape| table_once(alloc, &shape),
+    );
+    match table {
+        Ok(length) => Answer::Tabled(length),
         Err(_) => Answer::Refused(Refusal::Memory),
     }
 }

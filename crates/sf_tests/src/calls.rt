@@ -91,8 +91,14 @@ fn editor_edits_undoes_and_redoes(rt: HostRuntime) -> Result<(), Fail> {
         assert!(rt; answer == wanted);
     }
     assert_eq!(rt; editor.depths(), Depths { past: 3, future: 0 });
-    assert_eq!(rt; depths_undone(rt.alloc(), &mut editor)?, Depths { past: 2, future: 1 });
-    assert_eq!(rt; depths_done_again(rt.alloc(), &mut editor)?, Depths { past: 3, future: 0 });
+    assert_eq!(rt;
+        depths_undone(rt.alloc(), &mut editor)?,
+        Depths { past: 2, future: 1 }
+    );
+    assert_eq!(rt;
+        depths_done_again(rt.alloc(), &mut editor)?,
+        Depths { past: 3, future: 0 }
+    );
     assert_eq!(rt; editor.store().layer_count(), 1);
     assert_eq!(rt; editor.into_store().layer_count(), 1);
     Ok(())

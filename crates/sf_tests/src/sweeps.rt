@@ -48,7 +48,11 @@ impl Greatest {
     }
 
     fn put(&mut self, dim: u8, on: &[u32], above: &[u32]) {
-        let class = class_of(&self.areal, from_base(on, self.base), from_base(above, self.base));
+        let class = class_of(
+            &self.areal,
+            from_base(on, self.base),
+            from_base(above, self.base),
+        );
         if let Some(greatest) = self.dims.get_mut(class) {
             *greatest = (*greatest).max(dim.saturating_add(1));
         }
@@ -323,7 +327,10 @@ fn hard_sets(rt: HostRuntime) -> Result<(), Fail> {
 fn random_sets(rt: HostRuntime) -> Result<(), Fail> {
     for first in 0..SETS {
         let pieces = random_pieces(first);
-        assert!(rt; does_agree(rt.alloc(), &pieces, marks(first), 0, 0)?, "{first}");
+        assert!(rt;
+            does_agree(rt.alloc(), &pieces, marks(first), 0, 0)?,
+            "{first}"
+        );
     }
     Ok(())
 }
