@@ -1,11 +1,10 @@
 -- The box of points, and rings apart from it.
-use Rattle.std.proofs.Common.{◌≡◌, refl, ap, sym, ◌∙◌, subst, ℕ, suc, ◌+◌, ◌-◌, ◌<◌, ◌≤◌, ℤ, pos, ◌*ℤ◌, ◌≤ℤ◌, arith, Bool, true, false, ◌&&◌, not, List, [], ◌∷◌, ◌++◌, length, take, drop, IsTrue}
-use Rattle.std.specs.Prelude.{Option, None, Some, fold, int_le, if◌then◌else◌}
+use Rattle.std.proofs.Common.{◌≡◌, refl, ap, sym, ◌∙◌, subst, ℤ, pos, ◌*ℤ◌, ◌≤ℤ◌, arith, Bool, true, false, ◌&&◌, not, List, [], ◌∷◌}
+use Rattle.std.specs.Prelude.{None, Some, fold, int_le, if◌then◌else◌}
 use Rattle.std.specs.Int.{int_max, int_min}
 use Rattle.std.specs.List.{AllByRecursion}
 use Rattle.std.proofs.lemmas.Bool.{and_from, and_parts, both_ways}
 use Rattle.std.proofs.lemmas.Int.{clamps, ints}
-use Rattle.std.proofs.lemmas.List.{take-append-drop, length-take-le}
 use Rattle.std.proofs.lemmas.List.Elements.{All-from_recursion}
 use Rattle.sf_grid.specs.Plane.{Coordinates, IsPoint, Point, grid_point}
 use Rattle.sf_grid.specs.Edge.{edge_between}
@@ -23,7 +22,7 @@ use Rattle.sf_interiors.proofs.RingLaws.{ring-chain}
 use Rattle.sf_paths.specs.Paths.{IsOffBox}
 use Rattle.sf_exchange.specs.Exchange.{AreIn}
 use Rattle.sf_exchange.proofs.PointLaws.{boxes_apart_are_off}
-use Rattle.sf_validity.specs.Beside.{AreOthersApart, AreRingsApart, IsApart, IsFrontOff, box_of_extent, stood}
+use Rattle.sf_validity.specs.Beside.{IsApart, box_of_extent, stood}
 
 -- ---- boxes of points
 record HasPoint (e : Extent) (p : Coordinates) : Type 0 where
@@ -158,17 +157,3 @@ first-off box p q qs a rest = by_same (is_same p q) refl
 pub edge-next : (box : Box) (whole : Type 0) (p q : Coordinates) (left all : List Coordinates) → all ≡ q ∷ left → IsApart box (p ∷ q ∷ [])
     → (AllByRecursion (IsOffBox box) (edges_of (p ∷ all)) → whole) → AllByRecursion (IsOffBox box) (edges_of (q ∷ left)) → whole
 edge-next box whole p q left all is a rest h = rest (subst (λ qs. AllByRecursion (IsOffBox box) (edges_of (p ∷ qs))) (sym is) (first-off box p q left a h))
-
--- ---- all but one
-parted : {X : Type 0} (n : ℕ) (xs front rest back : List X) (x : X) → front ≡ take n xs → rest ≡ drop n xs → rest ≡ x ∷ back → xs ≡ front ++ x ∷ back
-parted n xs front rest back x f r is = sym (take-append-drop n xs) ∙ ap (λ ys. ys ++ drop n xs) (sym f) ∙ ap (λ ys. front ++ ys) (sym r ∙ is)
-
-pub rings-apart : (box : Box) (n : ℕ) (rings front rest back : List (List Coordinates)) (own : List Coordinates) → front ≡ take n rings → rest ≡ drop n rings → rest ≡ own ∷ back → length front ≡ n
-    → IsFrontOff box front → AllByRecursion (IsApart box) back → AreRingsApart box rings n
-rings-apart box n rings front rest back own f r is placed before behind =
-    record { front = front; own = own; back = back; is = parted n rings front rest back own f r is; placed = placed; front_off = before; back_apart = behind }
-
-pub others-apart : (box : Box) (n ring : ℕ) (polygons front rest back : List (List (List Coordinates))) (own : List (List Coordinates)) → front ≡ take n polygons → rest ≡ drop n polygons → rest ≡ own ∷ back → length front ≡ n
-    → AllByRecursion (AllByRecursion (IsApart box)) front → AllByRecursion (AllByRecursion (IsApart box)) back → AreRingsApart box own ring → AreOthersApart box polygons n ring
-others-apart box n ring polygons front rest back own f r is placed before behind rings =
-    record { front = front; own = own; back = back; is = parted n polygons front rest back own f r is; placed = placed; front_apart = before; back_apart = behind; rings = rings }

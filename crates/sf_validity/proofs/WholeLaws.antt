@@ -1,16 +1,16 @@
 -- Polygons of which one ring was changed: where its new edges meet no other one, and all other rings are apart from what
 -- changed, they are valid as they were before.
-use Rattle.std.proofs.Common.{◌≡◌, refl, ap, sym, ◌∙◌, subst, ℕ, zero, suc, ◌+◌, ◌-◌, ◌<◌, ◌≤◌, arith, Bool, true, false, ◌&&◌, ◌||◌, not, List, [], ◌∷◌, ◌++◌, length, nat_lt, IsTrue, inl, inr}
-use Rattle.std.specs.Prelude.{Option, None, Some, option_and_then, slice_get}
+use Rattle.std.proofs.Common.{◌≡◌, refl, ap, sym, ◌∙◌, subst, ℕ, ◌+◌, ◌-◌, ◌≤◌, arith, Bool, true, false, ◌&&◌, ◌||◌, not, List, [], ◌∷◌, ◌++◌, length, nat_lt, IsTrue, inl, inr}
+use Rattle.std.specs.Prelude.{Some, option_and_then, slice_get}
 use Rattle.std.specs.List.{AllByRecursion, flat_map, list_any}
-use Rattle.std.proofs.lemmas.Bool.{and_from, and_parts, both_ways, false≢true, or_left, or_right}
+use Rattle.std.proofs.lemmas.Bool.{and_from, or_left, or_right}
 use Rattle.std.proofs.lemmas.List.{append_assoc}
-use Rattle.sf_grid.specs.Plane.{Coordinates, IsPoint, Point as PlanePoint, grid_point}
+use Rattle.sf_grid.specs.Plane.{Coordinates, grid_point}
 use Rattle.sf_geometry.specs.declared.geometry.Geometry.{Geometry}
 use Rattle.sf_geometry.specs.declared.geometry.Geometry.TheVariants.{Point, LineString, Polygon, MultiPoint, MultiLineString, MultiPolygon}
 use Rattle.sf_geometry.specs.Lists.{edges_of, is_closed, tight}
 use Rattle.sf_geometry.specs.Parts.{joined, lines_of, polygons_of, rings_of}
-use Rattle.sf_geometry.specs.PointSets.{in_polygon, in_ring, on_line, within_ring}
+use Rattle.sf_geometry.specs.PointSets.{in_ring, on_line, within_ring}
 use Rattle.sf_geometry.specs.Size.{IsSized}
 use Rattle.sf_slabs.proofs.CallerLemmas.{each-append, each-both, each-map, each-parts}
 use Rattle.sf_plane.specs.Boxes.{Box, in_box}
@@ -21,14 +21,13 @@ use Rattle.sf_rules.specs.Validity.{IsFirstOf, IsValid, NoneApplies}
 use Rattle.sf_rules.specs.declared.fault.Fault.TheVariants.{RingNotSimple}
 use Rattle.sf_rules.proofs.MemberLaws.{each-of_flat}
 use Rattle.sf_strands.specs.Tight.{IsTight}
-use Rattle.sf_paths.specs.Paths.{IsOffBox}
 use Rattle.sf_paths.proofs.SlantLaws.{is_grid}
-use Rattle.sf_exchange.specs.Exchange.{AreIn, IsExchanged}
+use Rattle.sf_exchange.specs.Exchange.{AreIn}
 use Rattle.sf_exchange.specs.Kept.{IsBeside, IsOff, IsPolygonBeside, OneIsExchanged, Shell, Hole}
 use Rattle.sf_exchange.proofs.ExchangeLaws.{off-line}
 use Rattle.sf_exchange.proofs.KeptLaws.{polygons_are_kept}
-use Rattle.sf_validity.specs.Beside.{AreOthersApart, AreRingsApart, IsAlone, IsApart, IsFrontOff, ring_in, stood, stretch_of}
-use Rattle.sf_validity.specs.Changed.{IsChange, IsInside, IsRespliced, IsSpliced, IsTightAt, NoneMeets}
+use Rattle.sf_validity.specs.Beside.{AreOthersApart, IsAlone, IsApart, IsFrontOff, ring_in, stood, stretch_of}
+use Rattle.sf_validity.specs.Changed.{IsChange, IsInside, IsRespliced, NoneMeets}
 use Rattle.sf_validity.specs.Refusals.{Refuses}
 use Rattle.sf_validity.specs.declared.changed.Stretch.{Stretch}
 use Rattle.sf_validity.specs.declared.refusal.Refusal.TheVariants.{Invalid}
