@@ -5,7 +5,8 @@ Eight edits in turn: a point added, a number and a text set, the point's vertex 
 the text cleared, the geometry replaced, and every other feature deleted, else its number cleared. A session has
 1,000 to 1,000,000 edits over one layer and over 1,000 layers, each with a column of numbers and one of texts. A
 further session moves the vertices of a line of 4,096 points 10,000 times, one those of a ring of 4,095 edges, which
-stays simple, and one puts a vertex into a ring of 4,094 edges and takes it out again, each 5,000 times. Each line of the result has the seconds
+stays simple, one puts a vertex into a ring of 4,094 edges and takes it out again, each 5,000 times, and three move
+those of a ring of 3,995 edges that has small holes, is a hole, or lies beside further polygons. Each line of the result has the seconds
 of the edits, of as many undos and of as many redos, how often they are those of the size before, and the peak
 memory of the edits in bytes for each. A program whose answers are others than the expected ones ends the script
 with an error.
@@ -22,6 +23,9 @@ OK = "ok\n"
 # The edits of one feature.
 CYCLE = 8
 VERTICES = 4_096
+# Small holes, or further polygons, of five points each.
+HOLES = 20
+RING_EDGES = VERTICES - 1 - 5 * HOLES
 MOVES = 10_000
 
 
@@ -66,13 +70,48 @@ def vertex_moves():
         yield f"vertex move l 1 0 0 {vertex} {vertex} {n % GRID}\n", OK
 
 
+def ring_text(points):
+    """The text of a closed ring with these corners."""
+    return "(" + ", ".join(f"{x} {y}" for x, y in [*points, points[0]]) + ")"
+
+
+def zigzag(edges, bottom=0, top=100):
+    """The corners of a ring: a zigzag from left to right, and two corners high above it."""
+    low = [(2 * n, bottom + n % 2) for n in range(edges - 2)]
+    return [*low, (low[-1][0], top), (0, top)]
+
+
+def square(left, bottom):
+    """The corners of a small square."""
+    return [(left, bottom), (left + 9, bottom), (left + 9, bottom + 9), (left, bottom + 9)]
+
+
 def ring_of(edges):
-    """The lines that add a polygon of one ring: a zigzag from left to right, and two corners high above it."""
-    low = [(2 * n, n % 2) for n in range(edges - 2)]
-    corners = [(low[-1][0], 100), (0, 100), low[0]]
-    text = ", ".join(f"{x} {y}" for x, y in low + corners)
+    """The lines that add a polygon of one ring."""
     yield "layer add l polygon\n", OK
-    yield f"add l POLYGON (({text}))\n", "ok 1\n"
+    yield f"add l POLYGON ({ring_text(zigzag(edges))})\n", "ok 1\n"
+
+
+def ring_with_holes(edges):
+    """The lines that add such a ring with small holes, above where its vertices move."""
+    rings = [zigzag(edges), *(square(30 * n + 5, 60) for n in range(HOLES))]
+    yield "layer add l polygon\n", OK
+    yield f"add l POLYGON ({', '.join(map(ring_text, rings))})\n", "ok 1\n"
+
+
+def large_hole(edges):
+    """The lines that add a polygon whose hole, number 1, is such a ring."""
+    shell = [(-100, -100), (3 * edges, -100), (3 * edges, 200), (-100, 200)]
+    yield "layer add l polygon\n", OK
+    yield f"add l POLYGON ({ring_text(shell)}, {ring_text(zigzag(edges))})\n", "ok 1\n"
+
+
+def ring_and_others(edges):
+    """The lines that add several polygons, of which the first is such a ring and the others lie below it."""
+    polygons = [zigzag(edges), *(square(30 * n, -60) for n in range(HOLES))]
+    text = ", ".join(f"({ring_text(points)})" for points in polygons)
+    yield "layer add l multipolygon\n", OK
+    yield f"add l MULTIPOLYGON ({text})\n", "ok 1\n"
 
 
 def inner_vertices(edges):
@@ -82,10 +121,10 @@ def inner_vertices(edges):
         yield vertex, 2 * vertex
 
 
-def ring_moves(edges):
+def ring_moves(edges, ring=0):
     """Moves of the ring's vertices up and down."""
     for n, (vertex, x) in enumerate(inner_vertices(edges)):
-        yield f"vertex move l 1 0 0 {vertex} {x} {n % 50}\n", OK
+        yield f"vertex move l 1 0 {ring} {vertex} {x} {n % 50}\n", OK
 
 
 def ring_insertions(edges):
@@ -120,6 +159,11 @@ def report(folder, name, layers, prepared, edits, count, before):
     return redone
 
 
+def report_moves(folder, name, prepared, ring):
+    """The same of moves of the vertices of a ring with this number, of the first polygon."""
+    report(folder, name, 1, lambda: prepared(RING_EDGES), lambda: ring_moves(RING_EDGES, ring), MOVES, None)
+
+
 def main():
     if not PROGRAM.is_file():
         sys.exit(f"{PROGRAM} is missing: run `rt run` in crates/sfstore first")
@@ -144,6 +188,9 @@ def main():
                 )
         report(folder, "vertices", 1, line_of_vertices, vertex_moves, MOVES, None)
         report(folder, "ring", 1, lambda: ring_of(VERTICES - 1), lambda: ring_moves(VERTICES - 1), MOVES, None)
+        report_moves(folder, "holes", ring_with_holes, 0)
+        report_moves(folder, "a hole", large_hole, 1)
+        report_moves(folder, "several", ring_and_others, 0)
         report(folder, "in, out", 1, lambda: ring_of(VERTICES - 2), lambda: ring_insertions(VERTICES - 2), MOVES, None)
 
 
