@@ -20,12 +20,39 @@ REFUSED_BINARIES = [
     ("01 03000000 01000000 00000000", "refused 5 Empty"),
 ]
 
+# The most thin triangles that a geometry of 4,096 points has beside a shell of five, and the time that they may
+# take on a busy machine. Where each is looked at beside each other, it is minutes.
+SLIVERS = 1_022
+SECONDS = 20
+
+
+def answers(lines: list[str]) -> list[str]:
+    """What the console answers to lines about one layer, in the time that there is."""
+    text = "\n".join(["layer add w any", *lines, ""])
+    ended = subprocess.run([STORE], input=text, capture_output=True, text=True, check=True, timeout=SECONDS)
+    return ended.stdout.splitlines()[1:]
+
 
 def answers_to(binaries: list[bytes]) -> list[str]:
     """What the console answers where each is added to one layer."""
-    lines = ["layer add w any", *(f"addhex w {binary.hex()}" for binary in binaries)]
-    ended = subprocess.run([STORE], input="\n".join(lines) + "\n", capture_output=True, text=True, check=True)
-    return ended.stdout.splitlines()[1:]
+    return answers([f"addhex w {binary.hex()}" for binary in binaries])
+
+
+def sliver(number: int) -> str:
+    """A thin slanted triangle. The boxes of all have points in common, and they themselves have none."""
+    bottom = 4 * number
+    return f"(0 {bottom}, 1000000 {bottom + 1000000}, 0 {bottom + 2}, 0 {bottom})"
+
+
+def with_holes(holes: list[str]) -> str:
+    """A line that adds a polygon with such holes."""
+    shell = "(-9 -9, 1000009 -9, 1000009 1009999, -9 1009999, -9 -9)"
+    return f"add w POLYGON ({', '.join([shell, *holes])})"
+
+
+def several(shells: list[str]) -> str:
+    """A line that adds several polygons, each of one ring."""
+    return f"add w MULTIPOLYGON ({', '.join(f'({shell})' for shell in shells)})"
 
 
 class Hostile(unittest.TestCase):
@@ -36,6 +63,13 @@ class Hostile(unittest.TestCase):
     def test_lying_binaries(self) -> None:
         binaries = [bytes.fromhex(text) for text, _ in REFUSED_BINARIES]
         self.assertEqual(answers_to(binaries), [answer for _, answer in REFUSED_BINARIES])
+
+    def test_rings_in_one_anothers_boxes(self) -> None:
+        slivers = [sliver(number) for number in range(SLIVERS)]
+        doubled = [*slivers[1:], slivers[-1]]
+        lines = [build(rings) for build in (with_holes, several) for rings in (slivers, doubled)]
+        refused = "refused 14 RingsMeet"
+        self.assertEqual(answers(lines), ["ok 1", refused, "ok 2", refused])
 
     def test_mutated_sessions_and_files(self) -> None:
         ended = subprocess.run([sys.executable, TOP / "bench" / "hostile.py"], capture_output=True, text=True)

@@ -19,12 +19,8 @@ pub(crate) enum Work {
     Check(Geometry),
     /// Simplicity.
     IsSimple(Valid),
-    /// The matrix of two geometries.
-    Relate(Valid, Valid),
-    /// Whether two geometries overlap.
-    Overlap(Valid, Valid),
-    /// The edges of two geometries, and the table of their ends.
-    Table(Valid, Valid),
+    /// What is asked of two geometries.
+    Ask(Asked, Valid, Valid),
     /// A walk with a sink that folds the cells.
     Walk(Shape),
     /// A sweep over the classes of cells with a sink that folds them, and which groups are of rings.
@@ -39,6 +35,17 @@ pub(crate) enum Work {
     WriteBinary(SizedGeometry),
     /// Nothing, since the geometry isn't what the call asks for.
     Refused(Refusal),
+}
+
+/// What is asked of two geometries.
+#[derive(Clone, Copy)]
+pub(crate) enum Asked {
+    /// The matrix.
+    Matrix,
+    /// Whether they overlap.
+    Overlap,
+    /// Their edges, and the table of the edges' ends.
+    Table,
 }
 
 /// What a call answers.
@@ -106,26 +113,15 @@ impl Work {
     /// The matrix of two geometries, which is asked of valid ones.
     pub(crate) fn relating(alloc: Global, first: Geometry, second: Geometry) -> Work {
         match (valid(alloc, first), valid(alloc, second)) {
-            (Ok(first), Ok(second)) => Work::Relate(first, second),
+            (Ok(first), Ok(second)) => Work::Ask(Asked::Matrix, first, second),
             (Err(refusal), _) | (_, Err(refusal)) => Work::Refused(refusal),
         }
     }
 
-    /// Whether the same two geometries overlap.
-    pub(crate) fn overlapping(self) -> Work {
-        match self {
-            Work::Relate(first, second) => Work::Overlap(first, second),
-            other => other,
-        }
-    }
-
-    /// The edges of the same two geometries, and the table of their ends.
-    pub(crate) fn tabling(self) -> Work {
-        match self {
-            Work::Relate(first, second) | Work::Overlap(first, second) => {
-                Work::Table(first, second)
-            }
-            other => other,
+    /// Asks something else of the same two geometries.
+    pub(crate) fn ask(&mut self, question: Asked) {
+        if let Work::Ask(asked, _, _) = self {
+            *asked = question;
         }
     }
 
@@ -155,9 +151,7 @@ impl Work {
         match self {
             Work::Check(geometry) => checked(alloc, geometry),
             Work::IsSimple(valid) => asked(alloc, valid),
-            Work::Relate(first, second) => related(alloc, first, second),
-            Work::Overlap(first, second) => overlapping(alloc, first, second),
-            Work::Table(first, second) => tabled(alloc, first, second),
+            Work::Ask(asked, first, second) => told(alloc, *asked, first, second),
             Work::Walk(shape) => folded(walk_often(alloc, shape, 1)),
             Work::Sweep(shape, areal) => folded(sweep_once(alloc, shape, areal)),
             Work::ReadText(text) => answer_of(sf_wkt::read(alloc, text.as_str())),
@@ -296,6 +290,14 @@ fn related(alloc: Global, first: &Valid, second: &Valid) -> Answer {
             Answer::Related(word)
         }
         Err(_) => Answer::Refused(Refusal::Memory),
+    }
+}
+
+fn told(alloc: Global, asked: Asked, first: &Valid, second: &Valid) -> Answer {
+    match asked {
+        Asked::Matrix => related(alloc, first, second),
+        Asked::Overlap => overlapping(alloc, first, second),
+        Asked::Table => tabled(alloc, first, second),
     }
 }
 
