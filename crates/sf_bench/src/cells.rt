@@ -3,7 +3,6 @@
 
 use crate::shape::{Comb, Place, Ring, Shape};
 use crate::sinks::{Census, Folded};
-use sf_columns::vertices;
 use sf_slabs::{CellSink, are_in_range, have_length, walk};
 use sf_sweep::walk_classes;
 use std::alloc::{AllocError, Global};
@@ -112,15 +111,6 @@ pub(crate) fn sweep_once(alloc: Global, shape: &Shape, areal: &[bool]) -> Result
     }
     walk_classes(alloc, pieces, groups, areal, &mut folded)?;
     Ok(folded.word)
-}
-
-/// How many ends there are in the table of a shape's pieces.
-pub(crate) fn table_once(alloc: Global, shape: &Shape) -> Result<usize, AllocError> {
-    let pieces = shape.pieces.as_slice();
-    if pieces.len() > 65535 {
-        return Ok(0);
-    }
-    Ok(vertices(alloc, pieces)?.len())
 }
 
 /// One walk over a shape, or none where it isn't what a walk requires.

@@ -1,10 +1,10 @@
-//! Prints to standard error how many microseconds the matrix of two geometries takes, and whether they overlap,
-//! beside those of a walk over the edges of both, and of making those edges and their table of ends alone.
+//! Prints to standard error how many microseconds the matrix of two geometries takes, beside those of a
+//! walk over the edges of both.
 
 use crate::outlines::Outline;
 use crate::polygons::polygon;
 use crate::shape::{Place, Shape, point};
-use crate::timing::{Asked, Figure, Repeated, Work};
+use crate::timing::{Repeated, Work};
 use sf_geometry::{Geometry, Sequence};
 use sf_grid::GridPoint;
 use std::alloc::{AllocError, Global};
@@ -67,8 +67,8 @@ const ASIDE: Place = (20_000, 10_000);
 /// the first teeth, as far as those are high.
 const ACROSS: Place = (-155_000, 205_000);
 
-/// How many edges lie across one another at most: the crossings are a quarter of their square, and of more a
-/// walk takes minutes.
+/// How many edges lie across one another at most: the crossings grow as their square, and of more a walk takes
+/// minutes.
 const ACROSS_MAX: u16 = 256;
 
 /// How many edges are walked together in a time, by and large.
@@ -118,75 +118,22 @@ fn second(alloc: Global, pair: &Pair, size: u16) -> Result<Geometry, AllocError>
     polygon(alloc, moved(alloc, corners.as_slice(), pair.is_across)?)
 }
 
-/// What is timed of a pair: its matrix, whether it overlaps, the table of its edges' ends, and a walk.
-type Figures = [Figure; 4];
-
-/// Times a question about two geometries.
-fn time_asked(
-    rt: &HostRuntime,
-    asking: &mut Work,
-    question: Asked,
-    repeated: &Repeated,
-) -> io::Result<Figure> {
-    asking.ask(question);
-    asking.time(rt, repeated)
-}
-
-/// Times what is asked of two geometries.
-fn time_questions(
-    rt: &HostRuntime,
-    asking: &mut Work,
-    repeated: &Repeated,
-) -> io::Result<[Figure; 3]> {
-    let relate = time_asked(rt, asking, Asked::Matrix, repeated)?;
-    let overlaps = time_asked(rt, asking, Asked::Overlap, repeated)?;
-    let table = time_asked(rt, asking, Asked::Table, repeated)?;
-    Ok([relate, overlaps, table])
-}
-
-/// Times a walk over the edges of a shape.
-fn time_walk(rt: &HostRuntime, shape: Shape, repeated: &Repeated) -> io::Result<Figure> {
-    Work::Walk(shape).time(rt, repeated)
-}
-
-/// Times all of that, the walk first.
-fn time_pair(
-    rt: &HostRuntime,
-    shape: Shape,
-    asking: &mut Work,
-    repeated: &Repeated,
-) -> io::Result<Figures> {
-    let walk = time_walk(rt, shape, repeated)?;
-    let [relate, overlaps, table] = time_questions(rt, asking, repeated)?;
-    Ok([relate, overlaps, table, walk])
-}
-
-/// How often the calls over so many edges are timed.
-fn repeated(edges: usize, rounds: u32) -> Repeated {
-    let calls = EDGES.checked_div(edges).unwrap_or(1).max(1);
-    Repeated {
-        calls: u32::try_from(calls).unwrap_or(1),
-        times: rounds.saturating_mul(TIMES),
-    }
-}
-
 fn measure(rt: &HostRuntime, pair: &Pair, size: u16, rounds: u32) -> io::Result<()> {
     let alloc = rt.alloc();
     let first = first(alloc, pair, size)?;
     let second = second(alloc, pair, size)?;
     let shape = Shape::of_both(alloc, &first, &second)?;
     let edges = shape.pieces.len();
-    let mut asking = Work::relating(alloc, first, second);
-    let figures = time_pair(rt, shape, &mut asking, &repeated(edges, rounds))?;
-    print_pair(rt, pair.name, edges, &figures)
-}
-
-fn print_pair(rt: &HostRuntime, name: &str, edges: usize, figures: &Figures) -> io::Result<()> {
-    let [relate, overlaps, table, walk] = figures;
-    let word = relate.word ^ overlaps.word ^ table.word ^ walk.word;
-    eprintln!(rt;
-        "{name}, {edges} edges: relate {relate}, overlaps {overlaps}, table {table}, walk {walk}, {word:x}"
-    )
+    let calls = EDGES.checked_div(edges).unwrap_or(1).max(1);
+    let repeated = Repeated {
+        calls: u32::try_from(calls).unwrap_or(1),
+        times: rounds.saturating_mul(TIMES),
+    };
+    let relate = Work::relating(alloc, first, second).time(rt, &repeated)?;
+    let walk = Work::Walk(shape).time(rt, &repeated)?;
+    let name = pair.name;
+    let word = relate.word ^ walk.word;
+    eprintln!(rt; "{name}, {edges} edges: relate {relate}, walk {walk}, {word:x}")
 }
 
 /// Whether a pair is measured with so many edges.

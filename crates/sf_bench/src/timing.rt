@@ -1,11 +1,11 @@
 //! Calls that are timed, and the least of their times.
 
-use crate::cells::{sweep_once, table_once, walk_often};
+use crate::cells::{sweep_once, walk_often};
 use crate::shape::Shape;
 use crate::sized::SizedGeometry;
 use sf_geometry::Geometry;
 use sf_refusals::Refusal;
-use sf_relate::{Predicate, holds_between, relate};
+use sf_relate::relate;
 use sf_validity::{Valid, check, is_simple, validate};
 use std::alloc::{AllocError, Global};
 use std::fmt::{self, Display, Formatter, Write};
@@ -19,8 +19,8 @@ pub(crate) enum Work {
     Check(Geometry),
     /// Simplicity.
     IsSimple(Valid),
-    /// What is asked of two geometries.
-    Ask(Asked, Valid, Valid),
+    /// The matrix of two geometries.
+    Relate(Valid, Valid),
     /// A walk with a sink that folds the cells.
     Walk(Shape),
     /// A sweep over the classes of cells with a sink that folds them, and which groups are of rings.
@@ -37,17 +37,6 @@ pub(crate) enum Work {
     Refused(Refusal),
 }
 
-/// What is asked of two geometries.
-#[derive(Clone, Copy)]
-pub(crate) enum Asked {
-    /// The matrix.
-    Matrix,
-    /// Whether they overlap.
-    Overlap,
-    /// Their edges, and the table of the edges' ends.
-    Table,
-}
-
 /// What a call answers.
 #[derive(Clone, Copy)]
 enum Answer {
@@ -56,10 +45,6 @@ enum Answer {
     NotSimple,
     /// The entries of a matrix, folded into a word.
     Related(u64),
-    Overlap,
-    NoOverlap,
-    /// How many ends of edges there are.
-    Tabled(usize),
     Folded(u64),
     /// The x of the first point, without its sign.
     Read(u32),
@@ -75,9 +60,6 @@ impl Answer {
             Answer::Simple => "simple",
             Answer::NotSimple => "not simple",
             Answer::Related(_) => "related",
-            Answer::Overlap => "overlap",
-            Answer::NoOverlap => "no overlap",
-            Answer::Tabled(_) => "tabled",
             Answer::Folded(_) => "walked",
             Answer::Read(_) => "read",
             Answer::Written(_) => "written",
@@ -91,11 +73,9 @@ impl Answer {
             Answer::Valid => 100,
             Answer::Simple => 101,
             Answer::NotSimple => 102,
-            Answer::Overlap => 103,
-            Answer::NoOverlap => 104,
             Answer::Related(word) | Answer::Folded(word) => *word,
             Answer::Read(x) => u64::from(*x),
-            Answer::Written(length) | Answer::Tabled(length) => *length as u64,
+            Answer::Written(length) => *length as u64,
             Answer::Refused(refusal) => u64::from(refusal.number()),
         }
     }
@@ -113,15 +93,8 @@ impl Work {
     /// The matrix of two geometries, which is asked of valid ones.
     pub(crate) fn relating(alloc: Global, first: Geometry, second: Geometry) -> Work {
         match (valid(alloc, first), valid(alloc, second)) {
-            (Ok(first), Ok(second)) => Work::Ask(Asked::Matrix, first, second),
+            (Ok(first), Ok(second)) => Work::Relate(first, second),
             (Err(refusal), _) | (_, Err(refusal)) => Work::Refused(refusal),
-        }
-    }
-
-    /// Asks something else of the same two geometries.
-    pub(crate) fn ask(&mut self, question: Asked) {
-        if let Work::Ask(asked, _, _) = self {
-            *asked = question;
         }
     }
 
@@ -151,7 +124,7 @@ impl Work {
         match self {
             Work::Check(geometry) => checked(alloc, geometry),
             Work::IsSimple(valid) => asked(alloc, valid),
-            Work::Ask(asked, first, second) => told(alloc, *asked, first, second),
+            Work::Relate(first, second) => related(alloc, first, second),
             Work::Walk(shape) => folded(walk_often(alloc, shape, 1)),
             Work::Sweep(shape, areal) => folded(sweep_once(alloc, shape, areal)),
             Work::ReadText(text) => answer_of(sf_wkt::read(alloc, text.as_str())),
@@ -289,32 +262,6 @@ fn related(alloc: Global, first: &Valid, second: &Valid) -> Answer {
             });
             Answer::Related(word)
         }
-        Err(_) => Answer::Refused(Refusal::Memory),
-    }
-}
-
-fn told(alloc: Global, asked: Asked, first: &Valid, second: &Valid) -> Answer {
-    match asked {
-        Asked::Matrix => related(alloc, first, second),
-        Asked::Overlap => overlapping(alloc, first, second),
-        Asked::Table => tabled(alloc, first, second),
-    }
-}
-
-fn overlapping(alloc: Global, first: &Valid, second: &Valid) -> Answer {
-    match holds_between(alloc, Predicate::Overlaps, first, second) {
-        Ok(true) => Answer::Overlap,
-        Ok(false) => Answer::NoOverlap,
-        Err(_) => Answer::Refused(Refusal::Memory),
-    }
-}
-
-fn tabled(alloc: Global, first: &Valid, second: &Valid) -> Answer {
-    let table = Shape::of_both(alloc, first.geometry(), second.geometry()).and_then(
-        |shape| table_once(alloc, &shape),
-    );
-    match table {
-        Ok(length) => Answer::Tabled(length),
         Err(_) => Answer::Refused(Refusal::Memory),
     }
 }
