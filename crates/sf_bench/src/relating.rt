@@ -10,50 +10,38 @@ use sf_grid::GridPoint;
 use std::alloc::{AllocError, Global};
 use std::io;
 
-/// What is related: something along a first outline, and the polygon of a second one beside it, or across it.
+/// What is related: something along a first outline, and the polygon of a second one beside it.
 struct Pair {
     name: &'static str,
     first: Outline,
     is_line: bool,
     second: Outline,
-    is_across: bool,
 }
 
-const PAIRS: [Pair; 5] = [
+const PAIRS: [Pair; 4] = [
     Pair {
         name: "two stars",
         first: Outline::Star,
         is_line: false,
         second: Outline::Star,
-        is_across: false,
     },
     Pair {
         name: "two smooth rings",
         first: Outline::Smooth,
         is_line: false,
         second: Outline::Smooth,
-        is_across: false,
     },
     Pair {
         name: "two combs",
         first: Outline::Comb,
         is_line: false,
         second: Outline::Comb,
-        is_across: false,
-    },
-    Pair {
-        name: "two combs across",
-        first: Outline::Comb,
-        is_line: false,
-        second: Outline::Comb,
-        is_across: true,
     },
     Pair {
         name: "line and polygon",
         first: Outline::Star,
         is_line: true,
         second: Outline::Smooth,
-        is_across: false,
     },
 ];
 
@@ -63,39 +51,18 @@ const SIZES: [u16; 6] = [4, 16, 64, 256, 1024, 4095];
 /// How far the second outline stands beside the first.
 const ASIDE: Place = (20_000, 10_000);
 
-/// Where the second outline's origin lies from the first one's, where it is turned: its teeth then lie across
-/// the first teeth, as far as those are high.
-const ACROSS: Place = (-155_000, 205_000);
-
-/// How many edges lie across one another at most: the crossings grow as their square, and of more a walk takes
-/// minutes.
-const ACROSS_MAX: u16 = 256;
-
 /// How many edges are walked together in a time, by and large.
 const EDGES: usize = 8192;
 
 /// How many times the calls of a row are timed in each round.
 const TIMES: u32 = 5;
 
-/// Where a corner of the second outline stands.
-fn placed(corner: GridPoint, is_across: bool) -> Place {
-    let (x, y) = (i64::from(corner.x()), i64::from(corner.y()));
-    if is_across {
-        (ACROSS.0.wrapping_sub(y), ACROSS.1.wrapping_add(x))
-    } else {
-        (x.wrapping_add(ASIDE.0), y.wrapping_add(ASIDE.1))
-    }
-}
-
-/// The points, each where the second outline stands.
-fn moved(
-    alloc: Global,
-    points: &[GridPoint],
-    is_across: bool,
-) -> Result<Vec<GridPoint>, AllocError> {
+/// The points, each as far aside as the second outline stands.
+fn moved(alloc: Global, points: &[GridPoint]) -> Result<Vec<GridPoint>, AllocError> {
     let mut moved = Vec::with_capacity(alloc, points.len())?;
     for corner in points {
-        if let Some(point) = point(placed(*corner, is_across)) {
+        let (x, y) = (i64::from(corner.x()), i64::from(corner.y()));
+        if let Some(point) = point((x.wrapping_add(ASIDE.0), y.wrapping_add(ASIDE.1))) {
             moved.push(point)?;
         }
     }
@@ -115,7 +82,7 @@ fn first(alloc: Global, pair: &Pair, size: u16) -> Result<Geometry, AllocError> 
 /// The second geometry of a pair.
 fn second(alloc: Global, pair: &Pair, size: u16) -> Result<Geometry, AllocError> {
     let corners = pair.second.corners(alloc, size)?;
-    polygon(alloc, moved(alloc, corners.as_slice(), pair.is_across)?)
+    polygon(alloc, moved(alloc, corners.as_slice())?)
 }
 
 fn measure(rt: &HostRuntime, pair: &Pair, size: u16, rounds: u32) -> io::Result<()> {
@@ -136,17 +103,10 @@ fn measure(rt: &HostRuntime, pair: &Pair, size: u16, rounds: u32) -> io::Result<
     eprintln!(rt; "{name}, {edges} edges: relate {relate}, walk {walk}, {word:x}")
 }
 
-/// Whether a pair is measured with so many edges.
-fn is_measured(pair: &Pair, size: u16) -> bool {
-    !pair.is_across || size <= ACROSS_MAX
-}
-
 pub(crate) fn run(rt: &HostRuntime, rounds: u32) -> io::Result<()> {
     for pair in &PAIRS {
         for size in SIZES {
-            if is_measured(pair, size) {
-                measure(rt, pair, size, rounds)?;
-            }
+            measure(rt, pair, size, rounds)?;
         }
     }
     Ok(())

@@ -110,14 +110,23 @@ fn measure_rings(rt: &HostRuntime, outline: &Outline, rounds: u32) -> io::Result
     Ok(())
 }
 
+fn measure_holes(rt: &HostRuntime, holes: u16, rounds: u32) -> io::Result<()> {
+    measure_polygons(rt, "slivers", with_slivers(rt.alloc(), holes)?, rounds)
+}
+
+fn measure_slivers(rt: &HostRuntime, rounds: u32) -> io::Result<()> {
+    for holes in SLIVERS {
+        measure_holes(rt, holes, rounds)?;
+    }
+    Ok(())
+}
+
 pub(crate) fn run(rt: &HostRuntime, rounds: u32) -> io::Result<()> {
     let alloc = rt.alloc();
     for outline in &OUTLINES {
         measure_rings(rt, outline, rounds)?;
     }
-    for holes in SLIVERS {
-        measure_polygons(rt, "slivers", with_slivers(alloc, holes)?, rounds)?;
-    }
+    measure_slivers(rt, rounds)?;
     measure_polygons(rt, "100 holes", with_holes(alloc, 100)?, rounds)?;
     measure_polygons(
         rt,
