@@ -3,8 +3,8 @@
 
 Rings of several sizes that cross the border of a window of four edges are asked for by each predicate, and rings round
 one place with a window in the corner of their box, which share no point with it; two stars that overlap are asked about
-each other. Printed is processor time for each feature or question, with its line: the
-difference of runs with and without the questions, the least of some.
+each other, and two combs of which one is turned by a quarter and lies across the other. Printed is processor time for
+each feature or question, with its line: the difference of runs with and without the questions, the least of some.
 
     rt run is needed once in crates/sfstore (it builds the program); then: bench/questions.py
 """
@@ -80,12 +80,35 @@ def stars(count: int) -> None:
     print(f"stars of {count}: relate {cost(before, [f'relate a 1 {given}']):.0f} us")
 
 
+def comb(count: int) -> list[tuple[int, int]]:
+    """The corners of a comb of so many edges: slanted teeth on one edge, 100 steps wide and as high as all together."""
+    teeth = (count - 2) // 4
+    rising = [(100 * tooth, 100 * tooth + 30, 100 * tooth + 50, 100 * tooth + 80) for tooth in range(teeth)]
+    top = 100 * teeth
+    corners = [corner for a, b, c, d in rising for corner in ((a, 0), (b, top), (c, top), (d, 0))]
+    return [*corners, (top, -100), (0, -100)]
+
+
+def combs(count: int) -> None:
+    """Two combs of so many edges, one turned by a quarter, so that the teeth of each lie across those of the other."""
+    upright = comb(count)
+    across = [(upright[-2][0] - y, x) for x, y in upright]
+    texts = ["POLYGON ((" + ", ".join(f"{x} {y}" for x, y in [*c, c[0]]) + "))" for c in (upright, across)]
+    before = ["layer add a polygon", f"add a {texts[0]}"]
+    for predicate in ("intersects", "within", "overlaps"):
+        times = max(10, 20_000 // count)
+        each = cost(before, [f"query a {predicate} {texts[1]}"] * times) / times
+        print(f"combs across of {count}: {predicate} {each:.0f} us")
+    print(f"combs across of {count}: relate {cost(before, [f'relate a 1 {texts[1]}']):.0f} us")
+
+
 def main() -> None:
     for count in (8, 64, 512):
         windows(count)
         corners(count)
     for count in (64, 512, 4_095):
         stars(count)
+        combs(count)
 
 
 if __name__ == "__main__":
