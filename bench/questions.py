@@ -69,6 +69,12 @@ def windows(count: int) -> None:
     print(f"window over rings of {count}: relate {each:.2f} us for each line")
 
 
+def related(before: list[str], given: str, count: int) -> float:
+    """The time of a line that asks for the matrix of the first feature, of so many edges, with a geometry."""
+    times = max(1, 5_000 // count)
+    return cost(before, [f"relate a 1 {given}"] * times) / times
+
+
 def stars(count: int) -> None:
     """Two stars of so many edges that overlap; the given one is read and found valid with each question."""
     before = ["layer add a polygon", f"add a {ring(count, 0, 0, (500_000, 250_000))}"]
@@ -77,7 +83,7 @@ def stars(count: int) -> None:
         times = max(10, 20_000 // count)
         each = cost(before, [f"query a {predicate} {given}"] * times) / times
         print(f"stars of {count}: {predicate} {each:.0f} us")
-    print(f"stars of {count}: relate {cost(before, [f'relate a 1 {given}']):.0f} us")
+    print(f"stars of {count}: relate {related(before, given, count):.0f} us")
 
 
 def comb(count: int) -> list[tuple[int, int]]:
@@ -99,7 +105,7 @@ def combs(count: int) -> None:
         times = max(10, 20_000 // count)
         each = cost(before, [f"query a {predicate} {texts[1]}"] * times) / times
         print(f"combs across of {count}: {predicate} {each:.0f} us")
-    print(f"combs across of {count}: relate {cost(before, [f'relate a 1 {texts[1]}']):.0f} us")
+    print(f"combs across of {count}: relate {related(before, texts[1], count):.0f} us")
 
 
 def main() -> None:
