@@ -122,13 +122,13 @@ fn piece(ends: &[i32; 4]) -> Result<Piece, Fail> {
 }
 
 /// The pieces, and so many dots above them in one of their columns.
-fn pieces_and_dots(alloc: Global, all: &[[i32; 4]], dots: usize) -> Result<Vec<Piece>, Fail> {
+fn pieces_and_dots(alloc: Global, all: &[[i32; 4]], dots: u16) -> Result<Vec<Piece>, Fail> {
     let mut pieces = Vec::new(alloc);
     for ends in all {
         pieces.push(piece(ends)?)?;
     }
-    for dot in 0..dots as i32 {
-        let y = dot.wrapping_add(10);
+    for dot in 0..dots {
+        let y = i32::from(dot).wrapping_add(10);
         pieces.push(piece(&[0, y, 0, y])?)?;
     }
     Ok(pieces)
@@ -153,7 +153,7 @@ fn does_agree(
     all: &[[i32; 4]],
     areal: Marks,
     base: usize,
-    dots: usize,
+    dots: u16,
 ) -> Result<bool, Fail> {
     let pieces = pieces_and_dots(alloc, all, dots)?;
     let mut groups = Vec::new(alloc);
@@ -338,7 +338,7 @@ fn random_sets(rt: HostRuntime) -> Result<(), Fail> {
 /// The first of three groups, and how many dots there are beside the pieces, so that no number of a group is
 /// above that of the pieces; and how many sets are tried. With 7 groups, 8, 63, 64, 1,024 and 1,025 they are
 /// the most of a kind of row, or one more.
-const BASES: &[(usize, usize, u64)] = &[
+const BASES: &[(usize, u16, u64)] = &[
     (4, 0, 100),
     (5, 0, 100),
     (60, 50, 50),
