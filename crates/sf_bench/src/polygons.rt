@@ -79,26 +79,6 @@ pub(crate) fn with_holes(alloc: Global, holes: u16) -> Result<Geometry, AllocErr
     Ok(Geometry::Polygon(Sequence::from_vec(rings)))
 }
 
-/// A square with so many holes, thin slanted ones above one another, of which the boxes of all have points in
-/// common.
-pub(crate) fn with_slivers(alloc: Global, holes: u16) -> Result<Geometry, AllocError> {
-    let mut rings = Vec::new(alloc);
-    rings.push(ring(square(alloc, (-1000, -1000), 1_100_000)?)?)?;
-    for k in 0..holes {
-        rings.push(ring(sliver(alloc, i64::from(k).wrapping_mul(4))?)?)?;
-    }
-    Ok(Geometry::Polygon(Sequence::from_vec(rings)))
-}
-
-/// The corners of a thin slanted triangle from this height on.
-fn sliver(alloc: Global, bottom: i64) -> Result<Vec<GridPoint>, AllocError> {
-    let top = bottom.wrapping_add(1_000_000);
-    points(
-        alloc,
-        &[(0, bottom), (1_000_000, top), (0, bottom.wrapping_add(2))],
-    )
-}
-
 /// Triangles that are far from one another, in rows of forty.
 pub(crate) fn far_triangles(alloc: Global, count: u16) -> Result<Geometry, AllocError> {
     let mut polygons = Vec::new(alloc);

@@ -2,7 +2,7 @@
 //! those of a walk over the same edges.
 
 use crate::outlines::{Outline, close};
-use crate::polygons::{far_triangles, polygon, touching, with_holes, with_slivers};
+use crate::polygons::{far_triangles, polygon, touching, with_holes};
 use crate::shape::Shape;
 use crate::timing::{Figure, Repeated, Work};
 use sf_geometry::{Geometry, Sequence};
@@ -13,9 +13,6 @@ const OUTLINES: [Outline; 3] = [Outline::Smooth, Outline::Star, Outline::Comb];
 
 /// How many edges the rings have.
 const SIZES: [u16; 9] = [4, 8, 16, 32, 64, 80, 256, 1024, 4095];
-
-/// How many holes there are whose boxes have points in common.
-const SLIVERS: [u16; 4] = [6, 9, 63, 1022];
 
 /// How many times the calls of a row are timed in each round.
 const TIMES: u32 = 7;
@@ -110,23 +107,11 @@ fn measure_rings(rt: &HostRuntime, outline: &Outline, rounds: u32) -> io::Result
     Ok(())
 }
 
-fn measure_holes(rt: &HostRuntime, holes: u16, rounds: u32) -> io::Result<()> {
-    measure_polygons(rt, "slivers", with_slivers(rt.alloc(), holes)?, rounds)
-}
-
-fn measure_slivers(rt: &HostRuntime, rounds: u32) -> io::Result<()> {
-    for holes in SLIVERS {
-        measure_holes(rt, holes, rounds)?;
-    }
-    Ok(())
-}
-
 pub(crate) fn run(rt: &HostRuntime, rounds: u32) -> io::Result<()> {
     let alloc = rt.alloc();
     for outline in &OUTLINES {
         measure_rings(rt, outline, rounds)?;
     }
-    measure_slivers(rt, rounds)?;
     measure_polygons(rt, "100 holes", with_holes(alloc, 100)?, rounds)?;
     measure_polygons(
         rt,
