@@ -152,13 +152,13 @@ fn does_agree(
     alloc: Global,
     all: &[[i32; 4]],
     areal: Marks,
-    base: usize,
+    base: u16,
     dots: u16,
 ) -> Result<bool, Fail> {
     let pieces = pieces_and_dots(alloc, all, dots)?;
     let mut groups = Vec::new(alloc);
     for number in 0..pieces.len() {
-        groups.push((number % GROUPS).wrapping_add(base) as u32)?;
+        groups.push(u32::from(base).wrapping_add((number % GROUPS) as u32))?;
     }
     let (pieces, groups) = (pieces.as_slice(), groups.as_slice());
     if pieces.len() != groups.len()
@@ -168,8 +168,8 @@ fn does_agree(
     {
         return Err(Fail::from("other pieces"));
     }
-    let marks = all_marks(alloc, &areal, base)?;
-    let mut found = Greatest::new(alloc, areal, base)?;
+    let marks = all_marks(alloc, &areal, usize::from(base))?;
+    let mut found = Greatest::new(alloc, areal, usize::from(base))?;
     walk_classes(alloc, pieces, groups, marks.as_slice(), &mut found)?;
     let mut wanted = Greatest::new(alloc, areal, 0)?;
     for cell in decompose(alloc, pieces)?.as_slice() {
@@ -338,7 +338,7 @@ fn random_sets(rt: HostRuntime) -> Result<(), Fail> {
 /// The first of three groups, and how many dots there are beside the pieces, so that no number of a group is
 /// above that of the pieces; and how many sets are tried. With 7 groups, 8, 63, 64, 1,024 and 1,025 they are
 /// the most of a kind of row, or one more.
-const BASES: &[(usize, u16, u64)] = &[
+const BASES: &[(u16, u16, u64)] = &[
     (4, 0, 100),
     (5, 0, 100),
     (60, 50, 50),
