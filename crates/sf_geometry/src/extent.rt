@@ -15,7 +15,7 @@ pub struct Extent {
 
 impl Extent {
     /// The box of a point alone.
-    pub(crate) fn at(point: GridPoint) -> Extent
+    pub fn at(point: GridPoint) -> Extent
         ensures { result ≡ extent_at point }
     {
         Extent {
@@ -27,7 +27,7 @@ impl Extent {
     }
 
     /// The least box that has a point beside those of this box.
-    pub(crate) fn with(self, point: GridPoint) -> Extent
+    pub fn with(self, point: GridPoint) -> Extent
         ensures { result ≡ extent_with self point }
     {
         Extent {
