@@ -1,6 +1,6 @@
 //! Items that represent the cells of pieces, by a sweep that hands out only what an event changes.
 
-ghost use Rattle.std.specs.Prelude.{◌≡◌, ◌-◌, ◌<◌, ◌≤◌, ◌++◌, false, length, replicate, take, OnErr, OnOk};
+ghost use Rattle.std.specs.Prelude.{◌≡◌, ◌-◌, ◌<◌, ◌≤◌, ◌↔◌, ◌++◌, false, length, replicate, take, IsTrue, OnErr, OnOk};
 ghost use Rattle.std.specs.List.{All};
 ghost use Rattle.sf_cells.specs.Groups.{group_count as group_count_of};
 ghost use Rattle.sf_cells.specs.Pieces.{HasLength};
@@ -9,7 +9,7 @@ ghost use Rattle.sf_classes.specs.Classes.{WereHanded};
 use crate::quick::Quick;
 use crate::row::{Bits, Row};
 use sf_cells::CellSink;
-use sf_columns::{Piece, Role, Vertex, vertices};
+use sf_columns::{Piece, Role, Slanted, Vertex, vertices};
 use sf_slabs::{walk, walk_sorted};
 use std::alloc::{AllocError, Global};
 
@@ -30,8 +30,8 @@ const FEW: usize = 4;
 /// if they have the same counts on them and, of each group that `areal` marks, the same parity of
 /// edges above; no more than that parity may be read from the counts above. A group should be
 /// marked only if its edges are closed chains: else the answer is as right, but slow. Where groups are
-/// more than 1,024, or cells few, it hands out all cells. Where memory is wanting the sink is left as it
-/// was.
+/// more than 1,024, or cells few, as those of smooth rings and of squares side by side, it hands out all
+/// cells. Where memory is wanting the sink is left as it was.
 /// A sink that is full may be handed no further item: those that are left would change nothing in it.
 pub fn walk_classes<S: CellSink>(
     alloc: Global,
@@ -79,7 +79,7 @@ fn sweep_in_rows<R: Row, S: CellSink>(
     ensures err { OnErr result (sink.new ≡ sink.old) }
 {
     let vertices = vertices(alloc, pieces)?;
-    if are_under_few(vertices.as_slice()) {
+    if is_walk_quicker(vertices.as_slice()) {
         return walk_sorted(alloc, pieces, groups, vertices.as_slice(), sink);
     }
     let mut quick = Quick::<R>::new(alloc, pieces.len(), vertices.len(), group_count(groups))?;
@@ -88,23 +88,71 @@ fn sweep_in_rows<R: Row, S: CellSink>(
     Ok(())
 }
 
-/// Whether few edges are over the vertices, on the average. Then there are hardly more cells than events,
-/// and `walk`, which searches nothing, is quicker. It can't be far slower even where all edges cross: of
-/// edges that are over one place each one counts those that began before it.
+/// Whether few edges are over the vertices, or over their columns where no crossing makes a further column.
+/// Then there are hardly more cells than events, and `walk`, which searches nothing, is quicker.
+fn is_walk_quicker(vertices: &[Vertex]) -> bool
+    requires few { length vertices.now ≤ 131070 }
+{
+    are_under_few(vertices) || are_columns_under_few(vertices)
+}
+
+/// Whether few edges are over the vertices, on the average. `walk` can't be far slower then even where all
+/// edges cross: of edges that are over one place each one counts those that began before it.
 fn are_under_few(vertices: &[Vertex]) -> bool
     requires few { length vertices.now ≤ 131070 }
 {
     let mut over = 0usize;
     let mut total = 0usize;
     for vertex in vertices {
-        match vertex.role {
-            Role::Begin(_) => over = over.saturating_add(1),
-            Role::End => over = over.saturating_sub(1),
-            _ => {}
-        }
+        over = over_behind(over, &vertex.role);
         total = total.saturating_add(over);
     }
     total <= FEW * vertices.len()
+}
+
+/// Whether all pieces are along the axes, and no more edges go on from the columns of the vertices, all of them
+/// together, than there are vertices. `walk` has no other columns then: where level and upright edges cross,
+/// there is one already.
+fn are_columns_under_few(vertices: &[Vertex]) -> bool {
+    are_along_axes(vertices) && onward_count(vertices) <= vertices.len()
+}
+
+/// Whether each edge that begins at one of the vertices is level: no other piece slants.
+fn are_along_axes(vertices: &[Vertex]) -> bool {
+    vertices.iter().all(|vertex| match &vertex.role {
+        Role::Begin(edge) => is_level(edge),
+        _ => true,
+    })
+}
+
+/// Whether both ends of an edge are at one height.
+fn is_level(edge: &Slanted) -> bool
+    ensures { IsTrue result ↔ (edge.now.left.y ≡ edge.now.right.y) }
+{
+    edge.left().y() == edge.right().y()
+}
+
+/// How many edges go on to the right from the columns of the vertices, all of them together. From the last one
+/// none does.
+fn onward_count(vertices: &[Vertex]) -> usize {
+    let mut over = 0usize;
+    let mut total = 0usize;
+    for (vertex, next) in vertices.iter().zip(vertices.iter().skip(1)) {
+        over = over_behind(over, &vertex.role);
+        if vertex.at.x() != next.at.x() {
+            total = total.saturating_add(over);
+        }
+    }
+    total
+}
+
+/// How many edges are over what is behind a vertex, where so many were over what is before it.
+fn over_behind(over: usize, role: &Role) -> usize {
+    match role {
+        Role::Begin(_) => over.saturating_add(1),
+        Role::End => over.saturating_sub(1),
+        _ => over,
+    }
 }
 
 /// How many groups there are: the greatest number plus one, or 0.

@@ -82,11 +82,15 @@ impl<R: Row> Model for Rows<R> {
 impl<R: Row> Rows<R> {
     /// A row for each of so many pieces, with no bit set.
     pub fn new(alloc: Global, pieces: usize) -> Result<Rows<R>, AllocError>
-        ensures { IfOk result (λ table. length table ≡ pieces) }
+        ensures len { IfOk result (λ table. length table ≡ pieces) }
+        ensures unset { IfOk result (λ table. table ≡ replicate pieces (replicate R.width false)) }
     {
-        Ok(Rows {
-            rows: Vec::from_elem(alloc, R::of(&[]), pieces)?,
-        })
+        let unset = R::of(&[]);
+        let mut rows = Vec::with_capacity(alloc, pieces)?;
+        for _ in 0..pieces {
+            rows.push_reserved(unset);
+        }
+        Ok(Rows { rows })
     }
 
     /// The row of a piece.

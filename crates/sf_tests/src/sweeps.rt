@@ -23,7 +23,7 @@ const FURTHER: usize = 9;
 /// The marks of the groups.
 type Marks = [bool; GROUPS];
 
-/// How many counts of a group there can be on a cell: a group has seven pieces at most.
+/// How many counts of a group there can be on a cell: seven of its pieces are on one at most.
 const COUNTS: usize = 8;
 
 /// How many classes there are, by the counts on a cell and the parities above it.
@@ -213,6 +213,38 @@ fn random_pieces(first: u64) -> [[i32; 4]; PIECES] {
     all
 }
 
+/// The sides of a square from its lower left corner on.
+fn square(left: i32, low: i32, length: i32) -> [[i32; 4]; 4] {
+    let right = left.wrapping_add(length);
+    let high = low.wrapping_add(length);
+    [
+        [left, low, right, low],
+        [right, low, right, high],
+        [right, high, left, high],
+        [left, high, left, low],
+    ]
+}
+
+/// Squares side by side, five in each of five rows: all corners are in few columns.
+fn side_by_side(alloc: Global) -> Result<Vec<[i32; 4]>, Fail> {
+    let mut all = Vec::new(alloc);
+    for row in 0..5 {
+        for column in 0..5 {
+            all.extend_from_slice(&square(column, row, 1))?;
+        }
+    }
+    Ok(all)
+}
+
+/// Squares within one another: many sides are over each of their columns.
+fn within_one_another(alloc: Global) -> Result<Vec<[i32; 4]>, Fail> {
+    let mut all = Vec::new(alloc);
+    for low in 0i32..7 {
+        all.extend_from_slice(&square(low, low, low.wrapping_mul(-2).wrapping_add(14)))?;
+    }
+    Ok(all)
+}
+
 const THROUGH_ONE_POINT: &[[i32; 4]] = &[
     [-3, -3, 3, 3],
     [-3, 3, 3, -3],
@@ -312,6 +344,24 @@ fn hard_sets(rt: HostRuntime) -> Result<(), Fail> {
         ("pairs that cross in one column", CROSS_IN_ONE_COLUMN),
         ("bundles that part", BUNDLES),
         ("a star", STAR),
+    ] {
+        for bits in 0..8 {
+            assert!(rt;
+                does_agree(rt.alloc(), pieces, marks(bits), 0, 0)?,
+                "{name}, {bits}"
+            );
+        }
+    }
+    Ok(())
+}
+
+#[test]
+fn squares(rt: HostRuntime) -> Result<(), Fail> {
+    let side_by_side = side_by_side(rt.alloc())?;
+    let within = within_one_another(rt.alloc())?;
+    for (name, pieces) in [
+        ("squares side by side", side_by_side.as_slice()),
+        ("squares within one another", within.as_slice()),
     ] {
         for bits in 0..8 {
             assert!(rt;

@@ -5,15 +5,15 @@ use Rattle.sf_slabs.proofs.SweepLaws.{few-number, vertices-few}
 use Rattle.sf_sweep.proofs.MarksLaws.{groups-few, handed-row}
 use Rattle.sf_sweep.proofs.classes.sweep_in_rows.Goals as goal
 
-pub are_under_few-requires : goal.are_under_few-requires
-are_under_few-requires g c =
+pub is_walk_quicker-requires : goal.is_walk_quicker-requires
+is_walk_quicker-requires g c =
     record {
       few = subst (λ vs. length vs ≤ 131070) (sym c.as_slice.ensures.value) (vertices-few c.args.pieces.now c.in_ok-vertices.vertices.items c.requires.few c.in_ok-vertices.ensures.all);
     }
 
 pub walk_sorted-requires-clause-few_vertices : goal.walk_sorted-requires-clause-few_vertices
 walk_sorted-requires-clause-few_vertices g c =
-    subst (λ vs. length vs ≤ 131070) (sym c.as_slice-then-are_under_few.ensures.value)
+    subst (λ vs. length vs ≤ 131070) (sym c.as_slice-then-is_walk_quicker.ensures.value)
     (vertices-few c.args.pieces.now c.in_ok-vertices.vertices.items c.requires.few c.in_ok-vertices.ensures.all)
 
 pub new-requires-clause-few_vertices : goal.new-requires-clause-few_vertices
@@ -35,8 +35,8 @@ run-requires-clause-none_on g c = c.in_ok-quick.ensures.none_on ∙ ap (λ n. re
 pub run-requires-clause-none_above : goal.run-requires-clause-none_above
 run-requires-clause-none_above g c = c.in_ok-quick.ensures.none_above ∙ ap (λ n. replicate n 0) c.group_count.ensures ∙ sym (counts_none c.args.groups.now)
 
-pub returns-then-are_under_few-clause-ok : goal.returns-then-are_under_few-clause-ok
-returns-then-are_under_few-clause-ok g c = handed-walk c.walk_sorted.result c.args.pieces.now c.args.groups.now c.args.areal.now _ _ _ c.walk_sorted.ensures.ok
+pub returns-then-is_walk_quicker-clause-ok : goal.returns-then-is_walk_quicker-clause-ok
+returns-then-is_walk_quicker-clause-ok g c = handed-walk c.walk_sorted.result c.args.pieces.now c.args.groups.now c.args.areal.now _ _ _ c.walk_sorted.ensures.ok
 
 pub returns-clause-ok : goal.returns-clause-ok
 returns-clause-ok g c =
