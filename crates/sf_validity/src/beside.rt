@@ -2,9 +2,7 @@
 //! point of it, and it isn't inside of them.
 
 ghost use Rattle.std.specs.Prelude.{◌≡◌, ◌∷◌, [], IfSome, IsTrue};
-ghost use Rattle.std.specs.Int.{int_max, int_min};
 ghost use Rattle.std.specs.List.{AllByRecursion};
-ghost use Rattle.sf_geometry.specs.Envelope.{extent_with};
 ghost use Rattle.sf_geometry.specs.Lists.{edges_of};
 ghost use Rattle.sf_geometry.specs.Parts.{polygons_of as polygons_of_geometry};
 ghost use Rattle.sf_paths.specs.Paths.{IsOffBox};
@@ -46,32 +44,8 @@ fn extent_with_gone(points: &[GridPoint], gone: Option<GridPoint>) -> Option<Ext
     };
     match gone {
         None => Some(extent),
-        Some(point) => Some(widened(extent, point)),
+        Some(point) => Some(extent.with(point)),
     }
-}
-
-/// The least box that has a point beside those of a box.
-fn widened(extent: Extent, point: GridPoint) -> Extent
-    ensures { result ≡ extent_with extent point }
-{
-    Extent {
-        min_x: lesser(extent.min_x, point.x()),
-        min_y: lesser(extent.min_y, point.y()),
-        max_x: greater(extent.max_x, point.x()),
-        max_y: greater(extent.max_y, point.y()),
-    }
-}
-
-fn lesser(a: i32, b: i32) -> i32
-    ensures { result ≡ int_min a b }
-{
-    a.min(b)
-}
-
-fn greater(a: i32, b: i32) -> i32
-    ensures { result ≡ int_max a b }
-{
-    a.max(b)
 }
 
 /// Whether the box of these points shares no point with another one.

@@ -10,10 +10,10 @@ returns-in-None-clause-points c = points-in c.args.points.now c.in-Some.extent (
 
 pub returns-in-Some-gone-clause-points : goal.returns-in-Some-gone-clause-points
 returns-in-Some-gone-clause-points c =
-    subst (λ e. AreIn (box_of_extent e) c.args.points.now) (sym c.widened.ensures)
+    subst (λ e. AreIn (box_of_extent e) c.args.points.now) (sym c.with.ensures)
     (points-in-more c.args.points.now c.in-Some.extent c.in-Some-gone.point (sym c.of_points.ensures ∙ c.in-Some.is))
 
 pub returns-in-Some-gone-clause-gone : goal.returns-in-Some-gone-clause-gone
 returns-in-Some-gone-clause-gone c =
-    subst (λ e. AreIn (box_of_extent e) (stood c.args.gone)) (sym c.widened.ensures)
+    subst (λ e. AreIn (box_of_extent e) (stood c.args.gone)) (sym c.with.ensures)
     (subst (λ gone. AreIn (box_of_extent (extent_with c.in-Some.extent c.in-Some-gone.point)) (stood gone)) (sym c.in-Some-gone.is) (more-in c.in-Some.extent c.in-Some-gone.point))
