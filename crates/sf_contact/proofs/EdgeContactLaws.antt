@@ -1,6 +1,6 @@
 -- What is on an edge is in its geometry, and what two edges share is shared by their geometries.
-use Rattle.std.proofs.Common.{◌≡◌, ℕ, zero, suc, ap, ◌∙◌, subst, Bool, true, false, List, [], ◌∷◌, drop}
-use Rattle.std.specs.Prelude.{IsTrue, if◌then◌else◌}
+use Rattle.std.proofs.Common.{◌≡◌, ap, ◌∙◌, Bool, true, false, List, [], ◌∷◌}
+use Rattle.std.specs.Prelude.{if◌then◌else◌}
 use Rattle.std.specs.List.{list_any}
 use Rattle.std.proofs.lemmas.Bool.{or_left, or_right}
 use Rattle.sf_grid.specs.Plane.{Coordinates, IsPoint, Point as PlanePoint, grid_point}
@@ -8,16 +8,14 @@ use Rattle.sf_grid.specs.Edge.{IsOnEdge, edge_between, on_edge}
 use Rattle.sf_grid.specs.Sharing.{IsSharing}
 use Rattle.sf_grid.specs.declared.meet.Meet.TheVariants.{Along, At}
 use Rattle.sf_grid.proofs.CallerLemmas.{same_point_is_equivalence}
-use Rattle.sf_geometry.specs.declared.geometry.Geometry.{Geometry}
 use Rattle.sf_geometry.specs.declared.geometry.Geometry.TheVariants.{LineString, Polygon, MultiLineString, MultiPolygon}
 use Rattle.sf_geometry.specs.Lists.{edges_of, is_same}
 use Rattle.sf_geometry.specs.PointSets.{in_boundary, in_interior, in_polygon, on_line, on_polygon}
 use Rattle.sf_geometry.proofs.ListLaws.{edges-step}
 use Rattle.sf_strands.proofs.EndLaws.{grid-IsPoint, start-on}
-use Rattle.sf_relate.specs.Contact.{SharePoint, is_in}
+use Rattle.sf_relate.specs.Contact.{is_in}
 use Rattle.sf_contact.specs.EdgeContact.{Share, on_lines, on_polygons}
 use Rattle.sf_relate.proofs.FirstLaws.{in-lines}
-use Rattle.sf_relate.proofs.NeighbourLaws.{line-step}
 
 -- what the one set has the other has
 abbrev pub Leads : (PlanePoint → Bool) → (PlanePoint → Bool) → Type 0

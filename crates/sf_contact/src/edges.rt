@@ -1,7 +1,6 @@
 //! Whether edges of two geometries share a point, pair by pair: no memory.
 
 ghost use Rattle.std.specs.Prelude.{◌≡◌, ◌∷◌, []};
-ghost use Rattle.std.specs.Int.{int_max, int_min};
 ghost use Rattle.sf_geometry.specs.Envelope.{envelope_of, extents_meet};
 ghost use Rattle.sf_geometry.specs.PointSets.{on_line};
 ghost use Rattle.sf_rules.specs.Validity.{IsValid};
@@ -96,31 +95,7 @@ fn edge_in_box_meets(from: GridPoint, to: GridPoint, other: &Geometry, extent: E
 fn is_near(from: GridPoint, to: GridPoint, extent: Extent) -> bool
     ensures { result ≡ extents_meet (extent_between from to) extent }
 {
-    edge_extent(from, to).meets(extent)
-}
-
-/// The box of an edge.
-fn edge_extent(from: GridPoint, to: GridPoint) -> Extent
-    ensures { result ≡ extent_between from to }
-{
-    Extent {
-        min_x: lesser(from.x(), to.x()),
-        min_y: lesser(from.y(), to.y()),
-        max_x: greater(from.x(), to.x()),
-        max_y: greater(from.y(), to.y()),
-    }
-}
-
-fn lesser(a: i32, b: i32) -> i32
-    ensures { result ≡ int_min a b }
-{
-    a.min(b)
-}
-
-fn greater(a: i32, b: i32) -> i32
-    ensures { result ≡ int_max a b }
-{
-    a.max(b)
+    Extent::at(from).with(to).meets(extent)
 }
 
 /// Whether the edge between two points meets an edge of the geometry.

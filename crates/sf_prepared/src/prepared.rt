@@ -1,5 +1,4 @@
 ghost use Rattle.std.specs.Prelude.{◌≡◌, ◌≤◌, ◌^◌, length, map, IfOk, IfSome, IsFalse, IsTrue, false};
-ghost use Rattle.std.specs.Int.{int_max, int_min};
 ghost use Rattle.std.specs.List.{list_any};
 ghost use Rattle.sf_grid.specs.Edge.{on_edge};
 ghost use Rattle.sf_grid.specs.EvenOdd.{edges_above, is_odd};
@@ -222,22 +221,5 @@ fn extent_of(edge: &(GridPoint, GridPoint)) -> Extent
     ensures { result ≡ extent_of_edge edge.now }
 {
     let (a, b) = edge;
-    Extent {
-        min_x: lesser(a.x(), b.x()),
-        min_y: lesser(a.y(), b.y()),
-        max_x: greater(a.x(), b.x()),
-        max_y: greater(a.y(), b.y()),
-    }
-}
-
-fn lesser(a: i32, b: i32) -> i32
-    ensures { result ≡ int_min a b }
-{
-    a.min(b)
-}
-
-fn greater(a: i32, b: i32) -> i32
-    ensures { result ≡ int_max a b }
-{
-    a.max(b)
+    Extent::at(*a).with(*b)
 }
