@@ -1,0 +1,188 @@
+-- Two of the sorted runs of two geometries go together just where an edge of the one runs along an edge of the other.
+use Rattle.std.proofs.Common.{◌≡◌, refl, ap, sym, ◌∙◌, subst, zero, suc, ◌<◌, arith, Bool, true, false, cond, ◌⊎◌, inl, inr, List, [], ◌∷◌, map, get_or}
+use Rattle.std.specs.Prelude.{◌↔◌}
+use Rattle.std.specs.List.{Contains}
+use Rattle.std.specs.List.Sorted.{IsPermutation}
+use Rattle.std.proofs.lemmas.Bool.{false≢true}
+use Rattle.std.proofs.lemmas.List.{get_or-map, length-map}
+use Rattle.std.proofs.lemmas.List.Elements.{All-contains, All-contains_itself, All-map, Contains-append_cases, Contains-append_left, Contains-append_right}
+use Rattle.std.proofs.lemmas.List.Sorted.{Contains-permutation, IsPermutation-sym}
+use Rattle.sf_grid.specs.Plane.{Coordinates, Point as PlanePoint}
+use Rattle.sf_grid.specs.Edge.{Edge as Line, IsOnEdge, edge_between, on_edge}
+use Rattle.sf_grid.specs.Sharing.{comes_before, earlier_of, later_of}
+use Rattle.sf_grid.proofs.CallerLemmas.{on_edge-swap}
+use Rattle.sf_geometry.specs.declared.geometry.Geometry.{Geometry}
+use Rattle.sf_geometry.specs.Parts.{edge_of, edges_of}
+use Rattle.sf_plane.specs.Laws.{ShareTwoPoints}
+use Rattle.sf_along.specs.declared.run.Run.{Run}
+use Rattle.sf_along.specs.Along.{RunAlong}
+use Rattle.sf_along.specs.Runs.{GoTogether, HasPartner, HavePair, all_runs, run_of}
+
+-- ---- edges that have the same points
+abbrev HavePointsOf : Line → Line → Type 0
+HavePointsOf e f = (p : PlanePoint) → IsOnEdge e p → IsOnEdge f p
+
+share-moved : (e f e' f' : Line) → HavePointsOf e e' → HavePointsOf f f' → ShareTwoPoints e f → ShareTwoPoints e' f'
+share-moved e f e' f' h k s = record {
+  first = s.first;
+  second = s.second;
+  is_first = s.is_first;
+  is_second = s.is_second;
+  differ = s.differ;
+  first_on_both = (h s.first s.first_on_both.0, k s.first s.first_on_both.1);
+  second_on_both = (h s.second s.second_on_both.0, k s.second s.second_on_both.1);
+}
+
+share-swapped : (e f : Line) → ShareTwoPoints e f → ShareTwoPoints f e
+share-swapped e f s = record {
+  first = s.first;
+  second = s.second;
+  is_first = s.is_first;
+  is_second = s.is_second;
+  differ = s.differ;
+  first_on_both = (s.first_on_both.1, s.first_on_both.0);
+  second_on_both = (s.second_on_both.1, s.second_on_both.0);
+}
+
+-- the edge between two points, and the one from the earlier to the later
+abbrev forward : Coordinates × Coordinates → Line
+forward pair = edge_between (earlier_of pair.0 pair.1) (later_of pair.0 pair.1)
+
+same-points : (a b : Coordinates) (p : PlanePoint) (t : Bool) → on_edge (edge_between (cond t b a) (cond t a b)) p ≡ on_edge (edge_between a b) p
+same-points a b p true = on_edge-swap b a p
+same-points a b p false = refl
+
+forward-has : (pair : Coordinates × Coordinates) → HavePointsOf (edge_of pair) (forward pair)
+forward-has pair p h = same-points pair.0 pair.1 p (comes_before pair.1 pair.0) ∙ h
+
+forward-back : (pair : Coordinates × Coordinates) → HavePointsOf (forward pair) (edge_of pair)
+forward-back pair p h = sym (same-points pair.0 pair.1 p (comes_before pair.1 pair.0)) ∙ h
+
+-- ---- members of lists
+abbrev IsAmong : {X : Type 0} → List X → X → Type 0
+IsAmong [] x = ⊥
+IsAmong (y ∷ ys) x = (y ≡ x) ⊎ IsAmong ys x
+
+among : {X : Type 0} (xs : List X) (x : X) → Contains xs x → IsAmong xs x
+among [] x c = absurd (omega (arith, c.1))
+among (y ∷ ys) x (zero, l, e) = inl e
+among (y ∷ ys) x (suc k, l, e) = inr (among ys x (k, omega arith, e))
+
+contained : {X : Type 0} (xs : List X) (x : X) → IsAmong xs x → Contains xs x
+contained [] x i = absurd i
+contained (y ∷ ys) x (inl e) = (zero, omega arith, e)
+contained (y ∷ ys) x (inr i) = let c = contained ys x i in (suc c.0, omega (arith, c.1), c.2)
+
+-- where a member of a list's image comes from
+record ComesFrom {X Y : Type 0} (f : X → Y) (xs : List X) (y : Y) : Type 0 where
+  from : X
+  among : Contains xs from
+  is : f from ≡ y
+
+image : {X Y : Type 0} (f : X → Y) (xs : List X) (y : Y) → Contains (map f xs) y → ComesFrom f xs y
+image f xs y c =
+    All-contains (ComesFrom f xs) (map f xs) y (All-map (ComesFrom f xs) f xs (λ k d l. record { from = get_or xs k d; among = All-contains_itself xs k d l; is = refl })) c
+
+image-has : {X Y : Type 0} (f : X → Y) (xs : List X) (x : X) → Contains xs x → Contains (map f xs) (f x)
+image-has f xs x c = (c.0, subst (λ n. c.0 < n) (sym (length-map xs f)) c.1, get_or-map f xs c.0 x (f x) c.1 ∙ ap f c.2)
+
+-- ---- two runs that go together
+together-swapped : (r s : Run) → GoTogether r s → GoTogether s r
+together-swapped r s g = record {
+  differ = λ e. g.differ (sym e);
+  share = share-swapped (edge_between r.left r.right) (edge_between s.left s.right) g.share;
+}
+
+record Pair (runs : List Run) : Type 0 where
+  first : Run
+  second : Run
+  first_among : IsAmong runs first
+  second_among : IsAmong runs second
+  together : GoTogether first second
+
+partner : (r : Run) (runs : List Run) → HasPartner r runs → Pair (r ∷ runs)
+partner r [] h = absurd h
+partner r (s ∷ ss) (inl g) = record { first = r; second = s; first_among = inl refl; second_among = inr (inl refl); together = g }
+partner r (s ∷ ss) (inr h) = behind (partner r ss h)
+  where
+    later : (x : Run) → IsAmong (r ∷ ss) x → IsAmong (r ∷ s ∷ ss) x
+    later x (inl e) = inl e
+    later x (inr i) = inr (inr i)
+
+    behind : Pair (r ∷ ss) → Pair (r ∷ s ∷ ss)
+    behind p = record { first = p.first; second = p.second; first_among = later p.first p.first_among; second_among = later p.second p.second_among; together = p.together }
+
+pair : (runs : List Run) → HavePair runs → Pair runs
+pair [] h = absurd h
+pair (r ∷ rs) (inl h) = partner r rs h
+pair (r ∷ rs) (inr h) = let p = pair rs h in record { first = p.first; second = p.second; first_among = inr p.first_among; second_among = inr p.second_among; together = p.together }
+
+has-partner : (r s : Run) (runs : List Run) → IsAmong runs s → GoTogether r s → HasPartner r runs
+has-partner r s [] i g = absurd i
+has-partner r s (x ∷ xs) (inl e) g = inl (subst (GoTogether r) (sym e) g)
+has-partner r s (x ∷ xs) (inr i) g = inr (has-partner r s xs i g)
+
+have-pair : (r s : Run) (runs : List Run) → IsAmong runs r → IsAmong runs s → GoTogether r s → HavePair runs
+have-pair r s [] i j g = absurd i
+have-pair r s (x ∷ xs) (inl e) (inl f) g = absurd (g.differ (ap (λ (t : Run). t.is_first) (sym e ∙ f)))
+have-pair r s (x ∷ xs) (inl e) (inr j) g = inl (has-partner x s xs j (subst (λ t. GoTogether t s) (sym e) g))
+have-pair r s (x ∷ xs) (inr i) (inl f) g = inl (has-partner x r xs i (subst (λ t. GoTogether t r) (sym f) (together-swapped r s g)))
+have-pair r s (x ∷ xs) (inr i) (inr j) g = inr (have-pair r s xs i j g)
+
+-- ---- runs of two geometries
+module _ (first second : List (Coordinates × Coordinates)) (a b : Geometry) (are_first : map edge_of first ≡ edges_of a) (are_second : map edge_of second ≡ edges_of b) where
+  along : (p q : Coordinates × Coordinates) → Contains first p → Contains second q → ShareTwoPoints (forward p) (forward q) → RunAlong a b
+  along p q i j s = record {
+    first = edge_of p;
+    second = edge_of q;
+    of_first = subst (λ es. Contains es (edge_of p)) are_first (image-has edge_of first p i);
+    of_second = subst (λ es. Contains es (edge_of q)) are_second (image-has edge_of second q j);
+    share = share-moved (forward p) (forward q) (edge_of p) (edge_of q) (forward-back p) (forward-back q) s;
+  }
+
+  along-from : (r s : Run) → ComesFrom (run_of true) first r → ComesFrom (run_of false) second s → GoTogether r s → RunAlong a b
+  along-from r s i j g =
+      let h = subst (λ t. GoTogether t s) (sym i.is) g in
+      along i.from j.from i.among j.among (subst (λ t. GoTogether (run_of true i.from) t) (sym j.is) h).share
+
+  both-of-one : (is_first : Bool) (pairs : List (Coordinates × Coordinates)) (r s : Run) → ComesFrom (run_of is_first) pairs r → ComesFrom (run_of is_first) pairs s → GoTogether r s → ⊥
+  both-of-one is_first pairs r s i j g = g.differ (ap (λ (t : Run). t.is_first) (sym i.is) ∙ ap (λ (t : Run). t.is_first) j.is)
+
+  told : (r s : Run) → Contains (all_runs first second) r → Contains (all_runs first second) s → GoTogether r s → RunAlong a b
+  told r s i j g = by_lists (Contains-append_cases (map (run_of true) first) (map (run_of false) second) r i) (Contains-append_cases (map (run_of true) first) (map (run_of false) second) s j)
+    where
+      by_lists : Contains (map (run_of true) first) r ⊎ Contains (map (run_of false) second) r → Contains (map (run_of true) first) s ⊎ Contains (map (run_of false) second) s → RunAlong a b
+      by_lists (inl k) (inl l) = absurd (both-of-one true first r s (image (run_of true) first r k) (image (run_of true) first s l) g)
+      by_lists (inl k) (inr l) = along-from r s (image (run_of true) first r k) (image (run_of false) second s l) g
+      by_lists (inr k) (inl l) = along-from s r (image (run_of true) first s l) (image (run_of false) second r k) (together-swapped r s g)
+      by_lists (inr k) (inr l) = absurd (both-of-one false second r s (image (run_of false) second r k) (image (run_of false) second s l) g)
+
+  pair-of : (h : RunAlong a b) (p : ComesFrom edge_of first h.first) (q : ComesFrom edge_of second h.second) → GoTogether (run_of true p.from) (run_of false q.from)
+  pair-of h p q = record {
+    differ = λ e. false≢true (sym e);
+    share =
+        share-moved h.first h.second (forward p.from) (forward q.from)
+        (subst (λ e. HavePointsOf e (forward p.from)) p.is (forward-has p.from))
+        (subst (λ e. HavePointsOf e (forward q.from)) q.is (forward-has q.from))
+        h.share;
+  }
+
+  pub pair-tells : (runs : List Run) → IsPermutation (all_runs first second) runs → HavePair runs ↔ RunAlong a b
+  pair-tells runs permuted = (
+    λ h.
+        let p = pair runs h in
+        let back = IsPermutation-sym (all_runs first second) runs permuted in
+        told p.first p.second
+        (Contains-permutation runs (all_runs first second) p.first back (contained runs p.first p.first_among))
+        (Contains-permutation runs (all_runs first second) p.second back (contained runs p.second p.second_among))
+        p.together,
+    λ h.
+        let p = image edge_of first h.first (subst (λ es. Contains es h.first) (sym are_first) h.of_first) in
+        let q = image edge_of second h.second (subst (λ es. Contains es h.second) (sym are_second) h.of_second) in
+        let r = run_of true p.from in
+        let s = run_of false q.from in
+        have-pair r s runs
+        (among runs r (Contains-permutation (all_runs first second) runs r permuted (Contains-append_left (map (run_of true) first) (map (run_of false) second) r (image-has (run_of true) first p.from p.among))))
+        (among runs s (Contains-permutation (all_runs first second) runs s permuted (Contains-append_right (map (run_of true) first) (map (run_of false) second) s (image-has (run_of false) second q.from q.among))))
+        (pair-of h p q),
+  )

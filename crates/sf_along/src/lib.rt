@@ -1,0 +1,10 @@
+//! Whether an edge of one geometry runs along an edge of another, told by sorting the edges, with no sweep.
+#![tactic(auto)]
+
+mod along;
+mod run;
+
+pub use along::run_along;
+
+#[cfg(test)]
+mod tests;

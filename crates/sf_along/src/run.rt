@@ -1,0 +1,175 @@
+//! Edges as runs, numbered by the lines on which they lie.
+
+ghost use Rattle.std.specs.Prelude.{◌≡◌, ◌≢◌, ◌↔◌, ◌∷◌, ◌*◌, ◌-ℤ◌, ◌*ℤ◌, ◌≤◌, IsTrue, unsigned_abs};
+ghost use Rattle.sf_grid.specs.Bounds.{IsCoordinate, coordinate_bound, difference_bound};
+ghost use Rattle.sf_grid.specs.Edge.{edge_between};
+ghost use Rattle.sf_grid.specs.Sharing.{comes_before as comes_before_of, earlier_of, later_of};
+ghost use Rattle.sf_plane.specs.Laws.{ShareTwoPoints};
+ghost use Rattle.sf_along.specs.Runs.{AreInOrder, GoTogether, HasPartner, IsRun, height_of, key_of, offset_of, reaches as reaches_of, run_of, slope_of};
+
+use sf_grid::edges::meet;
+use sf_grid::{GridPoint, Meet};
+
+/// Slopes are counted in parts of 2^-38: the steepest, of 2^24 - 1 grid steps on one, is less than 2^62 of them.
+const SLOPE_STEPS: i64 = 1 << 38;
+
+/// Heights are counted in parts of 2^-14 grid steps: the greatest, of less than 2^48 grid steps, is less than 2^62 of them.
+const HEIGHT_STEPS: i64 = 1 << 14;
+
+/// An edge from its earlier end to its later, by x and then y, of the first of two geometries or of the second.
+///
+/// Its slope and its height are those of its line, rounded down. Equal fractions are rounded to equal numbers, so edges
+/// of one line have the same two. Edges of two lines hardly ever have, and `goes_with` tells them apart.
+#[derive(Clone, Copy)]
+pub(crate) struct Run {
+    slope: i64,
+    height: i64,
+    left: GridPoint,
+    right: GridPoint,
+    is_first: bool,
+}
+
+impl Run {
+    /// The run of an edge between two points.
+    pub(crate) fn of(edge: &(GridPoint, GridPoint), is_first: bool) -> Run
+        ensures { result ≡ run_of is_first edge.now }
+    {
+        let left = earlier(edge.0, edge.1);
+        let right = later(edge.0, edge.1);
+        Run {
+            slope: slope(left, right),
+            height: height(left, right),
+            left,
+            right,
+            is_first,
+        }
+    }
+
+    /// By what runs are sorted: those of one line come together, from its first point on.
+    pub(crate) fn key(&self) -> (i64, i64, i32, i32)
+        ensures { result ≡ key_of self.now }
+    {
+        (self.slope, self.height, self.left.x(), self.left.y())
+    }
+
+    /// Whether another run has the same numbers, and begins before this one ends.
+    fn reaches(&self, other: &Run) -> bool
+        ensures { result ≡ reaches_of self.now other.now }
+    {
+        self.slope == other.slope
+            && self.height == other.height
+            && comes_before(other.left, self.right)
+    }
+
+    /// Whether another run is of the other geometry and has two points in common with this one.
+    fn goes_with(&self, other: &Run) -> bool
+        requires this { IsRun self.now }
+        requires that { IsRun other.now }
+        ensures { IsTrue result ↔ GoTogether self.now other.now }
+    {
+        self.is_first != other.is_first
+            && do_share((self.left, self.right), (other.left, other.right))
+    }
+
+    /// Whether one of the runs behind it, which are in order, goes along it.
+    pub(crate) fn goes_with_one(&self, behind: &[Run]) -> bool
+        requires { AreInOrder (self.now ∷ behind.now) }
+        ensures { IsTrue result ↔ HasPartner self.now behind.now }
+    {
+        for other in behind {
+            if !self.reaches(other) {
+                return false;
+            }
+            if self.goes_with(other) {
+                return true;
+            }
+        }
+        false
+    }
+}
+
+/// The slope of the line through two points of which `right` is the later one: the greatest number for an upright line.
+fn slope(left: GridPoint, right: GridPoint) -> i64
+    ensures { result ≡ slope_of left right }
+{
+    if left.x() == right.x() {
+        return i64::MAX;
+    }
+    let width = difference(right.x(), left.x());
+    let rise = difference(right.y(), left.y());
+    (rise * SLOPE_STEPS).div_euclid(width)
+}
+
+/// The height of the line through two points at the origin, or the x of an upright line.
+fn height(left: GridPoint, right: GridPoint) -> i64
+    ensures { result ≡ height_of left right }
+{
+    if left.x() == right.x() {
+        return i64::from(left.x());
+    }
+    let width = difference(right.x(), left.x());
+    (offset(left, right) * HEIGHT_STEPS).div_euclid(width)
+}
+
+/// The height of the line through two points at the origin, times the width between them.
+fn offset(left: GridPoint, right: GridPoint) -> i64
+    ensures value { result ≡ offset_of left right }
+    ensures bound { unsigned_abs result ≤ 2 * (coordinate_bound * difference_bound) }
+{
+    let width = difference(right.x(), left.x());
+    let rise = difference(right.y(), left.y());
+    product(i64::from(left.y()), width) - product(i64::from(left.x()), rise)
+}
+
+/// The product of a coordinate and a difference of coordinates.
+fn product(a: i64, b: i64) -> i64
+    requires first_small { unsigned_abs a ≤ coordinate_bound }
+    requires second_small { unsigned_abs b ≤ difference_bound }
+    ensures value { result ≡ a *ℤ b }
+    ensures bound { unsigned_abs result ≤ coordinate_bound * difference_bound }
+{
+    a * b
+}
+
+/// How far `a` is above `b`.
+fn difference(a: i32, b: i32) -> i64
+    requires first_on_grid { IsCoordinate a }
+    requires second_on_grid { IsCoordinate b }
+    ensures value { result ≡ a -ℤ b }
+    ensures bound { unsigned_abs result ≤ difference_bound }
+{
+    i64::from(a) - i64::from(b)
+}
+
+/// Whether two edges have two points in common.
+fn do_share(e: (GridPoint, GridPoint), f: (GridPoint, GridPoint)) -> bool
+    requires first_has_length { e.0 ≢ e.1 }
+    requires second_has_length { f.0 ≢ f.1 }
+    ensures { IsTrue result ↔ ShareTwoPoints (edge_between e.0 e.1) (edge_between f.0 f.1) }
+{
+    match meet(e, f) {
+        Meet::Apart | Meet::At(_) => false,
+        Meet::Along(..) => true,
+    }
+}
+
+/// The earlier of two points by x and then y.
+fn earlier(a: GridPoint, b: GridPoint) -> GridPoint
+    ensures { result ≡ earlier_of a b }
+{
+    if comes_before(b, a) { b } else { a }
+}
+
+/// The later of two points by x and then y.
+fn later(a: GridPoint, b: GridPoint) -> GridPoint
+    ensures { result ≡ later_of a b }
+{
+    if comes_before(b, a) { a } else { b }
+}
+
+/// Whether `a` comes before `b` by x and then y.
+fn comes_before(a: GridPoint, b: GridPoint) -> bool
+    ensures { result ≡ comes_before_of a b }
+{
+    a.x() < b.x() || (a.x() == b.x() && a.y() < b.y())
+}

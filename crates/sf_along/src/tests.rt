@@ -1,0 +1,84 @@
+//! Edges of small geometries that run along one another, and such that don't.
+
+use super::run_along;
+use sf_geometry::{Geometry, Sequence};
+use sf_grid::GridPoint;
+use std::alloc::Global;
+use std::test::Fail;
+
+/// The line through these places.
+fn line(alloc: Global, places: &[(i32, i32)]) -> Result<Geometry, Fail> {
+    let mut points = Vec::new(alloc);
+    for (x, y) in places {
+        points.push(GridPoint::new(*x, *y).ok_or("off the grid")?)?;
+    }
+    Ok(Geometry::LineString(Sequence::from_vec(points)))
+}
+
+/// Pairs of lines, and whether an edge of the one runs along an edge of the other.
+const WORKED: &[(&[(i32, i32)], &[(i32, i32)], bool)] = &[
+    // squares side by side
+    (
+        &[(0, 0), (10, 0), (10, 10), (0, 10), (0, 0)],
+        &[(10, 5), (20, 5), (20, 15), (10, 15), (10, 5)],
+        true,
+    ),
+    // squares that touch at a corner, and squares that cross
+    (
+        &[(0, 0), (10, 0), (10, 10), (0, 10), (0, 0)],
+        &[(10, 10), (20, 10), (20, 20), (10, 20), (10, 10)],
+        false,
+    ),
+    (
+        &[(0, 0), (10, 0), (10, 10), (0, 10), (0, 0)],
+        &[(5, 5), (15, 5), (15, 15), (5, 15), (5, 5)],
+        false,
+    ),
+    // slanted edges of one line, of other lengths and ways
+    (&[(-7, -14), (1, 2)], &[(100, 200), (0, 0)], true),
+    (&[(-9, 3), (9, -3)], &[(6, -2), (3, -1)], true),
+    (&[(0, 0), (1, 2)], &[(1, 2), (100, 200)], false),
+    // upright ones
+    (&[(3, 0), (3, 10)], &[(3, 20), (3, 9)], true),
+    (&[(3, 0), (3, 10)], &[(3, 20), (3, 10)], false),
+    (&[(3, 0), (3, 10)], &[(4, 0), (4, 10)], false),
+    // parallel lines near one another, and lines through one point whose numbers are the same
+    (&[(0, 0), (10, 10)], &[(0, 1), (10, 11)], false),
+    (
+        &[(0, 0), (8388607, 8388606)],
+        &[(0, 0), (8388606, 8388605)],
+        false,
+    ),
+    // an edge of the same geometry between two that run along one another
+    (
+        &[(0, 0), (30, 0), (1, 0), (2, 0)],
+        &[(25, 0), (40, 0)],
+        true,
+    ),
+    // lines with no edge
+    (&[(0, 0), (0, 0)], &[(0, 0), (10, 0)], false),
+    (&[], &[], false),
+];
+
+/// Whether both orders of the geometries are answered so.
+fn is_told(rt: &HostRuntime, a: &Geometry, b: &Geometry, wanted: bool) -> Result<bool, Fail> {
+    Ok(run_along(rt.alloc(), a, b)? == wanted && run_along(rt.alloc(), b, a)? == wanted)
+}
+
+#[test]
+fn worked_pairs(rt: HostRuntime) -> Result<(), Fail> {
+    for (first, second, wanted) in WORKED {
+        let a = line(rt.alloc(), first)?;
+        let b = line(rt.alloc(), second)?;
+        assert!(rt; is_told(&rt, &a, &b, *wanted)?);
+    }
+    Ok(())
+}
+
+#[test]
+fn points_have_no_edge(rt: HostRuntime) -> Result<(), Fail> {
+    let point = Geometry::Point(GridPoint::new(5, 0).ok_or("off the grid")?);
+    let a = line(rt.alloc(), &[(0, 0), (10, 0)])?;
+    assert!(rt; is_told(&rt, &a, &point, false)?);
+    Ok(())
+}
