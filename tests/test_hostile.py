@@ -55,6 +55,17 @@ def several(shells: list[str]) -> str:
     return f"add w MULTIPOLYGON ({', '.join(f'({shell})' for shell in shells)})"
 
 
+def zigzag(corners: int) -> list[tuple[int, int]]:
+    """The corners of a polygon between a zigzag of so many corners, as high as it is wide, and a straight edge below."""
+    top = 100 * corners
+    return [*((100 * corner, corner % 2 * top) for corner in range(corners)), (top, -100), (0, -100)]
+
+
+def polygon(corners: list[tuple[int, int]]) -> str:
+    """The text of a polygon of one ring with these corners."""
+    return f"POLYGON (({', '.join(f'{x} {y}' for x, y in [*corners, corners[0]])}))"
+
+
 class Hostile(unittest.TestCase):
     def test_cut_binaries(self) -> None:
         cut = [POINT[:length] for length in range(1, len(POINT))]
@@ -70,6 +81,15 @@ class Hostile(unittest.TestCase):
         lines = [build(rings) for build in (with_holes, several) for rings in (slivers, doubled)]
         refused = "refused 14 RingsMeet"
         self.assertEqual(answers(lines), ["ok 1", refused, "ok 2", refused])
+
+    def test_relate_where_all_teeth_cross(self) -> None:
+        """Each edge of the one crosses each of the other: sixteen million crossings, none of which need be looked at."""
+        upright = zigzag(4_093)
+        across = [(upright[-2][0] - y, x) for x, y in upright]
+        lines = [f"add w {polygon(upright)}", *[f"relate w 1 {polygon(across)}"] * 10]
+        self.assertEqual(answers(lines), ["1", *["212101212"] * 10])
+        shifted = [(x + 200, y) for x, y in upright]
+        self.assertEqual(answers([lines[0], f"relate w 1 {polygon(shifted)}"]), ["1", "212111212"])
 
     def test_mutated_sessions_and_files(self) -> None:
         ended = subprocess.run([sys.executable, TOP / "bench" / "hostile.py"], capture_output=True, text=True)

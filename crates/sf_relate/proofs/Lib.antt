@@ -20,3 +20,4 @@ pub mod FirstLaws
 pub mod QuestionLaws
 pub mod ToldLaws
 pub mod NearbyLaws
+pub mod AreasLaws

@@ -72,7 +72,7 @@ broken-stays One dims.One e h = absurd cc
 broken-stays One dims.Two e h = refl
 
 -- ---- entries that grow: each of the first list, or more
-abbrev HaveGrown : List Dim → List Dim → Type 0
+abbrev pub HaveGrown : List Dim → List Dim → Type 0
 HaveGrown [] es = es ≡ []
 HaveGrown (d ∷ ds) [] = ⊥
 HaveGrown (d ∷ ds) (e ∷ es) = (greater_dim d e ≡ e) × HaveGrown ds es
@@ -154,7 +154,7 @@ greater-twice dims.One dims.One = refl
 greater-twice dims.One dims.Two = refl
 greater-twice dims.Two e = refl
 
-same-grown : (ds : List Dim) → HaveGrown ds ds
+pub same-grown : (ds : List Dim) → HaveGrown ds ds
 same-grown [] = refl
 same-grown (d ∷ ds) = (greater-same d, same-grown ds)
 
@@ -162,7 +162,7 @@ pub told-stays : (ps : List (List Letter)) (ds es : List Dim) → HaveGrown ds e
 told-stays ps ds es g h = told-value ps ds es g h ∙ sym (told-value ps ds ds (same-grown ds) h)
 
 -- ---- entries over pairs of places
-grown-listed : (t u : Table) → HaveGrown (listed t) (listed (λ p q. greater_dim (t p q) (u p q)))
+pub grown-listed : (t u : Table) → HaveGrown (listed t) (listed (λ p q. greater_dim (t p q) (u p q)))
 grown-listed t u =
     let at : (p q : Place) → greater_dim (t p q) (greater_dim (t p q) (u p q)) ≡ greater_dim (t p q) (u p q) = λ p q. greater-twice (t p q) (u p q) in
     (at Interior Interior, (at Interior Boundary, (at Interior Exterior, (at Boundary Interior, (at Boundary Boundary, (at Boundary Exterior, (at Exterior Interior, (at Exterior Boundary, (at Exterior Exterior, refl)))))))))

@@ -1,6 +1,7 @@
 //! DE-9IM matrices of two geometries, patterns, and the named predicates.
 #![tactic(auto)]
 
+mod areas;
 mod first_points;
 mod grouping;
 pub mod laws;

@@ -1,4 +1,5 @@
 ghost use Rattle.std.specs.Prelude.{◌≡◌, Result};
+ghost use Rattle.sf_relate.specs.Areas.{overlap_letters};
 ghost use Rattle.sf_relate.specs.Patterns.{asks_contact, matches, pattern_of};
 ghost use Rattle.sf_relate.specs.Questions.{is_matched_for_good, is_missed_for_good};
 ghost use Rattle.sf_relate.specs.declared.refusal.Refusal.TheVariants.{BadPattern};
@@ -44,6 +45,25 @@ impl Pattern {
             }
         }
         Ok(Pattern { letters })
+    }
+
+    /// The pattern of areas that overlap: `2121T1212`, the most that each entry can have.
+    pub(crate) fn of_overlap() -> Pattern
+        ensures { result ≡ overlap_letters }
+    {
+        Pattern {
+            letters: [
+                Letter::Two,
+                Letter::One,
+                Letter::Two,
+                Letter::One,
+                Letter::Filled,
+                Letter::One,
+                Letter::Two,
+                Letter::One,
+                Letter::Two,
+            ],
+        }
     }
 
     /// Whether the matrix matches.

@@ -45,6 +45,14 @@ const BESIDE: Places = &[(10, 0), (20, 0), (20, 10), (10, 10), (10, 0)];
 
 const ACROSS: Places = &[(5, 5), (15, 5), (15, 15), (5, 15), (5, 5)];
 
+const SHIFTED: Places = &[(5, 0), (15, 0), (15, 10), (5, 10), (5, 0)];
+
+const FAR: Places = &[(50, 0), (60, 0), (60, 20), (50, 10), (50, 0)];
+
+const FAR_BESIDE: Places = &[(52, 12), (58, 18), (50, 18), (52, 12)];
+
+const FAR_CORNER: Places = &[(60, 20), (70, 20), (70, 30), (60, 20)];
+
 const LARGE: Places = &[(0, 0), (30, 0), (30, 30), (0, 30), (0, 0)];
 
 const HOLE: Places = &[(10, 10), (20, 10), (20, 20), (10, 20), (10, 10)];
@@ -71,6 +79,26 @@ const CASES: &[Case] = &[
         second: Made::Polygon(&[BESIDE]),
         matrix: "FF2F11212",
         predicates: &[Predicate::Intersects, Predicate::Touches],
+    },
+    // They overlap, and share pieces of two edges.
+    Case {
+        first: Made::Polygon(&[SQUARE]),
+        second: Made::Polygon(&[SHIFTED]),
+        matrix: "212111212",
+        predicates: &[Predicate::Intersects, Predicate::Overlaps],
+    },
+    // They overlap, and far to the right of that they touch along an edge, or at a corner.
+    Case {
+        first: Made::Polygons(&[&[SQUARE], &[FAR]]),
+        second: Made::Polygons(&[&[ACROSS], &[FAR_BESIDE]]),
+        matrix: "212111212",
+        predicates: &[Predicate::Intersects, Predicate::Overlaps],
+    },
+    Case {
+        first: Made::Polygons(&[&[SQUARE], &[FAR]]),
+        second: Made::Polygons(&[&[ACROSS], &[FAR_CORNER]]),
+        matrix: "212101212",
+        predicates: &[Predicate::Intersects, Predicate::Overlaps],
     },
     Case {
         first: Made::Line(&[(-5, 5), (15, 5)]),
