@@ -23,7 +23,8 @@ use Rattle.sf_interiors.proofs.ParityLaws.{on-edges}
 use Rattle.sf_plane.specs.Boxes.{HasEnds}
 use Rattle.sf_plane.proofs.BoxLaws.{common_point_meets, edge_in_box}
 use Rattle.sf_rules.specs.Validity.{IsValid}
-use Rattle.sf_relate.specs.Contact.{box_of_extent, is_in}
+use Rattle.sf_validity.specs.Beside.{box_of_extent}
+use Rattle.sf_relate.specs.Contact.{is_in}
 use Rattle.sf_contact.specs.EdgeContact.{Share, on_lines, on_polygons}
 use Rattle.sf_contact.proofs.EdgeContactLaws.{Leads, line-in, lines-in, polygons-in, rings-in, share-first}
 use Rattle.sf_relate.proofs.EnvelopeLaws.{lies_in_box, valid-closed}

@@ -13,7 +13,7 @@ use Rattle.sf_geometry.specs.Envelope.{extents_meet}
 use Rattle.sf_geometry.specs.Parts.{edge_of}
 use Rattle.sf_paths.specs.Paths.{IsOffBox}
 use Rattle.sf_plane.specs.Boxes.{in_box}
-use Rattle.sf_relate.specs.Contact.{box_of_extent}
+use Rattle.sf_validity.specs.Beside.{box_of_extent}
 use Rattle.sf_rtree.specs.Indexes.{ids_meeting}
 use Rattle.sf_prepared.specs.Boxes.{boxes_from, extent_of_edge}
 use Rattle.sf_prepared.specs.Places.{AreClear, IsBoxLeft, IsLeft}

@@ -32,7 +32,8 @@ use Rattle.sf_plane.specs.declared.dim.Dim.TheVariants.{Two}
 use Rattle.sf_plane.specs.Dimension.{PointSet}
 use Rattle.sf_plane.proofs.BoxLaws.{common_point_meets, edge_in_box}
 use Rattle.sf_rules.specs.Validity.{IsValid}
-use Rattle.sf_relate.specs.Contact.{box_of_extent, in_extent, is_in}
+use Rattle.sf_validity.specs.Beside.{box_of_extent}
+use Rattle.sf_relate.specs.Contact.{in_extent, is_in}
 use Rattle.sf_relate.specs.declared.shape.Shape.TheVariants.{Areas}
 use Rattle.sf_relate.specs.Locating.{area_place, edges_place}
 use Rattle.sf_relate.specs.Matrices.{both}

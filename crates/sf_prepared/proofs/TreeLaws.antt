@@ -26,7 +26,7 @@ use Rattle.sf_plane.specs.Boxes.{HasEnds}
 use Rattle.sf_plane.proofs.BoxLaws.{common_point_meets, edge_in_box}
 use Rattle.sf_polygons.proofs.SizeLaws.{few-edges}
 use Rattle.sf_rtree.specs.Indexes.{Boxes}
-use Rattle.sf_relate.specs.Contact.{box_of_extent}
+use Rattle.sf_validity.specs.Beside.{box_of_extent}
 use Rattle.sf_prepared.specs.Boxes.{AreBoxesOf, boxes_from, extent_of_edge}
 use Rattle.sf_prepared.specs.Places.{AreClear}
 

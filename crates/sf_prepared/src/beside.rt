@@ -5,7 +5,7 @@ ghost use Rattle.sf_grid.specs.Edge.{cross as cross_of};
 ghost use Rattle.sf_grid.specs.Plane.{grid_point};
 ghost use Rattle.sf_geometry.specs.Parts.{edge_of};
 ghost use Rattle.sf_paths.specs.Paths.{IsOffBox};
-ghost use Rattle.sf_relate.specs.Contact.{box_of_extent};
+ghost use Rattle.sf_validity.specs.Beside.{box_of_extent};
 ghost use Rattle.sf_rtree.specs.Indexes.{ids_meeting};
 ghost use Rattle.sf_prepared.specs.Boxes.{boxes_from};
 ghost use Rattle.sf_prepared.specs.Places.{AreClear, IsBoxLeft, IsLeft};

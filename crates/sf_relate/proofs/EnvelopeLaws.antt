@@ -26,7 +26,8 @@ use Rattle.sf_rules.proofs.MemberLaws.{each-of_flat, each-of_map}
 use Rattle.sf_interiors.proofs.RingLaws.{ring-chain}
 use Rattle.sf_strands.proofs.EndLaws.{start-same-on}
 use Rattle.sf_polygons.proofs.TestLaws.{any-follows}
-use Rattle.sf_relate.specs.Contact.{ApartHasNoContact, LiesInBox, box_of_extent}
+use Rattle.sf_validity.specs.Beside.{box_of_extent}
+use Rattle.sf_relate.specs.Contact.{ApartHasNoContact, LiesInBox}
 use Rattle.sf_relate.specs.Matrices.{matrix_of}
 use Rattle.sf_relate.specs.Patterns.{has_contact}
 use Rattle.sf_geometry.proofs.ListLaws.{not-false}

@@ -24,7 +24,8 @@ use Rattle.sf_plane.proofs.BoxLaws.{common_point_meets}
 use Rattle.sf_plane.proofs.FormLaws.{Form, inside_in, value}
 use Rattle.sf_plane.proofs.GuardLaws.{right_of, value-right_of}
 use Rattle.sf_rules.specs.Validity.{IsValid}
-use Rattle.sf_relate.specs.Contact.{SharePoint, box_of_extent, is_in}
+use Rattle.sf_validity.specs.Beside.{box_of_extent}
+use Rattle.sf_relate.specs.Contact.{SharePoint, is_in}
 use Rattle.sf_relate.specs.Matrices.{IsMatrix, both, matrix_of}
 use Rattle.sf_relate.specs.Told.{ApartIsTold, IsToldBy, IsWithin, WithinIsTold, apart_entries, has_odd_end, inside_entries, is_odd_end}
 use Rattle.sf_relate.proofs.EnvelopeLaws.{lies_in_box, valid-closed}

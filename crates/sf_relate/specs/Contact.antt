@@ -9,8 +9,9 @@ use Rattle.sf_geometry.specs.Parts.{HasClosedRings}
 use Rattle.sf_geometry.specs.PointSets.{in_boundary, in_exterior, in_interior}
 use Rattle.sf_geometry.specs.Vertices.{vertex_of}
 use Rattle.sf_plane.specs.declared.dim.Dim.{Dim}
-use Rattle.sf_plane.specs.Boxes.{Box, in_box}
+use Rattle.sf_plane.specs.Boxes.{in_box}
 use Rattle.sf_rules.specs.Validity.{IsValid}
+use Rattle.sf_validity.specs.Beside.{box_of_extent}
 use Rattle.sf_relate.specs.declared.predicate.Predicate.TheVariants.{Disjoint, Intersects}
 use Rattle.sf_relate.specs.Matrices.{matrix_of}
 use Rattle.sf_relate.specs.Patterns.{has_contact, is_filled}
@@ -33,10 +34,7 @@ pub record ContactIsShared (a b : Geometry) : Type 0 where
   pub intersects : (d e : Dim) → holds Intersects d e (matrix_of a b) ≡ has_contact (matrix_of a b)
   pub disjoint : (d e : Dim) → holds Disjoint d e (matrix_of a b) ≡ not (has_contact (matrix_of a b))
 
--- an envelope as a box of the plane; the point is in it
-abbrev pub box_of_extent : Extent → Box
-box_of_extent e = record { min_x = e.min_x; min_y = e.min_y; max_x = e.max_x; max_y = e.max_y }
-
+-- the point is in an envelope, as a box of the plane
 abbrev pub in_extent : Extent → PlanePoint → Bool
 in_extent e q = in_box (box_of_extent e) q
 
