@@ -49,20 +49,22 @@ pub record IsRun (r : Run) : Type 0 where
   pub height : r.height ≡ height_of r.left r.right
 
 -- ---- their order
+-- what they are sorted by
 abbrev pub key_of : Run → ℤ × ℤ × ℤ × ℤ
 key_of r = (r.slope, r.height, r.left.x, r.left.y)
 
--- r comes before s: by slope, by height, and then by the left end
+-- by slope, by height, and then by the left end, by x and then y
 abbrev pub run_cmp : Run → Run → Ordering
 run_cmp r s =
     ordering_then (int_cmp r.slope s.slope)
     (ordering_then (int_cmp r.height s.height)
     (ordering_then (int_cmp r.left.x s.left.x) (int_cmp r.left.y s.left.y)))
 
+-- r comes before s
 abbrev pub run_before : Run → Run → Bool
 run_before r s = is_lt (run_cmp r s)
 
--- none comes before one that stands ahead of it
+-- runs of which none comes before one that stands ahead of it
 abbrev pub AreInOrder : List Run → Type 0
 AreInOrder [] = Unit {0}
 AreInOrder (r ∷ rs) = IsRun r × AllByRecursion (λ s. IsFalse (run_before s r)) rs × AreInOrder rs
