@@ -87,9 +87,9 @@ class Hostile(unittest.TestCase):
         upright = zigzag(4_093)
         across = [(upright[-2][0] - y, x) for x, y in upright]
         lines = [f"add w {polygon(upright)}", *[f"relate w 1 {polygon(across)}"] * 10]
-        self.assertEqual(answers(lines), ["1", *["212101212"] * 10])
+        self.assertEqual(answers(lines), ["ok 1", *["212101212"] * 10])
         shifted = [(x + 200, y) for x, y in upright]
-        self.assertEqual(answers([lines[0], f"relate w 1 {polygon(shifted)}"]), ["1", "212111212"])
+        self.assertEqual(answers([lines[0], f"relate w 1 {polygon(shifted)}"]), ["ok 1", "212111212"])
 
     def test_mutated_sessions_and_files(self) -> None:
         ended = subprocess.run([sys.executable, TOP / "bench" / "hostile.py"], capture_output=True, text=True)
