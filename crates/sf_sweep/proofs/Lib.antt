@@ -41,3 +41,4 @@ pub mod ColumnLaws
 pub mod LeastLaws
 pub mod AcrossLaws
 pub mod MarksLaws
+pub mod PrefixLaws

@@ -2,6 +2,7 @@
 
 ghost use Rattle.std.specs.Prelude.{◌≡◌, ◌≤◌, ◌<◌, ◌*◌, ◌^◌, true, false, length, pos, ◌-ℤ◌, ◌*ℤ◌, unsigned_abs};
 ghost use Rattle.sf_grid.specs.Bounds.{IsCoordinate, difference_bound};
+ghost use Rattle.std.specs.List.{prefix_len};
 ghost use Rattle.std.specs.List.Sorted.{IsPartitionPoint, IsPartitionedBy};
 ghost use Rattle.sf_columns.specs.Slanted.{side_of};
 ghost use Rattle.sf_sweep.specs.Sides.{is_below_edge, is_not_above};
@@ -30,13 +31,22 @@ pub fn above_len(edges: &[Active], p: &FracPoint) -> usize
     edges.partition_point(|edge| is_under(p, edge))
 }
 
-/// How many edges from the first one on a point isn't above; it is above all further ones.
+/// How many edges from the first one on a point isn't above; it is above all further ones. Few are level with it as a
+/// rule, and each of these is looked at again, so they are counted one by one.
 pub fn reached_len(edges: &[Active], p: &FracPoint) -> usize
     requires falling { IsPartitionedBy (is_not_above p.now) edges.now }
     ensures bound { result ≤ length edges.now }
     ensures parted { IsPartitionPoint (λ a. is_not_above p.now a ≡ true) (λ a. is_not_above p.now a ≡ false) edges.now result }
 {
-    edges.partition_point(|edge| is_not_over(p, edge))
+    not_over_len(edges, p)
+}
+
+/// How many edges from the first one on a point isn't above.
+fn not_over_len(edges: &[Active], p: &FracPoint) -> usize
+    ensures value { result ≡ prefix_len (is_not_above p.now) edges.now }
+    ensures bound { result ≤ length edges.now }
+{
+    edges.iter().take_while(|edge| is_not_over(p, edge)).count()
 }
 
 /// Whether the point is below the edge.

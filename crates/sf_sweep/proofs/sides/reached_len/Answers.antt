@@ -1,8 +1,11 @@
-use Rattle.std.proofs.Common.{rules}
-use Rattle.std.proofs.lemmas.List.Sorted.{IsPartitionPoint-from_clause}
+use Rattle.std.proofs.Common.{◌≡◌, sym, subst, true, false}
+use Rattle.std.specs.List.Sorted.{IsPartitionPoint}
 use Rattle.sf_sweep.specs.Sides.{is_not_above}
+use Rattle.sf_sweep.proofs.PrefixLaws.{prefix-parts}
 use Rattle.sf_sweep.proofs.sides.reached_len.Goals as goal
 
 pub returns-clause-parted : goal.returns-clause-parted
 returns-clause-parted c =
-    IsPartitionPoint-from_clause (is_not_above c.args.p.now) c.args.edges.now c.partition_point.result c.partition_point.ensures.partitioned c.requires.falling (λ a r q k. search rules)
+    let test = is_not_above c.args.p.now in
+    subst (IsPartitionPoint (λ a. test a ≡ true) (λ a. test a ≡ false) c.args.edges.now) (sym c.not_over_len.ensures.value)
+    (prefix-parts test c.args.edges.now c.requires.falling)
