@@ -1,6 +1,7 @@
 -- Numbered boxes of edges, as a tree has them.
 use Rattle.std.specs.Prelude.{◌≡◌, ℕ, ◌+◌, ◌^◌, ◌-◌, pos, List, [], ◌∷◌, map}
 use Rattle.std.specs.List.{AllByRecursion}
+use Rattle.sf_grid.specs.Edge.{Edge}
 use Rattle.sf_grid.specs.Plane.{Coordinates, IsOnGrid}
 use Rattle.sf_geometry.specs.declared.extent.Extent.{Extent}
 use Rattle.sf_geometry.specs.declared.geometry.Geometry.{Geometry}
@@ -11,6 +12,14 @@ use Rattle.sf_rtree.specs.Indexes.{Boxes}
 -- the pairs are the ends of the geometry's edges, in order
 abbrev pub AreEdgesOf : Geometry → List (Coordinates × Coordinates) → Type 0
 AreEdgesOf geometry pairs = map edge_of pairs ≡ edges_of geometry
+
+-- the ends of an edge
+abbrev pub ends_of_edge : Edge → Coordinates × Coordinates
+ends_of_edge e = (e.a, e.b)
+
+-- those of the geometry's edges, in order
+abbrev pub pairs_of : Geometry → List (Coordinates × Coordinates)
+pairs_of geometry = map ends_of_edge (edges_of geometry)
 
 -- both ends are on the grid
 abbrev pub AreOnGrid : Coordinates × Coordinates → Type 0

@@ -1,3 +1,4 @@
 pub mod Boxes
 pub mod Places
 pub mod Nearby
+pub mod Transposed

@@ -1,8 +1,9 @@
-//! Laws of a geometry whose edges have no point of another one's box, and of those that are near it, each the contract
-//! of a function that does nothing.
+//! Laws of a geometry whose edges have no point of another one's box, of those that are near it, and of a matrix the
+//! other way round, each the contract of a function that does nothing.
 
 ghost use Rattle.sf_prepared.specs.Nearby.{LeavingReachesBeyond, NearbyTellsPlaces};
 ghost use Rattle.sf_prepared.specs.Places.{ApartByPoint, ApartFromLines, WithinByPoint};
+ghost use Rattle.sf_prepared.specs.Transposed.{MatricesAreTransposed};
 
 /// A valid geometry in a box that no edge of an area meets lies in the area's interior where a point of it does,
 /// and leaves a part of it free.
@@ -30,4 +31,9 @@ pub fn nearby_tells_places()
 /// its boundary with length in the geometry's exterior.
 pub fn leaving_reaches_beyond()
     ensures { LeavingReachesBeyond }
+{}
+
+/// The matrix of two geometries has as rows the columns of the one the other way round.
+pub fn matrices_are_transposed()
+    ensures { MatricesAreTransposed }
 {}

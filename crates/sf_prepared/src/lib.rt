@@ -5,6 +5,11 @@ mod above;
 mod beside;
 pub mod laws;
 mod nearby;
+mod over;
 mod prepared;
+mod small;
+#[cfg(test)]
+mod tests;
 
 pub use prepared::Prepared;
+pub use small::matrix_nearby;

@@ -24,7 +24,7 @@ use std::alloc::{AllocError, Global};
 
 /// How many edges are walked nearby at most. Where more are near, a walk that stops once the question is answered
 /// is the quicker one.
-const MOST_NEARBY: usize = 256;
+pub(crate) const MOST_NEARBY: usize = 256;
 
 impl Prepared {
     /// The matrix of a geometry with the one that was prepared, by a walk over the edges that can be on a point of
@@ -83,7 +83,7 @@ impl Prepared {
 }
 
 /// The box of the columns over a box, from its lower side up.
-fn columns_over(extent: &Extent) -> Extent
+pub(crate) fn columns_over(extent: &Extent) -> Extent
     ensures { result ≡ columns_over extent.now }
 {
     Extent {
@@ -111,7 +111,7 @@ fn edges_at(
 }
 
 /// Whether an end of one of the edges is outside of the box.
-fn one_leaves(edges: &[(GridPoint, GridPoint)], extent: &Extent) -> bool
+pub(crate) fn one_leaves(edges: &[(GridPoint, GridPoint)], extent: &Extent) -> bool
     ensures { result ≡ list_any (leaves extent.now) edges.now }
 {
     edges.iter().any(|edge| leaves(edge, extent))

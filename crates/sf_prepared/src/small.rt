@@ -1,0 +1,60 @@
+//! The matrix of an area with a small geometry, by a walk over the edges of the area nearby.
+
+ghost use Rattle.std.specs.Prelude.{◌≡◌, IfSome};
+ghost use Rattle.sf_rules.specs.Validity.{IsValid};
+ghost use Rattle.sf_relate.specs.declared.shape.Shape.TheVariants.{Areas};
+ghost use Rattle.sf_relate.specs.Matrices.{matrix_of};
+ghost use Rattle.sf_relate.specs.Places.{shape_of};
+ghost use Rattle.sf_prepared.specs.Transposed.{transposed};
+
+use crate::nearby::{MOST_NEARBY, columns_over, one_leaves};
+use crate::over::edges_meeting;
+use sf_geometry::Geometry;
+use sf_relate::{Matrix, relate_nearby};
+use sf_validity::Valid;
+use std::alloc::Global;
+
+/// The matrix of an area with a small geometry, by those edges of the area that can be on a point of the small one or
+/// above one. None where the first is no area, where many of its edges are near or none of these leaves the small
+/// one's box, and where no memory is found.
+pub fn matrix_nearby(alloc: Global, area: &Valid, small: &Valid) -> Option<Matrix>
+    ensures { IfSome result (λ matrix. matrix.0 ≡ matrix_of area.now small.now) }
+{
+    match area.geometry() {
+        Geometry::Polygon(_) | Geometry::MultiPolygon(_) => {
+            let Some(matrix) = walked_over(alloc, small, area) else {
+                return None;
+            };
+            Some(transposed(&matrix))
+        }
+        _ => None,
+    }
+}
+
+/// The matrix of a small geometry with an area.
+fn walked_over(alloc: Global, small: &Valid, area: &Valid) -> Option<Matrix>
+    requires { shape_of area.now ≡ Areas }
+    ensures { IfSome result (λ matrix. matrix.0 ≡ matrix_of small.now area.now) }
+{
+    let extent = small.geometry().envelope();
+    let columns = columns_over(&extent);
+    let Ok(edges) = edges_meeting(alloc, area.geometry(), &columns) else {
+        return None;
+    };
+    let edges = edges.as_slice();
+    if edges.len() > MOST_NEARBY {
+        return None;
+    }
+    if !one_leaves(edges, &extent) {
+        return None;
+    }
+    relate_nearby(alloc, small, area, edges).ok()
+}
+
+/// A matrix with its columns as rows: that of the two geometries the other way round.
+fn transposed(matrix: &Matrix) -> Matrix
+    ensures { result.0 ≡ transposed matrix.now.0 }
+{
+    let [ii, ib, ie, bi, bb, be, ei, eb, ee] = matrix.0;
+    Matrix([ii, bi, ei, ib, bb, eb, ie, be, ee])
+}
