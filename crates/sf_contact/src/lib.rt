@@ -6,7 +6,7 @@ mod edges;
 pub mod laws;
 mod starts;
 
-pub use contact::contact_between;
+pub use contact::{FEW_POINTS, contact_between};
 
 #[cfg(test)]
 mod tests;

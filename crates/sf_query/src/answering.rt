@@ -11,15 +11,19 @@ ghost use Rattle.sf_prepared.specs.Boxes.{AreEdgesOf};
 ghost use Rattle.sf_query.specs.Answers.{dim_of_geometry, is_answered, is_asked};
 
 use super::ask::Ask;
-use sf_contact::contact_between;
+use sf_contact::{FEW_POINTS, contact_between};
 use sf_geometry::{Extent, Geometry};
-use sf_prepared::Prepared;
+use sf_prepared::{Prepared, matrix_nearby};
 use sf_relate::{
     Matrix, Pattern, Predicate, are_apart, dimension, holds, holds_between, holds_of_point, locate,
     match_between, matrix_apart, shares_first_point,
 };
 use sf_validity::Valid;
 use std::alloc::{AllocError, Global};
+
+/// How many points a feature has at least for the edges near the given geometry to be picked: with fewer, a walk over
+/// all of them is as quick.
+const MANY_POINTS: usize = 32;
 
 /// Whether the matrix of a feature's geometry with the given one is as asked, where `extent` is the
 /// given one's: where their boxes share no point, kinds and ends tell the matrix, without a walk.
@@ -83,11 +87,7 @@ fn is_answered(ask: &Ask, geometry: &Valid, given: &Valid, matrix: &Matrix) -> b
 {
     match ask {
         Ask::Matching(pattern) => pattern.matches(matrix),
-        Ask::Named(predicate) => {
-            let own = dimension(geometry.geometry());
-            let other = dimension(given.geometry());
-            holds(*predicate, own, other, matrix)
-        }
+        Ask::Named(predicate) => holds_by(*predicate, geometry, given, matrix),
     }
 }
 
@@ -104,8 +104,25 @@ pub(crate) fn is_asked(
         Ask::Matching(pattern) => is_matched(alloc, *pattern, geometry, given),
         Ask::Named(predicate) => match told_by_points(*predicate, geometry, given) {
             Some(answer) => Ok(answer),
-            None => holds_between(alloc, *predicate, geometry, given),
+            None => is_held(alloc, *predicate, geometry, given),
         },
+    }
+}
+
+/// Whether the predicate holds, by a walk: over the edges nearby where these tell the matrix.
+fn is_held(
+    alloc: Global,
+    predicate: Predicate,
+    geometry: &Valid,
+    given: &Valid,
+) -> Result<bool, AllocError>
+    ensures { IfOk result (λ answer. answer ≡ holds predicate
+        (dim_of_geometry geometry.now) (dim_of_geometry given.now)
+        (matrix_of geometry.now given.now)) }
+{
+    match told_nearby(alloc, geometry, given) {
+        Some(matrix) => Ok(holds_by(predicate, geometry, given, &matrix)),
+        None => holds_between(alloc, predicate, geometry, given),
     }
 }
 
@@ -121,7 +138,23 @@ fn is_matched(
     if are_known_apart(geometry, given) {
         return Ok(pattern.matches(&matrix_apart(geometry, given)));
     }
-    match_between(alloc, &[pattern], geometry, given)
+    match told_nearby(alloc, geometry, given) {
+        Some(matrix) => Ok(pattern.matches(&matrix)),
+        None => match_between(alloc, &[pattern], geometry, given),
+    }
+}
+
+/// The matrix of a feature's geometry of many points with a small given one, where the edges nearby tell it.
+fn told_nearby(alloc: Global, geometry: &Valid, given: &Valid) -> Option<Matrix>
+    ensures { IfSome result (λ matrix. matrix.0 ≡ matrix_of geometry.now given.now) }
+{
+    if given.geometry().point_count() > FEW_POINTS {
+        return None;
+    }
+    if geometry.geometry().point_count() < MANY_POINTS {
+        return None;
+    }
+    matrix_nearby(alloc, geometry, given)
 }
 
 /// Whether edges and first points show that two geometries share no point. If not, nothing is known.
@@ -172,10 +205,17 @@ fn holds_apart(predicate: Predicate, geometry: &Valid, given: &Valid) -> bool
         (dim_of_geometry geometry.now) (dim_of_geometry given.now)
         (matrix_of geometry.now given.now) }
 {
-    let matrix = matrix_apart(geometry, given);
+    holds_by(predicate, geometry, given, &matrix_apart(geometry, given))
+}
+
+/// Whether the predicate holds by a matrix of two geometries.
+fn holds_by(predicate: Predicate, geometry: &Valid, given: &Valid, matrix: &Matrix) -> bool
+    ensures { result ≡ holds predicate
+        (dim_of_geometry geometry.now) (dim_of_geometry given.now) matrix.now.0 }
+{
     let own = dimension(geometry.geometry());
     let other = dimension(given.geometry());
-    holds(predicate, own, other, &matrix)
+    holds(predicate, own, other, matrix)
 }
 
 /// Whether the predicate holds, where it goes by contact alone and a first point shows that.

@@ -15,6 +15,7 @@ use super::answering::{is_asked_beside, is_asked_prepared};
 use super::ask::Ask;
 use super::found::Found;
 use super::refusal::Refusal;
+use sf_contact::FEW_POINTS;
 use sf_geometry::Extent;
 use sf_layers::{Layer, Store};
 use sf_prepared::Prepared;
@@ -25,9 +26,6 @@ use std::alloc::{AllocError, Global};
 
 /// How many features there are at least for what is made of the given geometry to pay.
 const MANY_FEATURES: usize = 8;
-
-/// How many points the given geometry has at most to be asked about as it is.
-const FEW_POINTS: usize = 16;
 
 /// The features of a layer whose matrix with the given geometry is as asked.
 ///
@@ -114,8 +112,8 @@ fn found_by_index(
     Ok(Found { ids, looked })
 }
 
-/// What is made of the given geometry where many features are asked about it; else None, and where no
-/// memory is found.
+/// What is made of the given geometry where many features are asked about it; else None, where it has few points,
+/// and where no memory is found.
 fn prepared_for(alloc: Global, given: &Valid, features: usize) -> Option<Prepared>
     ensures { IfSome result (AreEdgesOf given.now) }
 {

@@ -1,5 +1,5 @@
-//! Queries of a geometry of many points over many features: each answer is that of the features' matrices, told one
-//! by one.
+//! Queries of a geometry of many points over many features, and of small ones over it: each answer is that of the
+//! features' matrices, told one by one.
 
 ghost use Rattle.std.specs.Prelude.{◌≡◌};
 ghost use Rattle.sf_layers.specs.WellFormed.{IsLayer};
@@ -100,11 +100,15 @@ fn polygon(alloc: Global, rings: &[Places]) -> Result<Sequence<Sequence<GridPoin
 }
 
 /// The town: two polygons, one of them in a hole of the other.
-fn town(alloc: Global) -> Result<Valid, Fail> {
+fn town(alloc: Global) -> Result<Geometry, Fail> {
     let mut polygons = Vec::new(alloc);
     polygons.push(polygon(alloc, &[BORDER, HOLE])?)?;
     polygons.push(polygon(alloc, &[ISLAND])?)?;
-    let geometry = Geometry::MultiPolygon(Sequence::from_vec(polygons));
+    Ok(Geometry::MultiPolygon(Sequence::from_vec(polygons)))
+}
+
+/// A geometry as a valid one.
+fn valid(alloc: Global, geometry: Geometry) -> Result<Valid, Fail> {
     if geometry.check_size().is_err() {
         return Err("not sized".into());
     }
@@ -152,6 +156,13 @@ fn with_rows(alloc: Global) -> Result<Store, Fail> {
     stored(alloc, layer)
 }
 
+/// A store with the town as its one feature.
+fn with_town(alloc: Global) -> Result<Store, Fail> {
+    let mut layer = Layer::new(alloc, LayerKind::Any);
+    push(alloc, &mut layer, town(alloc)?)?;
+    stored(alloc, layer)
+}
+
 /// Whether the matrix is as asked.
 fn is_as_asked(ask: &Ask, own: &Geometry, given: &Valid, matrix: &Matrix) -> bool {
     match ask {
@@ -194,10 +205,21 @@ fn is_told(alloc: Global, store: &Store, ask: &Ask, given: &Valid) -> Result<boo
     }
 }
 
+/// The number of the first small geometry across the town of which a query does not find what the matrices say.
+fn told_otherwise(alloc: Global, store: &Store, ask: &Ask) -> Result<Option<i32>, Fail> {
+    for number in 0..ROW * ROW {
+        let small = valid(alloc, feature(alloc, number)?)?;
+        if !is_told(alloc, store, ask, &small)? {
+            return Ok(Some(number));
+        }
+    }
+    Ok(None)
+}
+
 #[test]
 fn predicates_of_a_town_are_those_of_matrices(rt: HostRuntime) -> Result<(), Fail> {
     let store = with_rows(rt.alloc())?;
-    let town = town(rt.alloc())?;
+    let town = valid(rt.alloc(), town(rt.alloc())?)?;
     for predicate in PREDICATES {
         assert!(rt; is_told(rt.alloc(), &store, &Ask::Named(predicate), &town)?);
     }
@@ -207,12 +229,39 @@ fn predicates_of_a_town_are_those_of_matrices(rt: HostRuntime) -> Result<(), Fai
 #[test]
 fn patterns_of_a_town_are_those_of_matrices(rt: HostRuntime) -> Result<(), Fail> {
     let store = with_rows(rt.alloc())?;
-    let town = town(rt.alloc())?;
+    let town = valid(rt.alloc(), town(rt.alloc())?)?;
     for text in PATTERNS {
         let Ok(pattern) = Pattern::parse(text) else {
             return Err("no pattern".into());
         };
         assert!(rt; is_told(rt.alloc(), &store, &Ask::Matching(pattern), &town)?);
+    }
+    Ok(())
+}
+
+#[test]
+fn predicates_of_small_ones_are_those_of_matrices(rt: HostRuntime) -> Result<(), Fail> {
+    let store = with_town(rt.alloc())?;
+    for predicate in PREDICATES {
+        assert_eq!(rt;
+            told_otherwise(rt.alloc(), &store, &Ask::Named(predicate))?,
+            None
+        );
+    }
+    Ok(())
+}
+
+#[test]
+fn patterns_of_small_ones_are_those_of_matrices(rt: HostRuntime) -> Result<(), Fail> {
+    let store = with_town(rt.alloc())?;
+    for text in PATTERNS {
+        let Ok(pattern) = Pattern::parse(text) else {
+            return Err("no pattern".into());
+        };
+        assert_eq!(rt;
+            told_otherwise(rt.alloc(), &store, &Ask::Matching(pattern))?,
+            None
+        );
     }
     Ok(())
 }
