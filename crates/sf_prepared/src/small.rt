@@ -1,7 +1,6 @@
 //! The matrix of an area with a small geometry, by a walk over the edges of the area nearby.
 
 ghost use Rattle.std.specs.Prelude.{◌≡◌, IfSome};
-ghost use Rattle.sf_rules.specs.Validity.{IsValid};
 ghost use Rattle.sf_relate.specs.declared.shape.Shape.TheVariants.{Areas};
 ghost use Rattle.sf_relate.specs.Matrices.{matrix_of};
 ghost use Rattle.sf_relate.specs.Places.{shape_of};

@@ -112,8 +112,8 @@ fn found_by_index(
     Ok(Found { ids, looked })
 }
 
-/// What is made of the given geometry where many features are asked about it; else None, where it has few points,
-/// and where no memory is found.
+/// What is made of the given geometry where it has many points and many features are asked about it; else None, and
+/// where no memory is found.
 fn prepared_for(alloc: Global, given: &Valid, features: usize) -> Option<Prepared>
     ensures { IfSome result (AreEdgesOf given.now) }
 {
