@@ -1,10 +1,11 @@
 #!/usr/bin/env python3
 """Times questions that need not the whole matrix, beside `relate`, which does.
 
-Rings of several sizes that cross the border of a window of four edges are asked for by each predicate, and rings round
-one place with a window in the corner of their box, which share no point with it; two stars that overlap are asked about
-each other, and two combs of which one is turned by a quarter and lies across the other. Printed is processor time for
-each feature or question, with its line: the difference of runs with and without the questions, the least of some.
+Rings of several sizes that cross the border of a window of four edges are asked for by each predicate, and by a window
+that has them all inside, and rings round one place with a window in the corner of their box, which share no point with
+it; two stars that overlap are asked about each other, and two combs of which one is turned by a quarter and lies across
+the other. Printed is processor time for each feature or question, with its line: the difference of runs with and without
+the questions, the least of some.
 
     rt run is needed once in crates/sfstore (it builds the program); then: bench/questions.py
 """
@@ -20,6 +21,7 @@ PROGRAM = Path(__file__).resolve().parent.parent / "crates" / "sfstore" / "out" 
 FEATURES = 400
 RUNS = 3
 WINDOW = "POLYGON ((-1000 -10, 500000 -10, 500000 10, -1000 10, -1000 -10))"
+ROUND = "POLYGON ((-1000 -1000, 500000 -1000, 500000 1000, -1000 1000, -1000 -1000))"
 CORNER = "POLYGON ((330 330, 395 330, 395 395, 330 395, 330 330))"
 
 
@@ -64,6 +66,7 @@ def windows(count: int) -> None:
     """A window over rings of so many edges, each of which crosses its border."""
     before = ["layer add a polygon", *(f"add a {ring(count, k * 1000, 0, (400, 400))}" for k in range(FEATURES))]
     asked_of_each(before, WINDOW, count, "over")
+    asked_of_each(before, ROUND, count, "round")
     asked = [f"relate a {k + 1} {WINDOW}" for k in range(FEATURES)]
     each = cost(before, asked * 5) / 5 / FEATURES
     print(f"window over rings of {count}: relate {each:.2f} us for each line")

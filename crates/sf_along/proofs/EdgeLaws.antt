@@ -3,7 +3,7 @@ use Rattle.std.proofs.Common.{◌≡◌, ◌≢◌, refl, sym, subst, Bool, true
 use Rattle.std.specs.Prelude.{if◌then◌else◌}
 use Rattle.std.specs.List.{All, AllByRecursion, flat_map}
 use Rattle.std.proofs.lemmas.Bool.{and_from, both_ways}
-use Rattle.std.proofs.lemmas.List.Elements.{All-append, All-from_recursion, All-map}
+use Rattle.std.proofs.lemmas.List.Elements.{All-append, All-filter, All-from_recursion, All-map}
 use Rattle.sf_grid.specs.Plane.{Coordinates}
 use Rattle.sf_grid.specs.Edge.{Edge as Line}
 use Rattle.sf_grid.proofs.CallerLemmas.{test_from_eq}
@@ -12,7 +12,8 @@ use Rattle.sf_geometry.specs.declared.geometry.Geometry.{Geometry}
 use Rattle.sf_geometry.specs.declared.geometry.Geometry.TheVariants.{Point, LineString, Polygon, MultiPoint, MultiLineString, MultiPolygon}
 use Rattle.sf_geometry.specs.Lists.{before_tight, edges_between, edges_from, edges_of as edges_of_list, is_same, tight}
 use Rattle.sf_geometry.specs.Parts.{edge_of, edges_of, joined}
-use Rattle.sf_along.specs.Runs.{IsRun, all_runs, run_of}
+use Rattle.sf_along.specs.Near.{extent_of_edges, is_near, near}
+use Rattle.sf_along.specs.Runs.{IsRun, near_runs, run_of}
 
 -- ---- neighbours of a tight list differ
 -- no point of the list is the one after it
@@ -76,10 +77,12 @@ each-run : (is_first : Bool) (pairs : List (Coordinates × Coordinates)) → Hav
 each-run is_first [] h = tt
 each-run is_first (pair ∷ pairs) h = (run-is is_first pair h.0, each-run is_first pairs h.1)
 
-runs-of : (is_first : Bool) (pairs : List (Coordinates × Coordinates)) (geometry : Geometry) → map edge_of pairs ≡ edges_of geometry → All IsRun (map (run_of is_first) pairs)
-runs-of is_first pairs geometry e =
-    All-map IsRun (run_of is_first) pairs
-    (All-from_recursion (λ pair. IsRun (run_of is_first pair)) pairs (each-run is_first pairs (subst HaveLength (sym e) (lengths geometry))))
+runs-of : (is_first : Bool) (others pairs : List (Coordinates × Coordinates)) (geometry : Geometry) → map edge_of pairs ≡ edges_of geometry → All IsRun (map (run_of is_first) (near others pairs))
+runs-of is_first others pairs geometry e =
+    All-map IsRun (run_of is_first) (near others pairs)
+    (All-filter (is_near (extent_of_edges others)) (λ pair. IsRun (run_of is_first pair)) pairs
+    (All-from_recursion (λ pair. IsRun (run_of is_first pair)) pairs (each-run is_first pairs (subst HaveLength (sym e) (lengths geometry)))))
 
-pub all-runs : (first second : List (Coordinates × Coordinates)) (a b : Geometry) → map edge_of first ≡ edges_of a → map edge_of second ≡ edges_of b → All IsRun (all_runs first second)
-all-runs first second a b e f = All-append IsRun (map (run_of true) first) (map (run_of false) second) (runs-of true first a e) (runs-of false second b f)
+pub all-runs : (first second : List (Coordinates × Coordinates)) (a b : Geometry) → map edge_of first ≡ edges_of a → map edge_of second ≡ edges_of b → All IsRun (near_runs first second)
+all-runs first second a b e f =
+    All-append IsRun (map (run_of true) (near second first)) (map (run_of false) (near first second)) (runs-of true second first a e) (runs-of false first second b f)

@@ -5,4 +5,5 @@ pub mod MeetLaws
 pub mod ScanLaws
 pub mod EdgeLaws
 pub mod OrderLaws
+pub mod NearLaws
 pub mod PairLaws

@@ -1,5 +1,5 @@
 -- Two of the sorted runs of two geometries go together just where an edge of the one runs along an edge of the other.
-use Rattle.std.proofs.Common.{◌≡◌, refl, ap, sym, ◌∙◌, subst, zero, suc, ◌<◌, arith, Bool, true, false, cond, ◌⊎◌, inl, inr, List, [], ◌∷◌, map, get_or}
+use Rattle.std.proofs.Common.{◌≡◌, refl, ap, sym, ◌∙◌, subst, ◌<◌, Bool, true, false, cond, ◌⊎◌, inl, inr, List, [], ◌∷◌, map, get_or}
 use Rattle.std.specs.Prelude.{◌↔◌}
 use Rattle.std.specs.List.{Contains}
 use Rattle.std.specs.List.Sorted.{IsPermutation}
@@ -16,7 +16,9 @@ use Rattle.sf_geometry.specs.Parts.{edge_of, edges_of}
 use Rattle.sf_plane.specs.Laws.{ShareTwoPoints}
 use Rattle.sf_along.specs.declared.run.Run.{Run}
 use Rattle.sf_along.specs.Along.{RunAlong}
-use Rattle.sf_along.specs.Runs.{GoTogether, HasPartner, HavePair, all_runs, run_of}
+use Rattle.sf_along.specs.Near.{extent_of_edges, is_near, near}
+use Rattle.sf_along.specs.Runs.{GoTogether, HasPartner, HavePair, near_runs, run_of}
+use Rattle.sf_along.proofs.NearLaws.{IsAmong, among, contained, filter-from, filter-has, shared-near}
 
 -- ---- edges that have the same points
 abbrev HavePointsOf : Line → Line → Type 0
@@ -59,20 +61,6 @@ forward-back : (pair : Coordinates × Coordinates) → HavePointsOf (forward pai
 forward-back pair p h = sym (same-points pair.0 pair.1 p (comes_before pair.1 pair.0)) ∙ h
 
 -- ---- members of lists
-abbrev IsAmong : {X : Type 0} → List X → X → Type 0
-IsAmong [] x = ⊥
-IsAmong (y ∷ ys) x = (y ≡ x) ⊎ IsAmong ys x
-
-among : {X : Type 0} (xs : List X) (x : X) → Contains xs x → IsAmong xs x
-among [] x c = absurd (omega (arith, c.1))
-among (y ∷ ys) x (zero, l, e) = inl e
-among (y ∷ ys) x (suc k, l, e) = inr (among ys x (k, omega arith, e))
-
-contained : {X : Type 0} (xs : List X) (x : X) → IsAmong xs x → Contains xs x
-contained [] x i = absurd i
-contained (y ∷ ys) x (inl e) = (zero, omega arith, e)
-contained (y ∷ ys) x (inr i) = let c = contained ys x i in (suc c.0, omega (arith, c.1), c.2)
-
 -- where a member of a list's image comes from
 record ComesFrom {X Y : Type 0} (f : X → Y) (xs : List X) (y : Y) : Type 0 where
   from : X
@@ -148,41 +136,64 @@ module _ (first second : List (Coordinates × Coordinates)) (a b : Geometry) (ar
   both-of-one : (is_first : Bool) (pairs : List (Coordinates × Coordinates)) (r s : Run) → ComesFrom (run_of is_first) pairs r → ComesFrom (run_of is_first) pairs s → GoTogether r s → ⊥
   both-of-one is_first pairs r s i j g = g.differ (ap (λ (t : Run). t.is_first) (sym i.is) ∙ ap (λ (t : Run). t.is_first) j.is)
 
-  told : (r s : Run) → Contains (all_runs first second) r → Contains (all_runs first second) s → GoTogether r s → RunAlong a b
-  told r s i j g = by_lists (Contains-append_cases (map (run_of true) first) (map (run_of false) second) r i) (Contains-append_cases (map (run_of true) first) (map (run_of false) second) s j)
+  -- the runs are those of edges of the lists
+  from-near : (is_first : Bool) (others pairs : List (Coordinates × Coordinates)) (r : Run) → Contains (map (run_of is_first) (near others pairs)) r → ComesFrom (run_of is_first) pairs r
+  from-near is_first others pairs r c =
+      let i = image (run_of is_first) (near others pairs) r c in
+      record { from = i.from; among = filter-from (is_near (extent_of_edges others)) pairs i.from i.among; is = i.is }
+
+  from-runs : (r : Run) → Contains (near_runs first second) r → ComesFrom (run_of true) first r ⊎ ComesFrom (run_of false) second r
+  from-runs r c =
+      elim (Contains-append_cases (map (run_of true) (near second first)) (map (run_of false) (near first second)) r c) [
+        | inl i ↦ inl (from-near true second first r i)
+        | inr i ↦ inr (from-near false first second r i)
+      ]
+
+  told : (r s : Run) → Contains (near_runs first second) r → Contains (near_runs first second) s → GoTogether r s → RunAlong a b
+  told r s i j g = by_lists (from-runs r i) (from-runs s j)
     where
-      by_lists : Contains (map (run_of true) first) r ⊎ Contains (map (run_of false) second) r → Contains (map (run_of true) first) s ⊎ Contains (map (run_of false) second) s → RunAlong a b
-      by_lists (inl k) (inl l) = absurd (both-of-one true first r s (image (run_of true) first r k) (image (run_of true) first s l) g)
-      by_lists (inl k) (inr l) = along-from r s (image (run_of true) first r k) (image (run_of false) second s l) g
-      by_lists (inr k) (inl l) = along-from s r (image (run_of true) first s l) (image (run_of false) second r k) (together-swapped r s g)
-      by_lists (inr k) (inr l) = absurd (both-of-one false second r s (image (run_of false) second r k) (image (run_of false) second s l) g)
+      by_lists : ComesFrom (run_of true) first r ⊎ ComesFrom (run_of false) second r → ComesFrom (run_of true) first s ⊎ ComesFrom (run_of false) second s → RunAlong a b
+      by_lists (inl k) (inl l) = absurd (both-of-one true first r s k l g)
+      by_lists (inl k) (inr l) = along-from r s k l g
+      by_lists (inr k) (inl l) = along-from s r l k (together-swapped r s g)
+      by_lists (inr k) (inr l) = absurd (both-of-one false second r s k l g)
 
-  pair-of : (h : RunAlong a b) (p : ComesFrom edge_of first h.first) (q : ComesFrom edge_of second h.second) → GoTogether (run_of true p.from) (run_of false q.from)
-  pair-of h p q = record {
-    differ = λ e. false≢true (sym e);
-    share =
-        share-moved h.first h.second (forward p.from) (forward q.from)
-        (subst (λ e. HavePointsOf e (forward p.from)) p.is (forward-has p.from))
-        (subst (λ e. HavePointsOf e (forward q.from)) q.is (forward-has q.from))
-        h.share;
-  }
+  -- edges that share two points are near, so their runs are there
+  module _ (p q : Coordinates × Coordinates) (i : Contains first p) (j : Contains second q) (s : ShareTwoPoints (edge_of p) (edge_of q)) where
+    first-run : Contains (near_runs first second) (run_of true p)
+    first-run =
+        Contains-append_left (map (run_of true) (near second first)) (map (run_of false) (near first second)) (run_of true p)
+        (image-has (run_of true) (near second first) p
+        (filter-has (is_near (extent_of_edges second)) first p (shared-near p q second s.first s.is_first s.first_on_both.0 s.first_on_both.1 (among second q j)) i))
 
-  pub pair-tells : (runs : List Run) → IsPermutation (all_runs first second) runs → HavePair runs ↔ RunAlong a b
+    second-run : Contains (near_runs first second) (run_of false q)
+    second-run =
+        Contains-append_right (map (run_of true) (near second first)) (map (run_of false) (near first second)) (run_of false q)
+        (image-has (run_of false) (near first second) q
+        (filter-has (is_near (extent_of_edges first)) second q (shared-near q p first s.first s.is_first s.first_on_both.1 s.first_on_both.0 (among first p i)) j))
+
+    together : GoTogether (run_of true p) (run_of false q)
+    together = record {
+      differ = λ e. false≢true (sym e);
+      share = share-moved (edge_of p) (edge_of q) (forward p) (forward q) (forward-has p) (forward-has q) s;
+    }
+
+  pub pair-tells : (runs : List Run) → IsPermutation (near_runs first second) runs → HavePair runs ↔ RunAlong a b
   pair-tells runs permuted = (
     λ h.
         let p = pair runs h in
-        let back = IsPermutation-sym (all_runs first second) runs permuted in
+        let back = IsPermutation-sym (near_runs first second) runs permuted in
         told p.first p.second
-        (Contains-permutation runs (all_runs first second) p.first back (contained runs p.first p.first_among))
-        (Contains-permutation runs (all_runs first second) p.second back (contained runs p.second p.second_among))
+        (Contains-permutation runs (near_runs first second) p.first back (contained runs p.first p.first_among))
+        (Contains-permutation runs (near_runs first second) p.second back (contained runs p.second p.second_among))
         p.together,
     λ h.
         let p = image edge_of first h.first (subst (λ es. Contains es h.first) (sym are_first) h.of_first) in
         let q = image edge_of second h.second (subst (λ es. Contains es h.second) (sym are_second) h.of_second) in
-        let r = run_of true p.from in
-        let s = run_of false q.from in
-        have-pair r s runs
-        (among runs r (Contains-permutation (all_runs first second) runs r permuted (Contains-append_left (map (run_of true) first) (map (run_of false) second) r (image-has (run_of true) first p.from p.among))))
-        (among runs s (Contains-permutation (all_runs first second) runs s permuted (Contains-append_right (map (run_of true) first) (map (run_of false) second) s (image-has (run_of false) second q.from q.among))))
-        (pair-of h p q),
+        let s = subst (λ e. ShareTwoPoints e (edge_of q.from)) (sym p.is) (subst (ShareTwoPoints h.first) (sym q.is) h.share) in
+        let there = λ (r : Run) (c : Contains (near_runs first second) r). among runs r (Contains-permutation (near_runs first second) runs r permuted c) in
+        have-pair (run_of true p.from) (run_of false q.from) runs
+        (there (run_of true p.from) (first-run p.from q.from p.among q.among s))
+        (there (run_of false q.from) (second-run p.from q.from p.among q.among s))
+        (together p.from q.from p.among q.among s),
   )

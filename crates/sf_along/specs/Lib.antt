@@ -1,2 +1,3 @@
 pub mod Along
+pub mod Near
 pub mod Runs

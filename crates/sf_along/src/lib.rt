@@ -1,4 +1,5 @@
-//! Whether an edge of one geometry runs along an edge of another, told by sorting the edges, with no sweep.
+//! Whether an edge of one geometry runs along an edge of another, told by sorting the edges that are near
+//! the other geometry, with no sweep.
 #![tactic(auto)]
 
 mod along;

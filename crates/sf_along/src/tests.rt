@@ -4,6 +4,7 @@ use super::run_along;
 use sf_geometry::{Geometry, Sequence};
 use sf_grid::GridPoint;
 use std::alloc::Global;
+use std::ops::Range;
 use std::test::Fail;
 
 /// The line through these places.
@@ -60,6 +61,48 @@ const WORKED: &[(&[(i32, i32)], &[(i32, i32)], bool)] = &[
     (&[], &[], false),
 ];
 
+/// Where the lower left corner of a second square is, and whether an edge of it runs along an edge of the first one, whose
+/// lower left corner is at the origin. Where one does, each lies on the border of the other square's box.
+const BORDERS: &[(i32, i32, bool)] = &[
+    // each of the four sides
+    (10, 5, true),
+    (-10, 5, true),
+    (5, 10, true),
+    (5, -10, true),
+    // each of the four corners
+    (10, 10, false),
+    (10, -10, false),
+    (-10, 10, false),
+    (-10, -10, false),
+    // one grid step off
+    (11, 5, false),
+    (5, -11, false),
+];
+
+/// The outline of the square of ten grid steps with this lower left corner.
+fn square(alloc: Global, x: i32, y: i32) -> Result<Geometry, Fail> {
+    let (right, top) = (x.wrapping_add(10), y.wrapping_add(10));
+    line(alloc, &[(x, y), (right, y), (right, top), (x, top), (x, y)])
+}
+
+/// A line with an edge from each column to the next, up to one row and down to another, and on to some places.
+fn zigzag(
+    alloc: Global,
+    columns: Range<i32>,
+    rows: (i32, i32),
+    places: &[(i32, i32)],
+) -> Result<Geometry, Fail> {
+    let mut points = Vec::new(alloc);
+    for x in columns {
+        let y = if x % 2 == 0 { rows.0 } else { rows.1 };
+        points.push(GridPoint::new(x, y).ok_or("off the grid")?)?;
+    }
+    for (x, y) in places {
+        points.push(GridPoint::new(*x, *y).ok_or("off the grid")?)?;
+    }
+    Ok(Geometry::LineString(Sequence::from_vec(points)))
+}
+
 /// Whether both orders of the geometries are answered so.
 fn is_told(rt: &HostRuntime, a: &Geometry, b: &Geometry, wanted: bool) -> Result<bool, Fail> {
     Ok(run_along(rt.alloc(), a, b)? == wanted && run_along(rt.alloc(), b, a)? == wanted)
@@ -80,5 +123,25 @@ fn points_have_no_edge(rt: HostRuntime) -> Result<(), Fail> {
     let point = Geometry::Point(GridPoint::new(5, 0).ok_or("off the grid")?);
     let a = line(rt.alloc(), &[(0, 0), (10, 0)])?;
     assert!(rt; is_told(&rt, &a, &point, false)?);
+    Ok(())
+}
+
+#[test]
+fn edges_on_the_borders_of_both_boxes(rt: HostRuntime) -> Result<(), Fail> {
+    let a = square(rt.alloc(), 0, 0)?;
+    for (x, y, wanted) in BORDERS {
+        let b = square(rt.alloc(), *x, *y)?;
+        assert!(rt; is_told(&rt, &a, &b, *wanted)?);
+    }
+    Ok(())
+}
+
+#[test]
+fn large_lines_with_one_edge_near_each(rt: HostRuntime) -> Result<(), Fail> {
+    let a = zigzag(rt.alloc(), -1000..0, (0, 4), &[(0, 0), (0, 10)])?;
+    let along = zigzag(rt.alloc(), 1..1000, (15, 19), &[(0, 15), (0, 5)])?;
+    let across = zigzag(rt.alloc(), 1..1000, (15, 19), &[(5, 15), (5, 8), (0, 8)])?;
+    assert!(rt; is_told(&rt, &a, &along, true)?);
+    assert!(rt; is_told(&rt, &a, &across, false)?);
     Ok(())
 }

@@ -20,7 +20,8 @@ use Rattle.sf_interiors.proofs.ChainLaws.{odd-count}
 use Rattle.sf_interiors.proofs.SideLaws.{differ}
 use Rattle.sf_rtree.specs.Indexes.{ids_meeting}
 use Rattle.sf_relate.specs.Contact.{in_extent}
-use Rattle.sf_prepared.specs.Boxes.{AreOnGrid, boxes_from, extent_of_edge, ray_above}
+use Rattle.sf_crossing.specs.Meeting.{extent_of_edge}
+use Rattle.sf_prepared.specs.Boxes.{AreOnGrid, boxes_from, ray_above}
 use Rattle.sf_prepared.specs.Nearby.{columns_over}
 
 -- ---- the sides of a box with a point

@@ -15,7 +15,8 @@ use Rattle.sf_paths.specs.Paths.{IsOffBox}
 use Rattle.sf_plane.specs.Boxes.{in_box}
 use Rattle.sf_validity.specs.Beside.{box_of_extent}
 use Rattle.sf_rtree.specs.Indexes.{ids_meeting}
-use Rattle.sf_prepared.specs.Boxes.{boxes_from, extent_of_edge}
+use Rattle.sf_crossing.specs.Meeting.{extent_of_edge}
+use Rattle.sf_prepared.specs.Boxes.{boxes_from}
 use Rattle.sf_prepared.specs.Places.{AreClear, IsBoxLeft, IsLeft}
 use Rattle.sf_prepared.proofs.AboveLaws.{boxed-sides, found-inside, next-drop}
 use Rattle.sf_prepared.proofs.TreeLaws.{off-box}

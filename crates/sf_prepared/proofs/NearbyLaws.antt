@@ -42,11 +42,13 @@ use Rattle.sf_relate.specs.Places.{IsPlaceOf, shape_of}
 use Rattle.sf_relate.proofs.TestedPlaces.{tests_tell_places}
 use Rattle.sf_relate.proofs.ToldLaws.{exterior-from}
 use Rattle.sf_rtree.specs.Indexes.{Boxes, ids_meeting}
-use Rattle.sf_prepared.specs.Boxes.{AreBoxesOf, AreEdgesOf, AreOnGrid, boxes_from, extent_of_edge}
+use Rattle.sf_crossing.specs.Meeting.{extent_of_edge}
+use Rattle.sf_prepared.specs.Boxes.{AreBoxesOf, AreEdgesOf, AreOnGrid, boxes_from}
 use Rattle.sf_prepared.specs.Nearby.{LeavingReachesBeyond, NearbyTellsPlaces, columns_over, edges_at, leaves, nearby}
 use Rattle.sf_prepared.proofs.AboveLaws.{above-meets, boxed-from, boxed-sides, found-inside, next-drop}
 use Rattle.sf_prepared.proofs.PlacedLaws.{boxed, has-rings}
-use Rattle.sf_prepared.proofs.TreeLaws.{few-pairs, has-ends, none-said}
+use Rattle.sf_relate.proofs.CommonBoxLaws.{has-ends}
+use Rattle.sf_prepared.proofs.TreeLaws.{few-pairs, none-said}
 
 -- ---- the edges of the numbers that the tree finds
 found-at : (all : List (Coordinates × Coordinates)) (extent : Extent) (n : ℕ) (pairs : List (Coordinates × Coordinates)) → drop n all ≡ pairs →

@@ -1,19 +1,15 @@
 -- Numbered boxes of edges: they rise by number, and where none meets a box no edge has a point of it.
-use Rattle.std.proofs.Common.{◌≡◌, ℕ, ◌+◌, ◌<◌, ◌≤◌, arith, refl, ap, sym, ◌∙◌, ℤ, pos, ◌*ℤ◌, Bool, true, false, ◌&&◌, not, List, [], ◌∷◌, ◌++◌, length, map}
-use Rattle.std.specs.Prelude.{int_le}
-use Rattle.std.specs.Int.{int_max, int_min}
+use Rattle.std.proofs.Common.{◌≡◌, ℕ, ◌+◌, ◌<◌, ◌≤◌, arith, refl, ap, sym, ◌∙◌, Bool, true, false, not, List, [], ◌∷◌, ◌++◌, length, map}
 use Rattle.std.specs.Cmp.{nat_cmp_is}
 use Rattle.std.specs.declared.cmp.Ordering.TheVariants.{Less}
 use Rattle.std.specs.List.{AllByRecursion, flat_map, list_any}
 use Rattle.std.specs.List.Sorted.{IsStrictlySortedBy}
 use Rattle.std.specs.Map.{keys_of}
 use Rattle.std.specs.Ordering.{nat_cmp}
-use Rattle.std.proofs.lemmas.Bool.{and_from, both_ways, or_parts}
-use Rattle.std.proofs.lemmas.Int.{clamps, ints}
+use Rattle.std.proofs.lemmas.Bool.{both_ways, or_parts}
 use Rattle.std.proofs.lemmas.List.{append_assoc, length-append, length-map}
-use Rattle.sf_grid.specs.Plane.{Coordinates, grid_point, x_of, y_of}
-use Rattle.sf_grid.specs.Edge.{Edge as Line, within}
-use Rattle.sf_grid.proofs.CallerLemmas.{test_from_le}
+use Rattle.sf_grid.specs.Plane.{Coordinates}
+use Rattle.sf_grid.specs.Edge.{Edge as Line}
 use Rattle.sf_geometry.specs.declared.extent.Extent.{Extent}
 use Rattle.sf_geometry.specs.declared.geometry.Geometry.{Geometry}
 use Rattle.sf_geometry.specs.declared.geometry.Geometry.TheVariants.{LineString, MultiLineString, MultiPoint, MultiPolygon, Point as OnePoint, Polygon}
@@ -22,12 +18,13 @@ use Rattle.sf_geometry.specs.Lists.{edges_of as edges_of_list}
 use Rattle.sf_geometry.specs.Parts.{edge_of, edges_of, joined, points_of}
 use Rattle.sf_geometry.specs.Size.{IsSized}
 use Rattle.sf_paths.specs.Paths.{IsOffBox}
-use Rattle.sf_plane.specs.Boxes.{HasEnds}
 use Rattle.sf_plane.proofs.BoxLaws.{common_point_meets, edge_in_box}
 use Rattle.sf_polygons.proofs.SizeLaws.{few-edges}
 use Rattle.sf_rtree.specs.Indexes.{Boxes}
 use Rattle.sf_validity.specs.Beside.{box_of_extent}
-use Rattle.sf_prepared.specs.Boxes.{AreBoxesOf, boxes_from, extent_of_edge}
+use Rattle.sf_relate.proofs.CommonBoxLaws.{has-ends}
+use Rattle.sf_crossing.specs.Meeting.{extent_of_edge}
+use Rattle.sf_prepared.specs.Boxes.{AreBoxesOf, boxes_from}
 use Rattle.sf_prepared.specs.Places.{AreClear}
 
 -- ---- the numbers rise
@@ -48,21 +45,6 @@ one-more boxes n extent pair rest left all is box h =
     ∙ ap (λ e. boxes ++ (n, e) ∷ boxes_from (n + 1) rest) box
     ∙ ap (λ ps. boxes ++ boxes_from n ps) (sym is)
     ∙ h
-
--- ---- the box of an edge has its ends
-pub has-ends : (pair : Coordinates × Coordinates) → HasEnds (box_of_extent (extent_of_edge pair)) (edge_of pair)
-has-ends pair = (
-  and_from (within (int_min pair.0.x pair.1.x) (int_max pair.0.x pair.1.x) (x_of (grid_point pair.0))) (within (int_min pair.0.y pair.1.y) (int_max pair.0.y pair.1.y) (y_of (grid_point pair.0)))
-      (first pair.0.x pair.1.x) (first pair.0.y pair.1.y),
-  and_from (within (int_min pair.0.x pair.1.x) (int_max pair.0.x pair.1.x) (x_of (grid_point pair.1))) (within (int_min pair.0.y pair.1.y) (int_max pair.0.y pair.1.y) (y_of (grid_point pair.1)))
-      (second pair.0.x pair.1.x) (second pair.0.y pair.1.y),
-)
-  where
-    first : (s t : ℤ) → (int_le (int_min s t *ℤ pos 1) s && int_le s (int_max s t *ℤ pos 1)) ≡ true
-    first s t = and_from (int_le (int_min s t *ℤ pos 1) s) (int_le s (int_max s t *ℤ pos 1)) (test_from_le (int_min s t *ℤ pos 1) s (omega (arith, ints, clamps))) (test_from_le s (int_max s t *ℤ pos 1) (omega (arith, ints, clamps)))
-
-    second : (s t : ℤ) → (int_le (int_min s t *ℤ pos 1) t && int_le t (int_max s t *ℤ pos 1)) ≡ true
-    second s t = and_from (int_le (int_min s t *ℤ pos 1) t) (int_le t (int_max s t *ℤ pos 1)) (test_from_le (int_min s t *ℤ pos 1) t (omega (arith, ints, clamps))) (test_from_le t (int_max s t *ℤ pos 1) (omega (arith, ints, clamps)))
 
 -- ---- where none meets the box
 pub off-box : (extent : Extent) (pair : Coordinates × Coordinates) → extents_meet (extent_of_edge pair) extent ≡ false → IsOffBox (box_of_extent extent) (edge_of pair)

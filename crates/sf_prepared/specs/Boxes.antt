@@ -1,21 +1,16 @@
 -- Numbered boxes of edges, as a tree has them.
 use Rattle.std.specs.Prelude.{◌≡◌, ℕ, ◌+◌, ◌^◌, ◌-◌, pos, List, [], ◌∷◌, map}
 use Rattle.std.specs.List.{AllByRecursion}
-use Rattle.sf_grid.specs.Edge.{Edge}
 use Rattle.sf_grid.specs.Plane.{Coordinates, IsOnGrid}
 use Rattle.sf_geometry.specs.declared.extent.Extent.{Extent}
 use Rattle.sf_geometry.specs.declared.geometry.Geometry.{Geometry}
-use Rattle.sf_geometry.specs.Envelope.{extent_at, extent_with}
 use Rattle.sf_geometry.specs.Parts.{edge_of, edges_of}
+use Rattle.sf_crossing.specs.Meeting.{ends_of_edge, extent_of_edge}
 use Rattle.sf_rtree.specs.Indexes.{Boxes}
 
 -- the pairs are the ends of the geometry's edges, in order
 abbrev pub AreEdgesOf : Geometry → List (Coordinates × Coordinates) → Type 0
 AreEdgesOf geometry pairs = map edge_of pairs ≡ edges_of geometry
-
--- the ends of an edge
-abbrev pub ends_of_edge : Edge → Coordinates × Coordinates
-ends_of_edge e = (e.a, e.b)
 
 -- those of the geometry's edges, in order
 abbrev pub pairs_of : Geometry → List (Coordinates × Coordinates)
@@ -24,10 +19,6 @@ pairs_of geometry = map ends_of_edge (edges_of geometry)
 -- both ends are on the grid
 abbrev pub AreOnGrid : Coordinates × Coordinates → Type 0
 AreOnGrid pair = IsOnGrid pair.0 × IsOnGrid pair.1
-
--- the box of an edge, by its ends
-abbrev pub extent_of_edge : Coordinates × Coordinates → Extent
-extent_of_edge pair = extent_with (extent_at pair.0) pair.1
 
 -- the boxes of edges, numbered from n on
 abbrev pub boxes_from : ℕ → List (Coordinates × Coordinates) → Boxes

@@ -1,7 +1,6 @@
 -- The edges that can be on a point of a box or above one: those in the columns over it, from its lower side up.
 use Rattle.std.specs.Prelude.{◌≡◌, ℕ, ◌^◌, ◌-◌, pos, Bool, ◌||◌, not, IsTrue, List, map, take, drop}
 use Rattle.std.specs.List.{AllByRecursion, filter, flat_map, list_any}
-use Rattle.sf_grid.specs.Edge.{Edge}
 use Rattle.sf_grid.specs.Plane.{Coordinates, grid_point}
 use Rattle.sf_geometry.specs.declared.extent.Extent.{Extent}
 use Rattle.sf_geometry.specs.declared.geometry.Geometry.{Geometry}
@@ -12,7 +11,8 @@ use Rattle.sf_relate.specs.Contact.{in_extent}
 use Rattle.sf_relate.specs.Nearby.{ReachesBeyond, TellPlaces}
 use Rattle.sf_relate.specs.Places.{shape_of}
 use Rattle.sf_relate.specs.declared.shape.Shape.TheVariants.{Areas}
-use Rattle.sf_prepared.specs.Boxes.{AreEdgesOf, AreOnGrid, ends_of_edge, extent_of_edge}
+use Rattle.sf_crossing.specs.Meeting.{extent_of_edge}
+use Rattle.sf_prepared.specs.Boxes.{AreEdgesOf, AreOnGrid}
 
 -- the box of these columns, as far up as a number of 32 bits goes
 abbrev pub columns_over : Extent → Extent
@@ -21,10 +21,6 @@ columns_over extent = record extent { max_y = pos (2 ^ 31 - 1) }
 -- the edges whose boxes share a point with it, in order
 abbrev pub nearby : Extent → List (Coordinates × Coordinates) → List (Coordinates × Coordinates)
 nearby extent pairs = filter (λ pair. extents_meet (extent_of_edge pair) (columns_over extent)) pairs
-
--- of some edges those whose boxes share a point with a box, by their ends, in order
-abbrev pub ends_meeting : Extent → List Edge → List (Coordinates × Coordinates)
-ends_meeting box es = filter (λ pair. extents_meet (extent_of_edge pair) box) (map ends_of_edge es)
 
 -- an end of the edge is outside of the box
 abbrev pub leaves : Extent → Coordinates × Coordinates → Bool

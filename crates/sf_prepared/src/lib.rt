@@ -6,7 +6,6 @@ mod above;
 mod beside;
 pub mod laws;
 mod nearby;
-mod over;
 mod prepared;
 mod small;
 #[cfg(test)]

@@ -26,10 +26,13 @@ use std::alloc::{AllocError, Global};
 /// is the quicker one.
 pub(crate) const MOST_NEARBY: usize = 256;
 
+/// How many edges there are at most where none are left out: nothing is saved by a walk over those nearby.
+const FEW_EDGES: usize = 16;
+
 impl Prepared {
     /// The matrix of a geometry with the one that was prepared, by a walk over the edges that can be on a point of
-    /// the geometry or above one. None where that one is no area, where many edges are near or none of these leaves
-    /// the geometry's box, and where no memory is found.
+    /// the geometry or above one. None where that one is no area or has few edges, where many edges are near or none of
+    /// these leaves the geometry's box, and where no memory is found.
     pub(crate) fn told_by_walk(
         &self,
         alloc: Global,
@@ -39,6 +42,9 @@ impl Prepared {
         requires { AreEdgesOf given.now self.now }
         ensures { IfSome result (λ matrix. matrix.0 ≡ matrix_of geometry.now given.now) }
     {
+        if self.edges.len() <= FEW_EDGES {
+            return None;
+        }
         match given.geometry() {
             Geometry::Polygon(_) | Geometry::MultiPolygon(_) => {
                 self.walked_nearby(alloc, geometry, given)

@@ -10,7 +10,8 @@ ghost use Rattle.sf_relate.specs.declared.shape.Shape.TheVariants.{Areas, Lines}
 ghost use Rattle.sf_relate.specs.Locating.{area_place};
 ghost use Rattle.sf_relate.specs.Matrices.{matrix_of};
 ghost use Rattle.sf_relate.specs.Places.{IsPlaceOf, shape_of};
-ghost use Rattle.sf_prepared.specs.Boxes.{AreEdgesOf, boxes_from, extent_of_edge};
+ghost use Rattle.sf_crossing.specs.Meeting.{extent_of_edge};
+ghost use Rattle.sf_prepared.specs.Boxes.{AreEdgesOf, boxes_from};
 ghost use Rattle.sf_prepared.specs.Places.{AreClear};
 
 use crate::above::{edges_lie_on_grid, has_odd_above, ray_above};

@@ -7,7 +7,7 @@ ghost use Rattle.sf_relate.specs.Places.{shape_of};
 ghost use Rattle.sf_prepared.specs.Transposed.{transposed};
 
 use crate::nearby::{MOST_NEARBY, columns_over, one_leaves};
-use crate::over::edges_meeting;
+use sf_crossing::edges_meeting;
 use sf_geometry::Geometry;
 use sf_relate::{Matrix, relate_nearby};
 use sf_validity::Valid;

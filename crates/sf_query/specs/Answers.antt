@@ -1,5 +1,5 @@
 -- What a query answers: the features of a layer whose matrix with the given geometry is as it asks.
-use Rattle.std.specs.Prelude.{◌≡◌, ℕ, Bool, List, filter, length, if◌then◌else◌}
+use Rattle.std.specs.Prelude.{◌≡◌, ℕ, Bool, true, false, List, filter, length, if◌then◌else◌}
 use Rattle.std.specs.Map.{keys_of}
 use Rattle.sf_geometry.specs.declared.geometry.Geometry.{Geometry}
 use Rattle.sf_geometry.specs.Envelope.{envelope_of, extents_meet}
@@ -10,6 +10,7 @@ use Rattle.sf_plane.specs.declared.dim.Dim.{Dim}
 use Rattle.sf_plane.specs.Unions.{dim_of}
 use Rattle.sf_relate.specs.Matrices.{matrix_of}
 use Rattle.sf_relate.specs.Patterns.{asks_contact, matches}
+use Rattle.sf_relate.specs.declared.predicate.Predicate.TheVariants.{Disjoint, Intersects}
 use Rattle.sf_relate.specs.Predicates.{holds, predicate_asks_contact}
 use Rattle.sf_query.specs.declared.ask.Ask.{Ask}
 use Rattle.sf_query.specs.declared.ask.Ask.TheVariants.{Matching, Named}
@@ -32,6 +33,12 @@ is_asked ask a b = is_answered ask a b (matrix_of a b)
 abbrev pub needs_contact : Ask → Bool
 needs_contact (Matching letters) = asks_contact letters
 needs_contact (Named predicate) = predicate_asks_contact predicate
+
+-- it names contact, or its absence
+abbrev pub is_of_contact : Ask → Bool
+is_of_contact (Named Intersects) = true
+is_of_contact (Named Disjoint) = true
+is_of_contact ask = false
 
 -- the identifiers of the features that answer, rising
 abbrev pub ids_found : LayerContent → Ask → Geometry → List ℕ

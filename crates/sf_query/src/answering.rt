@@ -15,8 +15,8 @@ use sf_contact::{FEW_POINTS, contact_between};
 use sf_geometry::{Extent, Geometry};
 use sf_prepared::{Prepared, matrix_nearby};
 use sf_relate::{
-    Matrix, Pattern, Predicate, are_apart, dimension, holds, holds_between, holds_of_point, locate,
-    match_between, matrix_apart, shares_first_point,
+    Matrix, Pattern, Predicate, are_apart, are_known_to_overlap, dimension, holds, holds_between,
+    holds_of_point, locate, match_between, matrix_apart, matrix_overlapping, shares_first_point,
 };
 use sf_validity::Valid;
 use std::alloc::{AllocError, Global};
@@ -91,7 +91,7 @@ fn is_answered(ask: &Ask, geometry: &Valid, given: &Valid, matrix: &Matrix) -> b
     }
 }
 
-/// Whether the matrix of a feature's geometry with the given one is as asked.
+/// Whether a matrix of a feature's geometry with the given one is as asked.
 pub(crate) fn is_asked(
     alloc: Global,
     ask: &Ask,
@@ -100,47 +100,88 @@ pub(crate) fn is_asked(
 ) -> Result<bool, AllocError>
     ensures { IfOk result (λ answer. answer ≡ is_asked ask.now geometry.now given.now) }
 {
-    match ask {
-        Ask::Matching(pattern) => is_matched(alloc, *pattern, geometry, given),
-        Ask::Named(predicate) => match told_by_points(*predicate, geometry, given) {
-            Some(answer) => Ok(answer),
-            None => is_held(alloc, *predicate, geometry, given),
-        },
+    if let Some(answer) = told_without_walk(alloc, ask, geometry, given)? {
+        return Ok(answer);
     }
-}
-
-/// Whether the predicate holds, by a walk: over the edges nearby where these tell the matrix.
-fn is_held(
-    alloc: Global,
-    predicate: Predicate,
-    geometry: &Valid,
-    given: &Valid,
-) -> Result<bool, AllocError>
-    ensures { IfOk result (λ answer. answer ≡ holds predicate
-        (dim_of_geometry geometry.now) (dim_of_geometry given.now)
-        (matrix_of geometry.now given.now)) }
-{
     match told_nearby(alloc, geometry, given) {
-        Some(matrix) => Ok(holds_by(predicate, geometry, given, &matrix)),
-        None => holds_between(alloc, predicate, geometry, given),
+        Some(matrix) => Ok(is_answered(ask, geometry, given, &matrix)),
+        None => is_walked(alloc, ask, geometry, given),
     }
 }
 
-/// Whether the matrix of two geometries matches a pattern.
-fn is_matched(
+/// Whether it is as asked, where edges and first points tell it. Contact that is asked for by name is told by the first edges
+/// that meet; whatever else is asked, by the first edges that cross.
+fn told_without_walk(
     alloc: Global,
-    pattern: Pattern,
+    ask: &Ask,
     geometry: &Valid,
     given: &Valid,
-) -> Result<bool, AllocError>
-    ensures { IfOk result (λ answer. answer ≡ matches pattern (matrix_of geometry.now given.now)) }
+) -> Result<Option<bool>, AllocError>
+    ensures { IfOk result (λ told. IfSome told (λ answer.
+        answer ≡ is_asked ask.now geometry.now given.now)) }
+{
+    if ask.is_of_contact() {
+        return match told_by_edges(ask, geometry, given) {
+            Some(answer) => Ok(Some(answer)),
+            None => told_by_overlap(alloc, ask, geometry, given),
+        };
+    }
+    match told_by_overlap(alloc, ask, geometry, given)? {
+        Some(answer) => Ok(Some(answer)),
+        None => Ok(told_by_edges(ask, geometry, given)),
+    }
+}
+
+/// Whether it is as asked, where edges and first points tell it, pair by pair.
+fn told_by_edges(ask: &Ask, geometry: &Valid, given: &Valid) -> Option<bool>
+    ensures { IfSome result (λ answer. answer ≡ is_asked ask.now geometry.now given.now) }
+{
+    match ask {
+        Ask::Named(predicate) => told_by_points(*predicate, geometry, given),
+        Ask::Matching(pattern) => told_apart(*pattern, geometry, given),
+    }
+}
+
+/// Whether the matrix of two geometries matches a pattern, where they are known to share no point.
+fn told_apart(pattern: Pattern, geometry: &Valid, given: &Valid) -> Option<bool>
+    ensures { IfSome result (λ answer. answer ≡ matches pattern (matrix_of geometry.now given.now)) }
 {
     if are_known_apart(geometry, given) {
-        return Ok(pattern.matches(&matrix_apart(geometry, given)));
+        Some(pattern.matches(&matrix_apart(geometry, given)))
+    } else {
+        None
     }
-    match told_nearby(alloc, geometry, given) {
-        Some(matrix) => Ok(pattern.matches(&matrix)),
-        None => match_between(alloc, &[pattern], geometry, given),
+}
+
+/// Whether it is as asked, where edges cross, so that two areas overlap, and it is so whether or not their boundaries share
+/// a piece.
+fn told_by_overlap(
+    alloc: Global,
+    ask: &Ask,
+    geometry: &Valid,
+    given: &Valid,
+) -> Result<Option<bool>, AllocError>
+    ensures { IfOk result (λ told. IfSome told (λ answer.
+        answer ≡ is_asked ask.now geometry.now given.now)) }
+{
+    if !are_known_to_overlap(alloc, geometry, given)? {
+        return Ok(None);
+    }
+    let answer = is_answered(ask, geometry, given, &matrix_overlapping(false));
+    if answer == is_answered(ask, geometry, given, &matrix_overlapping(true)) {
+        Ok(Some(answer))
+    } else {
+        Ok(None)
+    }
+}
+
+/// Whether it is as asked, by a walk that ends once no further cell can change the answer.
+fn is_walked(alloc: Global, ask: &Ask, geometry: &Valid, given: &Valid) -> Result<bool, AllocError>
+    ensures { IfOk result (λ answer. answer ≡ is_asked ask.now geometry.now given.now) }
+{
+    match ask {
+        Ask::Matching(pattern) => match_between(alloc, &[*pattern], geometry, given),
+        Ask::Named(predicate) => holds_between(alloc, *predicate, geometry, given),
     }
 }
 

@@ -1,5 +1,5 @@
 ghost use Rattle.std.specs.Prelude.{◌≡◌};
-ghost use Rattle.sf_query.specs.Answers.{needs_contact};
+ghost use Rattle.sf_query.specs.Answers.{is_of_contact, needs_contact};
 
 use sf_relate::{Pattern, Predicate};
 
@@ -20,6 +20,15 @@ impl Ask {
         match self {
             Ask::Matching(pattern) => pattern.needs_contact(),
             Ask::Named(predicate) => predicate.needs_contact(),
+        }
+    }
+    /// Whether contact is all that is asked for, or its absence, by name.
+    pub(crate) fn is_of_contact(&self) -> bool
+        ensures { result ≡ is_of_contact self.now }
+    {
+        match self {
+            Ask::Named(Predicate::Intersects | Predicate::Disjoint) => true,
+            _ => false,
         }
     }
 }

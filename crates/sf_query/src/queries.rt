@@ -75,7 +75,7 @@ fn found_in(alloc: Global, layer: &Layer, ask: &Ask, given: &Valid) -> Result<Fo
     requires { IsLayer layer.now }
     ensures { IfOk result (IsAnswer layer.now ask.now given.now) }
 {
-    let prepared = prepared_for(alloc, given, layer.feature_count());
+    let prepared = prepared_for(alloc, ask, given, layer.feature_count());
     match layer.index() {
         Some(index) if ask.needs_contact() => {
             found_by_index(alloc, layer, index, ask, given, &prepared)
@@ -112,12 +112,15 @@ fn found_by_index(
     Ok(Found { ids, looked })
 }
 
-/// What is made of the given geometry where it has many points and many features are asked about it; else None, and
-/// where no memory is found.
-fn prepared_for(alloc: Global, given: &Valid, features: usize) -> Option<Prepared>
+/// What is made of the given geometry where many features are asked about it; else None, and where no memory is found. Of a
+/// small one its own edges tell contact as soon.
+fn prepared_for(alloc: Global, ask: &Ask, given: &Valid, features: usize) -> Option<Prepared>
     ensures { IfSome result (AreEdgesOf given.now) }
 {
-    if features < MANY_FEATURES || given.geometry().point_count() <= FEW_POINTS {
+    if features < MANY_FEATURES {
+        return None;
+    }
+    if given.geometry().point_count() <= FEW_POINTS && ask.is_of_contact() {
         return None;
     }
     Prepared::new(alloc, given).ok()

@@ -98,12 +98,12 @@ thin a v s = (subst (HasDimension (in_boundary a)) (one-wide a s) (boundary_has_
 wider : (s t : PointSet) → ((p : PlanePoint) → s p ≡ true → t p ≡ true) → HasTriangle s → HasTriangle t
 wider s t f h = record { a = h.a; b = h.b; c = h.c; is_a = h.is_a; is_b = h.is_b; is_c = h.is_c; wide = h.wide; has = λ p i j. f p (h.has p i j) }
 
-first-thin : (a : Geometry) (t : PointSet) (d : Dim) → IsValid a → shape_of a ≡ Areas → HasDimension (both (in_boundary a) t) d → d ≡ dims.Two → ⊥
+pub first-thin : (a : Geometry) (t : PointSet) (d : Dim) → IsValid a → shape_of a ≡ Areas → HasDimension (both (in_boundary a) t) d → d ≡ dims.Two → ⊥
 first-thin a t d v s h e =
     let wide : HasTriangle (both (in_boundary a) t) = subst (HasDimension (both (in_boundary a) t)) e h in
     thin a v s (wider (both (in_boundary a) t) (in_boundary a) (λ p i. (and_parts (in_boundary a p) (t p) i).0) wide)
 
-second-thin : (a : Geometry) (t : PointSet) (d : Dim) → IsValid a → shape_of a ≡ Areas → HasDimension (both t (in_boundary a)) d → d ≡ dims.Two → ⊥
+pub second-thin : (a : Geometry) (t : PointSet) (d : Dim) → IsValid a → shape_of a ≡ Areas → HasDimension (both t (in_boundary a)) d → d ≡ dims.Two → ⊥
 second-thin a t d v s h e =
     let wide : HasTriangle (both t (in_boundary a)) = subst (HasDimension (both t (in_boundary a))) e h in
     thin a v s (wider (both t (in_boundary a)) (in_boundary a) (λ p i. (and_parts (t p) (in_boundary a p) i).1) wide)
@@ -113,7 +113,7 @@ any-flat : {A B : Type 0} (test : B → Bool) (f : A → List B) (xs : List A) �
 any-flat test f [] = refl
 any-flat test f (x ∷ xs) = list_any-append test (f x) (flat_map f xs) ∙ ap (λ v. list_any test (f x) || v) (any-flat test f xs)
 
-by-edges : (a : Geometry) (q : PlanePoint) → shape_of a ≡ Areas → list_any (λ e. on_edge e q) (edges_of a) ≡ in_boundary a q
+pub by-edges : (a : Geometry) (q : PlanePoint) → shape_of a ≡ Areas → list_any (λ e. on_edge e q) (edges_of a) ≡ in_boundary a q
 by-edges (Polygon rings) q s = any-flat (λ e. on_edge e q) edges_of_list rings
 by-edges (MultiPolygon polygons) q s =
     any-flat (λ e. on_edge e q) edges_of_list (joined polygons) ∙ any-flat (λ ring. on_line ring q) (λ (rings : List (List _)). rings) polygons
@@ -207,7 +207,7 @@ by-along set dims.One true h m n f g = refl
 by-along set dims.One false h m n f g = absurd (both_ways false refl (g h.0))
 by-along set dims.Two along h m n f g = absurd (n refl)
 
-cons : {A : Type 0} (x y : A) (xs ys : List A) → x ≡ y → xs ≡ ys → x ∷ xs ≡ y ∷ ys
+pub cons : {A : Type 0} (x y : A) (xs ys : List A) → x ≡ y → xs ≡ ys → x ∷ xs ≡ y ∷ ys
 cons x y xs ys e f = ap (λ v. v ∷ xs) e ∙ ap (λ vs. y ∷ vs) f
 
 pub overlap-told : (a b : Geometry) (along : Bool) → IsValid a → IsValid b → shape_of a ≡ Areas → shape_of b ≡ Areas → HadMost (matrix_of a b) → IsTrue along ↔ RunAlong a b →

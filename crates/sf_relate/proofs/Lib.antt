@@ -21,3 +21,7 @@ pub mod QuestionLaws
 pub mod ToldLaws
 pub mod NearbyLaws
 pub mod AreasLaws
+pub mod CornerLaws
+pub mod SectorLaws
+pub mod OverlapLaws
+pub mod CommonBoxLaws

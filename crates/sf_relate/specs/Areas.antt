@@ -1,15 +1,22 @@
--- The matrix of two areas, told before all their cells were handed out: once each entry has the most that areas allow, but that
--- of the two boundaries, of which it is known that they share a point.
-use Rattle.std.specs.Prelude.{Bool, List, [], ◌∷◌, if◌then◌else◌}
+-- The matrix of two areas, told before all their cells were handed out, or with no cells at all: once each entry has the most
+-- that areas allow, but that of the two boundaries, of which it is known that they share a point.
+use Rattle.std.specs.Prelude.{◌≡◌, Bool, List, [], ◌∷◌, if◌then◌else◌}
+use Rattle.std.specs.Int.{int_max, int_min}
 use Rattle.sf_cells.specs.Groups.{Item}
+use Rattle.sf_crossing.specs.Crossing.{HaveCrossing}
+use Rattle.sf_geometry.specs.declared.extent.Extent.{Extent}
+use Rattle.sf_geometry.specs.declared.geometry.Geometry.{Geometry}
+use Rattle.sf_geometry.specs.Parts.{edges_of}
 use Rattle.sf_plane.specs.declared.dim.Dim.{Dim}
 use Rattle.sf_plane.specs.declared.dim.Dim.TheVariants as dims
 use Rattle.sf_relate.specs.declared.areas.AreasSink.{AreasSink}
 use Rattle.sf_relate.specs.declared.letter.Letter.{Letter}
 use Rattle.sf_relate.specs.declared.letter.Letter.TheVariants.{Filled, One, Two}
 use Rattle.sf_relate.specs.declared.shape.Shape.TheVariants.{Areas}
+use Rattle.sf_relate.specs.Matrices.{matrix_of}
 use Rattle.sf_relate.specs.Patterns.{matches}
-use Rattle.sf_relate.specs.Places.{with_item}
+use Rattle.sf_relate.specs.Places.{shape_of, with_item}
+use Rattle.sf_rules.specs.Validity.{IsValid}
 
 -- the most that each entry can have of two areas; the two boundaries share a point
 abbrev pub overlap_letters : List Letter
@@ -21,6 +28,21 @@ overlapping_entries along =
     dims.Two ∷ dims.One ∷ dims.Two
     ∷ dims.One ∷ (if along then dims.One else dims.Zero) ∷ dims.One
     ∷ dims.Two ∷ dims.One ∷ dims.Two ∷ []
+
+-- the matrix has these entries
+pub record Overlap (a b : Geometry) : Type 0 where
+  pub along : Bool
+  pub matrix : matrix_of a b ≡ overlapping_entries along
+
+-- valid areas overlap of which edges cross at a point that no other edge of the two has
+abbrev pub CrossingAreasOverlap : Type 0
+CrossingAreasOverlap =
+    (a b : Geometry) → IsValid a → IsValid b → shape_of a ≡ Areas → shape_of b ≡ Areas → HaveCrossing (edges_of a) (edges_of b) → Overlap a b
+
+-- the box that two boxes have in common; where they share no point, no other box shares one with it
+abbrev pub common_extent : Extent → Extent → Extent
+common_extent e f =
+    record { min_x = int_max e.min_x f.min_x; min_y = int_max e.min_y f.min_y; max_x = int_min e.max_x f.max_x; max_y = int_min e.max_y f.max_y }
 
 -- what is found of two areas: the entries so far, and whether these have the most
 pub record Found : Type 0 where

@@ -1,8 +1,9 @@
-//! The matrix of two areas. Where they overlap the walk ends after a few columns: then each entry has the most that
-//! areas allow, but that of the two boundaries, and edges that run along one another tell that one.
+//! The matrix of two areas. Where they overlap no cell is needed once two edges are found that cross, and else the walk
+//! ends after a few columns: then each entry has the most that areas allow, but that of the two boundaries, and edges that
+//! run along one another tell that one.
 
-ghost use Rattle.std.specs.Prelude.{◌≡◌, IfOk};
-ghost use Rattle.sf_relate.specs.Areas.{overlapping_entries};
+ghost use Rattle.std.specs.Prelude.{◌≡◌, IfOk, IsTrue};
+ghost use Rattle.sf_relate.specs.Areas.{Overlap, common_extent, overlapping_entries};
 ghost use Rattle.sf_relate.specs.Matrices.{matrix_of};
 ghost use Rattle.sf_relate.specs.Places.{shape_of};
 ghost use Rattle.sf_relate.specs.declared.shape.Shape.TheVariants.{Areas};
@@ -13,6 +14,8 @@ use super::pattern::Pattern;
 use super::shape::Shape;
 use super::sink::{dim_of, entry_of_cell, greater};
 use sf_along::run_along;
+use sf_crossing::have_crossing;
+use sf_geometry::Extent;
 use sf_pieces::CellSink;
 use sf_plane::Dim;
 use sf_validity::Valid;
@@ -48,7 +51,48 @@ impl CellSink for AreasSink {
     }
 }
 
-/// The matrix of two areas, by a walk over the pieces of both that ends once they are known to overlap.
+/// Whether two geometries are areas of which edges are found that cross, so that they overlap. If not, nothing is known.
+///
+/// # Errors
+///
+/// Want of memory alone.
+pub fn are_known_to_overlap(alloc: Global, a: &Valid, b: &Valid) -> Result<bool, AllocError>
+    ensures { IfOk result (λ told. IsTrue told → Overlap a.now b.now) }
+{
+    if !are_areas(a, b) {
+        return Ok(false);
+    }
+    let first = a.geometry();
+    let second = b.geometry();
+    let common = common_extent(&first.envelope(), &second.envelope());
+    if second.point_count() <= first.point_count() {
+        have_crossing(alloc, first, second, &common)
+    } else {
+        have_crossing(alloc, second, first, &common)
+    }
+}
+
+/// The box that two boxes have in common. Where they share no point, no other box shares one with it.
+fn common_extent(a: &Extent, b: &Extent) -> Extent
+    ensures { result ≡ common_extent a.now b.now }
+{
+    Extent {
+        min_x: a.min_x.max(b.min_x),
+        min_y: a.min_y.max(b.min_y),
+        max_x: a.max_x.min(b.max_x),
+        max_y: a.max_y.min(b.max_y),
+    }
+}
+
+/// Whether both geometries are polygons.
+pub(crate) fn are_areas(a: &Valid, b: &Valid) -> bool
+    ensures { IsTrue result → (shape_of a.now ≡ Areas) × (shape_of b.now ≡ Areas) }
+{
+    Shape::of(a.geometry()).is_areal() && Shape::of(b.geometry()).is_areal()
+}
+
+/// The matrix of two areas: by edges that cross, or else by a walk over the pieces of both that ends once they are known
+/// to overlap.
 ///
 /// # Errors
 ///
@@ -60,6 +104,9 @@ pub(crate) fn relate_areas(alloc: Global, a: &Valid, b: &Valid) -> Result<Matrix
 {
     let first = a.geometry();
     let second = b.geometry();
+    if are_known_to_overlap(alloc, a, b)? {
+        return Ok(matrix_overlapping(run_along(alloc, first, second)?));
+    }
     let pieces = pieces_of(alloc, first, second)?;
     let mut sink = AreasSink {
         matrix: Matrix([Dim::Nothing; 9]),
@@ -69,11 +116,11 @@ pub(crate) fn relate_areas(alloc: Global, a: &Valid, b: &Valid) -> Result<Matrix
     if !sink.told {
         return Ok(sink.matrix);
     }
-    Ok(overlapping(run_along(alloc, first, second)?))
+    Ok(matrix_overlapping(run_along(alloc, first, second)?))
 }
 
-/// The matrix of areas that overlap, by whether their boundaries run along one another.
-fn overlapping(along: bool) -> Matrix
+/// The matrix of two areas that overlap, by whether their boundaries run along one another.
+pub fn matrix_overlapping(along: bool) -> Matrix
     ensures { result.0 ≡ overlapping_entries along }
 {
     Matrix([

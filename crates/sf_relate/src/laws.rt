@@ -1,6 +1,7 @@
 //! Laws of matrices, patterns and predicates, each the contract of a function that does nothing.
 
 ghost use Rattle.sf_geometry.specs.declared.geometry.Geometry.{Geometry};
+ghost use Rattle.sf_relate.specs.Areas.{CrossingAreasOverlap};
 ghost use Rattle.sf_relate.specs.Contact.{ApartHasNoContact, ContactIsShared, FirstPointIsIn, LiesInBox, PointFillsItsPlace, PointHasContact};
 ghost use Rattle.sf_relate.specs.Matrices.{MatricesAreOverThePlane};
 ghost use Rattle.sf_relate.specs.Patterns.{PatternsNeedContact};
@@ -69,4 +70,9 @@ pub fn apart_is_told()
 /// So has a valid geometry in the interior of an area that has room beside it.
 pub fn within_is_told()
     ensures { WithinIsTold }
+{}
+
+/// Valid areas overlap of which edges cross at a point that no other edge of the two has.
+pub fn crossing_areas_overlap()
+    ensures { CrossingAreasOverlap }
 {}

@@ -23,6 +23,7 @@ mod sink;
 mod tests;
 mod told;
 
+pub use areas::{are_known_to_overlap, matrix_overlapping};
 pub use first_points::shares_first_point;
 pub use letter::Letter;
 pub use locating::locate;

@@ -1,11 +1,9 @@
 //! Matrices of two geometries.
 
-ghost use Rattle.std.specs.Prelude.{◌≡◌, IfOk, IsTrue};
+ghost use Rattle.std.specs.Prelude.{◌≡◌, IfOk};
 ghost use Rattle.sf_relate.specs.Matrices.{IsMatrix, matrix_of};
-ghost use Rattle.sf_relate.specs.Places.{shape_of};
-ghost use Rattle.sf_relate.specs.declared.shape.Shape.TheVariants.{Areas};
 
-use super::areas::relate_areas;
+use super::areas::{are_areas, relate_areas};
 use super::grouping::pieces_of;
 use super::matrix::Matrix;
 use super::shape::Shape;
@@ -32,13 +30,6 @@ pub fn relate(alloc: Global, a: &Valid, b: &Valid) -> Result<Matrix, AllocError>
     } else {
         walked(alloc, a, b)
     }
-}
-
-/// Whether both geometries are polygons.
-fn are_areas(a: &Valid, b: &Valid) -> bool
-    ensures { IsTrue result → (shape_of a.now ≡ Areas) × (shape_of b.now ≡ Areas) }
-{
-    Shape::of(a.geometry()).is_areal() && Shape::of(b.geometry()).is_areal()
 }
 
 /// The matrix of two geometries, by a walk over the pieces of both.

@@ -45,6 +45,22 @@ const BESIDE: Places = &[(10, 0), (20, 0), (20, 10), (10, 10), (10, 0)];
 
 const ACROSS: Places = &[(5, 5), (15, 5), (15, 15), (5, 15), (5, 5)];
 
+/// Into a square from below, along its right side, and out again.
+const ALONG: Places = &[
+    (5, -5),
+    (5, 5),
+    (10, 5),
+    (10, 8),
+    (20, 8),
+    (20, -5),
+    (5, -5),
+];
+
+/// A hole of a square that begins on its lower side, and a wedge that comes in there.
+const NOTCH: Places = &[(5, 0), (8, 5), (2, 5), (5, 0)];
+
+const WEDGE: Places = &[(5, -5), (5, 3), (3, -5), (5, -5)];
+
 const SHIFTED: Places = &[(5, 0), (15, 0), (15, 10), (5, 10), (5, 0)];
 
 const FAR: Places = &[(50, 0), (60, 0), (60, 20), (50, 10), (50, 0)];
@@ -107,6 +123,18 @@ const CASES: &[Case] = &[
         predicates: &[Predicate::Intersects, Predicate::Crosses],
     },
     // They cross at 2/3, 1/3.
+    Case {
+        first: Made::Polygon(&[SQUARE]),
+        second: Made::Polygon(&[ALONG]),
+        matrix: "212111212",
+        predicates: &[Predicate::Intersects, Predicate::Overlaps],
+    },
+    Case {
+        first: Made::Polygon(&[SQUARE, NOTCH]),
+        second: Made::Polygon(&[WEDGE]),
+        matrix: "212101212",
+        predicates: &[Predicate::Intersects, Predicate::Overlaps],
+    },
     Case {
         first: Made::Line(&[(0, 0), (2, 1)]),
         second: Made::Line(&[(0, 1), (1, 0)]),

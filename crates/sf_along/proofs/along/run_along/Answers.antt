@@ -2,7 +2,7 @@ use Rattle.std.proofs.Common.{◌≡◌, ◌∙◌, ap, sym, subst, rules, map}
 use Rattle.std.specs.List.Sorted.{IsPermutation, IsSortedBy}
 use Rattle.std.proofs.lemmas.List.Sorted.{All-permutation, answers_always}
 use Rattle.sf_geometry.specs.Parts.{edge_of, edges_of}
-use Rattle.sf_along.specs.Runs.{IsRun, all_runs, key_of, run_before}
+use Rattle.sf_along.specs.Runs.{IsRun, near_runs, key_of, run_before}
 use Rattle.sf_along.proofs.EdgeLaws.{all-runs}
 use Rattle.sf_along.proofs.OrderLaws.{in-order, sorted-by_keys}
 use Rattle.sf_along.proofs.PairLaws.{pair-tells}
@@ -17,9 +17,9 @@ second-edges : (c : After-as_slice-3) → map edge_of c.as_slice-2.result.now �
 second-edges c = ap (map edge_of) c.as_slice-2.ensures.value ∙ c.in_ok-second.ensures
 
 -- and what is sorted are their runs
-permuted : (c : After-as_slice-3) → IsPermutation (all_runs c.as_slice.result.now c.as_slice-2.result.now) c.as_slice-3.result.now
+permuted : (c : After-as_slice-3) → IsPermutation (near_runs c.as_slice.result.now c.as_slice-2.result.now) c.as_slice-3.result.now
 permuted c =
-    subst (λ runs. IsPermutation (all_runs c.as_slice.result.now c.as_slice-2.result.now) runs) (sym c.as_slice-3.ensures.value)
+    subst (λ runs. IsPermutation (near_runs c.as_slice.result.now c.as_slice-2.result.now) runs) (sym c.as_slice-3.ensures.value)
     (subst (λ runs. IsPermutation runs c.sort_unstable_by_key.new.self.items) c.in_ok-runs.ensures c.sort_unstable_by_key.ensures.permutation)
 
 pub have_pair-requires : goal.have_pair-requires
@@ -27,7 +27,7 @@ have_pair-requires c =
     let first = c.as_slice.result.now in
     let second = c.as_slice-2.result.now in
     in-order c.as_slice-3.result.now
-    (All-permutation IsRun (all_runs first second) c.as_slice-3.result.now (permuted c) (all-runs first second c.args.a.now c.args.b.now (first-edges c) (second-edges c)))
+    (All-permutation IsRun (near_runs first second) c.as_slice-3.result.now (permuted c) (all-runs first second c.args.a.now c.args.b.now (first-edges c) (second-edges c)))
     (subst (IsSortedBy run_before) (sym c.as_slice-3.ensures.value)
     (sorted-by_keys c.sort_unstable_by_key.new.self.items (c.sort_unstable_by_key.ensures.sorted key_of (answers_always _ _ _ (λ f a r g k. search rules)))))
 

@@ -2,10 +2,10 @@ use Rattle.std.proofs.Common.{◌≡◌, refl, ap, sym, ◌∙◌, ◌+◌, ◌+
 use Rattle.std.proofs.lemmas.List.{append-nil, drop_all, drop_more}
 use Rattle.sf_grid.specs.Plane.{Coordinates}
 use Rattle.sf_geometry.specs.Lists.{edges_of as edges_of_list}
-use Rattle.sf_prepared.specs.Nearby.{ends_meeting}
-use Rattle.sf_prepared.proofs.OverLaws.{passed-meeting, passed-other}
-use Rattle.sf_prepared.proofs.over.push_meeting.Goals as goal
-use Rattle.sf_prepared.proofs.over.push_meeting.Goals.{then-is_edge_meeting+in_ok-push, else-is_edge_meeting}
+use Rattle.sf_crossing.specs.Meeting.{ends_meeting}
+use Rattle.sf_crossing.proofs.MeetingLaws.{passed-meeting, passed-other}
+use Rattle.sf_crossing.proofs.meeting.push_meeting.Goals as goal
+use Rattle.sf_crossing.proofs.meeting.push_meeting.Goals.{then-is_edge_meeting+in_ok-push, else-is_edge_meeting}
 
 pub loop-to-init : goal.loop-to-init
 loop-to-init c = refl

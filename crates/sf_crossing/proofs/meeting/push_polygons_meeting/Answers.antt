@@ -5,9 +5,9 @@ use Rattle.sf_grid.specs.Plane.{Coordinates}
 use Rattle.sf_geometry.specs.declared.extent.Extent.{Extent}
 use Rattle.sf_geometry.specs.Lists.{edges_of as edges_of_list}
 use Rattle.sf_geometry.proofs.ListLaws.{flat_map-joined, pushed-more}
-use Rattle.sf_prepared.specs.Nearby.{ends_meeting}
-use Rattle.sf_prepared.proofs.OverLaws.{meeting-flat}
-use Rattle.sf_prepared.proofs.over.push_polygons_meeting.Goals as goal
+use Rattle.sf_crossing.specs.Meeting.{ends_meeting}
+use Rattle.sf_crossing.proofs.MeetingLaws.{meeting-flat}
+use Rattle.sf_crossing.proofs.meeting.push_polygons_meeting.Goals as goal
 
 abbrev of_rings : Extent → List (List Coordinates) → List (Coordinates × Coordinates)
 of_rings box rings = ends_meeting box (flat_map edges_of_list rings)

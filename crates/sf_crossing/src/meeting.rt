@@ -5,8 +5,7 @@ ghost use Rattle.std.specs.List.{flat_map};
 ghost use Rattle.sf_geometry.specs.Envelope.{extents_meet};
 ghost use Rattle.sf_geometry.specs.Lists.{edges_of as edges_of_list, is_same};
 ghost use Rattle.sf_geometry.specs.Parts.{edges_of, joined};
-ghost use Rattle.sf_prepared.specs.Boxes.{extent_of_edge};
-ghost use Rattle.sf_prepared.specs.Nearby.{ends_meeting};
+ghost use Rattle.sf_crossing.specs.Meeting.{ends_meeting, extent_of_edge};
 
 use sf_geometry::{Extent, Geometry, Sequence};
 use sf_grid::GridPoint;
@@ -16,7 +15,7 @@ use std::alloc::{AllocError, Global};
 const USUAL_EDGES: usize = 64;
 
 /// The edges whose boxes share a point with a box, in order.
-pub(crate) fn edges_meeting(
+pub fn edges_meeting(
     alloc: Global,
     geometry: &Geometry,
     extent: &Extent,

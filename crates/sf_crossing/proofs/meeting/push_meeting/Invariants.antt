@@ -1,7 +1,7 @@
 use Rattle.std.proofs.Common.{◌≡◌, ◌++◌, ◌∷◌, drop}
 use Rattle.sf_geometry.specs.Lists.{edges_of as edges_of_list}
-use Rattle.sf_prepared.specs.Nearby.{ends_meeting}
-use Rattle.sf_prepared.proofs.over.push_meeting.Given as goal
+use Rattle.sf_crossing.specs.Meeting.{ends_meeting}
+use Rattle.sf_crossing.proofs.meeting.push_meeting.Given as goal
 
 -- those of what is left, behind those that were found
 abbrev pub invariant-loop-to : goal.invariant-loop-to

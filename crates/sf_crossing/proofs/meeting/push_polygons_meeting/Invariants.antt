@@ -1,8 +1,8 @@
 use Rattle.std.proofs.Common.{◌≡◌, ◌++◌, take}
 use Rattle.std.specs.List.{flat_map}
 use Rattle.sf_geometry.specs.Lists.{edges_of as edges_of_list}
-use Rattle.sf_prepared.specs.Nearby.{ends_meeting}
-use Rattle.sf_prepared.proofs.over.push_polygons_meeting.Given as goal
+use Rattle.sf_crossing.specs.Meeting.{ends_meeting}
+use Rattle.sf_crossing.proofs.meeting.push_polygons_meeting.Given as goal
 
 abbrev pub invariant-loop-rings : goal.invariant-loop-rings
 invariant-loop-rings l =

@@ -5,9 +5,9 @@ use Rattle.sf_grid.specs.Plane.{Coordinates}
 use Rattle.sf_geometry.specs.declared.extent.Extent.{Extent}
 use Rattle.sf_geometry.specs.Lists.{edges_of as edges_of_list}
 use Rattle.sf_geometry.proofs.ListLaws.{pushed-more}
-use Rattle.sf_prepared.specs.Nearby.{ends_meeting}
-use Rattle.sf_prepared.proofs.OverLaws.{meeting-flat}
-use Rattle.sf_prepared.proofs.over.push_all_meeting.Goals as goal
+use Rattle.sf_crossing.specs.Meeting.{ends_meeting}
+use Rattle.sf_crossing.proofs.MeetingLaws.{meeting-flat}
+use Rattle.sf_crossing.proofs.meeting.push_all_meeting.Goals as goal
 
 abbrev of_list : Extent → List Coordinates → List (Coordinates × Coordinates)
 of_list box ps = ends_meeting box (edges_of_list ps)

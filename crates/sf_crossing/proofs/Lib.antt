@@ -1,0 +1,5 @@
+pub mod SideLaws
+pub mod EdgeLaws
+pub mod CountLaws
+pub mod AloneLaws
+pub mod MeetingLaws
