@@ -15,6 +15,16 @@ from web_support import TOWN, WebCase
 from sfstore import Store
 
 DAY = TOWN.parent / "day.txt"
+
+# From now on what is told of a feature comes late.
+LATE = """
+const told = window.fetch;
+window.fetch = async (path, words) => {
+  const answer = await told(path, words);
+  if (path === "feature") await new Promise((done) => setTimeout(done, 3000));
+  return answer;
+};
+"""
 SHOWN_WELLS = """\
 rows 4
 1 POINT (450 150) depth=12 label='the old one' inspected='2026-11-23'
@@ -243,6 +253,15 @@ class Several(PageCase):
         ann.here().until(lambda: ann.one("#value-owner").get_property("value") == "Ito")
         ben.here().type("delete parcels 2", "ok")
         ann.here().until(lambda: ann.text("#chosen-title") == "Nothing selected")
+
+    def test_an_edit_by_another_takes_no_selection_back(self):
+        ann = self.open("Ann")
+        ann.choose((270, 150), "parcels 2, a polygon")
+        ann.script(LATE)
+        ann.press("n")
+        self.serving.log_in("Ben").answer("set parcels 2 owner 'Ito'")
+        ann.logged("set parcels 2 owner 'Ito'")
+        ann.until(lambda: ann.text("#chosen-title") == "parcels 3, a polygon")
 
     def test_a_reload_keeps_the_name_and_the_steps(self):
         page = self.open()

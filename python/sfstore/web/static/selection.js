@@ -35,14 +35,15 @@ export class Selection {
     const found = place && (await call("feature", place));
     if (this.wanted !== place) return;
     this.feature = found && !found.refused ? found : null;
+    if (!this.feature) this.wanted = null;
     this.app.mark();
     this.#tell();
     this.showHandles();
   }
 
-  /** Looks at the selected feature anew: it may have been changed. */
+  /** Looks anew at the selected feature, or at the one that is being selected: it may have been changed. */
   refresh() {
-    return this.feature ? this.choose(this.place) : undefined;
+    return this.wanted ? this.choose({ ...this.wanted }) : undefined;
   }
 
   delete() {
