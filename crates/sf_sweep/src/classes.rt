@@ -88,41 +88,56 @@ fn sweep_in_rows<R: Row, S: CellSink>(
     Ok(())
 }
 
-/// Whether few edges are over the vertices, or over their columns where no crossing makes a further column.
-/// Then there are hardly more cells than events, and `walk`, which searches nothing, is quicker.
+/// How many edges are over vertices and over columns, by one pass over the vertices.
+#[derive(Clone, Copy)]
+struct Crowd {
+    /// Over what is behind each vertex, all vertices together.
+    over_vertices: usize,
+    /// From each column of vertices to the next one, all columns together.
+    over_columns: usize,
+    /// Whether some edge is neither level nor upright.
+    slants: bool,
+}
+
+/// Whether few edges are over the vertices, on the average, or over their columns where no crossing makes a further
+/// column. Then there are hardly more cells than events, and `walk`, which searches nothing, is quicker.
+///
+/// Where few are over the vertices `walk` can't be far slower even if all edges cross: of edges that are over one place
+/// each one counts those that began before it. Where all pieces are along the axes `walk` has the vertices' columns alone:
+/// where level and upright edges cross, there is one already.
 fn is_walk_quicker(vertices: &[Vertex]) -> bool
     requires few { length vertices.now ≤ 131070 }
 {
-    are_under_few(vertices) || are_columns_under_few(vertices)
+    let crowd = crowd_of(vertices);
+    crowd.over_vertices <= FEW * vertices.len()
+        || (!crowd.slants && crowd.over_columns <= vertices.len())
 }
 
-/// Whether few edges are over the vertices, on the average. `walk` can't be far slower then even where all
-/// edges cross: of edges that are over one place each one counts those that began before it.
-fn are_under_few(vertices: &[Vertex]) -> bool
-    requires few { length vertices.now ≤ 131070 }
-{
+/// The crowd over the vertices of a set of pieces, in their order.
+fn crowd_of(vertices: &[Vertex]) -> Crowd {
+    let mut crowd = Crowd {
+        over_vertices: 0,
+        over_columns: 0,
+        slants: false,
+    };
     let mut over = 0usize;
-    let mut total = 0usize;
+    let mut column = i32::MIN;
     for vertex in vertices {
-        over = over_behind(over, &vertex.role);
-        total = total.saturating_add(over);
+        if vertex.at.x() != column {
+            column = vertex.at.x();
+            crowd.over_columns = crowd.over_columns.saturating_add(over);
+        }
+        match &vertex.role {
+            Role::Begin(edge) => {
+                over = over.saturating_add(1);
+                crowd.slants |= !is_level(edge);
+            }
+            Role::End => over = over.saturating_sub(1),
+            _ => {}
+        }
+        crowd.over_vertices = crowd.over_vertices.saturating_add(over);
     }
-    total <= FEW * vertices.len()
-}
-
-/// Whether all pieces are along the axes, and no more edges go on from the columns of the vertices, all of them
-/// together, than there are vertices. `walk` has no other columns then: where level and upright edges cross,
-/// there is one already.
-fn are_columns_under_few(vertices: &[Vertex]) -> bool {
-    are_along_axes(vertices) && onward_count(vertices) <= vertices.len()
-}
-
-/// Whether each edge that begins at one of the vertices is level: no other piece slants.
-fn are_along_axes(vertices: &[Vertex]) -> bool {
-    vertices.iter().all(|vertex| match &vertex.role {
-        Role::Begin(edge) => is_level(edge),
-        _ => true,
-    })
+    crowd
 }
 
 /// Whether both ends of an edge are at one height.
@@ -130,29 +145,6 @@ fn is_level(edge: &Slanted) -> bool
     ensures { IsTrue result ↔ (edge.now.left.y ≡ edge.now.right.y) }
 {
     edge.left().y() == edge.right().y()
-}
-
-/// How many edges go on to the right from the columns of the vertices, all of them together. From the last one
-/// none does.
-fn onward_count(vertices: &[Vertex]) -> usize {
-    let mut over = 0usize;
-    let mut total = 0usize;
-    for (vertex, next) in vertices.iter().zip(vertices.iter().skip(1)) {
-        over = over_behind(over, &vertex.role);
-        if vertex.at.x() != next.at.x() {
-            total = total.saturating_add(over);
-        }
-    }
-    total
-}
-
-/// How many edges are over what is behind a vertex, where so many were over what is before it.
-fn over_behind(over: usize, role: &Role) -> usize {
-    match role {
-        Role::Begin(_) => over.saturating_add(1),
-        Role::End => over.saturating_sub(1),
-        _ => over,
-    }
 }
 
 /// How many groups there are: the greatest number plus one, or 0.
