@@ -3,6 +3,7 @@ use Rattle.std.specs.Prelude.{◌≤◌, Bool, ◌&&◌, ◌||◌, List, pos, in
 use Rattle.std.specs.List.{Contains, count_by}
 use Rattle.sf_grid.specs.Edge.{Edge, IsOnEdge, cross, on_edge}
 use Rattle.sf_grid.specs.Plane.{Coordinates, IsPoint, Point, grid_point}
+use Rattle.sf_geometry.specs.Parts.{edge_of}
 
 -- c and d are on different sides of the line through the ends of e, and not on it
 abbrev pub are_parted : Edge → Coordinates → Coordinates → Bool
@@ -13,6 +14,10 @@ are_parted e c d =
 -- each of the two edges leads from one side of the other to the other side
 abbrev pub do_cross : Edge → Edge → Bool
 do_cross e f = are_parted e f.a f.b && are_parted f e.a e.b
+
+-- two edges that cross, one of each list, by their ends
+abbrev pub IsCrossing : List (Coordinates × Coordinates) → List (Coordinates × Coordinates) → (Coordinates × Coordinates) × (Coordinates × Coordinates) → Type 0
+IsCrossing es fs pair = Contains es pair.0 × Contains fs pair.1 × IsTrue (do_cross (edge_of pair.0) (edge_of pair.1))
 
 -- an edge of each list, and the point where they cross, which no other edge of the two lists has
 pub record HaveCrossing (es fs : List Edge) : Type 0 where

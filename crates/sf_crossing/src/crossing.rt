@@ -7,19 +7,16 @@ ghost use Rattle.sf_crossing.specs.Crossing.{HaveCrossing, do_cross};
 ghost use Rattle.sf_crossing.specs.Meeting.{ends_meeting};
 
 use crate::meeting::edges_meeting;
-use crate::pair::{do_cross, has_one_at_most};
+use crate::pair::has_one_at_most;
+use crate::runs::find_crossing;
 use sf_geometry::{Extent, Geometry};
 use sf_grid::edges::meet;
 use sf_grid::{GridPoint, Meet};
 use std::alloc::{AllocError, Global};
 
-/// How many pairs of edges are tried at most for each edge of the first geometry that comes into question, on the average.
-const PAIRS_FOR_EACH: usize = 8;
-
 /// Whether an edge of one geometry is found that crosses an edge of the other at a point that no other edge has, of the
-/// edges whose boxes share a point with a box. Pairs of these are tried until two edges cross, and all pairs only where
-/// the second geometry has few: where none is found nothing is known. More is found, and sooner, where the second has the
-/// fewer edges.
+/// edges whose boxes share a point with a box. Two that cross are looked for among edges near one another, and the search
+/// is given up where that takes long: where none is found nothing is known.
 ///
 /// # Errors
 ///
@@ -36,32 +33,24 @@ pub fn have_crossing(
 {
     let first = edges_meeting(alloc, a, common)?;
     let second = edges_meeting(alloc, b, common)?;
-    Ok(are_crossed(first.as_slice(), second.as_slice()))
+    are_crossed(alloc, first.as_slice(), second.as_slice())
 }
 
-/// Whether one of the first edges crosses one of the second.
-fn are_crossed(first: &[(GridPoint, GridPoint)], second: &[(GridPoint, GridPoint)]) -> bool
+/// Whether an edge of the first is found that crosses one of the second at a point of no other edge.
+fn are_crossed(
+    alloc: Global,
+    first: &[(GridPoint, GridPoint)],
+    second: &[(GridPoint, GridPoint)],
+) -> Result<bool, AllocError>
     requires first_long { AllByRecursion (λ pair. pair.0 ≢ pair.1) first.now }
     requires second_long { AllByRecursion (λ pair. pair.0 ≢ pair.1) second.now }
-    ensures { IsTrue result → HaveCrossing (map edge_of first.now) (map edge_of second.now) }
+    ensures { IfOk result (λ told. IsTrue told → HaveCrossing
+        (map edge_of first.now) (map edge_of second.now)) }
 {
-    let step = second.len() / PAIRS_FOR_EACH + 1;
-    let mut number = 0;
-    while number < first.len() {
-        let edge = &first[number];
-        if let Some(other) = first_crossed(edge, second) {
-            return is_alone(first, second, edge, &second[other]);
-        }
-        number += step;
+    match find_crossing(alloc, first, second)? {
+        Some((edge, other)) => Ok(is_alone(first, second, &edge, &other)),
+        None => Ok(false),
     }
-    false
-}
-
-/// The place of the first of some edges that crosses an edge.
-fn first_crossed(edge: &(GridPoint, GridPoint), others: &[(GridPoint, GridPoint)]) -> Option<usize>
-    ensures { result ≡ position (λ pair. do_cross (edge_of edge.now) (edge_of pair)) others.now }
-{
-    others.iter().position(|other| do_cross(edge, other))
 }
 
 /// Whether no other edges have the point where two of them cross.

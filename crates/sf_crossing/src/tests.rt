@@ -239,3 +239,68 @@ fn edges_off_the_box_are_left_out(rt: HostRuntime) -> Result<(), Fail> {
     }
     Ok(())
 }
+
+/// The points of a curve of 80 edges, at each `x` from -40 to 40 so far above `base` as its square, or so far below.
+fn curve(alloc: Global, base: i32, is_below: bool) -> Result<Geometry, Fail> {
+    let mut points = Vec::new(alloc);
+    for x in -40i32..41 {
+        let square = x.saturating_mul(x);
+        let y = if is_below {
+            base.saturating_sub(square)
+        } else {
+            base.saturating_add(square)
+        };
+        points.push(GridPoint::new(x, y).ok_or("off the grid")?)?;
+    }
+    Ok(Geometry::LineString(Sequence::from_vec(points)))
+}
+
+#[test]
+fn curves_that_cross_in_two_places(rt: HostRuntime) -> Result<(), Fail> {
+    let valley = curve(rt.alloc(), 0, false)?;
+    // where a hill is twice a square high, both curves have a vertex where they cross, so no edges do
+    for (height, wanted) in [
+        (1, true),
+        (7, true),
+        (450, false),
+        (501, true),
+        (1861, true),
+        (2450, false),
+        (2999, true),
+        (-1, false),
+        (3300, false),
+    ] {
+        let hill = curve(rt.alloc(), height, true)?;
+        assert!(rt; is_told(&rt, &valley, &hill, wanted)?);
+    }
+    Ok(())
+}
+
+#[test]
+fn edges_of_a_late_run_that_cross(rt: HostRuntime) -> Result<(), Fail> {
+    // level edges, and a line above them that comes down through one of them and goes up again
+    for (count, crossed) in [
+        (31, 30),
+        (32, 31),
+        (33, 32),
+        (65, 1),
+        (65, 33),
+        (65, 64),
+        (200, 150),
+    ] {
+        let mut level = Vec::new(rt.alloc());
+        let mut high = Vec::new(rt.alloc());
+        for number in 0i32..count {
+            let x = number.saturating_mul(10);
+            level.push(GridPoint::new(x, 0).ok_or("off the grid")?)?;
+            high.push(GridPoint::new(x, 9).ok_or("off the grid")?)?;
+            if number.saturating_add(1) == crossed {
+                high.push(GridPoint::new(x.saturating_add(5), -9).ok_or("off the grid")?)?;
+            }
+        }
+        let a = Geometry::LineString(Sequence::from_vec(level));
+        let b = Geometry::LineString(Sequence::from_vec(high));
+        assert!(rt; is_told(&rt, &a, &b, true)?);
+    }
+    Ok(())
+}
