@@ -6,4 +6,5 @@ pub mod ScanLaws
 pub mod EdgeLaws
 pub mod OrderLaws
 pub mod NearLaws
+pub mod MarkLaws
 pub mod PairLaws

@@ -1,7 +1,7 @@
 -- Two of the sorted runs of two geometries go together just where an edge of the one runs along an edge of the other.
 use Rattle.std.proofs.Common.{◌≡◌, refl, ap, sym, ◌∙◌, subst, ◌<◌, Bool, true, false, cond, ◌⊎◌, inl, inr, List, [], ◌∷◌, map, get_or}
 use Rattle.std.specs.Prelude.{◌↔◌}
-use Rattle.std.specs.List.{Contains}
+use Rattle.std.specs.List.{All, Contains}
 use Rattle.std.specs.List.Sorted.{IsPermutation}
 use Rattle.std.proofs.lemmas.Bool.{false≢true}
 use Rattle.std.proofs.lemmas.List.{get_or-map, length-map}
@@ -17,7 +17,8 @@ use Rattle.sf_plane.specs.Laws.{ShareTwoPoints}
 use Rattle.sf_along.specs.declared.run.Run.{Run}
 use Rattle.sf_along.specs.Along.{RunAlong}
 use Rattle.sf_along.specs.Near.{extent_of_edges, is_near, near}
-use Rattle.sf_along.specs.Runs.{GoTogether, HasPartner, HavePair, near_runs, run_of}
+use Rattle.sf_along.specs.Marks.{KeepPairs}
+use Rattle.sf_along.specs.Runs.{GoTogether, HasPartner, HavePair, IsRun, near_runs, run_of}
 use Rattle.sf_along.proofs.NearLaws.{IsAmong, among, contained, filter-from, filter-has, shared-near}
 
 -- ---- edges that have the same points
@@ -178,22 +179,21 @@ module _ (first second : List (Coordinates × Coordinates)) (a b : Geometry) (ar
       share = share-moved (edge_of p) (edge_of q) (forward p) (forward q) (forward-has p) (forward-has q) s;
     }
 
-  pub pair-tells : (runs : List Run) → IsPermutation (near_runs first second) runs → HavePair runs ↔ RunAlong a b
-  pair-tells runs permuted = (
+  pub pair-tells : (kept runs : List Run) → All IsRun (near_runs first second) → KeepPairs (near_runs first second) kept → IsPermutation kept runs → HavePair runs ↔ RunAlong a b
+  pair-tells kept runs all pairs permuted = (
     λ h.
         let p = pair runs h in
-        let back = IsPermutation-sym (near_runs first second) runs permuted in
-        told p.first p.second
-        (Contains-permutation runs (near_runs first second) p.first back (contained runs p.first p.first_among))
-        (Contains-permutation runs (near_runs first second) p.second back (contained runs p.second p.second_among))
-        p.together,
+        let back = λ (r : Run) (i : IsAmong runs r). pairs.from r (Contains-permutation runs kept r (IsPermutation-sym kept runs permuted) (contained runs r i)) in
+        told p.first p.second (back p.first p.first_among) (back p.second p.second_among) p.together,
     λ h.
         let p = image edge_of first h.first (subst (λ es. Contains es h.first) (sym are_first) h.of_first) in
         let q = image edge_of second h.second (subst (λ es. Contains es h.second) (sym are_second) h.of_second) in
         let s = subst (λ e. ShareTwoPoints e (edge_of q.from)) (sym p.is) (subst (ShareTwoPoints h.first) (sym q.is) h.share) in
-        let there = λ (r : Run) (c : Contains (near_runs first second) r). among runs r (Contains-permutation (near_runs first second) runs r permuted c) in
-        have-pair (run_of true p.from) (run_of false q.from) runs
-        (there (run_of true p.from) (first-run p.from q.from p.among q.among s))
-        (there (run_of false q.from) (second-run p.from q.from p.among q.among s))
-        (together p.from q.from p.among q.among s),
+        let r = run_of true p.from in
+        let t = run_of false q.from in
+        let i = first-run p.from q.from p.among q.among s in
+        let j = second-run p.from q.from p.among q.among s in
+        let g = together p.from q.from p.among q.among s in
+        let both = pairs.has r t (All-contains IsRun (near_runs first second) r all i) (All-contains IsRun (near_runs first second) t all j) i j g in
+        have-pair r t runs (among runs r (Contains-permutation kept runs r permuted both.0)) (among runs t (Contains-permutation kept runs t permuted both.1)) g,
   )

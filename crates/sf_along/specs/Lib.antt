@@ -1,3 +1,4 @@
 pub mod Along
+pub mod Marks
 pub mod Near
 pub mod Runs

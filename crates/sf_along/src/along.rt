@@ -6,20 +6,24 @@ ghost use Rattle.sf_along.specs.Along.{RunAlong};
 ghost use Rattle.sf_along.specs.Near.{extent_of_edge as extent_of_edge_of, extent_of_edges as extent_of_edges_of, extent_with_edge, is_near as is_near_of};
 ghost use Rattle.sf_along.specs.Runs.{AreInOrder, HavePair, near_runs as near_runs_of};
 
+use crate::marks::without_lone;
 use crate::run::Run;
 use sf_geometry::{Extent, Geometry};
 use sf_grid::GridPoint;
 use std::alloc::{AllocError, Global};
 
 /// Whether an edge of one geometry runs along an edge of the other: whether they have two points in common.
+///
 /// # Errors
+///
 /// Want of memory alone.
 pub fn run_along(alloc: Global, a: &Geometry, b: &Geometry) -> Result<bool, AllocError>
     ensures { IfOk result (λ told. IsTrue told ↔ RunAlong a.now b.now) }
 {
     let first = a.edges(alloc)?;
     let second = b.edges(alloc)?;
-    let mut runs = near_runs(alloc, first.as_slice(), second.as_slice())?;
+    let near = near_runs(alloc, first.as_slice(), second.as_slice())?;
+    let mut runs = without_lone(alloc, near)?;
     runs.sort_unstable_by_key(Run::key);
     Ok(have_pair(runs.as_slice()))
 }

@@ -3,6 +3,7 @@
 #![tactic(auto)]
 
 mod along;
+mod marks;
 mod run;
 
 pub use along::run_along;

@@ -1,10 +1,11 @@
 //! Edges as runs, numbered by the lines on which they lie.
 
-ghost use Rattle.std.specs.Prelude.{◌≡◌, ◌≢◌, ◌↔◌, ◌∷◌, ◌*◌, ◌-ℤ◌, ◌*ℤ◌, ◌≤◌, IsTrue, unsigned_abs};
+ghost use Rattle.std.specs.Prelude.{◌≡◌, ◌≢◌, ◌↔◌, ◌∷◌, ◌*◌, ◌-ℤ◌, ◌*ℤ◌, ◌<◌, ◌≤◌, IsTrue, unsigned_abs};
 ghost use Rattle.sf_grid.specs.Bounds.{IsCoordinate, coordinate_bound, difference_bound};
 ghost use Rattle.sf_grid.specs.Edge.{edge_between};
 ghost use Rattle.sf_grid.specs.Sharing.{comes_before as comes_before_of, earlier_of, later_of};
 ghost use Rattle.sf_plane.specs.Laws.{ShareTwoPoints};
+ghost use Rattle.sf_along.specs.Marks.{place_of};
 ghost use Rattle.sf_along.specs.Runs.{AreInOrder, GoTogether, HasPartner, IsRun, height_of, key_of, offset_of, reaches as reaches_of, run_of, slope_of};
 
 use sf_grid::edges::meet;
@@ -16,6 +17,9 @@ const SLOPE_STEPS: i64 = 1 << 38;
 /// Heights are counted in parts of 2^-14 grid steps: the greatest, of less than 2^48 grid steps, is less than 2^62 of them.
 const HEIGHT_STEPS: i64 = 1 << 14;
 
+/// How many places a table has in which lines are marked.
+pub(crate) const PLACES: usize = 1 << 15;
+
 /// An edge from its earlier end to its later, by x and then y, of the first of two geometries or of the second.
 ///
 /// Its slope and its height are those of its line, rounded down. Equal fractions are rounded to equal numbers, so edges
@@ -26,7 +30,7 @@ pub(crate) struct Run {
     height: i64,
     left: GridPoint,
     right: GridPoint,
-    is_first: bool,
+    pub(crate) is_first: bool,
 }
 
 impl Run {
@@ -50,6 +54,17 @@ impl Run {
         ensures { result ≡ key_of self.now }
     {
         (self.slope, self.height, self.left.x(), self.left.y())
+    }
+
+    /// The place of its line in a table: lines with the same numbers have one place, and now and then others have it too. A
+    /// height counts by its parts and by its whole steps, since those of level lines have no parts.
+    pub(crate) fn place(&self) -> usize
+        ensures value { result ≡ place_of self.now }
+        ensures within { result < PLACES }
+    {
+        let height = self.height.unsigned_abs();
+        (self.slope.unsigned_abs() ^ height ^ (height / HEIGHT_STEPS.unsigned_abs())) as usize
+            & (PLACES - 1)
     }
 
     /// Whether another run has the same numbers, and begins before this one ends.

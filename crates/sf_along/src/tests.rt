@@ -145,3 +145,36 @@ fn large_lines_with_one_edge_near_each(rt: HostRuntime) -> Result<(), Fail> {
     assert!(rt; is_told(&rt, &a, &across, false)?);
     Ok(())
 }
+
+/// Where a line with many edges goes on to, and whether it then runs along one of `one_pair_among_many_edges`.
+const AMONG_MANY: &[(&[(i32, i32)], bool)] = &[
+    (&[], false),
+    // along its first slanted edge, one in the middle, downwards, and its last one; and on the line of the first alone
+    (&[(-200, 0), (-199, 40)], true),
+    (&[(1, 40), (0, 0)], true),
+    (&[(-7, 40), (-6, 0)], true),
+    (&[(198, 0), (199, 40)], true),
+    (&[(-201, -40), (-200, 0)], false),
+    // along its upright edge and its level one, and beside them
+    (&[(220, 15), (220, 30)], true),
+    (&[(220, 20), (220, 30)], false),
+    (&[(221, 15), (221, 30)], false),
+    (&[(240, 20), (260, 20)], true),
+    (&[(250, 20), (260, 20)], false),
+    (&[(240, 21), (260, 21)], false),
+];
+
+#[test]
+fn one_pair_among_many_edges(rt: HostRuntime) -> Result<(), Fail> {
+    let a = zigzag(
+        rt.alloc(),
+        -200..200,
+        (0, 40),
+        &[(220, 10), (220, 20), (250, 20)],
+    )?;
+    for (places, wanted) in AMONG_MANY {
+        let b = zigzag(rt.alloc(), -200..200, (1, 41), places)?;
+        assert!(rt; is_told(&rt, &a, &b, *wanted)?);
+    }
+    Ok(())
+}
