@@ -1,8 +1,8 @@
 //! Matrices of worked pairs and which predicates hold of them; patterns of texts; places of points.
 
 use crate::{
-    Dim, Pattern, Place, Predicate, Refusal, dimension, holds, holds_between, holds_of_point,
-    locate, match_between, relate, shares_first_point,
+    Dim, Pattern, Place, Predicate, Refusal, are_known_to_overlap, dimension, holds, holds_between,
+    holds_of_point, locate, match_between, relate, shares_first_point,
 };
 use sf_geometry::{Geometry, Sequence};
 use sf_grid::GridPoint;
@@ -595,6 +595,30 @@ fn first_points(rt: HostRuntime) -> Result<(), Fail> {
         let b = second.valid(rt.alloc())?;
         assert_eq!(rt; shares_first_point(&a, &b), *wanted);
         assert_eq!(rt; shares_first_point(&b, &a), *wanted);
+    }
+    Ok(())
+}
+
+/// Geometries, and whether edges of two areas cross at a point of no other edge.
+const CROSSED: &[(Made, Made, bool)] = &[
+    (Made::Polygon(&[SQUARE]), Made::Polygon(&[ACROSS]), true),
+    (
+        Made::Polygons(&[&[SQUARE], &[&[(30, 0), (40, 0), (30, 9), (30, 0)]]]),
+        Made::Polygon(&[ACROSS]),
+        true,
+    ),
+    (Made::Polygon(&[SQUARE]), Made::Polygon(&[BESIDE]), false),
+    (Made::Polygon(&[SQUARE]), Made::Polygon(&[SQUARE]), false),
+    (Made::Polygon(&[SQUARE]), Made::Line(ACROSS), false),
+];
+
+#[test]
+fn areas_that_are_known_to_overlap(rt: HostRuntime) -> Result<(), Fail> {
+    for (first, second, wanted) in CROSSED {
+        let a = first.valid(rt.alloc())?;
+        let b = second.valid(rt.alloc())?;
+        assert_eq!(rt; are_known_to_overlap(rt.alloc(), &a, &b)?, *wanted);
+        assert_eq!(rt; are_known_to_overlap(rt.alloc(), &b, &a)?, *wanted);
     }
     Ok(())
 }
