@@ -82,10 +82,6 @@ module _ (of_first of_second : List Bool) (runs : List Run) (first : AreMarked o
     );
   }
 
--- all are kept
-pub all-kept : (runs : List Run) → KeepPairs runs runs
-all-kept runs = record { from = λ r c. c; has = λ r s h k i j g. (i, j) }
-
 -- what all have, those that are kept have
 pub all-of-kept : (P : Run → Type 0) (runs kept : List Run) → All P runs → KeepPairs runs kept → All P kept
 all-of-kept P runs kept all pairs = λ k d l. All-contains P runs (get_or kept k d) all (pairs.from (get_or kept k d) (All-contains_itself kept k d l))

@@ -1,6 +1,5 @@
-//! Whether edges of two geometries cross at a point that no other edge of them has, found among edges near one another, with no
-//! sweep;
-//! and the edges of a geometry near a box.
+//! Whether edges of two geometries cross at a point that no other edge of them has, found among edges near
+//! one another, with no sweep; and the edges of a geometry near a box.
 #![tactic(auto)]
 
 mod crossing;

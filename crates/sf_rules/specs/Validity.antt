@@ -11,7 +11,8 @@ use Rattle.sf_rules.specs.Rules.{Rule, rules_of}
 abbrev pub NoneApplies : List Rule → Type 0
 NoneApplies rules = AllByRecursion (λ rule. ¬ (Applies rule.condition)) rules
 
--- it is sized, and no rule applies (6.1.11.1 for polygons, 6.1.14.1 for several of them)
+-- it is sized, and no rule applies (6.1.11.1 for polygons, 6.1.14.1 for several of them); that the interior of a polygon is
+-- connected, which 6.1.11.1 also asks for, is no rule here
 pub record IsValid (geometry : Geometry) : Type 0 where
   pub sized : IsSized geometry
   pub faultless : NoneApplies (rules_of geometry)
