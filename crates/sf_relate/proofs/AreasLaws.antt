@@ -1,13 +1,11 @@
 -- The matrix of two areas that overlap, told before all items were handed out: by what was found of a part of them, and by
 -- whether the boundaries run along one another.
-use Rattle.std.proofs.Common.{◌≡◌, refl, ap, sym, ◌∙◌, subst, Bool, true, false, ◌||◌, List, [], ◌∷◌, fold}
+use Rattle.std.proofs.Common.{◌≡◌, refl, ap, sym, ◌∙◌, subst, Bool, true, false, ◌||◌, List, [], ◌∷◌}
 use Rattle.std.specs.Prelude.{◌↔◌, IsTrue, if◌then◌else◌}
 use Rattle.std.specs.List.{flat_map, list_any}
 use Rattle.std.proofs.lemmas.Bool.{and_from, and_parts, both_ways}
 use Rattle.std.proofs.lemmas.List.Folds.{list_any-append}
 use Rattle.sf_along.specs.Along.{RunAlong}
-use Rattle.sf_cells.specs.Groups.{Item}
-use Rattle.sf_classes.specs.Classes.{Represent, WereHanded}
 use Rattle.sf_geometry.specs.declared.geometry.Geometry.{Geometry}
 use Rattle.sf_geometry.specs.declared.geometry.Geometry.TheVariants.{Point, LineString, Polygon, MultiPoint, MultiLineString, MultiPolygon}
 use Rattle.sf_geometry.specs.Lists.{edges_of as edges_of_list}
@@ -17,7 +15,7 @@ use Rattle.sf_grid.specs.Edge.{Edge as Line, IsOnEdge, on_edge}
 use Rattle.sf_grid.specs.Plane.{Point as PlanePoint}
 use Rattle.sf_interiors.proofs.DimensionLaws.{boundary_has_dimension}
 use Rattle.sf_interiors.specs.Dimensions.{boundary_dim}
-use Rattle.sf_pieces.specs.Marked.{Marked, groups_of, items_of, piece_of, pieces_of as pieces_among}
+use Rattle.sf_pieces.specs.Marked.{piece_of}
 use Rattle.sf_plane.proofs.CombineLaws.{and_union}
 use Rattle.sf_plane.proofs.CoverLaws.{contains, in_append_left, in_append_right}
 use Rattle.sf_plane.proofs.PlaceLaws.{IsIn}
@@ -26,61 +24,21 @@ use Rattle.sf_plane.proofs.UnionLaws.{samples_tell}
 use Rattle.sf_plane.specs.declared.dim.Dim.{Dim}
 use Rattle.sf_plane.specs.declared.dim.Dim.TheVariants as dims
 use Rattle.sf_plane.specs.Dimension.{HasDimension, HasSegment, HasTriangle, PointSet}
-use Rattle.sf_plane.specs.Unions.{IsUnionOfCells, dim_of, dimension_by_samples, greater_dim}
+use Rattle.sf_plane.specs.Unions.{IsUnionOfCells, dimension_by_samples, greater_dim}
 use Rattle.sf_rules.proofs.MemberLaws.{any-one, in_map, one-any}
 use Rattle.sf_rules.specs.Validity.{IsValid}
 use Rattle.sf_relate.specs.declared.letter.Letter.TheVariants.{Filled, One, Two}
 use Rattle.sf_relate.specs.declared.place.Place.TheVariants.{Interior, Boundary, Exterior}
 use Rattle.sf_relate.specs.declared.shape.Shape.TheVariants.{Areas}
-use Rattle.sf_relate.specs.AllPieces.{all_grouped, all_pieces, end_dots_of, pieces_of, with_ends}
-use Rattle.sf_relate.specs.Areas.{Found, overlap_letters, overlapping_entries, with_areas_item, with_entries}
+use Rattle.sf_relate.specs.AllPieces.{all_pieces, end_dots_of, pieces_of, with_ends}
+use Rattle.sf_relate.specs.Areas.{overlap_letters, overlapping_entries}
 use Rattle.sf_relate.specs.Matrices.{both, matrix_of}
-use Rattle.sf_relate.specs.Patterns.{admits, matches}
-use Rattle.sf_relate.specs.Places.{first_place, is_areal, no_entries, second_place, shape_of, with_item}
-use Rattle.sf_relate.proofs.FoldLaws.{Table, fold-listed, greatest_at, listed, matrix-of-items, raised-listed, with_dim}
-use Rattle.sf_relate.proofs.QuestionLaws.{HaveGrown, grown-listed, same-grown}
+use Rattle.sf_relate.specs.Patterns.{admits}
+use Rattle.sf_relate.specs.Places.{shape_of}
+use Rattle.sf_relate.proofs.FoldLaws.{cons}
+use Rattle.sf_relate.proofs.MatrixLaws.{HadMost}
+use Rattle.sf_relate.proofs.MostLaws.{wider-triangle}
 use Rattle.sf_relate.proofs.SetLaws.{boundary_union, first_has, matrices_are_over_the_plane, second_has}
-
--- ---- what is found of items
--- some items had the most, and what they had has grown
-pub record HadMost (entries : List Dim) : Type 0 where
-  pub table : Table
-  pub most : matches overlap_letters (listed table) ≡ true
-  pub grown : HaveGrown (listed table) entries
-
--- what is found is all, or it is told, of a part of the items
-pub record IsFoundOf (entries : List Dim) (found : Found) : Type 0 where
-  pub whole : found.told ≡ false → found.entries ≡ entries
-  pub part : found.told ≡ true → HadMost entries
-
-abbrev all_of : List Dim → List Item → List Dim
-all_of entries is = fold (with_item Areas Areas) entries is
-
-abbrev at_table : Table → Bool → Found
-at_table t told = record { entries = listed t; told = told }
-
-told-stays : (t : Table) (is : List Item) → fold with_areas_item (at_table t true) is ≡ at_table t true
-told-stays t [] = refl
-told-stays t (i ∷ is) = told-stays t is
-
-found-left : (is : List Item) (t : Table) (told : Bool) → (told ≡ true → matches overlap_letters (listed t) ≡ true) → IsFoundOf (all_of (listed t) is) (fold with_areas_item (at_table t told) is)
-found-left [] t told h = record { whole = λ k. refl; part = λ k. record { table = t; most = h k; grown = same-grown (listed t) } }
-found-left (i ∷ is) t true h =
-    record {
-      whole = λ k. absurd (both_ways true (ap (λ (f : Found). f.told) (sym (told-stays t (i ∷ is))) ∙ k) refl);
-      part = λ k. record {
-        table = t;
-        most = h refl;
-        grown = subst (HaveGrown (listed t)) (sym (fold-listed Areas Areas t (i ∷ is))) (grown-listed t (greatest_at Areas Areas (i ∷ is)));
-      };
-    }
-found-left (i ∷ is) t false h =
-    let p = first_place Areas i in
-    let q = second_place Areas i in
-    let d = dim_of i.dim in
-    let u = with_dim t p q d in
-    let Left : List Dim → Type 0 = λ es. IsFoundOf (all_of es is) (fold with_areas_item (with_entries es) is) in
-    subst Left (sym (raised-listed t p q d)) (found-left is u (matches overlap_letters (listed u)) (λ k. k))
 
 -- ---- the boundary of an area is thin
 one-wide : (a : Geometry) → shape_of a ≡ Areas → boundary_dim a ≡ dims.One
@@ -94,19 +52,15 @@ one-wide (MultiLineString lines) s = absurd cc
 thin : (a : Geometry) → IsValid a → shape_of a ≡ Areas → HasTriangle (in_boundary a) → ⊥
 thin a v s = (subst (HasDimension (in_boundary a)) (one-wide a s) (boundary_has_dimension a v)).1
 
--- a set with all points of one with a triangle has one
-wider : (s t : PointSet) → ((p : PlanePoint) → s p ≡ true → t p ≡ true) → HasTriangle s → HasTriangle t
-wider s t f h = record { a = h.a; b = h.b; c = h.c; is_a = h.is_a; is_b = h.is_b; is_c = h.is_c; wide = h.wide; has = λ p i j. f p (h.has p i j) }
-
 pub first-thin : (a : Geometry) (t : PointSet) (d : Dim) → IsValid a → shape_of a ≡ Areas → HasDimension (both (in_boundary a) t) d → d ≡ dims.Two → ⊥
 first-thin a t d v s h e =
     let wide : HasTriangle (both (in_boundary a) t) = subst (HasDimension (both (in_boundary a) t)) e h in
-    thin a v s (wider (both (in_boundary a) t) (in_boundary a) (λ p i. (and_parts (in_boundary a p) (t p) i).0) wide)
+    thin a v s (wider-triangle (both (in_boundary a) t) (in_boundary a) (λ p i. (and_parts (in_boundary a p) (t p) i).0) wide)
 
 pub second-thin : (a : Geometry) (t : PointSet) (d : Dim) → IsValid a → shape_of a ≡ Areas → HasDimension (both t (in_boundary a)) d → d ≡ dims.Two → ⊥
 second-thin a t d v s h e =
     let wide : HasTriangle (both t (in_boundary a)) = subst (HasDimension (both t (in_boundary a))) e h in
-    thin a v s (wider (both t (in_boundary a)) (in_boundary a) (λ p i. (and_parts (t p) (in_boundary a p) i).1) wide)
+    thin a v s (wider-triangle (both t (in_boundary a)) (in_boundary a) (λ p i. (and_parts (t p) (in_boundary a p) i).1) wide)
 
 -- ---- the boundary of an area is its edges
 any-flat : {A B : Type 0} (test : B → Bool) (f : A → List B) (xs : List A) → list_any test (flat_map f xs) ≡ list_any (λ x. list_any test (f x)) xs
@@ -207,16 +161,13 @@ by-along set dims.One true h m n f g = refl
 by-along set dims.One false h m n f g = absurd (both_ways false refl (g h.0))
 by-along set dims.Two along h m n f g = absurd (n refl)
 
-pub cons : {A : Type 0} (x y : A) (xs ys : List A) → x ≡ y → xs ≡ ys → x ∷ xs ≡ y ∷ ys
-cons x y xs ys e f = ap (λ v. v ∷ xs) e ∙ ap (λ vs. y ∷ vs) f
-
-pub overlap-told : (a b : Geometry) (along : Bool) → IsValid a → IsValid b → shape_of a ≡ Areas → shape_of b ≡ Areas → HadMost (matrix_of a b) → IsTrue along ↔ RunAlong a b →
+pub overlap-told : (a b : Geometry) (along : Bool) (had : List Dim) → IsValid a → IsValid b → shape_of a ≡ Areas → shape_of b ≡ Areas → HadMost overlap_letters had (matrix_of a b) → IsTrue along ↔ RunAlong a b →
     overlapping_entries along ≡ matrix_of a b
-overlap-told a b along v w s t h r =
+overlap-told a b along had v w s t h r =
     let m = (matrices_are_over_the_plane a b).computed in
     let g = h.grown in
     let u = h.table in
-    let m0 = and_parts (admits Two (u Interior Interior)) _ h.most in
+    let m0 = and_parts (admits Two (u Interior Interior)) _ h.matched in
     let m1 = and_parts (admits One (u Interior Boundary)) _ m0.1 in
     let m2 = and_parts (admits Two (u Interior Exterior)) _ m1.1 in
     let m3 = and_parts (admits One (u Boundary Interior)) _ m2.1 in
@@ -240,22 +191,3 @@ overlap-told a b along v w s t h r =
     (cons _ _ _ _ (grown-two (u Exterior Interior) (d (in_exterior a) (in_interior b)) m6.0 g.1.1.1.1.1.1.0)
     (cons _ _ _ _ (grown-one (u Exterior Boundary) (d (in_exterior a) (in_boundary b)) m7.0 g.1.1.1.1.1.1.1.0 (second-thin b (in_exterior a) _ w t m.1.1.1.1.1.1.1.0))
     (cons _ _ _ _ (grown-two (u Exterior Exterior) (d (in_exterior a) (in_exterior b)) m8.0 g.1.1.1.1.1.1.1.1.0) refl))))))))
-
--- ---- what a sink has in the end
-abbrev pub begun_areas : Found
-begun_areas = record { entries = no_entries; told = false }
-
-pub areas-left : (a b : Geometry) (ms : List Marked) (areal : List Bool) (old new : Found) → IsValid a → IsValid b → shape_of a ≡ Areas → shape_of b ≡ Areas → ms ≡ all_grouped a b
-    → areal ≡ true ∷ true ∷ [] → old ≡ begun_areas → WereHanded (pieces_among ms) (groups_of ms) areal with_areas_item old new → IsFoundOf (matrix_of a b) new
-areas-left a b ms areal old new v w s t e f o h =
-    let P : List Marked → Type 0 = λ ns. Represent areal h.items (items_of ns) in
-    let Q : List Bool → Type 0 = λ bs. Represent bs h.items (items_of (all_grouped a b)) in
-    let areals : areal ≡ is_areal (shape_of a) ∷ is_areal (shape_of b) ∷ [] =
-    f ∙ ap (λ x. is_areal x ∷ true ∷ []) (sym s) ∙ ap (λ x. is_areal (shape_of a) ∷ is_areal x ∷ []) (sym t) in
-    let all : all_of no_entries h.items ≡ matrix_of a b =
-    ap (λ x. fold (with_item x Areas) no_entries h.items) (sym s)
-    ∙ ap (λ x. fold (with_item (shape_of a) x) no_entries h.items) (sym t)
-    ∙ matrix-of-items a b h.items v w (subst Q areals (subst P e h.represent)) in
-    subst (IsFoundOf (matrix_of a b)) (sym (h.handed ∙ ap (λ g. fold with_areas_item g h.items) o))
-    (subst (λ es. IsFoundOf es (fold with_areas_item begun_areas h.items)) all
-    (found-left h.items (λ p q. dims.Nothing) false (λ k. absurd cc)))

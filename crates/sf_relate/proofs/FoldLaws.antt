@@ -57,7 +57,7 @@ raised-listed t Exterior Interior d = refl
 raised-listed t Exterior Boundary d = refl
 raised-listed t Exterior Exterior d = refl
 
-cons : {A : Type 0} (x y : A) (xs ys : List A) → x ≡ y → xs ≡ ys → x ∷ xs ≡ y ∷ ys
+pub cons : {A : Type 0} (x y : A) (xs ys : List A) → x ≡ y → xs ≡ ys → x ∷ xs ≡ y ∷ ys
 cons x y xs ys e f = ap (λ v. v ∷ xs) e ∙ ap (λ vs. y ∷ vs) f
 
 pub listed-same : (t u : Table) → ((p q : Place) → t p q ≡ u p q) → listed t ≡ listed u
@@ -80,7 +80,7 @@ greater-nothing Zero = refl
 greater-nothing One = refl
 greater-nothing Two = refl
 
-greater-greater : (c d e : Dim) → greater_dim (greater_dim c d) e ≡ greater_dim c (greater_dim d e)
+pub greater-greater : (c d e : Dim) → greater_dim (greater_dim c d) e ≡ greater_dim c (greater_dim d e)
 greater-greater Nothing d e = refl
 greater-greater Zero Nothing e = refl
 greater-greater Zero Zero Nothing = refl

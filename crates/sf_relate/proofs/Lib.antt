@@ -1,5 +1,5 @@
 pub mod LetterLaws
-pub mod CharacterLaws
+pub mod NineLaws
 pub mod ContactLaws
 pub mod SetLaws
 pub mod PlaceLaws
@@ -8,6 +8,7 @@ pub mod GroupLaws
 pub mod FoldLaws
 pub mod SizeLaws
 pub mod MatrixLaws
+pub mod MostLaws
 pub mod SharedLaws
 pub mod EnvelopeLaws
 pub mod Computed

@@ -48,11 +48,13 @@ use Rattle.sf_relate.specs.AllPieces.{all_pieces, end_dots_of, grouped, pieces_o
 use Rattle.sf_relate.specs.Contact.{is_in, own_rows}
 use Rattle.sf_relate.specs.Locating.{area_place, edges_place}
 use Rattle.sf_relate.specs.Matrices.{both, matrix_of}
+use Rattle.sf_relate.specs.Most.{own_most_letters}
 use Rattle.sf_relate.specs.Nearby.{ReachesBeyond, TellPlaces, nearby_grouped, nearby_pieces}
-use Rattle.sf_relate.specs.Places.{Gathered, IsPlaceOf, first_place, is_areal, is_place, place_at, place_by, second_place, shape_of, with_cell}
+use Rattle.sf_relate.specs.Places.{Gathered, IsPlaceOf, begun, first_place, is_areal, is_place, place_at, place_by, second_place, shape_of, with_cell}
 use Rattle.sf_relate.proofs.FoldLaws.{Table, areal_of, fold-listed, greatest_at, is_at, listed, listed-same, of_place, places-of-classes, set_of}
 use Rattle.sf_relate.proofs.GroupLaws.{one-are, passing, passing-append, passing-marked, passing-one, places-of, unmarked}
-use Rattle.sf_relate.proofs.MatrixLaws.{begun, gathered}
+use Rattle.sf_relate.proofs.MatrixLaws.{IsGatheredOf, gathered-left}
+use Rattle.sf_relate.proofs.MostLaws.{own-rows-left}
 use Rattle.sf_relate.proofs.PlaceLaws.{counts_tell_places}
 use Rattle.sf_relate.proofs.SetLaws.{HasAll, boundary_union, interior_union, matrices_are_over_the_plane}
 use Rattle.sf_relate.proofs.SizeLaws.{CanWalk, each-joined, each-marked, ends-pairs, few-with_ends, length-grouped, some-piece}
@@ -281,17 +283,17 @@ reaching-is a area es items v w s tell beyond h = listed-same (reaching (greates
 
 -- what a sink has in the end, with that third row
 pub nearby-left : (a area : Geometry) (es : List Edge) (ms : List Marked) (areal : List Bool) (old new : Gathered) → IsValid a → IsValid area → shape_of area ≡ Areas →
-    TellPlaces a area es → ReachesBeyond a area → ms ≡ nearby_grouped a es → areal ≡ is_areal (shape_of a) ∷ true ∷ [] → old ≡ begun (shape_of a) Areas →
+    TellPlaces a area es → ReachesBeyond a area → ms ≡ nearby_grouped a es → areal ≡ is_areal (shape_of a) ∷ true ∷ [] → old ≡ begun (shape_of a) Areas (own_most_letters a area) →
     WereHanded (pieces_among ms) (groups_of ms) areal with_cell old new → own_rows new.entries ++ Two ∷ One ∷ Two ∷ [] ≡ matrix_of a area
 nearby-left a area es ms areal old new v w s tell beyond e f o h =
     let P : List Marked → Type 0 = λ ns. Represent areal h.items (items_of ns) in
     let Q : List Bool → Type 0 = λ bs. Represent bs h.items (items_of (nearby_grouped a es)) in
-    ap (λ ds. own_rows ds ++ Two ∷ One ∷ Two ∷ [])
-    (ap (λ (g : Gathered). g.entries) h.handed
-    ∙ ap (λ g. (fold with_cell g h.items).entries) o
-    ∙ gathered (begun (shape_of a) Areas) h.items
-    ∙ fold-listed (shape_of a) Areas (λ p q. Nothing) h.items)
-    ∙ reaching-is a area es h.items v w s tell beyond (subst Q f (subst P e h.represent))
+    let most = own_most_letters a area in
+    own-rows-left a area new (greatest_at (shape_of a) Areas h.items) (Two ∷ One ∷ Two ∷ []) v w
+    (subst (IsGatheredOf most (listed (greatest_at (shape_of a) Areas h.items))) (sym (h.handed ∙ ap (λ g. fold with_cell g h.items) o))
+    (subst (λ ds. IsGatheredOf most ds (fold with_cell (begun (shape_of a) Areas most) h.items)) (fold-listed (shape_of a) Areas (λ p q. Nothing) h.items)
+    (gathered-left (shape_of a) Areas most h.items (λ p q. Nothing) false (λ k. absurd cc))))
+    (reaching-is a area es h.items v w s tell beyond (subst Q f (subst P e h.represent)))
 
 -- ---- the walk over these pieces
 length-nearby : (a : Geometry) (es : List Edge) → length (nearby_grouped a es) ≡ length es + (length (pieces_of a) + length (ends_of a))

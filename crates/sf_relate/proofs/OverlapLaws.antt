@@ -32,9 +32,10 @@ use Rattle.sf_relate.specs.Locating.{area_place, edges_place, place_by_tests}
 use Rattle.sf_relate.specs.Matrices.{both, matrix_of}
 use Rattle.sf_relate.specs.Patterns.{matches}
 use Rattle.sf_relate.specs.Places.{IsPlaceOf, shape_of}
-use Rattle.sf_relate.proofs.AreasLaws.{HadMost, by-edges, cons, first-thin, second-thin}
+use Rattle.sf_relate.proofs.AreasLaws.{by-edges, first-thin, second-thin}
+use Rattle.sf_relate.proofs.MatrixLaws.{HadMost}
 use Rattle.sf_relate.proofs.EnvelopeLaws.{valid-closed}
-use Rattle.sf_relate.proofs.FoldLaws.{set_of}
+use Rattle.sf_relate.proofs.FoldLaws.{cons, set_of}
 use Rattle.sf_relate.proofs.QuestionLaws.{same-grown}
 use Rattle.sf_relate.proofs.SectorLaws.{IsAt, crossing-piece, crossing-triangle, swapped}
 use Rattle.sf_relate.proofs.SetLaws.{matrices_are_over_the_plane}
@@ -151,11 +152,12 @@ crossing_areas_overlap a b v w s t h =
     }
 
 -- ---- what areas that overlap have
-pub overlap-had : (a b : Geometry) → Overlap a b → HadMost (matrix_of a b)
+pub overlap-had : (a b : Geometry) → Overlap a b → HadMost overlap_letters (matrix_of a b) (matrix_of a b)
 overlap-had a b h =
     record {
       table = λ p q. dimension_by_samples (all_pieces a b) (both (set_of a p) (set_of b q));
-      most = ap (matches overlap_letters) h.matrix ∙ most h.along;
+      is = refl;
+      matched = ap (matches overlap_letters) h.matrix ∙ most h.along;
       grown = same-grown (matrix_of a b);
     }
   where

@@ -20,8 +20,8 @@ use Rattle.sf_relate.specs.AllPieces.{all_grouped}
 use Rattle.sf_relate.specs.Matrices.{matrix_of}
 use Rattle.sf_relate.specs.Patterns.{admits, matches, pattern_of}
 use Rattle.sf_relate.specs.Predicates.{is_like, touches}
-use Rattle.sf_relate.specs.Places.{entry_place, first_place, is_areal, no_entries, second_place, shape_of, with_item}
-use Rattle.sf_relate.specs.Questions.{Asked, exceeds, is_broken, is_matched_for_good, is_missed_for_good, is_settled, is_told, matches_any, with_asked}
+use Rattle.sf_relate.specs.Places.{entry_place, exceeds, first_place, is_areal, no_entries, second_place, shape_of, with_item}
+use Rattle.sf_relate.specs.Questions.{Asked, is_broken, is_matched_for_good, is_missed_for_good, is_settled, is_told, matches_any, with_asked}
 use Rattle.sf_relate.proofs.FoldLaws.{Table, fold-listed, greatest_at, listed, matrix-of-items, raised-listed, with_dim}
 
 -- ---- an entry that grows
@@ -136,7 +136,7 @@ told-value ps ds es g h = by_value (list_any (λ letters. is_matched_for_good le
     by_value true e = any-stays ps ds es g e ∙ sym e
     by_value false e = all-missed ps ds es g (sym (ap (λ z. z || list_all (λ letters. is_missed_for_good letters ds) ps) e) ∙ h) ∙ sym e
 
-greater-same : (d : Dim) → greater_dim d d ≡ d
+pub greater-same : (d : Dim) → greater_dim d d ≡ d
 greater-same dims.Nothing = refl
 greater-same dims.Zero = refl
 greater-same dims.One = refl

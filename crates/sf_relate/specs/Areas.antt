@@ -2,20 +2,17 @@
 -- that areas allow, but that of the two boundaries, of which it is known that they share a point.
 use Rattle.std.specs.Prelude.{◌≡◌, Bool, List, [], ◌∷◌, if◌then◌else◌}
 use Rattle.std.specs.Int.{int_max, int_min}
-use Rattle.sf_cells.specs.Groups.{Item}
 use Rattle.sf_crossing.specs.Crossing.{HaveCrossing}
 use Rattle.sf_geometry.specs.declared.extent.Extent.{Extent}
 use Rattle.sf_geometry.specs.declared.geometry.Geometry.{Geometry}
 use Rattle.sf_geometry.specs.Parts.{edges_of}
 use Rattle.sf_plane.specs.declared.dim.Dim.{Dim}
 use Rattle.sf_plane.specs.declared.dim.Dim.TheVariants as dims
-use Rattle.sf_relate.specs.declared.areas.AreasSink.{AreasSink}
 use Rattle.sf_relate.specs.declared.letter.Letter.{Letter}
 use Rattle.sf_relate.specs.declared.letter.Letter.TheVariants.{Filled, One, Two}
 use Rattle.sf_relate.specs.declared.shape.Shape.TheVariants.{Areas}
 use Rattle.sf_relate.specs.Matrices.{matrix_of}
-use Rattle.sf_relate.specs.Patterns.{matches}
-use Rattle.sf_relate.specs.Places.{shape_of, with_item}
+use Rattle.sf_relate.specs.Places.{shape_of}
 use Rattle.sf_rules.specs.Validity.{IsValid}
 
 -- the most that each entry can have of two areas; the two boundaries share a point
@@ -43,18 +40,3 @@ CrossingAreasOverlap =
 abbrev pub common_extent : Extent → Extent → Extent
 common_extent e f =
     record { min_x = int_max e.min_x f.min_x; min_y = int_max e.min_y f.min_y; max_x = int_min e.max_x f.max_x; max_y = int_min e.max_y f.max_y }
-
--- what is found of two areas: the entries so far, and whether these have the most
-pub record Found : Type 0 where
-  pub entries : List Dim
-  pub told : Bool
-
-abbrev pub found_by : AreasSink → Found
-found_by s = record { entries = s.matrix.0; told = s.told }
-
-abbrev pub with_entries : List Dim → Found
-with_entries entries = record { entries = entries; told = matches overlap_letters entries }
-
--- once an item was handed out; what is told already stays as it is
-abbrev pub with_areas_item : Found → Item → Found
-with_areas_item found i = if found.told then found else with_entries (with_item Areas Areas found.entries i)

@@ -10,7 +10,7 @@ use Rattle.sf_relate.specs.declared.letter.Letter.TheVariants.{Any, Filled, Empt
 use Rattle.sf_relate.specs.declared.questions.QuestionSink.{QuestionSink}
 use Rattle.sf_relate.specs.declared.shape.Shape.{Shape}
 use Rattle.sf_relate.specs.Patterns.{is_filled, matches}
-use Rattle.sf_relate.specs.Places.{entry_place, first_place, raised, second_place}
+use Rattle.sf_relate.specs.Places.{entry_place, exceeds, first_place, raised, second_place}
 
 -- one of the patterns is matched
 abbrev pub matches_any : List (List Letter) → List Dim → Bool
@@ -43,15 +43,6 @@ abbrev pub is_told : List (List Letter) → List Dim → Bool
 is_told patterns entries =
     list_any (λ letters. is_matched_for_good letters entries) patterns
     || list_all (λ letters. is_missed_for_good letters entries) patterns
-
--- the first dimension is the greater one
-abbrev pub exceeds : Dim → Dim → Bool
-exceeds dims.Two dims.Two = false
-exceeds dims.Two e = true
-exceeds dims.One dims.Nothing = true
-exceeds dims.One dims.Zero = true
-exceeds dims.Zero dims.Nothing = true
-exceeds d e = false
 
 -- what a sink has that is asked for patterns: the shapes of the geometries, the patterns, the entries so far, and whether these
 -- tell the answer

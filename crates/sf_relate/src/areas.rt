@@ -12,44 +12,13 @@ use super::grouping::pieces_of;
 use super::matrix::Matrix;
 use super::pattern::Pattern;
 use super::shape::Shape;
-use super::sink::{dim_of, entry_of_cell, greater};
+use super::sink::MatrixSink;
 use sf_along::run_along;
 use sf_crossing::have_crossing;
 use sf_geometry::Extent;
-use sf_pieces::CellSink;
 use sf_plane::Dim;
 use sf_validity::Valid;
 use std::alloc::{AllocError, Global};
-
-/// The matrix of two areas as far as it is found, until its entries have the most that areas allow.
-#[derive(Drop)]
-pub(crate) struct AreasSink {
-    pub(crate) matrix: Matrix,
-    pub(crate) told: bool,
-}
-
-impl CellSink for AreasSink {
-    ghost use Rattle.sf_relate.specs.Areas.{Found, found_by, with_areas_item};
-
-    ghost Content = { Found };
-
-    ghost content = { found_by };
-
-    ghost after = { with_areas_item };
-
-    fn cell(&mut self, dim: u8, on: &[u32], above: &[u32]) {
-        if self.told {
-            return;
-        }
-        let entry = entry_of_cell(Shape::Areas, Shape::Areas, on, above);
-        self.matrix.0[entry] = greater(self.matrix.0[entry], dim_of(dim));
-        self.told = Pattern::of_overlap().matches(&self.matrix);
-    }
-
-    fn is_full(&self) -> bool {
-        self.told
-    }
-}
 
 /// Whether two geometries are areas of which edges are found that cross, so that they overlap. If not, nothing is known.
 ///
@@ -108,10 +77,7 @@ pub(crate) fn relate_areas(alloc: Global, a: &Valid, b: &Valid) -> Result<Matrix
         return Ok(matrix_overlapping(run_along(alloc, first, second)?));
     }
     let pieces = pieces_of(alloc, first, second)?;
-    let mut sink = AreasSink {
-        matrix: Matrix([Dim::Nothing; 9]),
-        told: false,
-    };
+    let mut sink = MatrixSink::new(Shape::Areas, Shape::Areas, Pattern::of_overlap());
     pieces.walk(alloc, &[true, true], &mut sink)?;
     if !sink.told {
         return Ok(sink.matrix);

@@ -1,4 +1,5 @@
 ghost use Rattle.std.specs.Prelude.{◌≡◌};
+ghost use Rattle.sf_relate.specs.Most.{letter_for};
 ghost use Rattle.sf_relate.specs.Patterns.{admits, asks_filled, letter_of};
 ghost use Rattle.sf_relate.specs.Questions.{is_broken, is_settled};
 
@@ -34,6 +35,18 @@ impl Letter {
             b'1' => Some(Letter::One),
             b'2' => Some(Letter::Two),
             _ => None,
+        }
+    }
+
+    /// The letter that asks for just this entry.
+    pub(crate) fn of_entry(dim: Dim) -> Letter
+        ensures { result ≡ letter_for dim }
+    {
+        match dim {
+            Dim::Nothing => Letter::Empty,
+            Dim::Zero => Letter::Zero,
+            Dim::One => Letter::One,
+            Dim::Two => Letter::Two,
         }
     }
 

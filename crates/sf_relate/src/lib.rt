@@ -8,6 +8,7 @@ pub mod laws;
 mod letter;
 mod locating;
 mod matrix;
+mod most;
 mod nearby;
 mod pattern;
 mod place;

@@ -15,6 +15,7 @@ ghost use Rattle.sf_relate.specs.declared.shape.Shape.TheVariants.{Areas};
 
 use super::grouping::{FIRST, FIRST_ENDS, SECOND, push_grouped};
 use super::matrix::Matrix;
+use super::most::most;
 use super::shape::Shape;
 use super::sink::MatrixSink;
 use sf_geometry::Geometry;
@@ -46,14 +47,14 @@ pub fn relate_nearby(
 {
     let first = a.geometry();
     let pieces = pieces_nearby(alloc, first, edges)?;
-    let mut sink = MatrixSink {
-        first: Shape::of(first),
-        second: Shape::of(area.geometry()),
-        entries: [Dim::Nothing; 9],
-    };
-    let areal = [sink.first.is_areal(), sink.second.is_areal()];
+    let second = area.geometry();
+    let first_shape = Shape::of(first);
+    let second_shape = Shape::of(second);
+    let own_rows = most(first, second).of_own_rows();
+    let mut sink = MatrixSink::new(first_shape, second_shape, own_rows);
+    let areal = [first_shape.is_areal(), second_shape.is_areal()];
     pieces.walk(alloc, &areal, &mut sink)?;
-    Ok(reaching_beyond(sink.entries))
+    Ok(reaching_beyond(sink.matrix.0))
 }
 
 /// The first two rows of these entries, and the third one of an area that reaches beyond the other geometry.

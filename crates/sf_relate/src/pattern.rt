@@ -1,7 +1,10 @@
-ghost use Rattle.std.specs.Prelude.{◌≡◌, Result};
+ghost use Rattle.std.specs.Prelude.{◌≡◌, ◌∷◌, [], ◌++◌, Result, map};
 ghost use Rattle.sf_relate.specs.Areas.{overlap_letters};
+ghost use Rattle.sf_relate.specs.Contact.{own_rows};
+ghost use Rattle.sf_relate.specs.Most.{letter_for};
 ghost use Rattle.sf_relate.specs.Patterns.{asks_contact, matches, pattern_of};
 ghost use Rattle.sf_relate.specs.Questions.{is_matched_for_good, is_missed_for_good};
+ghost use Rattle.sf_relate.specs.declared.letter.Letter.TheVariants.{Any};
 ghost use Rattle.sf_relate.specs.declared.refusal.Refusal.TheVariants.{BadPattern};
 ghost use Rattle.std.specs.Option.{ok_or};
 
@@ -45,6 +48,46 @@ impl Pattern {
             }
         }
         Ok(Pattern { letters })
+    }
+
+    /// The pattern that asks for just these entries.
+    pub(crate) fn of_entries(entries: [Dim; 9]) -> Pattern
+        ensures { result ≡ map letter_for entries }
+    {
+        let [ii, ib, ie, bi, bb, be, ei, eb, ee] = entries;
+        Pattern {
+            letters: [
+                Letter::of_entry(ii),
+                Letter::of_entry(ib),
+                Letter::of_entry(ie),
+                Letter::of_entry(bi),
+                Letter::of_entry(bb),
+                Letter::of_entry(be),
+                Letter::of_entry(ei),
+                Letter::of_entry(eb),
+                Letter::of_entry(ee),
+            ],
+        }
+    }
+
+    /// The same of the first two rows, and anything in the third.
+    pub(crate) fn of_own_rows(&self) -> Pattern
+        ensures { result ≡ own_rows self.now ++ Any ∷ Any ∷ Any ∷ [] }
+    {
+        let [ii, ib, ie, bi, bb, be, _, _, _] = self.letters;
+        Pattern {
+            letters: [
+                ii,
+                ib,
+                ie,
+                bi,
+                bb,
+                be,
+                Letter::Any,
+                Letter::Any,
+                Letter::Any,
+            ],
+        }
     }
 
     /// The pattern of areas that overlap: `2121T1212`, the most that each entry can have.

@@ -4,13 +4,13 @@ ghost use Rattle.std.specs.Prelude.{◌≡◌, IfOk};
 ghost use Rattle.std.specs.List.{list_all, list_any};
 ghost use Rattle.sf_plane.specs.Unions.{dim_of as dim_of_number};
 ghost use Rattle.sf_relate.specs.Matrices.{matrix_of};
-ghost use Rattle.sf_relate.specs.Questions.{exceeds, is_matched_for_good, is_missed_for_good, is_told, matches_any as matches_any_of};
+ghost use Rattle.sf_relate.specs.Questions.{is_matched_for_good, is_missed_for_good, is_told, matches_any as matches_any_of};
 
 use super::grouping::pieces_of;
 use super::matrix::Matrix;
 use super::pattern::Pattern;
 use super::shape::Shape;
-use super::sink::{dim_of, entry_of_cell, greater};
+use super::sink::{dim_of, entry_of_cell, raise};
 use sf_pieces::CellSink;
 use sf_plane::Dim;
 use sf_validity::Valid;
@@ -41,25 +41,12 @@ impl<'a> CellSink for QuestionSink<'a> {
             return;
         }
         let entry = entry_of_cell(self.first, self.second, on, above);
-        let dim = dim_of(dim);
-        let before = self.entries[entry];
-        self.entries[entry] = greater(before, dim);
-        self.told = exceeds(dim, before) && is_told(self.patterns, &self.entries);
+        let rose = raise(&mut self.entries, entry, dim_of(dim));
+        self.told = rose && is_told(self.patterns, &self.entries);
     }
 
     fn is_full(&self) -> bool {
         self.told
-    }
-}
-
-/// Whether the first dimension is the greater one.
-fn exceeds(dim: Dim, other: Dim) -> bool
-    ensures { result ≡ exceeds dim other }
-{
-    match (dim, other) {
-        (Dim::Two, Dim::Two) => false,
-        (Dim::Two, _) | (Dim::One, Dim::Nothing | Dim::Zero) | (Dim::Zero, Dim::Nothing) => true,
-        _ => false,
     }
 }
 

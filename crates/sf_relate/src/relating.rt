@@ -6,10 +6,10 @@ ghost use Rattle.sf_relate.specs.Matrices.{IsMatrix, matrix_of};
 use super::areas::{are_areas, relate_areas};
 use super::grouping::pieces_of;
 use super::matrix::Matrix;
+use super::most::most;
 use super::shape::Shape;
 use super::sink::MatrixSink;
 use super::told::matrix_by_boxes;
-use sf_plane::Dim;
 use sf_validity::Valid;
 use std::alloc::{AllocError, Global};
 
@@ -32,7 +32,7 @@ pub fn relate(alloc: Global, a: &Valid, b: &Valid) -> Result<Matrix, AllocError>
     }
 }
 
-/// The matrix of two geometries, by a walk over the pieces of both.
+/// The matrix of two geometries, by a walk over the pieces of both that ends once each entry has the most that it can.
 fn walked(alloc: Global, a: &Valid, b: &Valid) -> Result<Matrix, AllocError>
     ensures plane { IfOk result (λ matrix. IsMatrix a.now b.now matrix.0) }
     ensures computed { IfOk result (λ matrix. matrix.0 ≡ matrix_of a.now b.now) }
@@ -40,12 +40,10 @@ fn walked(alloc: Global, a: &Valid, b: &Valid) -> Result<Matrix, AllocError>
     let first = a.geometry();
     let second = b.geometry();
     let pieces = pieces_of(alloc, first, second)?;
-    let mut sink = MatrixSink {
-        first: Shape::of(first),
-        second: Shape::of(second),
-        entries: [Dim::Nothing; 9],
-    };
-    let areal = [sink.first.is_areal(), sink.second.is_areal()];
+    let first_shape = Shape::of(first);
+    let second_shape = Shape::of(second);
+    let mut sink = MatrixSink::new(first_shape, second_shape, most(first, second));
+    let areal = [first_shape.is_areal(), second_shape.is_areal()];
     pieces.walk(alloc, &areal, &mut sink)?;
-    Ok(Matrix(sink.entries))
+    Ok(sink.matrix)
 }

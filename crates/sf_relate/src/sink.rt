@@ -1,26 +1,48 @@
 //! The matrix of two geometries from the cells of their pieces.
 
-ghost use Rattle.std.specs.Prelude.{◌≡◌, ◌<◌, slice_index};
+ghost use Rattle.std.specs.Prelude.{◌≡◌, ◌<◌, slice_index, slice_index_or};
 ghost use Rattle.sf_plane.specs.Unions.{dim_of as dim_of_number, greater_dim};
-ghost use Rattle.sf_relate.specs.Places.{entry_place, place_by};
+ghost use Rattle.sf_plane.specs.declared.dim.Dim.TheVariants.{Nothing};
+ghost use Rattle.sf_relate.specs.Places.{begun, entry_place, exceeds, gathered_by, place_by, raised};
 
 use super::grouping::{FIRST, FIRST_ENDS, SECOND, SECOND_ENDS};
+use super::matrix::Matrix;
+use super::pattern::Pattern;
 use super::place::Place;
 use super::shape::Shape;
 use sf_pieces::CellSink;
 use sf_plane::Dim;
 use std::marker::Model;
 
-/// The entries found so far, of geometries of two shapes.
+/// The matrix of geometries of two shapes as far as it is found, until its entries have the most that they can.
 #[derive(Drop)]
 pub(crate) struct MatrixSink {
     pub(crate) first: Shape,
     pub(crate) second: Shape,
-    pub(crate) entries: [Dim; 9],
+    /// The most that each entry can have.
+    pub(crate) most: Pattern,
+    pub(crate) matrix: Matrix,
+    /// Whether the entries match that, so that no further cell is looked at.
+    pub(crate) told: bool,
+}
+
+impl MatrixSink {
+    /// One with no entry yet.
+    pub(crate) fn new(first: Shape, second: Shape, most: Pattern) -> MatrixSink
+        ensures { gathered_by result ≡ begun first second most }
+    {
+        MatrixSink {
+            first,
+            second,
+            most,
+            matrix: Matrix([Dim::Nothing; 9]),
+            told: false,
+        }
+    }
 }
 
 impl CellSink for MatrixSink {
-    ghost use Rattle.sf_relate.specs.Places.{Gathered, gathered_by, with_cell};
+    ghost use Rattle.sf_relate.specs.Places.{Gathered, with_cell};
 
     ghost Content = { Gathered };
 
@@ -29,12 +51,38 @@ impl CellSink for MatrixSink {
     ghost after = { with_cell };
 
     fn cell(&mut self, dim: u8, on: &[u32], above: &[u32]) {
+        if self.told {
+            return;
+        }
         let entry = entry_of_cell(self.first, self.second, on, above);
-        self.entries[entry] = greater(self.entries[entry], dim_of(dim));
+        let rose = raise(&mut self.matrix.0, entry, dim_of(dim));
+        self.told = rose && self.most.matches(&self.matrix);
     }
 
     fn is_full(&self) -> bool {
-        false
+        self.told
+    }
+}
+
+/// Raises an entry to a dimension, and says whether it had less before.
+pub(crate) fn raise(entries: &mut [Dim; 9], entry: usize, dim: Dim) -> bool
+    requires { entry < 9 }
+    ensures raised { entries.new ≡ raised entries.old entry dim }
+    ensures rose { result ≡ exceeds dim (slice_index_or entries.old entry Nothing) }
+{
+    let before = entries[entry];
+    entries[entry] = greater(before, dim);
+    exceeds(dim, before)
+}
+
+/// Whether the first dimension is the greater one.
+fn exceeds(dim: Dim, other: Dim) -> bool
+    ensures { result ≡ exceeds dim other }
+{
+    match (dim, other) {
+        (Dim::Two, Dim::Two) => false,
+        (Dim::Two, _) | (Dim::One, Dim::Nothing | Dim::Zero) | (Dim::Zero, Dim::Nothing) => true,
+        _ => false,
     }
 }
 
@@ -76,7 +124,7 @@ fn entry_of(first: Place, second: Place) -> usize
 }
 
 /// The greater of two dimensions.
-pub(crate) fn greater(a: Dim, b: Dim) -> Dim
+fn greater(a: Dim, b: Dim) -> Dim
     ensures { result ≡ greater_dim a b }
 {
     match (a, b) {

@@ -1,11 +1,14 @@
 //! Matrices of worked pairs and which predicates hold of them; patterns of texts; places of points.
 
+use crate::most::most;
+use crate::sink::MatrixSink;
 use crate::{
-    Dim, Pattern, Place, Predicate, Refusal, are_known_to_overlap, dimension, holds, holds_between,
-    holds_of_point, locate, match_between, relate, shares_first_point,
+    Dim, Pattern, Place, Predicate, Refusal, Shape, are_known_to_overlap, dimension, holds,
+    holds_between, holds_of_point, locate, match_between, relate, shares_first_point,
 };
 use sf_geometry::{Geometry, Sequence};
 use sf_grid::GridPoint;
+use sf_pieces::CellSink;
 use sf_validity::{Valid, validate};
 use std::alloc::Global;
 use std::test::Fail;
@@ -29,6 +32,17 @@ struct Case {
     second: Made,
     matrix: &'static str,
     predicates: &'static [Predicate],
+}
+
+/// A cell: its dimension, and the counts of the groups on it and above it.
+type Cell = (u8, [u32; 4], [u32; 2]);
+
+/// Two geometries, and cells of which only the last one gives the last entry all that it can have.
+struct Filling {
+    first: Made,
+    second: Made,
+    cells: &'static [Cell],
+    matrix: &'static str,
 }
 
 /// A geometry, and points by their places in it.
@@ -193,6 +207,117 @@ const CASES: &[Case] = &[
         second: Made::Polygon(&[HOLE]),
         matrix: "FF0FFF212",
         predicates: &[Predicate::Disjoint],
+    },
+    // Each entry has the most that it can before the last column.
+    Case {
+        first: Made::Points(&[(0, 0), (1, 1), (9, 9), (50, 0)]),
+        second: Made::Points(&[(0, 0), (2, 2), (40, 0)]),
+        matrix: "0F0FFF0F2",
+        predicates: &[Predicate::Intersects, Predicate::Overlaps],
+    },
+    Case {
+        first: Made::Points(&[(-1, 0), (0, 0), (1, 1), (5, 5), (30, 30)]),
+        second: Made::Polygon(&[SQUARE]),
+        matrix: "000FFF212",
+        predicates: &[Predicate::Intersects, Predicate::Crosses],
+    },
+    Case {
+        first: Made::Line(ALONG),
+        second: Made::Polygon(&[SQUARE]),
+        matrix: "111FFF212",
+        predicates: &[Predicate::Intersects, Predicate::Crosses],
+    },
+    Case {
+        first: Made::Lines(&[&[(-5, 0), (3, 0)], &[(-5, 5), (2, 5)], &[(40, 0), (50, 0)]]),
+        second: Made::Polygon(&[SQUARE]),
+        matrix: "111000212",
+        predicates: &[Predicate::Intersects, Predicate::Crosses],
+    },
+    Case {
+        first: Made::Lines(&[&[(0, 0), (4, 0)], &[(0, 9), (4, 9)], &[(0, 20), (9, 20)]]),
+        second: Made::Lines(&[
+            &[(1, 0), (9, 0)],
+            &[(0, 9), (0, 5)],
+            &[(2, 20), (2, 9)],
+            &[(0, 1), (9, 1)],
+        ]),
+        matrix: "101000102",
+        predicates: &[Predicate::Intersects, Predicate::Overlaps],
+    },
+];
+
+const ALONE: [u32; 4] = [1, 0, 0, 0];
+
+const OTHER: [u32; 4] = [0, 1, 0, 0];
+
+const SHARED: [u32; 4] = [1, 1, 0, 0];
+
+const END: [u32; 4] = [1, 0, 1, 0];
+
+const SHARED_END: [u32; 4] = [1, 1, 1, 0];
+
+const NONE: [u32; 4] = [0; 4];
+
+const OUTSIDE: [u32; 2] = [0, 0];
+
+const INSIDE: [u32; 2] = [0, 1];
+
+const FILLINGS: &[Filling] = &[
+    Filling {
+        first: Made::Points(&[(0, 0), (5, 5)]),
+        second: Made::Points(&[(5, 5), (9, 9)]),
+        cells: &[
+            (2, NONE, OUTSIDE),
+            (0, ALONE, OUTSIDE),
+            (0, SHARED, OUTSIDE),
+            (0, OTHER, OUTSIDE),
+        ],
+        matrix: "0F0FFF0F2",
+    },
+    Filling {
+        first: Made::Points(&[(0, 0), (5, 5)]),
+        second: Made::Polygon(&[SQUARE]),
+        cells: &[
+            (2, NONE, OUTSIDE),
+            (1, OTHER, OUTSIDE),
+            (0, SHARED, OUTSIDE),
+            (2, NONE, INSIDE),
+            (0, ALONE, INSIDE),
+            (0, ALONE, OUTSIDE),
+        ],
+        matrix: "000FFF212",
+    },
+    // It has no end, and meets the border before it runs along it.
+    Filling {
+        first: Made::Line(CLOSED),
+        second: Made::Polygon(&[SQUARE]),
+        cells: &[
+            (2, NONE, OUTSIDE),
+            (1, ALONE, OUTSIDE),
+            (0, SHARED, OUTSIDE),
+            (1, OTHER, OUTSIDE),
+            (2, NONE, INSIDE),
+            (1, ALONE, INSIDE),
+            (1, SHARED, OUTSIDE),
+        ],
+        matrix: "111FFF212",
+    },
+    // Its ends are in three places.
+    Filling {
+        first: Made::Lines(&[RISING, FALLING, UPRIGHT]),
+        second: Made::Polygon(&[SQUARE]),
+        cells: &[
+            (2, NONE, OUTSIDE),
+            (0, END, OUTSIDE),
+            (1, ALONE, OUTSIDE),
+            (0, SHARED_END, OUTSIDE),
+            (1, SHARED, OUTSIDE),
+            (1, OTHER, OUTSIDE),
+            (2, NONE, INSIDE),
+            (1, ALONE, INSIDE),
+            (0, END, INSIDE),
+        ],
+        matrix: "111000212",
     },
 ];
 
@@ -446,6 +571,35 @@ fn worked_pairs(rt: HostRuntime) -> Result<(), Fail> {
         let (text, as_said) = related(rt.alloc(), case)?;
         assert_eq!(rt; text.as_slice(), case.matrix.as_bytes());
         assert!(rt; as_said, "predicates of {}", case.matrix);
+    }
+    Ok(())
+}
+
+/// A sink of two geometries that has been handed these cells, and whether it was full after each.
+fn filled(alloc: Global, filling: &Filling) -> Result<(MatrixSink, Vec<bool>), Fail> {
+    let first = filling.first.geometry(alloc)?;
+    let second = filling.second.geometry(alloc)?;
+    let shapes = (Shape::of(&first), Shape::of(&second));
+    let mut sink = MatrixSink::new(shapes.0, shapes.1, most(&first, &second));
+    let mut full = Vec::new(alloc);
+    for (dim, on, above) in filling.cells {
+        sink.cell(*dim, on, above);
+        full.push(sink.is_full())?;
+    }
+    Ok((sink, full))
+}
+
+#[test]
+fn sink_is_full_at_the_most(rt: HostRuntime) -> Result<(), Fail> {
+    for filling in FILLINGS {
+        let (mut sink, full) = filled(rt.alloc(), filling)?;
+        let last = filling.cells.len() - 1;
+        for (place, is_full) in full.iter().enumerate() {
+            assert_eq!(rt; *is_full, place == last, "{} at {}", filling.matrix, place);
+        }
+        assert_eq!(rt; sink.matrix.text().as_slice(), filling.matrix.as_bytes());
+        sink.cell(2, &SHARED, &OUTSIDE);
+        assert_eq!(rt; sink.matrix.text().as_slice(), filling.matrix.as_bytes());
     }
     Ok(())
 }

@@ -82,7 +82,7 @@ pub(crate) fn matrix_by_boxes(a: &Valid, b: &Valid) -> Option<Matrix>
 }
 
 /// The dimension of a valid geometry's interior.
-fn interior_dim(geometry: &Geometry) -> Dim
+pub(crate) fn interior_dim(geometry: &Geometry) -> Dim
     ensures { result ≡ interior_dim_of geometry.now }
 {
     match geometry {
@@ -93,7 +93,7 @@ fn interior_dim(geometry: &Geometry) -> Dim
 }
 
 /// The dimension of a valid geometry's boundary.
-fn boundary_dim(geometry: &Geometry) -> Dim
+pub(crate) fn boundary_dim(geometry: &Geometry) -> Dim
     ensures { result ≡ boundary_dim_of geometry.now }
 {
     match geometry {
