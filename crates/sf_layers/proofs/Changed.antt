@@ -62,6 +62,24 @@ feature-kept layer now id feature new features same there written is =
     (written ∙ set_value-same (is_at (nat_cmp id)) layer.features feature new (sym there) is)
     ∙ same
 
+-- what a change leaves in the place of a feature is what is written there
+written-there : (id : ℕ) (old : LayerContent) (before after : FeatureContent) → feature_of old id ≡ Some before →
+    set_value (nat_eq id) old.features after ≡ change_value (nat_eq id) old.features (λ _. after)
+written-there id old before after found = set_value-change_value (nat_eq id) (nat_eq id) (λ n. refl) old.features before after (λ _. after) found refl
+
+-- a change that leaves what another would leave is that one
+pub left-by : (id : ℕ) (f : FeatureContent → FeatureContent) (old new : LayerContent) (before after : FeatureContent) → feature_of old id ≡ Some before → after ≡ f before
+    → new ≡ change_feature id (λ _. after) old → new ≡ change_feature id f old
+left-by id f old new before after found is changed =
+    changed
+    ∙ ap (λ es. record old { features = es })
+    (sym (written-there id old before after found) ∙ set_value-change_value (nat_eq id) (nat_eq id) (λ n. refl) old.features before after f found is)
+
+-- and one that leaves the feature leaves the layer
+pub left-same : (id : ℕ) (old new : LayerContent) (before after : FeatureContent) → feature_of old id ≡ Some before → after ≡ before → new ≡ change_feature id (λ _. after) old → new ≡ old
+left-same id old new before after found is changed =
+    changed ∙ ap (λ es. record old { features = es }) (sym (written-there id old before after found) ∙ set_value-same (nat_eq id) old.features before after found is)
+
 -- what holds of a value that is there
 pub holds-of : {X : Type 0} (P : X → Type 0) (o : Option X) (x : X) → o ≡ Some x → P x → IsSomeAnd o P
 holds-of P o x is h = subst (λ p. IsSomeAnd p P) (sym is) h

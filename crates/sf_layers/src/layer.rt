@@ -1,6 +1,7 @@
 ghost use Rattle.std.specs.Prelude.{◌≡◌, ◌<◌, ◌≤◌, ◌-◌, ◌^◌, ℕ, false, is_some, length, option_copied, None, Some, IsOkAnd, IsSome, IsSomeAnd, IfErr, IfOk, IfSome, OnErr, OnOk, nat_eq, slice_get};
 ghost use Rattle.std.specs.List.{AllByRecursion};
 ghost use Rattle.std.specs.BTreeMap.{insert_entry};
+ghost use Rattle.std.specs.Fn.{FnOnceReturnsAtMut, FnOnceTakesAtMut};
 ghost use Rattle.std.specs.Map.{keys_of, lookup, values_of};
 ghost use Rattle.std.specs.Map.Iter.{ShowsInOrder, deref_pair};
 ghost use Rattle.std.specs.Ordering.{nat_cmp};
@@ -407,6 +408,31 @@ impl Layer {
         }
     }
 
+    /// Changes the feature of an identifier, moves its box in the index, and gives what the change gave.
+    fn change_feature<R, F: FnOnce(&mut Feature) -> R>(
+        &mut self,
+        alloc: Global,
+        id: u32,
+        change: F,
+    ) -> R
+        requires { IsSomeAnd (feature_of self.old id) (λ feature.
+            FnOnceTakesAtMut F.FnOnce change feature) }
+        ensures { (before : FeatureContent) × (after : FeatureContent)
+            × (feature_of self.old id ≡ Some before)
+            × FnOnceReturnsAtMut F.FnOnce change before result after
+            × (self.new ≡ change_feature id (λ _. after) self.old) }
+    {
+        match self.features.get_mut(&id) {
+            Some(feature) => {
+                let before = extent_of(feature);
+                let given = change(feature);
+                move_box(alloc, &mut self.index, id, before, extent_of(feature));
+                given
+            }
+            None => unreachable!(),
+        }
+    }
+
     /// Puts another geometry in the place of a feature's, and gives that one.
     pub(crate) fn exchange_geometry(&mut self, alloc: Global, id: u32, valid: Valid) -> Valid
         requires { IsSome (feature_of self.old id) }
@@ -414,15 +440,7 @@ impl Layer {
             result ≡ feature.geometry) }
         ensures put { self.new ≡ change_feature id (with_geometry valid) self.old }
     {
-        match self.features.get_mut(&id) {
-            Some(feature) => {
-                let before = extent_of(feature);
-                let old = feature.exchange_geometry(valid);
-                move_box(alloc, &mut self.index, id, before, extent_of(feature));
-                old
-            }
-            None => unreachable!(),
-        }
+        self.change_feature(alloc, id, |feature| feature.exchange_geometry(valid))
     }
 
     /// Puts a vertex into a feature's geometry, before an index or last.
@@ -445,15 +463,7 @@ impl Layer {
             RefusesChange (insert_vertex feature.geometry part ring index point) refusal)) }
         ensures unchanged { OnErr result (self.new ≡ self.old) }
     {
-        match self.features.get_mut(&id) {
-            Some(feature) => {
-                let before = extent_of(feature);
-                let outcome = feature.insert_vertex(alloc, part, ring, index, point);
-                move_box(alloc, &mut self.index, id, before, extent_of(feature));
-                outcome
-            }
-            None => unreachable!(),
-        }
+        self.change_feature(alloc, id, |feature| feature.insert_vertex(alloc, part, ring, index, point))
     }
 
     /// Moves a vertex of a feature's geometry, and gives the point where it was.
@@ -478,15 +488,7 @@ impl Layer {
             RefusesChange (move_vertex feature.geometry part ring index point) refusal)) }
         ensures unchanged { OnErr result (self.new ≡ self.old) }
     {
-        match self.features.get_mut(&id) {
-            Some(feature) => {
-                let before = extent_of(feature);
-                let outcome = feature.move_vertex(alloc, part, ring, index, point);
-                move_box(alloc, &mut self.index, id, before, extent_of(feature));
-                outcome
-            }
-            None => unreachable!(),
-        }
+        self.change_feature(alloc, id, |feature| feature.move_vertex(alloc, part, ring, index, point))
     }
 
     /// Takes a vertex out of a feature's geometry, and gives its point.
@@ -510,15 +512,7 @@ impl Layer {
             RefusesChange (remove_vertex feature.geometry part ring index) refusal)) }
         ensures unchanged { OnErr result (self.new ≡ self.old) }
     {
-        match self.features.get_mut(&id) {
-            Some(feature) => {
-                let before = extent_of(feature);
-                let outcome = feature.remove_vertex(alloc, part, ring, index);
-                move_box(alloc, &mut self.index, id, before, extent_of(feature));
-                outcome
-            }
-            None => unreachable!(),
-        }
+        self.change_feature(alloc, id, |feature| feature.remove_vertex(alloc, part, ring, index))
     }
 
     /// Puts a vertex in where it is known that the geometry is valid with it. An Err changes nothing.
@@ -537,15 +531,7 @@ impl Layer {
             (change_geometry (λ g. insert_vertex g part ring index point)) self.old) }
         ensures unchanged { OnErr result (self.new ≡ self.old) }
     {
-        match self.features.get_mut(&id) {
-            Some(feature) => {
-                let before = extent_of(feature);
-                let outcome = feature.put_vertex_back(alloc, part, ring, index, point);
-                move_box(alloc, &mut self.index, id, before, extent_of(feature));
-                outcome
-            }
-            None => unreachable!(),
-        }
+        self.change_feature(alloc, id, |feature| feature.put_vertex_back(alloc, part, ring, index, point))
     }
 
     /// Moves a vertex where it is known that the geometry is valid then, and gives the point where it was.
@@ -565,15 +551,7 @@ impl Layer {
         ensures given { IsSomeAnd (feature_of self.old id) (λ feature.
             vertex_of feature.geometry part ring index ≡ Some result) }
     {
-        match self.features.get_mut(&id) {
-            Some(feature) => {
-                let before = extent_of(feature);
-                let old = feature.move_vertex_back(part, ring, index, point);
-                move_box(alloc, &mut self.index, id, before, extent_of(feature));
-                old
-            }
-            None => unreachable!(),
-        }
+        self.change_feature(alloc, id, |feature| feature.move_vertex_back(part, ring, index, point))
     }
 
     /// Takes a vertex out where it is known that the geometry is valid without it, and gives its point.
@@ -592,15 +570,7 @@ impl Layer {
         ensures given { IsSomeAnd (feature_of self.old id) (λ feature.
             vertex_of feature.geometry part ring index ≡ Some result) }
     {
-        match self.features.get_mut(&id) {
-            Some(feature) => {
-                let before = extent_of(feature);
-                let old = feature.take_vertex_back(part, ring, index);
-                move_box(alloc, &mut self.index, id, before, extent_of(feature));
-                old
-            }
-            None => unreachable!(),
-        }
+        self.change_feature(alloc, id, |feature| feature.take_vertex_back(part, ring, index))
     }
 }
 
