@@ -17,7 +17,7 @@ use Rattle.sf_rtree.specs.Indexes.{Boxes, box_of, with_box, without_box}
 use Rattle.sf_layers.specs.Boxes.{Agrees, box_entry, boxes_of}
 use Rattle.sf_layers.specs.Content.{change_value}
 use Rattle.sf_layers.specs.Moves.{Features, put_each}
-use Rattle.sf_layers.proofs.Changed.{is_at-nat_eq, lookup-same, set_value-same}
+use Rattle.sf_layers.proofs.Changed.{is_at-nat_eq, set_value-same}
 use Rattle.sf_layers.proofs.ColumnMoves.{feature-given}
 use Rattle.sf_layers.proofs.Values.{bare, insert_entry-remove_entry, lookup-below}
 

@@ -463,7 +463,11 @@ impl Layer {
             RefusesChange (insert_vertex feature.geometry part ring index point) refusal)) }
         ensures unchanged { OnErr result (self.new ≡ self.old) }
     {
-        self.change_feature(alloc, id, |feature| feature.insert_vertex(alloc, part, ring, index, point))
+        self.change_feature(
+            alloc,
+            id,
+            |feature| feature.insert_vertex(alloc, part, ring, index, point),
+        )
     }
 
     /// Moves a vertex of a feature's geometry, and gives the point where it was.
@@ -488,7 +492,11 @@ impl Layer {
             RefusesChange (move_vertex feature.geometry part ring index point) refusal)) }
         ensures unchanged { OnErr result (self.new ≡ self.old) }
     {
-        self.change_feature(alloc, id, |feature| feature.move_vertex(alloc, part, ring, index, point))
+        self.change_feature(
+            alloc,
+            id,
+            |feature| feature.move_vertex(alloc, part, ring, index, point),
+        )
     }
 
     /// Takes a vertex out of a feature's geometry, and gives its point.
@@ -512,7 +520,11 @@ impl Layer {
             RefusesChange (remove_vertex feature.geometry part ring index) refusal)) }
         ensures unchanged { OnErr result (self.new ≡ self.old) }
     {
-        self.change_feature(alloc, id, |feature| feature.remove_vertex(alloc, part, ring, index))
+        self.change_feature(
+            alloc,
+            id,
+            |feature| feature.remove_vertex(alloc, part, ring, index),
+        )
     }
 
     /// Puts a vertex in where it is known that the geometry is valid with it. An Err changes nothing.
@@ -531,7 +543,11 @@ impl Layer {
             (change_geometry (λ g. insert_vertex g part ring index point)) self.old) }
         ensures unchanged { OnErr result (self.new ≡ self.old) }
     {
-        self.change_feature(alloc, id, |feature| feature.put_vertex_back(alloc, part, ring, index, point))
+        self.change_feature(
+            alloc,
+            id,
+            |feature| feature.put_vertex_back(alloc, part, ring, index, point),
+        )
     }
 
     /// Moves a vertex where it is known that the geometry is valid then, and gives the point where it was.
@@ -551,7 +567,11 @@ impl Layer {
         ensures given { IsSomeAnd (feature_of self.old id) (λ feature.
             vertex_of feature.geometry part ring index ≡ Some result) }
     {
-        self.change_feature(alloc, id, |feature| feature.move_vertex_back(part, ring, index, point))
+        self.change_feature(
+            alloc,
+            id,
+            |feature| feature.move_vertex_back(part, ring, index, point),
+        )
     }
 
     /// Takes a vertex out where it is known that the geometry is valid without it, and gives its point.
@@ -570,7 +590,11 @@ impl Layer {
         ensures given { IsSomeAnd (feature_of self.old id) (λ feature.
             vertex_of feature.geometry part ring index ≡ Some result) }
     {
-        self.change_feature(alloc, id, |feature| feature.take_vertex_back(part, ring, index))
+        self.change_feature(
+            alloc,
+            id,
+            |feature| feature.take_vertex_back(part, ring, index),
+        )
     }
 }
 

@@ -1,5 +1,5 @@
-use Rattle.std.proofs.Common.{◌≡◌, refl}
-use Rattle.std.specs.Fn.{FnOnceReturnsAtMut, FnOnceTakesAtMut}
+use Rattle.std.proofs.Common.{refl}
+use Rattle.std.specs.Fn.{FnOnceTakesAtMut}
 use Rattle.sf_layers.proofs.Boxes.{agrees-changed, box-there, boxes-rise}
 use Rattle.sf_layers.proofs.Changed.{feature-changed, feature-found, holds-there}
 use Rattle.sf_layers.specs.Content.{feature_of}
@@ -25,9 +25,11 @@ invariant_of-self g c =
 pub returns : goal.returns
 returns g c =
     let before = c.in-Some.feature.now in
-    let after = c.change-given.new.arg2 in
-    (before, after,
-    feature-found (the_view c.self.inside) c.args.self.now c.args.id before c.self.view_is c.in-Some.ensures.value,
-    record { shown = _; shows = refl; left = _; met = c.change-given.ensures; leaves = refl },
-    feature-changed (the_view c.self.inside) c.args.self.now c.args.id before after (λ _. after) (c.get_mut.follows.lender after).entries
-    c.self.view_is c.in-Some.ensures.value (c.get_mut.follows.holds after).0 refl)
+    let after = c.change-given.new.arg2 in (
+      before,
+      after,
+      feature-found (the_view c.self.inside) c.args.self.now c.args.id before c.self.view_is c.in-Some.ensures.value,
+      record { shown = _; shows = refl; left = _; met = c.change-given.ensures; leaves = refl },
+      feature-changed (the_view c.self.inside) c.args.self.now c.args.id before after (λ _. after) (c.get_mut.follows.lender after).entries
+          c.self.view_is c.in-Some.ensures.value (c.get_mut.follows.holds after).0 refl,
+    )
