@@ -1,5 +1,5 @@
 -- What is written through a map's entry is a change of the entry.
-use Rattle.std.proofs.Common.{◌≡◌, ℕ, Bool, true, false, cond, if◌then◌else◌, List, [], ◌∷◌, Option, None, Some, IsSomeAnd, nat_eq, refl, ap, sym, subst, ◌∙◌, arith}
+use Rattle.std.proofs.Common.{◌≡◌, ℕ, Bool, true, false, cond, if◌then◌else◌, List, [], ◌∷◌, Option, Some, IsSomeAnd, nat_eq, refl, ap, sym, subst, ◌∙◌, arith}
 use Rattle.std.proofs.lemmas.Bool.Decides.{nat_tests}
 use Rattle.std.specs.BTreeMap.{is_at}
 use Rattle.std.specs.Map.{lookup, set_value}
@@ -37,12 +37,6 @@ set_value-same {X} t (e ∷ es) v w found is = by (set_value-same t es v w) (t e
 pub feature-found : (layer now : LayerContent) (id : ℕ) (feature : FeatureContent) → layer ≡ now → Some feature ≡ lookup (is_at (nat_cmp id)) layer.features → feature_of now id ≡ Some feature
 feature-found layer now id feature same there =
     ap (λ l. feature_of l id) (sym same) ∙ sym (lookup-same (is_at (nat_cmp id)) (nat_eq id) (is_at-nat_eq id) layer.features) ∙ sym there
-
--- and where it gives none, there is none
-pub feature-missing : (P : FeatureContent → Type 0) (layer now : LayerContent) (id : ℕ) → layer ≡ now → None ≡ lookup (is_at (nat_cmp id)) layer.features → IsSomeAnd (feature_of now id) P → ⊥
-feature-missing P layer now id same missing h =
-    subst (λ o. IsSomeAnd o P)
-    (ap (λ l. feature_of l id) (sym same) ∙ sym (lookup-same (is_at (nat_cmp id)) (nat_eq id) (is_at-nat_eq id) layer.features) ∙ sym missing) h
 
 -- what is written to it changes it
 pub feature-changed : (layer now : LayerContent) (id : ℕ) (feature new : FeatureContent) (f : FeatureContent → FeatureContent) (features : List (ℕ × FeatureContent))

@@ -1,5 +1,5 @@
 -- What follows from the outcome of a call.
-use Rattle.std.proofs.Common.{◌≡◌, Result, Ok, Err, IfErr, IfOk, OnErr, OnOk, sym, subst}
+use Rattle.std.proofs.Common.{◌≡◌, Result, Ok, Err, OnErr, OnOk, sym, subst}
 
 pub OnOk-map : {T E P Q : Type 0} (r : Result T E) → (P → Q) → OnOk r P → OnOk r Q
 OnOk-map (Ok x) f p = f p
@@ -13,14 +13,6 @@ OnErr-map (Err e) f p = f p
 pub by_outcome : {T E P Q R : Type 0} (r : Result T E) → OnOk r P → OnErr r Q → (P → R) → (Q → R) → R
 by_outcome (Ok x) p q f g = f p
 by_outcome (Err e) p q f g = g q
-
-pub IfOk-map : {T E : Type 0} {P Q : T → Type 0} (r : Result T E) → ((x : T) → P x → Q x) → IfOk r P → IfOk r Q
-IfOk-map (Ok x) f p = f x p
-IfOk-map (Err e) f p = p
-
-pub IfErr-map : {T E : Type 0} {P Q : E → Type 0} (r : Result T E) → ((e : E) → P e → Q e) → IfErr r P → IfErr r Q
-IfErr-map (Ok x) f p = p
-IfErr-map (Err e) f p = f e p
 
 pub OnOk-both : {T E : Type 0} (P Q : Type 0) (r : Result T E) → OnOk r P → OnOk r Q → OnOk r (P × Q)
 OnOk-both P Q (Ok x) p q = (p, q)
