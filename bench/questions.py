@@ -4,8 +4,9 @@
 Rings of several sizes that cross the border of a window of four edges are asked for by each predicate, and by a window
 that has them all inside, and rings round one place with a window in the corner of their box, which share no point with
 it; two stars that overlap are asked about each other, and two combs of which one is turned by a quarter and lies across
-the other. Printed is processor time for each feature or question, with its line: the difference of runs with and without
-the questions, the least of some.
+the other; lines along a star and sets of points of which the matrix is told early are related, beside such as are not.
+Printed is processor time for each feature or question, with its line: the difference of runs with and without the
+questions, the least of some.
 
     rt run is needed once in crates/sfstore (it builds the program); then: bench/questions.py
 """
@@ -74,7 +75,7 @@ def windows(count: int) -> None:
 
 def related(before: list[str], given: str, count: int) -> float:
     """The time of a line that asks for the matrix of the first feature, of so many edges, with a geometry."""
-    times = max(1, 5_000 // count)
+    times = max(20, 50_000 // count)
     return cost(before, [f"relate a 1 {given}"] * times) / times
 
 
@@ -111,6 +112,34 @@ def combs(count: int) -> None:
     print(f"combs across of {count}: relate {related(before, texts[1], count):.0f} us")
 
 
+def text_of(kind: str, places: list[tuple[int, int]]) -> str:
+    """A line or a set of points at these places."""
+    return f"{kind} (" + ", ".join(f"{x} {y}" for x, y in places) + ")"
+
+
+def lines_along(count: int) -> None:
+    """A line along the ring of a star of so many edges but for some spikes, in and out: closed, so that it is told before
+    the end of the walk, and without its last edge, so that it has ends and is walked to the end."""
+    angles = [2 * math.pi * k / count + 0.1 for k in range(count)]
+    radii = [(500_000, 250_000)[k % 2] + {0: 40_000, 8: -40_000}.get(k % 16, 0) for k in range(count)]
+    line = [(round(r * math.cos(a)), round(r * math.sin(a))) for r, a in zip(radii, angles)]
+    before = ["layer add a polygon", f"add a {ring(count, 0, 0, (500_000, 250_000))}"]
+    for name, places in (("closed", [*line, line[0]]), ("with ends", line)):
+        each = related(before, text_of("LINESTRING", places), count)
+        print(f"line along a star of {count}, {name}: relate {each:.0f} us")
+
+
+def points_shared(count: int) -> None:
+    """Two sets of so many points, of which one half are in both, so that they are told after some columns, or none."""
+    angles = [2 * math.pi * k / count + 0.1 for k in range(count)]
+    first = [(round(400_000 * math.cos(a)), round(400_000 * math.sin(a))) for a in angles]
+    before = ["layer add a any", f"add a {text_of('MULTIPOINT', first)}"]
+    for name, moved in (("half shared", 2), ("none shared", 1)):
+        second = [(x + 1, y) if k % moved == 0 else (x, y) for k, (x, y) in enumerate(first)]
+        each = related(before, text_of("MULTIPOINT", second), count)
+        print(f"sets of {count} points, {name}: relate {each:.0f} us")
+
+
 def main() -> None:
     for count in (8, 64, 512):
         windows(count)
@@ -118,6 +147,8 @@ def main() -> None:
     for count in (64, 512, 4_095):
         stars(count)
         combs(count)
+        lines_along(count)
+        points_shared(count)
 
 
 if __name__ == "__main__":
