@@ -3,7 +3,7 @@
 ghost use Rattle.std.specs.Prelude.{◌≡◌, ◌<◌, ◌≤◌, ◌-◌, ◌++◌, length, IfOk, OnOk};
 ghost use Rattle.sf_rtree.specs.Curves.{AreInOrder};
 ghost use Rattle.sf_rtree.specs.Levels.{CanPart, IsLevel, IsPart};
-ghost use Rattle.sf_rtree.specs.Nodes.{entries_below};
+ghost use Rattle.sf_rtree.specs.Nodes.{entries_below, most_members};
 
 use crate::entry::Entry;
 use crate::members::MEMBERS_MAX;
@@ -27,7 +27,7 @@ pub fn build(alloc: Global, entries: Vec<Entry>) -> Result<Node, AllocError>
 
 /// The leaves of the entries.
 fn leaves(alloc: Global, mut entries: Vec<Entry>) -> Result<Vec<Branch>, AllocError>
-    requires many { 8 < length entries.items }
+    requires many { most_members < length entries.items }
     requires in_order { AreInOrder entries.items }
     ensures { IfOk result (λ leaves. IsLevel entries.items leaves.items) }
 {
@@ -44,7 +44,7 @@ fn leaves(alloc: Global, mut entries: Vec<Entry>) -> Result<Vec<Branch>, AllocEr
 
 /// The nodes over the branches, which are of one level.
 fn level_above(alloc: Global, mut branches: Vec<Branch>) -> Result<Vec<Branch>, AllocError>
-    requires many { 8 < length branches.items }
+    requires many { most_members < length branches.items }
     requires level { IsLevel (entries_below branches.items) branches.items }
     requires in_order { AreInOrder (entries_below branches.items) }
     ensures level { IfOk result (λ above. IsLevel (entries_below branches.items) above.items) }

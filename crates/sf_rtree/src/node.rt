@@ -4,11 +4,11 @@ ghost use Rattle.std.specs.Prelude.{◌≡◌, ◌≤◌, ◌<◌, ◌+◌, ◌-
 ghost use Rattle.std.specs.List.{AllByRecursion, insert, list_any, remove};
 ghost use Rattle.sf_geometry.specs.Envelope.{extents_meet};
 ghost use Rattle.sf_rtree.specs.Curves.{AreInOrder, IsLast, comes_before, put, taken};
-ghost use Rattle.sf_rtree.specs.Nodes.{AreBranches, AreEntries, Covers, IsBranch, IsPlace, IsSized, entries_below, ids_among, inner_of, leaf_of, levels_below};
+ghost use Rattle.sf_rtree.specs.Nodes.{AreBranches, AreEntries, Covers, IsBranch, IsPlace, IsSized, entries_below, fewest_members, ids_among, inner_of, leaf_of, levels_below, most_members};
 ghost use Rattle.sf_rtree.specs.Growths.{AreFilled, AreNodes, entries_of, nodes_of};
 
 use crate::entry::{Entry, Key, join};
-use crate::members::{MEMBERS_MAX, put_member, take_half};
+use crate::members::{MEMBERS_MAX, MEMBERS_MIN, put_member, take_half};
 use sf_geometry::Extent;
 use std::alloc::{AllocError, Global};
 use std::marker::Model;
@@ -138,8 +138,8 @@ impl Node {
         requires { length self.now.entries ≤ 2 ^ 32 }
         ensures levels { result ≡ self.now.levels }
         ensures some { 1 ≤ result }
-        ensures few { length self.now.entries ≤ 8 ^ result }
-        ensures enough { 1 < result → 2 * 3 ^ (result - 1) ≤ length self.now.entries }
+        ensures few { length self.now.entries ≤ most_members ^ result }
+        ensures enough { 1 < result → 2 * fewest_members ^ (result - 1) ≤ length self.now.entries }
     {
         match &self.members {
             Members::Leaf(_) => 1,
@@ -181,7 +181,7 @@ impl Node {
 
     /// The branch of the node.
     pub fn into_branch(self) -> Branch
-        requires { 3 ≤ self.members }
+        requires { fewest_members ≤ self.members }
         ensures branch { IsBranch self.levels result }
         ensures node { result.node ≡ self }
     {
@@ -194,7 +194,7 @@ impl Node {
 
     /// The branch of the node, with a box and a key that are known to hold for it.
     fn into_branch_within(self, extent: Extent, last: Key) -> Branch
-        requires members { 3 ≤ self.members }
+        requires members { fewest_members ≤ self.members }
         requires covered { Covers extent self.entries }
         requires last { IsLast last self.entries }
         ensures branch { IsBranch self.levels result }
@@ -255,8 +255,8 @@ impl Node {
     /// The node without an entry of the key. It may be left with a member less than before, and one
     /// of two members may be left alone. After an Err the node is gone.
     pub fn remove(self, alloc: Global, key: Key) -> Result<Node, AllocError>
-        ensures levels { IfOk result (λ node. 3 ≤ self.members → node.levels ≡ self.levels) }
-        ensures members { IfOk result (λ node. 3 ≤ self.members → self.members ≤ node.members + 1) }
+        ensures levels { IfOk result (λ node. fewest_members ≤ self.members → node.levels ≡ self.levels) }
+        ensures members { IfOk result (λ node. fewest_members ≤ self.members → self.members ≤ node.members + 1) }
         ensures entries { IfOk result (λ node. node.entries ≡ taken key self.entries) }
     {
         match self.members {
@@ -385,7 +385,7 @@ fn branch_place(branches: &[Branch], key: &Key) -> usize
 /// Puts one or two nodes among the branches.
 fn put_nodes(branches: &mut Vec<Branch>, place: usize, grown: Grown) -> Result<(), AllocError>
     requires within { place ≤ length branches.old.items }
-    requires filled { AreFilled grown.node.levels 3 grown }
+    requires filled { AreFilled grown.node.levels fewest_members grown }
     requires branches { AllByRecursion (IsBranch grown.node.levels) branches.old.items }
     ensures members { OnOk result (length branches.new.items
         ≡ length branches.old.items + length (nodes_of grown)) }
@@ -446,8 +446,8 @@ fn put_grown(
     grown: Grown,
 ) -> Result<(), AllocError>
     requires within { place < length branches.old.items }
-    requires few { length branches.old.items ≤ 8 }
-    requires filled { AreFilled grown.node.levels 3 grown }
+    requires few { length branches.old.items ≤ most_members }
+    requires filled { AreFilled grown.node.levels fewest_members grown }
     requires covered { Covers extent (entries_of (nodes_of grown)) }
     requires last { IsLast last (entries_of (nodes_of grown)) }
     requires branches { AllByRecursion (IsBranch grown.node.levels) (remove branches.old.items place) }
@@ -487,7 +487,7 @@ fn put_back(branches: &mut Vec<Branch>, place: usize, node: Node) -> Result<(), 
         ≡ entries_below (take place (remove branches.old.items place)) ++ node.entries
         ++ entries_below (drop place (remove branches.old.items place))) }
 {
-    if node.len() >= 3 {
+    if node.len() >= MEMBERS_MIN {
         put_branch(branches, place, node.into_branch());
         return Ok(());
     }
@@ -523,7 +523,7 @@ fn put_joined(branches: &mut Vec<Branch>, place: usize, node: Node) -> Result<()
 /// One node of the branches: a single one is left alone.
 fn over_branches(mut branches: Vec<Branch>) -> Node
     requires some { 1 ≤ length branches.items }
-    requires few { length branches.items ≤ 8 }
+    requires few { length branches.items ≤ most_members }
     requires branches { AllByRecursion (IsBranch (levels_below branches.items)) branches.items }
     requires in_order { AreInOrder (entries_below branches.items) }
     ensures levels { 2 ≤ length branches.items → result.levels ≡ levels_below branches.items + 1 }
@@ -541,7 +541,7 @@ fn over_branches(mut branches: Vec<Branch>) -> Node
 
 /// One leaf of the entries, or two where they are too many for one.
 fn split_leaf(mut entries: Vec<Entry>) -> Result<Grown, AllocError>
-    requires few { length entries.items ≤ 16 }
+    requires few { length entries.items ≤ 2 * most_members }
     requires in_order { AreInOrder entries.items }
     ensures { IfOk result (λ grown. AreNodes 1 (length entries.items) entries.items grown) }
 {
@@ -566,7 +566,7 @@ fn split_leaf(mut entries: Vec<Entry>) -> Result<Grown, AllocError>
 
 /// One node of the branches, or two where they are too many for one.
 fn split_inner(mut branches: Vec<Branch>) -> Result<Grown, AllocError>
-    requires few { length branches.items ≤ 16 }
+    requires few { length branches.items ≤ 2 * most_members }
     requires enough { 2 ≤ length branches.items }
     requires branches { AllByRecursion (IsBranch (levels_below branches.items)) branches.items }
     requires in_order { AreInOrder (entries_below branches.items) }

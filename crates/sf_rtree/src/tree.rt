@@ -4,6 +4,7 @@ ghost use Rattle.std.specs.List.Sorted.{IsStrictlySortedBy};
 ghost use Rattle.std.specs.Map.{keys_of};
 ghost use Rattle.std.specs.Ordering.{nat_cmp};
 ghost use Rattle.sf_geometry.specs.Envelope.{extents_meet};
+ghost use Rattle.sf_rtree.specs.Nodes.{fewest_members, most_members};
 
 use crate::build::build;
 use crate::entry::{Entry, Key};
@@ -57,8 +58,8 @@ impl RTree {
     /// How many levels there are: 1 where the root is a leaf.
     pub fn height(&self) -> u32
         ensures some { 1 ≤ result }
-        ensures few { length self.now ≤ 8 ^ result }
-        ensures enough { 1 < result → 2 * 3 ^ (result - 1) ≤ length self.now }
+        ensures few { length self.now ≤ most_members ^ result }
+        ensures enough { 1 < result → 2 * fewest_members ^ (result - 1) ≤ length self.now }
     {
         self.root.levels()
     }
