@@ -15,10 +15,11 @@ from support import FOLDER, PROGRAM, TestCase
 TOP = FOLDER.parent
 PIP = ("pip", "setuptools", "wheel")
 OPTIONAL = ("osgeo", "prompt_toolkit", "psycopg2", "rich")
+TYPED = ("prompt_toolkit", "rich")
 
 
 class Project(TestCase):
-    @unittest.skipUnless(shutil.which("mypy"), "no mypy")
+    @unittest.skipUnless(shutil.which("mypy") and all(map(find_spec, TYPED)), "no mypy, or a part whose types it reads")
     def test_types(self):
         words = ["mypy", "--config-file", "pyproject.toml", f"--cache-dir={self.folder}"]
         checked = subprocess.run(words, cwd=TOP, capture_output=True, text=True)
