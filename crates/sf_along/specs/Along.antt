@@ -1,3 +1,4 @@
+-- Internal: who wants to trust the program need not read this file.
 -- When an edge of one geometry runs along an edge of another.
 use Rattle.std.specs.List.{Contains}
 use Rattle.sf_grid.specs.Edge.{Edge as Line}

@@ -1,3 +1,4 @@
+-- Internal: who wants to trust the program need not read this file.
 -- Lines that are marked in a table, and runs that are left out by it.
 use Rattle.std.specs.Prelude.{◌≡◌, ℕ, ℤ, ◌^◌, ◌-◌, ◌/◌, Bool, false, List, get_or, IsTrue, if◌then◌else◌, unsigned_abs}
 use Rattle.std.specs.Int.Bits.{bit_and, bit_xor}

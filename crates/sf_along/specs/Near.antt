@@ -1,3 +1,4 @@
+-- Internal: who wants to trust the program need not read this file.
 -- The edges of one list that are near those of another: whose box shares a point with the box of all of them.
 use Rattle.std.specs.Prelude.{Bool, false, List, [], ◌∷◌, Option, None, Some}
 use Rattle.std.specs.List.{filter, fold}

@@ -1,3 +1,4 @@
+-- Internal: who wants to trust the program need not read this file.
 -- Edges as runs from their earlier end to their later, with numbers that are the same for edges of one line.
 use Rattle.std.specs.Prelude.{◌≡◌, ◌≢◌, ◌^◌, ◌-◌, Bool, true, false, ◌&&◌, ◌⊎◌, ℤ, pos, ◌-ℤ◌, ◌*ℤ◌, List, [], ◌∷◌, ◌++◌, map, IsFalse, IsTrue, if◌then◌else◌}
 use Rattle.std.specs.Int.{int_div_euclid}

@@ -7,6 +7,3 @@ mod marks;
 mod run;
 
 pub use along::run_along;
-
-#[cfg(test)]
-mod tests;

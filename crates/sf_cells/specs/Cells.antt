@@ -1,3 +1,4 @@
+-- Internal: who wants to trust the program need not read this file.
 -- The cells of a list of pieces: of each sample its dimension, the pieces on it and the edges above it.
 use Rattle.std.specs.Prelude.{ℕ, ◌+◌, Bool, List, [], ◌∷◌, map, if◌then◌else◌}
 use Rattle.sf_columns.specs.declared.piece.Piece.{Piece}

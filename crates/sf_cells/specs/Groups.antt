@@ -1,3 +1,4 @@
+-- Internal: who wants to trust the program need not read this file.
 -- Cells by groups of pieces: how many pieces of each group are on a cell, and how many above it.
 use Rattle.std.specs.Prelude.{ℕ, zero, suc, ◌+◌, max, List, [], ◌∷◌, map, slice_index, ◌==◌}
 use Rattle.std.specs.List.{count_by}

@@ -1,3 +1,4 @@
+-- Internal: who wants to trust the program need not read this file.
 -- What is handed out for a column: at each level the pieces that are on it, and below it the edges that are above from there on.
 use Rattle.std.specs.Prelude.{◌≡◌, ℕ, ◌+◌, ◌-◌, ◌≤◌, Bool, true, false, List, [], ◌∷◌, ◌++◌, take, drop}
 use Rattle.sf_columns.specs.declared.active.Active.{Active}

@@ -1,3 +1,4 @@
+-- Internal: who wants to trust the program need not read this file.
 -- The cells as they are recorded while they are handed out: a head for each cell, and the numbers of all of them one after another.
 use Rattle.std.specs.Prelude.{ℕ, ◌+◌, ◌-◌, ◌^◌, Bool, ◌&&◌, nat_lt, min, List, [], ◌∷◌, ◌++◌, take, drop, length, vec_capacity, if◌then◌else◌}
 use Rattle.std.specs.List.{count_by, fold}

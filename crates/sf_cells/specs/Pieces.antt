@@ -1,3 +1,4 @@
+-- Computes what the samples see of an edge or a dot: to be trusted by the law MatricesAreOverThePlane of sf_relate, and not by reading.
 -- A list of pieces: where each piece lies.
 use Rattle.std.specs.Prelude.{Bool, false, List, [], ◌∷◌, if◌then◌else◌}
 use Rattle.sf_grid.specs.Fraction.{Fraction, whole, fraction_eq}

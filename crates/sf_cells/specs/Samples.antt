@@ -1,3 +1,4 @@
+-- Computes at which points of the plane a set is looked at: to be trusted by the law MatricesAreOverThePlane of sf_relate, and not by reading.
 -- The samples of a list of pieces: points in columns, one for each cell that the pieces cut the plane into.
 use Rattle.std.specs.Prelude.{ℕ, Bool, true, false, List, [], ◌∷◌, ◌++◌, map, Option, Some, None, pos, if◌then◌else◌}
 use Rattle.std.specs.List.{flat_map}

@@ -1,3 +1,4 @@
+-- Internal: who wants to trust the program need not read this file.
 -- The front of a sweep: the edges that go on to the right of a column, from the top, and what each does with the next one.
 use Rattle.std.specs.Prelude.{◌≡◌, ◌≢◌, ℕ, Bool, true, false, List, [], ◌∷◌, map, Option, Some, None, ◌⊎◌}
 use Rattle.std.specs.List.{sum_by}

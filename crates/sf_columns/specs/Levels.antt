@@ -1,3 +1,4 @@
+-- Internal: who wants to trust the program need not read this file.
 -- The levels of a column, from the top: the edges of the order and the vertices that are at one height.
 use Rattle.std.specs.Prelude.{◌≡◌, ◌≢◌, ℕ, ◌+◌, ◌-◌, ◌≤◌, ◌<◌, Bool, true, false, int_lt, List, [], ◌∷◌, ◌++◌, take, drop, length, Option, if◌then◌else◌}
 use Rattle.std.specs.List.{prefix_len}

@@ -1,3 +1,4 @@
+-- Internal: who wants to trust the program need not read this file.
 -- The next column of a sweep: the least of the places at which something may begin, end or meet.
 use Rattle.std.specs.Prelude.{Option, Some, None, List, [], ◌∷◌, IsTrue, if◌then◌else◌}
 use Rattle.std.specs.List.{All, Contains}

@@ -1,3 +1,4 @@
+-- Internal: who wants to trust the program need not read this file.
 -- The parts of a column, from the top: edges that stand alone, many at once, and the other levels one by one.
 use Rattle.std.specs.Prelude.{◌≡◌, ℕ, zero, suc, ◌+◌, Bool, true, false, ◌&&◌, not, List, [], ◌∷◌, ◌++◌, drop, length, Option, if◌then◌else◌}
 use Rattle.std.specs.Ordering.{is_lt}

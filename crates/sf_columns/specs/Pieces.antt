@@ -1,3 +1,4 @@
+-- Internal: who wants to trust the program need not read this file.
 -- Edges and dots.
 use Rattle.std.specs.Prelude.{◌≢◌}
 use Rattle.sf_columns.specs.declared.piece.Piece.{Piece}

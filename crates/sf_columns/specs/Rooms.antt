@@ -1,3 +1,4 @@
+-- Internal: who wants to trust the program need not read this file.
 -- Room for the parts of a column and for what goes on from it.
 use Rattle.std.specs.Prelude.{ℕ, ◌+◌, ◌≤◌, ◌<◌, vec_capacity, vec_len}
 use Rattle.sf_columns.specs.declared.cut.Cut.{Cut}

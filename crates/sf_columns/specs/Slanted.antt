@@ -1,3 +1,4 @@
+-- Internal: who wants to trust the program need not read this file.
 -- Edges that run from left to right: on which side of them points lie, how steep they are, and where they meet.
 use Rattle.std.specs.Prelude.{◌≡◌, Bool, true, false, ◌&&◌, IsTrue, pos, ◌-ℤ◌, ◌*ℤ◌, int_le, int_lt, refl}
 use Rattle.std.specs.Ordering.{int_cmp}

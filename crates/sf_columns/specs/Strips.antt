@@ -1,3 +1,4 @@
+-- Internal: who wants to trust the program need not read this file.
 -- Columns and slabs.
 use Rattle.std.specs.Prelude.{Bool, true, false, Option, Some, None}
 use Rattle.sf_grid.specs.Fraction.{Fraction}

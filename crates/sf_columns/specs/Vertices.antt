@@ -1,3 +1,4 @@
+-- Internal: who wants to trust the program need not read this file.
 -- The grid points of the pieces: where edges begin and end, where the ends of vertical edges lie, and the dots.
 use Rattle.std.specs.Prelude.{ℕ, zero, suc, ◌+◌, Bool, true, false, ◌&&◌, ◌||◌, int_lt, List, [], ◌∷◌, ◌++◌, Option, Some, None, if◌then◌else◌}
 use Rattle.std.specs.List.{Contains}

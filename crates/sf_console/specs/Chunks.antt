@@ -1,3 +1,4 @@
+-- Internal: who wants to trust the program need not read this file.
 -- What a chunk of the input does after the bytes in the line buffer.
 use Rattle.std.specs.Prelude.{◌≡◌, ◌≢◌, ℕ, true, List, [], ◌∷◌, ◌++◌, Option}
 use Rattle.std.specs.Io.KnownBytes.{Appends}

@@ -1,3 +1,4 @@
+-- Internal: who wants to trust the program need not read this file.
 -- Names of what ends serving before the input ends.
 use Rattle.std.specs.Prelude.{ℕ, List, codes}
 use Rattle.sf_console.specs.declared.serving.ServeFault.{ServeFault}

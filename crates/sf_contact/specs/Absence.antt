@@ -1,3 +1,4 @@
+-- Internal: who wants to trust the program need not read this file.
 -- When two geometries share no point: what edges and first points tell of it.
 use Rattle.std.specs.Prelude.{Bool, false, ◌||◌, List, [], ◌∷◌, IsFalse}
 use Rattle.std.specs.List.{list_any}

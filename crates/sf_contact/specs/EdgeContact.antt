@@ -1,3 +1,4 @@
+-- Internal: who wants to trust the program need not read this file.
 -- Points that two sets share, found on edges.
 use Rattle.std.specs.Prelude.{Bool, List, IsTrue}
 use Rattle.std.specs.List.{list_any}

@@ -1,3 +1,4 @@
+-- Internal: who wants to trust the program need not read this file.
 -- What a search for a point that two sets share tells.
 use Rattle.std.specs.Prelude.{Bool, true, false}
 use Rattle.sf_grid.specs.Plane.{Coordinates, Point as PlanePoint}

@@ -7,6 +7,3 @@ pub mod laws;
 mod starts;
 
 pub use contact::{FEW_POINTS, contact_between};
-
-#[cfg(test)]
-mod tests;

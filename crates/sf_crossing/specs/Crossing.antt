@@ -1,3 +1,4 @@
+-- Internal: who wants to trust the program need not read this file.
 -- When edges of two lists cross at a point that no other edge of the lists has.
 use Rattle.std.specs.Prelude.{◌≤◌, Bool, ◌&&◌, ◌||◌, List, pos, int_lt, IsTrue}
 use Rattle.std.specs.List.{Contains, count_by}

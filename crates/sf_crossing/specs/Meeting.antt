@@ -1,3 +1,4 @@
+-- Internal: who wants to trust the program need not read this file.
 -- Of some edges those whose boxes share a point with a box.
 use Rattle.std.specs.Prelude.{List, map}
 use Rattle.std.specs.List.{filter}

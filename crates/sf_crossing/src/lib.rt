@@ -9,6 +9,3 @@ mod runs;
 
 pub use crossing::have_crossing;
 pub use meeting::edges_meeting;
-
-#[cfg(test)]
-mod tests;

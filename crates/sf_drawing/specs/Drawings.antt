@@ -1,3 +1,4 @@
+-- Beside the headline, which says nothing of a run that draws.
 -- What drawing does from the bytes of a file on, in the words of `Read` and `Write` for the bytes that they tell.
 use Rattle.std.specs.Prelude.{◌≡◌, ℕ, ◌+◌, ◌*◌, ◌/◌, List, Option, None, Some, IfNone, IfSome, find, max, min, not, string_bytes}
 use Rattle.sf_layers.specs.Content.{Content, has_layer}

@@ -1,3 +1,4 @@
+-- Internal: who wants to trust the program need not read this file.
 -- Edits that were taken back, and how they are carried out again.
 use Rattle.std.specs.Prelude.{◌≡◌, Bool, true, false, Result, Ok, IfOk, IfErr, OnErr, IsTrue}
 use Rattle.sf_layers.specs.Content.{Content}

@@ -1,3 +1,4 @@
+-- Internal: who wants to trust the program need not read this file.
 -- A ring of which a stretch of edges was exchanged for another one in a box, as by a vertex that was moved, put in or taken out.
 use Rattle.std.specs.Prelude.{◌≡◌, true, false, List, [], ◌∷◌, ◌++◌, IsTrue, IsFalse}
 use Rattle.std.specs.List.{AllByRecursion}

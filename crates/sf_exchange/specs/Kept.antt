@@ -1,3 +1,4 @@
+-- Internal: who wants to trust the program need not read this file.
 -- The rules on the whole of polygons, where one ring's stretch was exchanged in a box that all other rings are off.
 use Rattle.std.specs.Prelude.{◌≡◌, true, false, List, ◌∷◌, ◌++◌}
 use Rattle.std.specs.List.{AllByRecursion}

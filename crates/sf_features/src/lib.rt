@@ -16,6 +16,3 @@ pub use columns::Columns;
 pub use feature::Feature;
 pub use names::is_name;
 pub use text::Text;
-
-#[cfg(test)]
-mod tests;

@@ -1,3 +1,4 @@
+-- Internal: who wants to trust the program need not read this file.
 -- The changes that the code makes in one list of vertices, and what comes of them by the list alone.
 use Rattle.std.specs.Prelude.{◌≡◌, ◌⊎◌, ℕ, Bool, ◌==◌, ◌||◌, List, Option, Some, None, Result, Ok, Err, IsOk, length, insert, remove, slice_set, nat_le, nat_lt, if◌then◌else◌}
 use Rattle.std.specs.List.{list_any}

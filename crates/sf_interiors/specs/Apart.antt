@@ -1,3 +1,4 @@
+-- Internal: who wants to trust the program need not read this file.
 -- The interior and the boundary of a valid geometry have no point in common.
 use Rattle.std.specs.Prelude.{IsFalse, IsTrue}
 use Rattle.sf_grid.specs.Plane.{IsPoint, Point}

@@ -1,3 +1,4 @@
+-- Internal: who wants to trust the program need not read this file.
 -- The dimensions of a valid geometry's interior and boundary, as its kind and its ends tell them (6.1.15.2).
 use Rattle.std.specs.Prelude.{Bool, if◌then◌else◌}
 use Rattle.std.specs.List.{list_any}

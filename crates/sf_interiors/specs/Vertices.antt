@@ -1,3 +1,4 @@
+-- Internal: who wants to trust the program need not read this file.
 -- What an area has beside each end of its edges: a part of its interior and one of its boundary, less than a grid step away.
 use Rattle.std.specs.Prelude.{◌≡◌, Bool, ◌&&◌, pos, ◌+ℤ◌, ◌-ℤ◌, ◌*ℤ◌, int_lt}
 use Rattle.std.specs.List.{AllByRecursion}

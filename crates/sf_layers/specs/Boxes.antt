@@ -1,3 +1,4 @@
+-- Internal: who wants to trust the program need not read this file.
 -- The boxes of a layer's features, by identifier: what its index has, where it has one.
 use Rattle.std.specs.Prelude.{◌≡◌, ℕ, List, map, Option, IfSome}
 use Rattle.sf_geometry.specs.declared.extent.Extent.{Extent}

@@ -1,3 +1,4 @@
+-- Internal: who wants to trust the program need not read this file.
 -- How the values of a column are moved out of the features of a layer, and into them, one after the other.
 use Rattle.std.specs.Prelude.{◌≡◌, ℕ, List, [], ◌∷◌, ◌++◌, drop, filter_map, option_map, IsSomeAnd, Some, nat_eq}
 use Rattle.std.specs.Map.{lookup, keys_of, values_of}

@@ -1,3 +1,4 @@
+-- Internal: who wants to trust the program need not read this file.
 -- How a store finds the layer of a name: each layer has a number of its own, which never changes.
 use Rattle.std.specs.Prelude.{◌≡◌, ℕ, ◌<◌, List, map, Option, bytes_eq}
 use Rattle.std.specs.List.{AllByRecursion}

@@ -1,3 +1,4 @@
+-- Internal: who wants to trust the program need not read this file.
 -- What a line buffer has of a line whose line feed has not been read yet.
 use Rattle.std.specs.Prelude.{◌≡◌, ℕ, ◌+◌, ◌<◌, ◌≤◌, Bool, true, false, ◌||◌, List, [], ◌++◌, length, Option, None, Some, nat_lt, if◌then◌else◌}
 use Rattle.sf_lines.specs.Lines.{line_max}

@@ -1,3 +1,4 @@
+-- Internal: who wants to trust the program need not read this file.
 -- What is read of a layer behind its first fields.
 use Rattle.std.specs.Prelude.{◌≡◌, ℕ, List, [], nat_lt}
 use Rattle.sf_layers.specs.Content.{LayerContent}

@@ -1,3 +1,4 @@
+-- Internal: who wants to trust the program need not read this file.
 -- What happens to a stream while the fields of a file are read from it.
 use Rattle.std.specs.Prelude.{◌≡◌, ℕ, ℤ, false, List, ◌++◌, Option, Some, None, IsTrue, Result, Ok, Err}
 use Rattle.std.specs.Int.{w64, cast_signed}

@@ -1,3 +1,4 @@
+-- Internal: who wants to trust the program need not read this file.
 -- The types of a layer's columns by number, and values that follow others.
 use Rattle.std.specs.Prelude.{◌≡◌, ℕ, ◌+◌, List, [], length, nat_le, Option, Result, Ok, Err, nat_eq, option_map}
 use Rattle.std.specs.List.{AllByRecursion}

@@ -1,3 +1,4 @@
+-- Beside the headline, which says nothing of the words of the command line.
 -- The command of the program, and what its words ask for, by clap's own definitions.
 use Rattle.std.specs.Prelude.{◌≡◌, ℕ, List, [], Option, Some, Result, Ok, Err, codes}
 use Rattle.clap.specs.Words.{App, Row, Rule, Kinds, IsAmong, new_app, new_rule, with_rule, matches_of, fault_of, first_of, kind_of}

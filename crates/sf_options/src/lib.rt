@@ -3,7 +3,5 @@
 
 mod asked;
 pub mod options;
-#[cfg(test)]
-mod tests;
 
 pub use asked::{Options, OptionsFault};

@@ -1,3 +1,4 @@
+-- Internal: who wants to trust the program need not read this file.
 -- Along a path that meets no edge of closed chains, the parity of the edges above stays.
 use Rattle.std.specs.Prelude.{◌≡◌, Bool, List, IsTrue}
 use Rattle.std.specs.List.{AllByRecursion}

@@ -1,3 +1,4 @@
+-- Beside the headline, which says nothing of pictures.
 -- The elements of features: each a path through the points of its geometry, in their order.
 use Rattle.std.specs.Prelude.{ℕ, ◌-ℤ◌, List, [], ◌∷◌, ◌++◌, codes, decimal, flat_map}
 use Rattle.std.specs.Fmt.{signed_decimal}

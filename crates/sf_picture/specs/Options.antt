@@ -1,3 +1,4 @@
+-- Beside the headline, which says nothing of pictures.
 -- The command of the program, and what its words ask for, by clap's own definitions.
 use Rattle.std.specs.Prelude.{◌≡◌, ◌<◌, FitsSigned, ◌^◌, ◌≤ℤ◌, ◌==◌, ◌&&◌, ℕ, ℤ, pos, negsuc, Bool, false, List, [], ◌∷◌, Option, Some, None, Result, Ok, Err, codes, unwrap_or}
 use Rattle.std.specs.List.{list_any}

@@ -1,3 +1,4 @@
+-- Beside the headline, which says nothing of pictures.
 -- A picture of a store: its layers in drawing order, a legend, and a scale.
 use Rattle.std.specs.Prelude.{ℕ, suc, ◌+◌, ◌%◌, Bool, true, ◌||◌, List, [], ◌∷◌, ◌++◌, length, codes, decimal, flat_map, bytes_eq, ◌==◌, Option, Some, None, if◌then◌else◌}
 use Rattle.std.specs.Fmt.{signed_decimal}

@@ -1,3 +1,4 @@
+-- Beside the headline, which says nothing of pictures.
 -- Where the map of a picture lies, and how large the picture is.
 use Rattle.std.specs.Prelude.{◌≡◌, ℕ, ◌+◌, ◌*◌, ◌/◌, ◌^◌, ◌-◌, List, [], ◌∷◌, Option, None, Some, map, max, min, nat_le, ◌+ℤ◌, ◌-ℤ◌, ◌≤ℤ◌, ℤ, pos, unsigned_abs, unwrap_or, IsTrue, flat_map, if◌then◌else◌}
 use Rattle.std.specs.Int.{int_max, int_min}

@@ -1,3 +1,4 @@
+-- Computes the samples of two geometries: to be trusted by the law MatricesAreOverThePlane of sf_relate, and not by reading.
 -- Pieces in groups: the edges of lines and rings, and grid points, each with the number of its group; what a point counts.
 use Rattle.std.specs.Prelude.{◌≡◌, ◌↔◌, ℕ, ◌<◌, ◌==◌, Bool, ◌&&◌, List, [], ◌∷◌, map, length, slice_index, IsTrue}
 use Rattle.std.specs.List.{All, count_by, list_any}

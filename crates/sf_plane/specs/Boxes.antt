@@ -1,3 +1,4 @@
+-- Internal: who wants to trust the program need not read this file.
 -- Boxes: a closed box that has the ends of a ring's edges has all points on the ring or inside it.
 use Rattle.std.specs.Prelude.{◌≡◌, int_le, Bool, ◌&&◌, IsTrue, ℤ, List, [], ◌∷◌}
 use Rattle.std.specs.Int.{int_max, int_min}

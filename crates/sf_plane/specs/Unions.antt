@@ -1,3 +1,4 @@
+-- Computes the dimension of a set (HasDimension): to be trusted by the law MatricesAreOverThePlane of sf_relate, and not by reading.
 -- Sets of points that are unions of cells: which points they have, and of what dimension they are, is seen by the samples.
 use Rattle.std.specs.Prelude.{◌≡◌, ◌↔◌, ℕ, zero, suc, ◌≤◌, Bool, IsTrue, List, [], ◌∷◌, if◌then◌else◌}
 use Rattle.std.specs.List.{All, Any}

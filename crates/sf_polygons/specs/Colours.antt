@@ -1,3 +1,4 @@
+-- Internal: who wants to trust the program need not read this file.
 -- Colours: numbers for boxes, so that those with one number share no point.
 use Rattle.std.specs.Prelude.{◌≡◌, ℕ, ◌+◌, ◌≤◌, Bool, false, cond, List, [], ◌∷◌, length, Option, Some, None, is_some}
 use Rattle.std.specs.List.{AllByRecursion, fold, zip}

@@ -1,3 +1,4 @@
+-- Internal: who wants to trust the program need not read this file.
 -- What is said of polygons by the faults that were found.
 use Rattle.std.specs.Prelude.{◌↔◌, ◌||◌, List, Option, Some, None, if◌then◌else◌, IsTrue}
 use Rattle.std.specs.List.{list_any}

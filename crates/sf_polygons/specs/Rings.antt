@@ -1,3 +1,4 @@
+-- Internal: who wants to trust the program need not read this file.
 -- Rings in groups, as they are handed to a walk.
 use Rattle.std.specs.Prelude.{ℕ, ◌+◌, List, map}
 use Rattle.std.specs.List.{flat_map, zip}

@@ -1,3 +1,4 @@
+-- Internal: who wants to trust the program need not read this file.
 -- What is asked of a cell by its counts.
 use Rattle.std.specs.Prelude.{ℕ, ◌==◌, Bool, ◌&&◌, ◌||◌, not, List, drop, nat_le, nat_lt, slice_index, sum}
 use Rattle.std.specs.List.{count_by, list_any, zip}

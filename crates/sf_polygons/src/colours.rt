@@ -9,7 +9,7 @@ use std::alloc::{AllocError, Global};
 
 /// Numbers for boxes, so that two boxes with one number share no point: each gets the least that
 /// none has of the boxes before it which it meets. What has no box meets nothing.
-pub(crate) fn colours_of(alloc: Global, boxes: &[Option<Extent>]) -> Result<Vec<u32>, AllocError>
+pub fn colours_of(alloc: Global, boxes: &[Option<Extent>]) -> Result<Vec<u32>, AllocError>
     requires { count_by is_some boxes.now < 2 ^ 32 }
     ensures { IfOk result (λ colours. IsColouring boxes.now colours.items) }
 {

@@ -5,8 +5,7 @@ mod between;
 mod colours;
 mod faults;
 mod found;
-#[cfg(test)]
-mod tests;
 mod within;
 
+pub use colours::colours_of;
 pub use faults::first_fault;

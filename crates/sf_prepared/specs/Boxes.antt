@@ -1,3 +1,4 @@
+-- Internal: who wants to trust the program need not read this file.
 -- Numbered boxes of edges, as a tree has them.
 use Rattle.std.specs.Prelude.{◌≡◌, ℕ, ◌+◌, ◌^◌, ◌-◌, pos, List, [], ◌∷◌, map}
 use Rattle.std.specs.List.{AllByRecursion}

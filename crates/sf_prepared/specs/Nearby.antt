@@ -1,3 +1,4 @@
+-- Internal: who wants to trust the program need not read this file.
 -- The edges that can be on a point of a box or above one: those in the columns over it, from its lower side up.
 use Rattle.std.specs.Prelude.{◌≡◌, ℕ, ◌^◌, ◌-◌, pos, Bool, ◌||◌, not, IsTrue, List, map, take, drop}
 use Rattle.std.specs.List.{AllByRecursion, filter, flat_map, list_any}

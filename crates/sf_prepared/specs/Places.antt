@@ -1,3 +1,4 @@
+-- Internal: who wants to trust the program need not read this file.
 -- Where all points of a box lie in a valid geometry of which no edge has a point of the box.
 use Rattle.std.specs.Prelude.{◌≡◌, ℤ, pos, int_lt, List, IsTrue}
 use Rattle.std.specs.List.{AllByRecursion}

@@ -8,8 +8,6 @@ pub mod laws;
 mod nearby;
 mod prepared;
 mod small;
-#[cfg(test)]
-mod tests;
 
 pub use prepared::Prepared;
 pub use small::matrix_nearby;

@@ -25,7 +25,7 @@ abbrev pub is_answered : Ask → Geometry → Geometry → List Dim → Bool
 is_answered (Matching letters) a b entries = matches letters entries
 is_answered (Named predicate) a b entries = holds predicate (dim_of_geometry a) (dim_of_geometry b) entries
 
--- the feature's geometry a and the given b are as asked
+-- the feature's geometry a and the given b are as asked, by the matrix that is computed
 abbrev pub is_asked : Ask → Geometry → Geometry → Bool
 is_asked ask a b = is_answered ask a b (matrix_of a b)
 
@@ -40,7 +40,7 @@ is_of_contact (Named Intersects) = true
 is_of_contact (Named Disjoint) = true
 is_of_contact ask = false
 
--- the identifiers of the features that answer, rising
+-- computes the identifiers of the features that answer (AreFound), as the law AnswersAreOverThePlane says; rising
 abbrev pub ids_found : LayerContent → Ask → Geometry → List ℕ
 ids_found layer ask b = keys_of (filter (λ entry. is_asked ask entry.1.geometry b) layer.features)
 

@@ -1,3 +1,4 @@
+-- Internal: who wants to trust the program need not read this file.
 -- The refusals of queries as those of the store.
 use Rattle.sf_refusals.specs.declared.refusal.Refusal.{Refusal as StoreRefusal}
 use Rattle.sf_refusals.specs.declared.refusal.Refusal.TheVariants as store

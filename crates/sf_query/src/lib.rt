@@ -7,10 +7,6 @@ mod found;
 pub mod laws;
 mod queries;
 mod refusal;
-#[cfg(test)]
-mod tests;
-#[cfg(test)]
-mod town_tests;
 
 pub use ask::Ask;
 pub use found::Found;

@@ -1,3 +1,4 @@
+-- Computes the samples of two geometries: to be trusted by the law MatricesAreOverThePlane of sf_relate, and not by reading.
 -- The pieces of two geometries, in groups.
 use Rattle.std.specs.Prelude.{ℕ, List, [], ◌∷◌, ◌++◌, map}
 use Rattle.std.specs.List.{flat_map}

@@ -1,3 +1,4 @@
+-- Internal: who wants to trust the program need not read this file.
 -- The matrix of two areas, told before all their cells were handed out, or with no cells at all: once each entry has the most
 -- that areas allow, but that of the two boundaries, of which it is known that they share a point.
 use Rattle.std.specs.Prelude.{◌≡◌, Bool, List, [], ◌∷◌, if◌then◌else◌}

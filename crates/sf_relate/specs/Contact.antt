@@ -1,3 +1,4 @@
+-- Internal: who wants to trust the program need not read this file.
 -- When two geometries share a point: what is known of their matrix without one.
 use Rattle.std.specs.Prelude.{◌≡◌, ◌↔◌, Bool, false, ◌||◌, not, List, [], ◌∷◌, map, IsTrue, IsFalse, Option, Some, None}
 use Rattle.sf_grid.specs.Plane.{Coordinates, IsPoint, Point as PlanePoint, grid_point}

@@ -1,3 +1,4 @@
+-- Internal: who wants to trust the program need not read this file.
 -- Where a point lies in a geometry, by tests on its edges and ends.
 use Rattle.std.specs.Prelude.{Bool, List, if◌then◌else◌}
 use Rattle.std.specs.List.{count_by, flat_map, list_any}

@@ -32,7 +32,7 @@ AreDimensions (s ∷ ss) [] = ⊥
 abbrev pub IsMatrix : Geometry → Geometry → List Dim → Type 0
 IsMatrix a b entries = AreDimensions (intersections a b) entries
 
--- the entries as they are computed: from the samples of the pieces of both
+-- computes the entries (IsMatrix), as MatricesAreOverThePlane below says: from the samples of the pieces of both
 abbrev pub matrix_of : Geometry → Geometry → List Dim
 matrix_of a b = map (dimension_by_samples (all_pieces a b)) (intersections a b)
 

@@ -1,3 +1,4 @@
+-- Internal: who wants to trust the program need not read this file.
 -- The most that each entry of a matrix can have: a walk that has found it of each entry has found the matrix.
 use Rattle.std.specs.Prelude.{List, [], ◌∷◌, ◌++◌, map}
 use Rattle.sf_geometry.specs.declared.geometry.Geometry.{Geometry}

@@ -1,3 +1,4 @@
+-- Internal: who wants to trust the program need not read this file.
 -- The matrix of a geometry with an area, by those edges of the area that are on points of the geometry or above them.
 use Rattle.std.specs.Prelude.{List, ◌++◌, IsTrue, map}
 use Rattle.sf_grid.specs.Edge.{Edge}

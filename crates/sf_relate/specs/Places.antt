@@ -1,3 +1,4 @@
+-- Internal: who wants to trust the program need not read this file.
 -- Where a cell lies in a geometry, by counts alone: whether something of it is on the cell, and the parities of its ends
 -- there and of its edges above.
 use Rattle.std.specs.Prelude.{◌≡◌, ℕ, ◌+◌, ◌*◌, Bool, true, false, ◌&&◌, List, nat_lt, slice_index, slice_index_or, slice_set, if◌then◌else◌, replicate}

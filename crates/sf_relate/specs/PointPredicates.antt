@@ -1,3 +1,4 @@
+-- Internal: who wants to trust the program need not read this file.
 -- Which predicates hold of a Point and another geometry, by the Point's place in it.
 use Rattle.std.specs.Prelude.{◌≡◌, Bool, false, not}
 use Rattle.sf_grid.specs.Plane.{Coordinates, grid_point}

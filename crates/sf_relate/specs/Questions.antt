@@ -1,3 +1,4 @@
+-- Internal: who wants to trust the program need not read this file.
 -- Whether a matrix matches one of some patterns, and when entries that only grow can no longer change that.
 use Rattle.std.specs.Prelude.{ℕ, Bool, true, false, ◌&&◌, ◌||◌, List, zip, slice_index_or, if◌then◌else◌}
 use Rattle.std.specs.List.{list_all, list_any}

@@ -1,3 +1,4 @@
+-- Internal: who wants to trust the program need not read this file.
 -- Matrices that the kinds and the ends of two geometries tell, where they share no point, or where the second one's interior
 -- has the first whole.
 use Rattle.std.specs.Prelude.{◌≡◌, Bool, List, [], ◌∷◌, IsTrue, count_by}

@@ -2,13 +2,13 @@
 #![tactic(auto)]
 
 mod areas;
+mod at_most;
 mod first_points;
 mod grouping;
 pub mod laws;
 mod letter;
 mod locating;
 mod matrix;
-mod most;
 mod nearby;
 mod pattern;
 mod place;
@@ -20,11 +20,10 @@ mod refusal;
 mod relating;
 mod shape;
 mod sink;
-#[cfg(test)]
-mod tests;
 mod told;
 
 pub use areas::{are_known_to_overlap, matrix_overlapping};
+pub use at_most::most;
 pub use first_points::shares_first_point;
 pub use letter::Letter;
 pub use locating::locate;
@@ -40,4 +39,5 @@ pub use refusal::Refusal;
 pub use relating::relate;
 pub use sf_plane::Dim;
 pub use shape::{Shape, dimension};
+pub use sink::MatrixSink;
 pub use told::{are_apart, matrix_apart, matrix_within};

@@ -13,9 +13,9 @@ ghost use Rattle.sf_relate.specs.Nearby.{ReachesBeyond, TellPlaces, nearby_group
 ghost use Rattle.sf_relate.specs.Places.{shape_of};
 ghost use Rattle.sf_relate.specs.declared.shape.Shape.TheVariants.{Areas};
 
+use super::at_most::most;
 use super::grouping::{FIRST, FIRST_ENDS, SECOND, push_grouped};
 use super::matrix::Matrix;
-use super::most::most;
 use super::shape::Shape;
 use super::sink::MatrixSink;
 use sf_geometry::Geometry;

@@ -4,9 +4,9 @@ ghost use Rattle.std.specs.Prelude.{◌≡◌, IfOk};
 ghost use Rattle.sf_relate.specs.Matrices.{IsMatrix, matrix_of};
 
 use super::areas::{are_areas, relate_areas};
+use super::at_most::most;
 use super::grouping::pieces_of;
 use super::matrix::Matrix;
-use super::most::most;
 use super::shape::Shape;
 use super::sink::MatrixSink;
 use super::told::matrix_by_boxes;

@@ -16,19 +16,20 @@ use std::marker::Model;
 
 /// The matrix of geometries of two shapes as far as it is found, until its entries have the most that they can.
 #[derive(Drop)]
-pub(crate) struct MatrixSink {
+pub struct MatrixSink {
     pub(crate) first: Shape,
     pub(crate) second: Shape,
     /// The most that each entry can have.
     pub(crate) most: Pattern,
-    pub(crate) matrix: Matrix,
+    /// What was found so far.
+    pub matrix: Matrix,
     /// Whether the entries match that, so that no further cell is looked at.
     pub(crate) told: bool,
 }
 
 impl MatrixSink {
     /// One with no entry yet.
-    pub(crate) fn new(first: Shape, second: Shape, most: Pattern) -> MatrixSink
+    pub fn new(first: Shape, second: Shape, most: Pattern) -> MatrixSink
         ensures { gathered_by result ≡ begun first second most }
     {
         MatrixSink {

@@ -13,4 +13,3 @@ pub mod Lists
 pub mod Parts
 pub mod Levels
 pub mod Built
-pub mod Fixtures

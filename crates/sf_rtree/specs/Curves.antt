@@ -1,3 +1,4 @@
+-- Internal: who wants to trust the program need not read this file.
 -- The order of entries: by the place of their boxes on the curve, and then by identifier.
 use Rattle.std.specs.Prelude.{◌≡◌, Bool, ◌&&◌, ◌||◌, List, [], ◌∷◌, nat_eq, nat_lt, IsFalse, if◌then◌else◌}
 use Rattle.std.specs.List.{AllByRecursion}

@@ -1,3 +1,4 @@
+-- Internal: who wants to trust the program need not read this file.
 -- Each branch of a node has fewer levels than the node.
 use Rattle.std.specs.Prelude.{ℕ, ◌+◌, ◌≤◌, max, List, [], ◌∷◌}
 use Rattle.std.specs.List.{AllByRecursion}

@@ -1,3 +1,4 @@
+-- Internal: who wants to trust the program need not read this file.
 -- What an index has: boxes by identifier, rising.
 use Rattle.std.specs.Prelude.{ℕ, List, Option, filter, nat_eq}
 use Rattle.std.specs.Map.{keys_of, lookup, remove_entry}

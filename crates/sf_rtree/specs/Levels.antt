@@ -1,3 +1,4 @@
+-- Internal: who wants to trust the program need not read this file.
 -- The levels of a tree that is built at once: members are cut into parts, one for each node.
 use Rattle.std.specs.Prelude.{◌≡◌, ℕ, ◌*◌, ◌≤◌, List, length}
 use Rattle.std.specs.List.{AllByRecursion}

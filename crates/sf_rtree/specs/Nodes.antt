@@ -1,3 +1,4 @@
+-- Internal: who wants to trust the program need not read this file.
 -- Nodes of an R-tree: what is below a node, and when a node is one.
 use Rattle.std.specs.Prelude.{◌≡◌, ℕ, ◌+◌, ◌<◌, ◌≤◌, ◌^◌, Bool, ◌&&◌, List, [], ◌∷◌, ◌++◌, map, filter, length, IsTrue, IsFalse, int_le, take, drop}
 use Rattle.std.specs.List.{AllByRecursion}

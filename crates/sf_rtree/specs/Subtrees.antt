@@ -1,3 +1,4 @@
+-- Internal: who wants to trust the program need not read this file.
 -- What is seen of a node: how many levels there are from it down, how many members it has, and the entries below it, in order.
 use Rattle.std.specs.Prelude.{◌≢◌, ℕ, ◌^◌, ◌<◌, List, [], ◌∷◌}
 use Rattle.std.specs.List.{AllByRecursion}

@@ -7,8 +7,6 @@ mod index;
 mod list;
 mod members;
 mod node;
-#[cfg(test)]
-mod tests;
 mod tree;
 
 pub use index::SpatialIndex;

@@ -1,3 +1,5 @@
+-- Computes the first fault (IsVerdict) and whether a geometry is simple (IsSimple): the laws FirstFaultIsOverThePlane and
+-- SimplicityIsOverThePlane below say so.
 -- Validity and simplicity as functions that compute: the points of the plane that are looked at are the samples of the
 -- geometry's edges and vertices. The laws say that these speak for all points.
 use Rattle.std.specs.Prelude.{◌≡◌, ◌↔◌, Bool, not, List, [], ◌∷◌, ◌++◌, map, Option, Some, None, if◌then◌else◌, IsTrue}

@@ -1,3 +1,4 @@
+-- Internal: who wants to trust the program need not read this file.
 -- Lengths and counts of a store's parts fit the fields that they are written to.
 use Rattle.std.specs.Prelude.{ℕ, ◌<◌, List, length}
 use Rattle.std.specs.List.{AllByRecursion}

@@ -1,3 +1,4 @@
+-- Internal: who wants to trust the program need not read this file.
 -- The lists of a sweep: what comes to a column from the left, what lies in it, and what goes on from it.
 use Rattle.std.specs.Prelude.{◌≡◌, ℕ, Bool, true, false, ◌&&◌, List, [], ◌∷◌, map, Option, if◌then◌else◌}
 use Rattle.std.specs.List.{AllByRecursion, sum_by}

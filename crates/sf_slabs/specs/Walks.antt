@@ -1,3 +1,4 @@
+-- Internal: who wants to trust the program need not read this file.
 -- The sweep's own state: its room, and the slab that it stands in.
 use Rattle.std.specs.Prelude.{◌≡◌, ℕ, ◌+◌, ◌≤◌, List, [], None, length, vec_capacity}
 use Rattle.sf_grid.specs.Fraction.{Fraction}

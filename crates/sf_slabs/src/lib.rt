@@ -4,8 +4,6 @@
 mod conditions;
 mod decomposition;
 mod sweep;
-#[cfg(test)]
-mod tests;
 
 pub use conditions::{are_in_range, have_length};
 pub use decomposition::decompose;

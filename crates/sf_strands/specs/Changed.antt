@@ -1,3 +1,4 @@
+-- Internal: who wants to trust the program need not read this file.
 -- One edge of a line or ring, by its number, against all the others.
 use Rattle.std.specs.Prelude.{ℕ, ◌+◌, ◌<◌, Bool, ◌&&◌, ◌||◌, List, length, nat_lt}
 use Rattle.std.specs.List.{enumerate_from, list_any}

@@ -1,3 +1,4 @@
+-- Internal: who wants to trust the program need not read this file.
 -- The edges of a list of points by their numbers, two at a time.
 use Rattle.std.specs.Prelude.{ℕ, ◌+◌, Bool, ◌&&◌, ◌||◌, not, List, length, nat_eq, pos, slice_index_or}
 use Rattle.sf_grid.specs.Plane.{Coordinates, Point}

@@ -1,3 +1,4 @@
+-- Internal: who wants to trust the program need not read this file.
 -- Strands: how often lines pass a point. A line passes it once for each edge on it, but where the point is the common
 -- vertex of two neighbours, a joint, the two edges are one strand.
 use Rattle.std.specs.Prelude.{◌≡◌, ℕ, ◌+◌, Bool, ◌&&◌, List, count_by, drop, map, nat_le, nat_lt, sum_by, if◌then◌else◌}

@@ -1,3 +1,4 @@
+-- Internal: who wants to trust the program need not read this file.
 -- Several lines together: where one of them meets itself, or two of them meet.
 use Rattle.std.specs.Prelude.{Bool, ◌||◌, List}
 use Rattle.std.specs.List.{list_any}

@@ -1,3 +1,4 @@
+-- Internal: who wants to trust the program need not read this file.
 -- Tight lists of points.
 use Rattle.std.specs.Prelude.{◌≡◌, false, List, [], ◌∷◌}
 use Rattle.sf_grid.specs.Plane.{Coordinates}

@@ -1,3 +1,4 @@
+-- Internal: who wants to trust the program need not read this file.
 -- How a walk over the pieces of lines counts their strands.
 use Rattle.std.specs.Prelude.{Bool, List, ◌++◌, map, slice_index}
 use Rattle.std.specs.List.{flat_map}

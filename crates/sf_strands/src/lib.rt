@@ -6,8 +6,6 @@ pub mod laws;
 mod pairs;
 mod strands;
 mod tangles;
-#[cfg(test)]
-mod tests;
 
 pub use changed::edge_meets_others;
 pub use tangles::{are_tangled, meets_itself};

@@ -10,6 +10,3 @@ pub use chunk::{Chunk, READS_MAX, ReadFault};
 pub use output::Output;
 pub use sending::{WriteFault, flush, send};
 pub use window::{AHEAD_MAX, Window};
-
-#[cfg(test)]
-mod tests;

@@ -1,3 +1,4 @@
+-- Internal: who wants to trust the program need not read this file.
 -- A window of a column: how it is cut into levels, and what is handed out for it.
 use Rattle.std.specs.Prelude.{◌≡◌, ℕ, ◌≤◌, List, [], ◌∷◌, ◌++◌, Some, length, true, vec_capacity}
 use Rattle.std.specs.List.{fold}

@@ -1,3 +1,4 @@
+-- Internal: who wants to trust the program need not read this file.
 -- A sweep that has done nothing yet: no edge, and room for all.
 use Rattle.std.specs.Prelude.{◌≡◌, ℕ, ◌+◌, ◌≤◌, [], length, replicate, vec_capacity}
 use Rattle.sf_columns.specs.declared.contact.Contact.TheVariants.{Never}

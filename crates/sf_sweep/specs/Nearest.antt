@@ -1,3 +1,4 @@
+-- Internal: who wants to trust the program need not read this file.
 -- The first of points that are kept by pieces: a tree, each place of which has the earlier of those at twice that place and at the next one.
 use Rattle.std.specs.Prelude.{◌≡◌, ℕ, ◌+◌, ◌*◌, ◌≤◌, ◌<◌, List, Option, None, Some, [], ◌∷◌, length, slice_index_or, if◌then◌else◌}
 use Rattle.sf_grid.specs.Plane.{IsPoint, Point}

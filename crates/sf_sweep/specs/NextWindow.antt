@@ -1,3 +1,4 @@
+-- Internal: who wants to trust the program need not read this file.
 -- The next window of a column: a point at which edges meet, or vertices, whichever comes first from the top.
 use Rattle.std.specs.Prelude.{ℕ, ◌-◌, Bool, true, false, ◌&&◌, List, [], ◌∷◌, Option, None, Some, length, take, slice_index_or, if◌then◌else◌}
 use Rattle.std.specs.List.{list_any}

@@ -1,3 +1,4 @@
+-- Internal: who wants to trust the program need not read this file.
 -- What is handed out where bundles pass a column below other parities than before: from the top, until a stored row agrees.
 use Rattle.std.specs.Prelude.{◌≡◌, ℕ, Bool, List, [], ◌∷◌, ◌++◌, length, None, slice_index_or}
 use Rattle.std.specs.List.{fold}

@@ -1,3 +1,4 @@
+-- Internal: who wants to trust the program need not read this file.
 -- Contacts by pieces, where some edges of an order are replaced: what is written in the table, and what holds of it then.
 use Rattle.std.specs.Prelude.{◌≡◌, List, [], ◌∷◌, ◌++◌, slice_set}
 use Rattle.sf_grid.specs.Fraction.{Fraction}

@@ -1,3 +1,4 @@
+-- Internal: who wants to trust the program need not read this file.
 -- On which side of edges a point lies.
 use Rattle.std.specs.Prelude.{Bool}
 use Rattle.std.specs.Ordering.{is_le, is_lt}

@@ -1,3 +1,4 @@
+-- Internal: who wants to trust the program need not read this file.
 -- What a sweep keeps that changes its order at one place: contacts and parities by pieces, and how far it is in a column.
 use Rattle.std.specs.Prelude.{◌≡◌, ◌≢◌, ℕ, Bool, false, ◌&&◌, ◌||◌, List, [], ◌∷◌, drop, Option, None, Some, slice_index_or, if◌then◌else◌}
 use Rattle.std.specs.List.{AllByRecursion}

@@ -1,3 +1,4 @@
+-- Internal: who wants to trust the program need not read this file.
 -- A column that is swept over: what holds of the edges above a place, which were dealt with, and of those below it, which are as they came.
 use Rattle.std.specs.Prelude.{◌≡◌, ◌≢◌, ℕ, ◌+◌, ◌≤◌, ◌<◌, ℤ, ◌≤ℤ◌, Bool, true, false, List, [], ◌∷◌, ◌++◌, Option, None, Some, length, sum_by, ◌⊎◌}
 use Rattle.std.specs.List.{AllByRecursion, fold}

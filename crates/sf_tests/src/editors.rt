@@ -1,64 +1,7 @@
-//! Several editors of one store: their lines, and whose steps they undo and redo.
-use super::support::other_answer;
+//! Several editors of one store: whose steps they undo and redo, and whose a refusal names.
 use sf_console::{Command, Depths, Editor, Refusal, parse};
 use sf_edits::Edit;
 use std::alloc::Global;
-use std::test::Fail;
-
-const LINES: [(&str, &str); 20] = [
-    ("@1 layer add w point", "ok"),
-    ("@1 add w POINT (1 1)", "ok 1"),
-    ("@2 add w POINT (2 2)", "ok 2"),
-    ("@1 undo", "refused 36 NotYours"),
-    ("@2 undo", "ok"),
-    ("@2 undo", "refused 36 NotYours"),
-    ("@1 redo", "refused 36 NotYours"),
-    ("@1 undo", "ok"),
-    ("@2 redo", "refused 36 NotYours"),
-    ("@1 redo", "ok"),
-    ("@2 redo", "ok"),
-    ("undo", "refused 36 NotYours"),
-    ("@3 show w", "rows 2\n1 POINT (1 1)\n2 POINT (2 2)"),
-    ("@2 undo", "ok"),
-    ("@3 delete w 1", "ok"),
-    ("@2 redo", "refused 30 NothingToRedo"),
-    ("@0 undo", "refused 31 BadCommand"),
-    ("@256 undo", "refused 31 BadCommand"),
-    ("@ undo", "refused 31 BadCommand"),
-    ("@1", "refused 31 BadCommand"),
-];
-
-#[test]
-fn several_editors(rt: HostRuntime) -> Result<(), Fail> {
-    let mut editor = Editor::new(rt.alloc());
-    assert_eq!(rt; other_answer(rt.alloc(), &mut editor, &LINES)?, None);
-    Ok(())
-}
-
-/// Words that name an editor, words that name none, and an empty history, which comes before the owner.
-const WORDS: [(&str, &str); 14] = [
-    ("@2 undo", "refused 29 NothingToUndo"),
-    ("@2 redo", "refused 30 NothingToRedo"),
-    ("@001 layer add w point", "ok"),
-    (" \t@1 \t undo ", "ok"),
-    ("@1\tredo", "ok"),
-    ("@255 layers", "rows 1\nw point"),
-    ("@0001 undo", "refused 31 BadCommand"),
-    ("@+1 undo", "refused 31 BadCommand"),
-    ("@1undo", "refused 31 BadCommand"),
-    ("@1 \t", "refused 31 BadCommand"),
-    ("@1 @1 undo", "refused 31 BadCommand"),
-    ("undo @1", "refused 31 BadCommand"),
-    ("@x add w POINT (0.5 0)", "refused 31 BadCommand"),
-    ("@1 add w POINT (0.5 0)", "refused 3 OffGrid"),
-];
-
-#[test]
-fn words_of_editors(rt: HostRuntime) -> Result<(), Fail> {
-    let mut editor = Editor::new(rt.alloc());
-    assert_eq!(rt; other_answer(rt.alloc(), &mut editor, &WORDS)?, None);
-    Ok(())
-}
 
 /// Carries an edit out. The refusal where it was refused.
 fn edited(alloc: Global, editor: &mut Editor, number: u8, edit: Edit) -> Option<Refusal> {

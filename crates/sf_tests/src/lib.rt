@@ -1,13 +1,9 @@
-//! Tests that cross crates: the console in worked sessions, long ones, and with readers and writers of
-//! every kind; the classes of cells over the plane's crates.
+//! Tests that cross crates: the console in long sessions, and with readers and writers of every kind. Sessions and
+//! tables of lines are those of `sf_sessions`.
 #![tactic(auto)]
 
 #[cfg(test)]
-mod binaries;
-#[cfg(test)]
 mod calls;
-#[cfg(test)]
-mod classes;
 #[cfg(test)]
 mod dialogs;
 #[cfg(test)]
@@ -17,26 +13,14 @@ mod editors;
 #[cfg(test)]
 mod faults;
 #[cfg(test)]
-mod features;
-#[cfg(test)]
-mod files;
-#[cfg(test)]
 mod indexes;
 #[cfg(test)]
 mod limits;
 #[cfg(test)]
-mod matrices;
-#[cfg(test)]
 mod queries;
-#[cfg(test)]
-mod sessions;
 #[cfg(test)]
 mod sizes;
 #[cfg(test)]
 mod support;
-#[cfg(test)]
-mod sweeps;
-#[cfg(test)]
-mod values;
 #[cfg(test)]
 mod weights;

@@ -1,10 +1,5 @@
-//! What is used up: layers, identifiers and column numbers. The longest texts.
-ghost use Rattle.std.specs.Prelude.{◌≡◌};
-ghost use Rattle.sf_layers.specs.Content.{empty_layer, with_next_column, with_next_id};
-
-use super::support::{answers, other_answer};
-use sf_console::Editor;
-use sf_layers::{Layer, LayerKind, Store, Text};
+//! How many layers there is room for. The longest texts.
+use super::support::answers;
 use std::alloc::{AllocError, Global};
 use std::test::Fail;
 
@@ -47,66 +42,6 @@ fn most_layers(rt: HostRuntime) -> Result<(), Fail> {
     let mut whole = input.as_bytes();
     let written = answers(rt.alloc(), &mut whole)?;
     assert!(rt; written == output);
-    Ok(())
-}
-
-/// A layer with room for one more feature and one more column.
-fn layer_near_its_end(alloc: Global) -> Layer
-    ensures { result ≡ with_next_column 65534 (with_next_id 4294967294 (empty_layer LayerKind.Any)) }
-{
-    let mut layer = Layer::new(alloc, LayerKind::Any);
-    layer.set_next_id(4_294_967_294);
-    layer.set_next_column(65_534);
-    layer
-}
-
-/// A store of such a layer, named w, or nothing where no memory is found.
-fn store_near_its_end(alloc: Global) -> Option<Store> {
-    let Ok(name) = String::from_str(alloc, "w") else {
-        return None;
-    };
-    let layer = layer_near_its_end(alloc);
-    let mut store = Store::new(alloc);
-    match store.put_layer(alloc, 0, Text::from_string(name), layer) {
-        Ok(()) => Some(store),
-        Err(_) => None,
-    }
-}
-
-/// Lines to an editor of that store, and the answer to each.
-const LAST_NUMBERS: [(&str, &str); 20] = [
-    // The last identifier and the last column number are given, and there is no further one.
-    ("add w POINT (1 1)", "ok 4294967294"),
-    ("add w POINT (2 2)", "refused 27 IdsExhausted"),
-    ("column add w a int", "ok"),
-    ("column add w b int", "refused 28 ColumnsExhausted"),
-    ("set w 4294967294 a 1", "ok"),
-    ("show w", "rows 1\n4294967294 POINT (1 1) a=1"),
-    // What is deleted or dropped leaves no room.
-    ("delete w 4294967294", "ok"),
-    ("add w POINT (3 3)", "refused 27 IdsExhausted"),
-    ("column drop w a", "ok"),
-    ("column add w b int", "refused 28 ColumnsExhausted"),
-    // Additions that are taken back do.
-    ("undo", "ok"),
-    ("undo", "ok"),
-    ("undo", "ok"),
-    ("undo", "ok"),
-    ("undo", "ok"),
-    ("undo", "refused 29 NothingToUndo"),
-    ("add w POINT (4 4)", "ok 4294967294"),
-    ("column add w b int", "ok"),
-    ("show w", "rows 1\n4294967294 POINT (4 4)"),
-    ("columns w", "rows 1\nb int"),
-];
-
-#[test]
-fn last_identifier_and_last_column(rt: HostRuntime) -> Result<(), Fail> {
-    let Some(store) = store_near_its_end(rt.alloc()) else {
-        return Err(Fail::from("no memory"));
-    };
-    let mut editor = Editor::from_store(rt.alloc(), store);
-    assert_eq!(rt; other_answer(rt.alloc(), &mut editor, &LAST_NUMBERS)?, None);
     Ok(())
 }
 

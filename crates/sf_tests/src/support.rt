@@ -33,16 +33,6 @@ pub fn are_answers(alloc: Global, input: &[u8], output: &str) -> Result<bool, Fa
     Ok(in_one_piece.as_str() == output && byte_by_byte.as_str() == output)
 }
 
-/// The place of the first session, an input and its answers, to which a new editor answers otherwise.
-pub fn other_session(alloc: Global, sessions: &[(&str, &str)]) -> Result<Option<usize>, Fail> {
-    for (place, (input, output)) in sessions.iter().enumerate() {
-        if !are_answers(alloc, input.as_bytes(), output)? {
-            return Ok(Some(place));
-        }
-    }
-    Ok(None)
-}
-
 /// Whether an editor gives an answer to a line. The answer stands without its last line feed.
 fn is_answer(alloc: Global, editor: &mut Editor, line: &str, answer: &str) -> Result<bool, Fail> {
     let mut bytes = line.as_bytes();

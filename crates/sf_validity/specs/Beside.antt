@@ -1,3 +1,4 @@
+-- Internal: who wants to trust the program need not read this file.
 -- A box that lies apart from all rings of polygons but one.
 use Rattle.std.specs.Prelude.{◌≡◌, ℕ, ◌+◌, ◌-◌, true, false, List, [], ◌∷◌, ◌++◌, length, take, drop, Option, None, Some, option_and_then, slice_get}
 use Rattle.std.specs.List.{AllByRecursion}

@@ -1,3 +1,4 @@
+-- Internal: who wants to trust the program need not read this file.
 -- A ring of polygons of which one vertex was put in, moved or taken out.
 use Rattle.std.specs.Prelude.{◌≡◌, ℕ, ◌+◌, ◌≤◌, ◌<◌, Bool, IsTrue, List, ◌∷◌, ◌++◌, length, Some}
 use Rattle.sf_grid.specs.Plane.{Coordinates}

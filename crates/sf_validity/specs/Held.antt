@@ -1,3 +1,4 @@
+-- Internal: who wants to trust the program need not read this file.
 -- What a value of the type of valid geometries holds.
 use Rattle.sf_geometry.specs.declared.geometry.Geometry.{Geometry}
 use Rattle.sf_geometry.specs.Parts.{LiesOnGrid}

@@ -6,8 +6,6 @@ mod changed;
 mod checks;
 mod refusal;
 mod simple;
-#[cfg(test)]
-mod tests;
 mod valid;
 
 pub use checks::check;

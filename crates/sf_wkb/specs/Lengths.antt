@@ -1,3 +1,4 @@
+-- Internal: who wants to trust the program need not read this file.
 -- How many bytes canonical bytes are.
 use Rattle.std.specs.Prelude.{ℕ, ◌+◌, ◌*◌, length}
 use Rattle.sf_geometry.specs.declared.geometry.Geometry.{Geometry}
