@@ -3,8 +3,14 @@
 from __future__ import annotations
 
 import re
+import sys
 import unittest
 from pathlib import Path
+
+sys.path.insert(0, str(Path(__file__).resolve().parent))
+
+import trust  # noqa: E402
+import wrong_bodies  # noqa: E402
 
 TOP = Path(__file__).resolve().parent.parent
 CRATES = TOP / "crates"
@@ -78,6 +84,29 @@ class Documents(unittest.TestCase):
         for crate in crates():
             for path in (CRATES / crate / "specs").glob("*.antt"):
                 self.assertTrue(path.stem == "Lib" or (crate, path.stem) in found, path)
+
+
+class Made(unittest.TestCase):
+    """Pages that a script makes, and what it makes them from."""
+
+    def test_the_page_on_trust_has_what_the_headline_cites(self):
+        self.assertEqual((TOP / "docs" / "TRUST.md").read_text(), trust.page(), "run tests/trust.py --write")
+
+    def test_the_page_on_wrong_bodies_has_them_all(self):
+        self.assertEqual((TOP / "docs" / "WRONG_BODIES.md").read_text(), wrong_bodies.page(), "run tests/wrong_bodies.py --write")
+
+    def test_a_crate_has_at_most_four_wrong_bodies(self):
+        for crate in crates():
+            self.assertLessEqual(len(list((CRATES / crate / "must-fail").glob("*"))), 4, crate)
+
+    def test_definitions_that_nobody_has_to_read_say_so(self):
+        files = trust.specs()
+        cited = {name.file for name in trust.closure(files)}
+        self.assertGreater(len(cited), 50)
+        for file in files:
+            text = (CRATES / file).read_text()
+            says_so = text.startswith((trust.INTERNAL, "-- Beside the headline"))
+            self.assertEqual(says_so, file not in cited, file)
 
 
 class Copyright(unittest.TestCase):
