@@ -376,10 +376,6 @@ class BreakingOff(SetCase):
                 break
         self.assertEqual(ends, {True, False})
 
-    def steps(self):
-        """What the last steps of an import are made of; a program's start is none of them."""
-        return mock.patch.object(publishing, "_put", self.put)
-
     def test_a_kill_at_each_call(self):
         put = publishing._put
 
@@ -443,17 +439,14 @@ class BreakingOff(SetCase):
 
     def test_an_interrupt_while_a_place_is_looked_for(self):
         """A real program with a real signal: nothing is half, and it is said."""
-        turns = ", ".join(f"{500000 + 4 * k} 5600000, {500000 + 4 * k + 10002} 5610000" for k in range(2000))
-        ring = f"500000 5600000, {turns}, 508000 5600000, 508000 5599990, 499990 5599990, 500000 5600000"
-        self.points_again({k: (f"POLYGON (({ring}))", {}) for k in range(1, 9)})
+        ring = "500000 5600000, 500009 5600009, 500009 5600000, 500000 5600009, 500000 5600000"
+        self.points_again({1: (f"POLYGON (({ring}))", {})})
         script = (
-            "import sys; from sfstore.exchange import importing, reading\n"
-            "fault_of = reading.fault_of\n"
-            "def slow(*words):\n"
+            "import sys, time; from sfstore.exchange import importing, reading\n"
+            "def looking(*words):\n"
             "    print('looking', flush=True)\n"
-            "    return fault_of(13, words[1], 60)\n"
-            "reading.fault_of = slow\n"
-            "reading.Store.run_all = lambda self, lines: [reading.Refused(13, 'RingNotSimple') for _ in lines]\n"
+            "    time.sleep(100)\n"
+            "reading.fault_of = looking\n"
             "sys.exit(importing.main())"
         )
         words = [sys.executable, "-c", script, str(self.source), str(self.store), *self.NEW_GRID]
@@ -464,7 +457,8 @@ class BreakingOff(SetCase):
             stderr=subprocess.PIPE,
             text=True,
         )
-        self.assertEqual(running.stdout.readline(), "looking\n")
+        self.addCleanup(running.kill)
+        self.assertEqual(running.stdout.readline(), "looking\n", running.poll() and running.stderr.read())
         running.send_signal(signal.SIGINT)
         _, err = running.communicate()
         self.assertEqual(running.returncode, 3, err)

@@ -65,10 +65,10 @@ def give_back(wishes: Wishes, say: Say) -> None:
     for name in wishes.layers:
         if name not in (names := [layer.name for layer in layers]):
             raise ogr.ExchangeError(f"the store has no layer {name}: it has {', '.join(names)}")
-    parts, told = parts_of(layers, found, wishes.layers, wanted)
+    parts, told, losses = parts_of(layers, found, wishes.layers, wanted)
     for line in told:
         say(line)
-    for loss in wanted.losses(parts):
+    for loss in losses + wanted.losses(parts):
         say(f"{wishes.format} does not keep {loss}")
     _write(wishes, parts, found, say)
     if wishes.grid is not None:

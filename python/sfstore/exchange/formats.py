@@ -63,17 +63,21 @@ class Format:
 
 def parts_of(
     layers: list[FileLayer], found: Sidecar, wanted: list[str], written: Format
-) -> tuple[list[Part], list[str]]:
-    """The layers that are to be written, in drawing order, and what is to be said of their names."""
+) -> tuple[list[Part], list[str], list[str]]:
+    """The layers that are to be written, in drawing order.
+
+    With them, what is to be said of layers that were renamed, and the names that the format does
+    not keep.
+    """
     origins, told = _origins(layers, found)
     names: set[str] = set()
-    parts = []
+    parts, losses = [], []
     for layer in layers:
         if not wanted or layer.name in wanted:
-            part, said = _part(layer, origins.get(layer.name, _NO_ORIGIN), names, written)
+            part, lost = _part(layer, origins.get(layer.name, _NO_ORIGIN), names, written)
             parts.append(part)
-            told += said
-    return parts, told
+            losses += lost
+    return parts, told, losses
 
 
 def _origins(layers: list[FileLayer], found: Sidecar) -> tuple[dict[str, LayerOrigin], list[str]]:

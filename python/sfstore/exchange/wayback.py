@@ -93,7 +93,7 @@ def _grid(words: Any) -> Grid:
 
 
 def _layer(item: Any) -> LeftLayer:
-    columns = {_name(name): _number(item["columns"][name], _COLUMNS) for name in item["columns"]}
+    columns = {_name(name): _number(number, _COLUMNS) for name, number in item["columns"].items()}
     # Files of former versions have no other names than those of the store.
     names = item.get("names", {name: name for name in columns})
     found = LeftLayer(
@@ -102,7 +102,7 @@ def _layer(item: Any) -> LeftLayer:
         _number(item["next_id"], _IDENTIFIERS),
         _number(item["next_column"], _COLUMNS),
         columns,
-        {_text(name): _name(names[name]) for name in names},
+        {_text(name): _name(known) for name, known in names.items()},
     )
     if len(set(columns.values())) < len(columns):
         raise ValueError("two columns have one number")
