@@ -2,6 +2,7 @@
 
 from __future__ import annotations
 
+import math
 import os
 import sys
 from collections import Counter
@@ -15,6 +16,9 @@ __all__ = ["FEATURE_FORMATS", "Problem", "Report"]
 
 # How many identifiers the summary names for each reason.
 _SHOWN = 8
+
+# The names of geometries that GeoJSON has not.
+_PATCHES = ("TIN", "POLYHEDRALSURFACE", "TRIANGLE")
 
 FEATURE_FORMATS = {".geojson": "GeoJSON", ".gpkg": "GPKG"}
 """The formats of faulty features, by the endings of their files."""
@@ -134,37 +138,31 @@ class Report:
             if problem.geometry is None or problem.identifier is None:
                 continue
             feature = ogr_module.Feature(layer.GetLayerDefn())
-            texts = ogr.printable(problem.layer), problem.reason, ogr.printable(problem.detail)
-            feature.SetField("layer", texts[0])
+            geometry = _shown_geometry(problem.geometry, name)
+            detail = problem.detail if geometry else f"{problem.detail} (without its geometry)"
+            feature.SetField("layer", ogr.printable(problem.layer))
             feature.SetField("identifier", problem.identifier)
-            feature.SetField("reason", texts[1])
-            feature.SetField("detail", texts[2])
-            feature.SetGeometry(_shown_geometry(problem.geometry, name))
-            _create(layer, feature)
+            feature.SetField("reason", problem.reason)
+            feature.SetField("detail", ogr.printable(detail.strip()))
+            feature.SetGeometry(geometry)
+            layer.CreateFeature(feature)
         layer.SyncToDisk()
 
 
 def _shown_geometry(binary: bytes, name: str) -> Any:
-    """A geometry as a format can have it: GeoJSON has neither curves nor surfaces of patches."""
+    """A geometry as a format can have it, or none: GeoJSON has neither curves nor patches."""
     _, ogr_module, _ = ogr.gdal()
     geometry = ogr_module.CreateGeometryFromWkb(binary)
+    if not all(map(math.isfinite, geometry.GetEnvelope())):
+        # The extent of a layer would be none that a GeoPackage can have.
+        return None
     if name != "GeoJSON":
         return geometry
     if geometry.HasCurveGeometry():
-        return geometry.GetLinearGeometry()
-    if geometry.GetGeometryName() in ("TIN", "POLYHEDRALSURFACE", "TRIANGLE"):
+        geometry = geometry.GetLinearGeometry()
+    if geometry.GetGeometryName() in _PATCHES:
         return ogr_module.ForceToMultiPolygon(geometry)
-    return geometry
-
-
-def _create(layer: Any, feature: Any) -> None:
-    """Writes a feature, without its geometry where the format has no place for that."""
-    try:
-        layer.CreateFeature(feature)
-    except RuntimeError as error:
-        feature.SetGeometry(None)
-        feature.SetField("detail", f"{feature.GetField('detail')} (no geometry: {error})")
-        layer.CreateFeature(feature)
+    return None if any(patch in geometry.ExportToIsoWkt() for patch in _PATCHES) else geometry
 
 
 def _place(path: str, overwrite: bool) -> Place:
