@@ -2,22 +2,19 @@
 
 from __future__ import annotations
 
-import json
 import os
-import re
 import signal
 import sqlite3
 import stat
 import subprocess
 import sys
-import time
 import unittest
 from pathlib import Path
 from unittest import mock
 
 from support import FOLDER, PROGRAM
 from test_exchange import GRID, HAS_GDAL, KINDS, ExchangeCase, Source, bring_in, give_back
-from test_placing import at_call, fail, killed_at
+from test_placing import at_call, fail
 
 from sfstore import Store, sidecar
 from sfstore.exchange import publishing
