@@ -367,7 +367,7 @@ class Import(ExchangeCase):
 
     def test_a_program_that_refuses_the_file(self):
         self.points({1: (KINDS["point"], {})})
-        with mock.patch("sfstore.exchange.importing.write_wkb", lambda shape: b"nothing"):
+        with mock.patch("sfstore.exchange.reading.write_wkb", lambda shape: b"nothing"):
             status, _, err = bring_in(self.source, self.store, *GRID)
         self.assertEqual(status, 3)
         self.assertIn("could not be made: fault load BadFile", err)
@@ -375,7 +375,7 @@ class Import(ExchangeCase):
 
     def test_an_interrupt(self):
         self.points({1: (KINDS["point"], {})})
-        for where in ("sfstore.exchange.importing.write_store", "sfstore.exchange.importing.read_wkb"):
+        for where in ("sfstore.exchange.publishing.write_store", "sfstore.exchange.reading.read_wkb"):
             with mock.patch(where, side_effect=KeyboardInterrupt):
                 status, _, err = bring_in(self.source, self.store, *GRID)
             self.assertEqual(status, 3)
@@ -531,6 +531,7 @@ class Export(ExchangeCase):
         self.target.write_bytes(b"precious")
         folder = self.folder / "out"
         folder.mkdir()
+        (folder / "leer.geojson").write_text("old")
         for words in ([self.target], [folder, "--format", "GeoJSON"]):
             status, _, err = give_back(self.store, *words)
             self.assertEqual(status, 3)
@@ -554,7 +555,9 @@ class Export(ExchangeCase):
             store.add_layer("neu", "point")
             store.save()
             store.rename_layer("leer", "void")
-        self.assertEqual(give_back(self.store, self.target), (0, "", ""))
+        status, _, err = give_back(self.store, self.target)
+        self.assertEqual(status, 0)
+        self.assertIn("void goes back by this name, with columns of the store's types", err)
         self.assertEqual(self.back(self.target), self.store.read_bytes())
         data = ogr.Open(str(self.target))
         names = [data.GetLayer(place).GetName() for place in range(data.GetLayerCount())]

@@ -13,6 +13,9 @@ __all__ = ["LEAST", "MOST", "Grid", "OffGrid", "Outside", "Rounding"]
 LEAST, MOST = -8_388_608, 8_388_607
 """The coordinates of the store, in steps from the origin."""
 
+# Further than the nearest step can be from the one that a quotient of doubles tells.
+_FAR = 2 * MOST
+
 
 class OffGrid(ValueError):
     """A coordinate is no step of the grid. The text names it."""
@@ -81,6 +84,9 @@ class Grid:
                 k = round((place - near_origin[axis]) / near_step)
             except (ValueError, OverflowError):
                 raise OffGrid(f"{'xy'[axis]} {place!r} of point {index // 2}") from None
+            if abs(k) > _FAR:
+                # The double of such a step may be none at all.
+                raise Outside(f"{'xy'[axis]} {place!r} of point {index // 2}")
             if (origin[axis] + k * step) / denominator != place:
                 k = self._nearest(place, axis)
                 moved = abs((origin[axis] + k * step) / denominator - place)
@@ -95,11 +101,11 @@ class Grid:
             found.append(k)
         return found
 
-    def exact(self, x: Fraction, y: Fraction) -> tuple[Fraction, Fraction]:
-        """The place of a point between steps."""
+    def exact(self, x: int | Fraction, y: int | Fraction) -> tuple[Fraction, Fraction]:
+        """The place of a point on a step or between steps."""
         return (
-            (self._origin[0] + x * self._step) / self._denominator,
-            (self._origin[1] + y * self._step) / self._denominator,
+            Fraction(self._origin[0] + x * self._step, self._denominator),
+            Fraction(self._origin[1] + y * self._step, self._denominator),
         )
 
     def _nearest(self, place: float, axis: int) -> int:

@@ -6,24 +6,43 @@ import contextlib
 import os
 import sys
 from collections.abc import Callable, Iterator
-from typing import Any
+from typing import Any, NamedTuple
 
 from sfstore.sidecar import Crs
 
 __all__ = [
+    "DRIVERS",
     "ExchangeError",
+    "Source",
     "crs_named",
     "crs_of",
     "driver",
+    "features",
     "gdal",
     "open_source",
+    "printable",
     "progress",
     "spatial_reference",
 ]
 
+DRIVERS: dict[str, list[str]] = {
+    "GPKG": [".gpkg"],
+    "GeoJSON": [".geojson", ".json"],
+    "FlatGeobuf": [".fgb"],
+    "ESRI Shapefile": [".shp"],
+    "PostgreSQL": [],
+}
+"""The formats that are read unless any is asked for, with the endings of their files.
 
-# OGR's level of a warning.
-_WARNING = 2
+Whatever a file is named, it can be of a format that leads to other files or into the network, as a
+VRT does. None of these does.
+"""
+
+# How many features are read at a time.
+_BATCH = 500
+
+# OGR's levels of a warning and of a failure.
+_WARNING, _FAILURE = 2, 3
 
 _told_warnings: set[str] = set()
 
@@ -56,29 +75,111 @@ def _tell_warning(level: int, number: int, text: str) -> None:
         print(f"OGR warns: {text}", file=sys.stderr)
 
 
-def open_source(name: str) -> list[Any]:
+class Source(NamedTuple):
+    """What OGR has opened."""
+
+    data: list[Any]
+    """One source, or the files of a folder by their names."""
+    left_out: list[tuple[str, str]]
+    """The files of a folder that have the ending of a format and don't open, with the reason."""
+
+
+def open_source(name: str, any_format: bool = False) -> Source:
     """What OGR opens for reading: one source, or the files of a folder by their names.
 
-    `ExchangeError` where there is none.
+    `ExchangeError` where there is none, and for other formats than `DRIVERS` unless any is allowed.
     """
-    module, _, _ = gdal()
     try:
-        return [module.OpenEx(name, module.OF_VECTOR)]
+        return Source([_opened(name, any_format)], [])
     except RuntimeError as error:
-        found = _opened_files(name) if os.path.isdir(name) else []
-        if not found:
-            raise ExchangeError(f"{name} does not open: {error}") from None
+        found = _opened_files(name, any_format) if os.path.isdir(name) else Source([], [])
+        if not found.data:
+            raise ExchangeError(f"{name} does not open: {_reason(name, error)}") from None
         return found
 
 
-def _opened_files(folder: str) -> list[Any]:
-    """The files of a folder that OGR opens."""
+def _opened(name: str, any_format: bool) -> Any:
     module, _, _ = gdal()
-    found = []
+    drivers: dict[str, Any] = {} if any_format else {"allowed_drivers": list(DRIVERS)}
+    return module.OpenEx(name, module.OF_VECTOR, **drivers)
+
+
+def _reason(name: str, error: RuntimeError) -> str:
+    """Why a source does not open, with the formats that are read, where it is a file."""
+    if not os.path.isfile(name):
+        return str(error)
+    return f"{error} (it may be of another format than {', '.join(DRIVERS)}: --any-format reads it)"
+
+
+def _opened_files(folder: str, any_format: bool) -> Source:
+    """The files of a folder that OGR opens."""
+    endings = tuple(ending for several in DRIVERS.values() for ending in several)
+    found = Source([], [])
     for name in sorted(os.listdir(folder)):
-        with contextlib.suppress(RuntimeError):
-            found.append(module.OpenEx(os.path.join(folder, name), module.OF_VECTOR))
+        try:
+            found.data.append(_opened(os.path.join(folder, name), any_format))
+        except RuntimeError as error:
+            if name.lower().endswith(endings):
+                found.left_out.append((name, str(error)))
     return found
+
+
+def features(layer: Any) -> Iterator[tuple[Any, str]]:
+    """The features of a layer, each with the words of what could not be read of it, or none.
+
+    `ExchangeError` where the source breaks off.
+    """
+    layer.ResetReading()
+    while batch := _next_features(layer):
+        for feature, fault in batch:
+            if feature is None:
+                raise ExchangeError(f"layer {printable(layer.GetName())} breaks off: {fault}")
+            yield feature, fault
+
+
+def _next_features(layer: Any) -> list[tuple[Any, str]]:
+    """Some features more, each with what was wrong with it; none at the end."""
+    module, _, _ = gdal()
+    found: list[tuple[Any, str]] = []
+    with _without_exceptions():
+        while len(found) < _BATCH:
+            module.ErrorReset()
+            feature = layer.GetNextFeature()
+            is_wrong = module.GetLastErrorType() >= _FAILURE
+            fault = (module.GetLastErrorMsg() or "no reason is told") if is_wrong else ""
+            if feature is not None or fault:
+                found.append((feature, fault))
+            if feature is None:
+                break
+    return found
+
+
+@contextlib.contextmanager
+def _without_exceptions() -> Iterator[None]:
+    """Has OGR raise none: of a feature of which a part can't be read, one would be all that is left.
+
+    The modules stand on a stack, whose top alone can be taken off.
+    """
+    module, ogr_module, osr = gdal()
+    taken_off: list[Any] = []
+    try:
+        for each in (osr, module, osr, ogr_module):
+            if each.GetUseExceptions() and ogr_module.GetUseExceptions():
+                with contextlib.suppress(RuntimeError):
+                    each.DontUseExceptions()
+                    taken_off.append(each)
+        yield
+    finally:
+        for each in reversed(taken_off):
+            each.UseExceptions()
+
+
+def printable(text: str) -> str:
+    """A text of a source as it is shown: what is no character, or moves a terminal, is escaped."""
+    return "".join(
+        letter if letter.isprintable() else letter.encode("unicode_escape").decode("ascii")
+        for letter in text
+    )
 
 
 def driver(name: str) -> Any:

@@ -2,19 +2,23 @@
 
 from __future__ import annotations
 
-import contextlib
+import math
 import os
+import sys
 from collections import Counter
 from typing import Any, NamedTuple
 
-from sfstore import files
 from sfstore.exchange import ogr
+from sfstore.exchange.placing import Place, placed
 from sfstore.sidecar import Crs
 
 __all__ = ["FEATURE_FORMATS", "Problem", "Report"]
 
 # How many identifiers the summary names for each reason.
 _SHOWN = 8
+
+# The names of geometries that GeoJSON has not.
+_PATCHES = ("TIN", "POLYHEDRALSURFACE", "TRIANGLE")
 
 FEATURE_FORMATS = {".geojson": "GeoJSON", ".gpkg": "GPKG"}
 """The formats of faulty features, by the endings of their files."""
@@ -61,12 +65,14 @@ class Report:
 
     def summary(self) -> str:
         """A few lines for each layer: counts, reasons with the first identifiers, and notes."""
-        names = [*self.read, *(problem.layer for problem in self.problems)]
+        told = (problem.layer for problem in self.problems)
+        names = [*self.read, *told, *(layer for layer, _ in self.notes)]
         lines = []
         for layer in dict.fromkeys(names):
-            lines.append(f"{layer}: {self.read[layer]} features read, {self.taken[layer]} taken")
+            counts = f"{self.read[layer]} features read, {self.taken[layer]} taken"
+            lines.append(f"{ogr.printable(layer)}: {counts}")
             lines += self._reasons(layer)
-            lines += [f"  {text}" for name, text in self.notes if name == layer]
+            lines += [f"  {ogr.printable(text)}" for name, text in self.notes if name == layer]
         return "".join(line + "\n" for line in lines)
 
     def text(self) -> str:
@@ -80,30 +86,26 @@ class Report:
             )
             for problem in self.problems
         )
-        notes = (f"{layer}\t\tchanged\t{text}\n" for layer, text in self.notes)
-        return "".join("\t".join(row) + "\n" for row in rows) + "".join(notes)
+        notes = ((layer, "", "changed", text) for layer, text in self.notes)
+        return "".join("\t".join(map(ogr.printable, row)) + "\n" for row in (*rows, *notes))
 
-    def write_text(self, path: str) -> None:
-        """Writes `text` to a file, whole or not at all."""
-        with files.whole_file(path) as beside:
-            with open(beside, "w", encoding="utf-8") as file:
+    def write_text(self, path: str, overwrite: bool) -> None:
+        """Writes `text` to a file, whole or not at all. `ogr.ExchangeError` where one is there."""
+        with placed(_place(path, overwrite), _say) as new:
+            with open(os.path.join(new, os.path.basename(path)), "w", encoding="utf-8") as file:
                 file.write(self.text())
 
-    def write_features(self, path: str, crs: Crs | None) -> None:
+    def write_features(self, path: str, crs: Crs | None, overwrite: bool) -> None:
         """Writes the features that did not fit to a GeoJSON or GeoPackage, by the path's ending.
 
         `ogr.ExchangeError` where it can't be written.
         """
         ending = os.path.splitext(path)[1].lower()
-        # The driver looks at the ending too.
-        beside = f"{path[: -len(ending)]}.part{ending}"
         try:
-            with contextlib.suppress(FileNotFoundError):
-                os.unlink(beside)
-            self._write_features(beside, FEATURE_FORMATS[ending], crs)
-            files.sync(beside)
-            files.replace(beside, path)
-        except (OSError, RuntimeError) as error:
+            with placed(_place(path, overwrite), _say) as new:
+                made = os.path.join(new, os.path.basename(path))
+                self._write_features(made, FEATURE_FORMATS[ending], crs)
+        except RuntimeError as error:
             raise ogr.ExchangeError(f"{path} can't be written: {error}") from None
 
     def _reasons(self, layer: str) -> list[str]:
@@ -111,7 +113,7 @@ class Report:
         for problem in self.problems:
             if problem.layer == layer:
                 found.setdefault(problem.reason, []).append(problem)
-        return [f"  {_counted(reason, problems)}" for reason, problems in found.items()]
+        return [f"  {ogr.printable(_counted(reason, problems))}" for reason, problems in found.items()]
 
     def _write_features(self, path: str, name: str, crs: Crs | None) -> None:
         data = ogr.driver(name).CreateDataSource(path)
@@ -136,16 +138,40 @@ class Report:
             if problem.geometry is None or problem.identifier is None:
                 continue
             feature = ogr_module.Feature(layer.GetLayerDefn())
-            for place, value in enumerate(
-                (problem.layer, problem.identifier, problem.reason, problem.detail)
-            ):
-                feature.SetField(place, value)
-            geometry = ogr_module.CreateGeometryFromWkb(problem.geometry)
-            if name == "GeoJSON" and geometry.HasCurveGeometry():
-                geometry = geometry.GetLinearGeometry()
+            geometry = _shown_geometry(problem.geometry, name)
+            detail = problem.detail if geometry else f"{problem.detail} (without its geometry)"
+            feature.SetField("layer", ogr.printable(problem.layer))
+            feature.SetField("identifier", problem.identifier)
+            feature.SetField("reason", problem.reason)
+            feature.SetField("detail", ogr.printable(detail.strip()))
             feature.SetGeometry(geometry)
             layer.CreateFeature(feature)
         layer.SyncToDisk()
+
+
+def _shown_geometry(binary: bytes, name: str) -> Any:
+    """A geometry as a format can have it, or none: GeoJSON has neither curves nor patches."""
+    _, ogr_module, _ = ogr.gdal()
+    geometry = ogr_module.CreateGeometryFromWkb(binary)
+    if not all(map(math.isfinite, geometry.GetEnvelope())):
+        # The extent of a layer would be none that a GeoPackage can have.
+        return None
+    if name != "GeoJSON":
+        return geometry
+    if geometry.HasCurveGeometry():
+        geometry = geometry.GetLinearGeometry()
+    if geometry.GetGeometryName() in _PATCHES:
+        return ogr_module.ForceToMultiPolygon(geometry)
+    return None if any(patch in geometry.ExportToIsoWkt() for patch in _PATCHES) else geometry
+
+
+def _place(path: str, overwrite: bool) -> Place:
+    folder, name = os.path.split(os.path.abspath(path))
+    return Place(folder, [name], None, overwrite)
+
+
+def _say(line: str) -> None:
+    print(line, file=sys.stderr)
 
 
 def _counted(reason: str, problems: list[Problem]) -> str:

@@ -48,7 +48,11 @@ def suggestion(layers: list[Any]) -> str:
     step = _step(survey)
     words = [*(_origin(places, step) for places in survey.places), step]
     x, y, unit = (format(word.normalize(), "f") for word in words)
-    return told + f"--grid {x} {y} {unit}\n" + _fits(survey, Grid(x, y, unit), unit)
+    try:
+        grid = Grid(x, y, unit)
+    except ValueError:
+        return told + "the coordinates go too far for any grid\n"
+    return told + f"--grid {x} {y} {unit}\n" + _fits(survey, grid, unit)
 
 
 def _surveyed(layers: list[Any]) -> _Survey:
@@ -56,8 +60,11 @@ def _surveyed(layers: list[Any]) -> _Survey:
     survey = _Survey()
     for layer in layers:
         with ogr.progress(layer.GetName(), layer.GetFeatureCount()) as show:
-            for feature in layer:
-                _look_at(feature, survey)
+            for feature, fault in ogr.features(layer):
+                if fault:
+                    survey.left_out[f"could not be read: {fault}"] += 1
+                else:
+                    _look_at(feature, survey)
                 show(1)
     for places in survey.places:
         survey.decimals.update(map(_decimals, places))

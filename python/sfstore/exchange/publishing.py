@@ -1,0 +1,123 @@
+"""How an imported store takes the place of an old one, with its side-car.
+
+Beside a file ``town.sfs`` with a side-car ``town.sfs.json`` stands for a moment
+
+    town.sfs.json.next    the side-car of the file that is about to take the place
+
+The steps, and what a crash behind each leaves:
+
+    the new file is made beside       the old file with its side-car
+    the new side-car is made, .next   the same
+    the journal is taken away         the same: it had no edits that the file has not
+    the new file takes the place      the new file, and the side-car that fits it, as .next
+    .next takes the side-car's place  the new file with its side-car
+
+Whoever reads a side-car has `settle` do the last step first, where the digest says that it is due.
+"""
+
+from __future__ import annotations
+
+import contextlib
+import json
+import os
+import subprocess  # nosec B404: the store's own program is started, without a shell.
+from typing import Any
+
+from sfstore import files, journal, sidecar
+from sfstore.exchange.ogr import ExchangeError
+from sfstore.exchange.placing import room_beside, uninterrupted
+from sfstore.sidecar import Sidecar
+from sfstore.storefile import FileLayer
+from sfstore.storefile import write as write_store
+
+__all__ = ["check_target", "publish", "settle"]
+
+
+def check_target(target: str, overwrite: bool) -> None:
+    """`ExchangeError` where a store's file may not be written."""
+    if os.path.lexists(target) and not overwrite:
+        raise ExchangeError(f"{target} is there already: --overwrite replaces it")
+    if os.path.exists(target) and not os.path.isfile(target):
+        raise ExchangeError(f"{target} is no file")
+    edits = journal.edits_left(os.path.realpath(target))
+    if edits:
+        raise ExchangeError(
+            f"{target} has {edits} edits in its journal that are not saved: "
+            "save them first, or take the journal away"
+        )
+
+
+def publish(
+    target: str, layers: list[FileLayer], found: Sidecar, program: str, overwrite: bool
+) -> None:
+    """Has the program make a store's file, with the side-car beside it.
+
+    Where it raises, the old file stands with its old side-car.
+    """
+    path = os.path.realpath(target)
+    with journal.locked(path), room_beside(path) as room:
+        check_target(target, overwrite)
+        settle(path)
+        made, beside = _made(room, layers, program, target), os.path.join(room, "side-car")
+        if os.path.exists(path):
+            os.chmod(made, os.stat(path).st_mode & 0o777)
+        # The side-car is made as that of a file in the room, which is of the same bytes.
+        sidecar.write(beside, found, [files.digest(made)])
+        os.chmod(sidecar.path_of(beside), os.stat(made).st_mode & 0o777)
+        with uninterrupted():
+            _put(path, made, sidecar.path_of(beside))
+
+
+def _made(room: str, layers: list[FileLayer], program: str, target: str) -> str:
+    """The file that the program makes of layers, on the disk."""
+    draft, made = os.path.join(room, "draft"), os.path.join(room, "made")
+    with open(draft, "wb") as file:
+        write_store(file, layers)
+    ended = subprocess.run(  # nosec B603: a list of words, of which two are paths.
+        [program, f"--load={draft}", f"--save={made}"],
+        stdin=subprocess.DEVNULL,
+        stdout=subprocess.PIPE,
+    )
+    if ended.returncode:
+        last = ended.stdout.decode("utf-8", "replace").strip()
+        raise ExchangeError(f"{target} could not be made: {last}")
+    files.sync(made)
+    return made
+
+
+def _put(path: str, made: str, side_car: str) -> None:
+    """Puts the new file and its side-car in the place of the old ones."""
+    files.replace(side_car, _next(path))
+    try:
+        with contextlib.suppress(FileNotFoundError):
+            os.unlink(path + ".journal")
+        files.replace(made, path)
+        settle(path)
+    except OSError as error:
+        if os.path.exists(made):
+            # The old file stands there: the new side-car would be that of none.
+            os.unlink(_next(path))
+            raise
+        raise ExchangeError(f"{path} is written, but may not be on the disk: {error}") from None
+
+
+def settle(path: str) -> bool:
+    """Puts the side-car of a store's file in its place, where its import was broken off before that.
+
+    Whether it was there to be put.
+    """
+    try:
+        with open(_next(path), encoding="utf-8") as file:
+            content: Any = json.load(file)
+        if files.digest(path) not in content["digests"]:
+            return False
+        files.replace(_next(path), sidecar.path_of(path))
+    except FileNotFoundError:
+        return False
+    except (KeyError, TypeError, ValueError, RecursionError):
+        raise ExchangeError(f"{_next(path)} is no side-car of a store: take it away") from None
+    return True
+
+
+def _next(path: str) -> str:
+    return sidecar.path_of(path) + ".next"

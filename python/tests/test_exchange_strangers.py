@@ -1,0 +1,353 @@
+"""Tests of imports of files that a stranger made, damaged, or meant to do harm, over real GDAL."""
+
+from __future__ import annotations
+
+import contextlib
+import json
+import sqlite3
+import unittest
+from unittest import mock
+
+from support import PROGRAM
+from test_exchange import GRID, HAS_GDAL, KINDS, ExchangeCase, Source, bring_in, give_back
+
+from sfstore import Store
+from sfstore.exchange import importing, reading, wayback
+
+if HAS_GDAL:
+    from osgeo import ogr
+
+POINT = KINDS["point"]
+
+
+def quoted(name):
+    return '"' + name.replace('"', '""') + '"'
+
+
+class Formats(ExchangeCase):
+    def secret(self):
+        """A file that has the ending of a GeoPackage, and leads to another file of the user."""
+        (self.folder / "private.csv").write_text("id,WKT,secret\n1,POINT (1 2),password123\n")
+        self.source.write_text(
+            f'<OGRVRTDataSource><OGRVRTLayer name="w"><SrcDataSource>{self.folder}/private.csv'
+            '</SrcDataSource><SrcLayer>private</SrcLayer><GeometryType>wkbPoint</GeometryType>'
+            '<GeometryField encoding="WKT" field="WKT"/></OGRVRTLayer></OGRVRTDataSource>'
+        )
+        return ["--grid", "0", "0", "1"]
+
+    def test_a_file_leads_to_no_other_one(self):
+        words = [self.source, self.store, *self.secret()]
+        status, _, err = bring_in(*words)
+        self.assertEqual(status, 3)
+        self.assertIn("--any-format reads it", err)
+        self.assertFalse(self.store.exists())
+        self.assertEqual(bring_in("--suggest", self.source)[0], 3)
+        self.assertEqual(bring_in(*words, "--any-format")[0], 0)
+        self.assertIn(b"password123", self.store.read_bytes())
+
+    def test_files_of_a_folder_that_do_not_open_are_told(self):
+        folder = self.folder / "maps"
+        folder.mkdir()
+        self.source = folder / "good.geojson"
+        source = Source(self.source, "GeoJSON")
+        source.layer("good", {1: (POINT, {})})
+        source.close()
+        (folder / "bad.geojson").write_text("{")
+        (folder / "notes.txt").write_text("x")
+        status, out, _ = bring_in(folder, self.store, *GRID)
+        self.assertEqual(status, 1)
+        self.assertIn("bad.geojson: 0 features read, 0 taken\n  does not open: ", out)
+        self.assertNotIn("notes.txt", out)
+
+
+class Metadata(ExchangeCase):
+    GOOD = {"name": "w", "next_id": 9, "next_column": 1, "columns": {}}
+
+    def with_metadata(self, content):
+        if self.source.exists():
+            self.source.unlink()
+        source = Source(self.source)
+        source.layer("w", {1: (POINT, {})})
+        text = content if isinstance(content, str) else json.dumps(content)
+        source.data.SetMetadataItem(wayback.ITEM, text)
+        source.close()
+
+    def test_what_no_export_leaves_is_left_aside_and_told(self):
+        layers = [
+            {**self.GOOD, **changed}
+            for changed in (
+                *({"name": 5}, {"next_id": "x"}, {"next_id": 2**40}, {"next_id": 0}),
+                *({"next_id": True}, {"next_id": 1.5}, {"next_column": 65536}, {"columns": []}),
+                *({"columns": {"a": 0}}, {"columns": {"a": 1, "b": 1}}, {"columns": {"a b": 1}}),
+                *({"columns": {"x" * 33: 1}}, {"store_name": "a b"}, {"names": {"x": "y z"}}),
+                *({"names": 5}, {"store_name": None}, {"next_id": None}),
+            )
+        ]
+        contents = [{"grid": ["500000", "5600000", "0.01"], "layers": [layer]} for layer in layers]
+        contents += [{"layers": 5}, {"layers": [{}]}, {"layers": [self.GOOD, 5]}, 5, [], "{", "[" * 99_999]
+        contents += [{"grid": grid, "layers": []} for grid in (["a", "b", "c"], [0, 0, 0], ["0"], "abc", 5)]
+        contents += [{"grid": ["0", "0", "0"], "layers": []}, {"grid": ["0", "0", "9" * 999], "layers": []}]
+        for content in contents:
+            self.with_metadata(content)
+            words = [self.source, self.store, *GRID, "--overwrite"]
+            status, out, err = bring_in(*words)
+            self.assertEqual((status, err), (1, ""), str(content)[:200])
+            self.assertIn("left aside: metadata SFSTORE that no export leaves: ", out)
+            self.assertEqual([feature.id for feature in self.shown("w")], [1])
+
+    def test_what_an_export_leaves_is_taken(self):
+        self.with_metadata({"grid": GRID[1:], "layers": [{**self.GOOD, "store_name": "wells"}]})
+        self.assertEqual(bring_in(self.source, self.store)[0], 0)
+        with Store(PROGRAM, load=self.store) as store:
+            self.assertEqual(store.add("wells", "POINT (1 1)"), 9)
+
+    def test_the_greatest_counters(self):
+        last = {**self.GOOD, "next_id": 2**32 - 1, "next_column": 65535}
+        self.with_metadata({"grid": GRID[1:], "layers": [last]})
+        self.assertEqual(bring_in(self.source, self.store)[0], 0)
+        self.assertEqual(len(self.shown("w")), 1)
+
+
+class Stored(ExchangeCase):
+    """GeoPackages that were changed by SQL."""
+
+    COLUMNS = (("n", "OFTInteger"), ("big", "OFTInteger64"), ("t", "OFTString"), ("r", "OFTReal"))
+
+    def changed(self, *changes):
+        if self.source.exists():
+            self.source.unlink()
+        columns = [(name, getattr(ogr, kind)) for name, kind in self.COLUMNS]
+        columns.append(('a"b', ogr.OFTInteger))
+        values = {"n": 5, "big": 6, "t": "x", "r": 0.5, 'a"b': 7}
+        source = Source(self.source)
+        name = 'w"; DROP TABLE x; --'
+        source.layer(name, {k: (POINT, values) for k in range(1, 7)}, columns=columns)
+        source.close()
+        database = sqlite3.connect(self.source)
+        for (trigger,) in database.execute("SELECT name FROM sqlite_master WHERE type = 'trigger'").fetchall():
+            database.execute(f"DROP TRIGGER {quoted(trigger)}")
+        for change in changes:
+            database.execute(f"UPDATE {quoted(name)} SET {change}")
+        database.commit()
+        database.close()
+
+    def brought_in(self, *words):
+        report = self.folder / "report.txt"
+        words = [self.source, self.store, *GRID, "--overwrite", "--report", report, *words]
+        status, out, err = bring_in(*words)
+        self.assertEqual(err, "")
+        rows = [line.split("\t") for line in report.read_text().splitlines()]
+        told = {(row[1], row[2], row[3]) for row in rows if row[1]}
+        with Store(PROGRAM, load=self.store) as store:
+            [layer] = store.layers()
+            return status, out, told, {feature.id: feature.values for feature in store.show(layer.name)}
+
+    def test_a_geometry_that_can_not_be_read_is_told_and_the_others_are_taken(self):
+        for wrong in ("x'0102'", "'not a blob'", "x''", "5", "zeroblob(3)"):
+            self.changed(f"geom = {wrong} WHERE fid IN (2, 6)")
+            status, out, told, shown = self.brought_in("--drop-zm")
+            self.assertEqual((status, sorted(shown)), (1, [1, 3, 4, 5]), (wrong, out))
+            self.assertEqual(sorted(row[0] for row in told if "read" in row[1] or "without" in row[1]), ["2", "6"])
+            self.assertIn("6 features read, 4 taken", out)
+
+    def test_values_that_ogr_changes_are_told_and_left_out(self):
+        cases = (
+            ("n", "99999999999", "Integer"),
+            ("n", "'abc'", "Integer"),
+            ("n", "2.5", "Integer"),
+            ("n", "x'41'", "Integer"),
+            ('"a""b"', "-2147483649", "Integer"),
+            ("big", "'x'", "Integer64"),
+            ("big", "1e30", "Integer64"),
+            ("big", "9.5", "Integer64"),
+            ("t", "x'414200'", "String"),
+            ("t", "'a' || char(0) || 'b'", "String"),
+        )
+        for column, value, kind in cases:
+            self.changed(f"{column} = {value} WHERE fid = 3")
+            status, _, told, shown = self.brought_in()
+            self.assertEqual(status, 1, (column, value))
+            [(identifier, reason, detail)] = told
+            self.assertEqual((identifier, reason), ("3", f"a value that is none of the column's type {kind}"))
+            self.assertIn("is left out", detail)
+            self.assertEqual((len(shown[3]), len(shown[2])), (3, 4), (column, value))
+
+    def test_values_of_the_type_are_kept(self):
+        self.changed("n = -2147483648, big = -9223372036854775808 WHERE fid = 1", "n = NULL WHERE fid = 2")
+        status, _, told, shown = self.brought_in("--as-text")
+        self.assertEqual((status, told), (0, set()))
+        self.assertEqual((shown[1]["n"], shown[1]["big"], shown[1]["r"]), (-(2**31), -(2**63), "0.5"))
+        self.assertNotIn("n", shown[2])
+        self.changed("r = 'abc' WHERE fid = 1", "r = 7 WHERE fid = 2")
+        status, _, told, shown = self.brought_in("--as-text")
+        self.assertEqual([row[0] for row in told], ["1"])
+        self.assertEqual((shown[2]["r"], "r" in shown[1]), ("7.0", False))
+
+    def test_identifiers_that_no_store_has(self):
+        self.changed("fid = 5000000000 WHERE fid = 5", "fid = -3 WHERE fid = 1", "n = 'abc' WHERE fid = -3")
+        status, out, told, shown = self.brought_in()
+        self.assertIn("numbered anew from 1", out)
+        self.assertEqual([row[0] for row in told], ["-3"])
+        self.assertEqual(sorted(shown), [1, 2, 3, 4, 5, 6])
+
+    def test_a_database_that_breaks_off(self):
+        self.changed()
+        data = bytearray(self.source.read_bytes())
+        place = data.rindex(b"GP\0")
+        page = place - place % 4096
+        data[page : page + 4096] = b"\xff" * 4096
+        self.source.write_bytes(data)
+        status, _, err = bring_in(self.source, self.store, *GRID)
+        self.assertEqual(status, 3)
+        self.assertRegex(err, "breaks off: .+|does not open: .+|can't be read: .+")
+        self.assertFalse(self.store.exists())
+
+
+class Odd(ExchangeCase):
+    def test_names_that_are_not_utf_8(self):
+        """A Shapefile whose names and texts are Latin-1, while it says UTF-8."""
+        self.source = self.folder / "s.shp"
+        source = Source(self.source, "ESRI Shapefile")
+        options = ["ENCODING=ISO-8859-1"]
+        source.layer("s", {0: (POINT, {"Straße": "Müller"})}, ogr.wkbPoint, [("Straße", ogr.OFTString)], options=options)
+        source.close()
+        (self.folder / "s.cpg").write_text("UTF-8")
+        status, out, _ = bring_in(self.source, self.store, *GRID)
+        self.assertEqual(status, 1)
+        self.assertIn("a text that is not UTF-8", out)
+        out.encode("utf-8")
+        self.assertEqual(give_back(self.store, self.target)[0], 0)
+
+    def test_names_that_move_a_terminal(self):
+        self.points({1: (None, {})}, name="\x1b[2J\u202ew\n\tx", columns=[("\x1b[31m", ogr.OFTReal)])
+        report = self.folder / "report.txt"
+        status, out, _ = bring_in(self.source, self.store, *GRID, "--report", report)
+        self.assertEqual(status, 1)
+        for text in (out, report.read_text()):
+            self.assertFalse(set(text) & {"\x1b", "\u202e"})
+        self.assertIn("\\x1b[2J\\u202ew\\n\\tx: 1 features read, 0 taken\n", out)
+        self.assertEqual({line.count("\t") for line in report.read_text().splitlines()}, {3})
+
+    def test_coordinates_that_go_far(self):
+        far = ("1e300", "1.797e308", "-1.797e308")
+        for grid in (["0", "0", "3"], ["0", "0", "7"], ["1e300", "0", "1e-300"], GRID[1:]):
+            if self.source.exists():
+                self.source.unlink()
+            self.points({k: (f"POINT ({place} 5600000)", {}) for k, place in enumerate(far, 1)})
+            for words in ([], ["--round"]):
+                status, out, err = bring_in(self.source, self.store, "--grid", *grid, "--overwrite", *words)
+                self.assertEqual((status, err), (1, ""), grid)
+                self.assertIn("wells: 3 features read, 0 taken", out)
+        self.assertEqual(bring_in("--suggest", self.source)[0], 0)
+        self.source.unlink()
+        self.points({1: ("POINT (1.797e308 1.797e308)", {})})
+        self.assertEqual(bring_in("--suggest", self.source), (0, "the coordinates go too far for any grid\n", ""))
+
+    def test_something_unexpected_has_a_status_of_its_own(self):
+        self.points({1: (POINT, {})})
+        with mock.patch.object(reading, "write_wkb", side_effect=ZeroDivisionError("by zero")):
+            status, out, err = bring_in(self.source, self.store, *GRID)
+        self.assertEqual((status, out), (4, ""))
+        self.assertRegex(err, "something unexpected ended it, ZeroDivisionError: by zero \\(line [0-9]+ of ")
+        self.assertFalse(self.store.exists())
+        self.assertEqual(bring_in(self.source, self.store, *GRID)[0], 0)
+        with mock.patch("sfstore.exchange.exporting.parts_of", side_effect=ZeroDivisionError):
+            self.assertEqual(give_back(self.store, self.target)[0], 4)
+
+    def test_the_time_for_places_is_for_all_of_them(self):
+        bow = "500000 5600000, 500009 5600009, 500009 5600000, 500000 5600009, 500000 5600000"
+        self.points({k: (f"POLYGON (({bow}))", {}) for k in range(1, 4)})
+        words = [self.source, self.store, *GRID, "--overwrite"]
+        out = bring_in(*words)[1]
+        self.assertIn("1 (edges 0 and 2 of ring 0 meet at (500004.5 5600004.5))", out)
+        out = bring_in(*words, "--search-seconds", "0")[1]
+        self.assertIn("1 (its place was not looked for: 0 seconds are over)", out)
+        out = bring_in(*words, "--search-seconds", "1e-9")[1]
+        self.assertIn("1 (the place was not found within 1e-09 seconds)", out)
+        self.assertIn("2 (its place was not looked for: 1e-09 seconds are over)", out)
+
+
+class Reports(ExchangeCase):
+    def setUp(self):
+        super().setUp()
+        self.points({1: ("POINT (500000.001 5600000)", {}), 2: (POINT, {})})
+
+    def test_reports_replace_nothing_unasked(self):
+        notes = self.folder / "notes.geojson"
+        notes.write_text("mine")
+        for word in ("--report", "--faulty"):
+            words = [self.source, self.store, *GRID, word, notes]
+            status, _, err = bring_in(*words)
+            self.assertEqual(status, 3)
+            self.assertIn("notes.geojson is there already: --overwrite replaces it", err)
+            self.assertEqual(notes.read_text(), "mine")
+            self.assertFalse(self.store.exists())
+        self.assertEqual(bring_in(*words, "--overwrite")[0], 1)
+        self.assertNotEqual(notes.read_text(), "mine")
+
+    def test_a_report_that_comes_in_the_way_meanwhile(self):
+        notes = self.folder / "notes.txt"
+        publish = importing.publish
+
+        def published(*words):
+            publish(*words)
+            notes.write_text("mine")
+
+        with mock.patch.object(importing, "publish", published):
+            status, _, err = bring_in(self.source, self.store, *GRID, "--report", notes)
+        self.assertEqual(status, 1)
+        self.assertIn("the store's file is written, but: ", err)
+        self.assertEqual(notes.read_text(), "mine")
+
+    def test_files_that_are_one(self):
+        before = self.source.read_bytes()
+        (self.folder / "link.gpkg").symlink_to(self.source)
+        for words in (
+            [self.source, self.source],
+            [self.source, self.folder / "link.gpkg"],
+            [self.source, self.store, "--faulty", self.source],
+            [self.source, self.store, "--report", self.folder / "link.gpkg"],
+            [self.source, self.store, "--report", self.store],
+            [self.source, self.store, "--report", f"{self.store}.json"],
+            [self.source, self.store, "--report", "a.gpkg", "--faulty", "./a.gpkg"],
+        ):
+            self.assertEqual(bring_in(*words, *GRID, "--overwrite")[0], 2, words)
+        self.assertEqual(self.source.read_bytes(), before)
+
+    def test_every_geometry_has_a_place_among_the_faulty(self):
+        self.source.unlink()
+        texts = [
+            "TIN (((0 0 0, 0 0 1, 0 1 0, 0 0 0)))",
+            "POLYHEDRALSURFACE (((0 0 0, 0 0 1, 0 1 1, 0 0 0)))",
+            "CIRCULARSTRING (0 0, 1 1, 2 0)",
+            "CURVEPOLYGON (CIRCULARSTRING (0 0, 2 0, 2 1, 2 3, 0 0))",
+            "POINT (1e300 1)",
+            "GEOMETRYCOLLECTION (POINT (1 2), TIN (((0 0 0, 0 0 1, 0 1 0, 0 0 0))))",
+        ]
+        source = Source(self.source)
+        source.layer("w", {number: (text, {}) for number, text in enumerate(texts, 1)})
+        layer = source.data.GetLayerByName("w")
+        for x in (float("nan"), float("inf")):
+            line = ogr.Geometry(ogr.wkbLineString)
+            line.AddPoint_2D(0, 0)
+            line.AddPoint_2D(x, 1)
+            feature = ogr.Feature(layer.GetLayerDefn())
+            feature.SetGeometry(line)
+            layer.CreateFeature(feature)
+        del layer
+        with contextlib.suppress(RuntimeError):
+            # The extent is no number that SQL knows.
+            source.close()
+        for name in ("faulty.geojson", "faulty.gpkg"):
+            path = self.folder / name
+            status, _, err = bring_in(self.source, self.store, *GRID, "--overwrite", "--faulty", path)
+            self.assertEqual(status, 1)
+            self.assertNotIn("but: ", err)
+            layer = (data := ogr.Open(str(path))).GetLayer(0)
+            told = [feature.GetField("identifier") for feature in layer]
+            del layer, data
+            self.assertEqual(sorted(told), list(range(1, 9)), (name, err))
+
+
+if __name__ == "__main__":
+    unittest.main()
