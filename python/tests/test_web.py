@@ -32,11 +32,12 @@ WHOLE = [-8388608, -8388608, 8388607, 8388607]
 # A program that does as the real one, but is slow to tell whether a geometry is simple.
 SLOW = """\
 #!{python}
-import subprocess, sys, time
+import select, subprocess, sys
 child = subprocess.Popen([{program!r}, *sys.argv[1:]], stdin=subprocess.PIPE, stdout=subprocess.PIPE)
 for line in sys.stdin.buffer:
     if line.startswith(b"simple"):
-        time.sleep(60)
+        # Until its reader is gone.
+        select.select([sys.stdin], [], [], 60)
     child.stdin.write(line)
     child.stdin.flush()
     told = child.stdout.readline()

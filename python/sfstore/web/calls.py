@@ -201,7 +201,7 @@ class Calls:
         if change is None:
             return f"It is not known any more whether {feature} was changed meanwhile: look again."
         who = self._editors.name_of(change.editor)
-        if feature_of(change.line) == target:
+        if target in change.targets:
             did = "deleted" if change.line.startswith("delete") else "changed"
             return f"{who} {did} {feature} meanwhile: look again."
         return f"{who} changed {feature} meanwhile, by `{change.line}`: look again."

@@ -46,6 +46,8 @@ class Change(NamedTuple):
     """The page that it came from, among those of its editor."""
     line: str
     """The beginning of its line."""
+    targets: tuple[Target, ...]
+    """What it has changed."""
 
 
 def feature_of(line: str) -> Target | None:
@@ -84,11 +86,11 @@ class Changes:
         self._last: dict[Target, _Last] = {}
         self._known_from = 0
 
-    def take(self, targets: tuple[Target, ...], change: Change) -> None:
+    def take(self, change: Change) -> None:
         """Remembers a change."""
         if len(self._last) >= _REMEMBERED_MAX:
             self.forget(change.version)
-        for target in targets:
+        for target in change.targets:
             before = self._last.get(target)
             if before is None:
                 other = None

@@ -177,7 +177,9 @@ class Keeper:
         if is_edit(answer):
             self._version += 1
             step = self._steps.take(editor, line, str(answer))
-            self._changes.take(step.targets, Change(self._version, editor, asked.page, step.line))
+            moved = line.strip()
+            did = f"{moved}: {step.line}" if moved in ("undo", "redo") else step.line
+            self._changes.take(Change(self._version, editor, asked.page, did, step.targets))
             steps = self._steps.to_undo, self._steps.to_redo
             edit = Edit(self._version, editor, asked.page, line, step, *steps)
             for told in self.follow:
