@@ -133,6 +133,12 @@ class Page:
     def press(self, *keys, at="#map"):
         self.one(at).send_keys(*keys)
 
+    def send(self, *keys):
+        """Presses keys where the focus is, whichever element that is just now."""
+        from selenium.webdriver.common.action_chains import ActionChains
+
+        ActionChains(self.driver, duration=0).send_keys(*keys).perform()
+
     def use(self, selector):
         """Clicks a button."""
         self.one(selector).click()
