@@ -105,7 +105,8 @@ class Meanwhile(PageCase):
         self.told(page, "Ann changed parcels 2 meanwhile: look again.")
         self.assertEqual(field.get_property("value"), "Ito")
         self.assertNotEqual(before, "Ito")
-        self.assertIn(("set parcels 2 owner 'it''s Ben''s'", "Ann changed parcels 2 meanwhile: look again."), page.log())
+        line = "set parcels 2 owner 'it''s Ben''s'"
+        self.assertIn((line, "Ann changed parcels 2 meanwhile: look again."), page.log())
         field.send_keys(page.keys.ENTER)
         page.type("show streets")
         self.assertEqual(self.ann.feature("parcels", 2)["values"][1]["value"], "Ito")

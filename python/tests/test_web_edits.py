@@ -103,7 +103,8 @@ class Meanwhile(WebCase):
         self.assert_outdated(self.ben, "delete p 3", seen, "Ann changed p 3 meanwhile: look again.")
 
     def test_changes_of_something_else_are_none(self):
-        for line in ("set p 2 owner 'Ito'", "undo", "add p " + SQUARE, "delete w 1", "layer move w 0", "layer add v any"):
+        elsewhere = "set p 2 owner 'Ito'", "undo", "add p " + SQUARE, "delete w 1", "layer move w 0", "layer add v any"
+        for line in elsewhere:
             seen = self.ben.version()
             self.ann.line(line)
             self.assertEqual(self.ben.posted("set p 1 owner 'Ben'", seen)[0], 200, line)
@@ -248,8 +249,8 @@ class Waiting(WebCase):
         # Eight wait for one another, and four are refused at once.
         while len(answers) < 4 and time.monotonic() < end:
             time.sleep(0.02)
-        refused = [answer for status, answer in answers if status == 503]
-        self.assertEqual([answer["error"].split(":")[0] for answer in refused[:4]], ["Your questions before this one are not answered yet"] * 4)
+        words = "Your questions before this one are not answered yet: wait for them."
+        self.assertEqual(answers[:4], [(503, {"error": words})] * 4)
         self.assertEqual(ann.line("query w intersects POINT (1 1)")["rows"], ["1"])
         self.assertLess(len(answers), 8)
 

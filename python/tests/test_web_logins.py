@@ -27,7 +27,8 @@ BROWSER = """\
 #!{python}
 import json, os, sys, time, urllib.parse, urllib.request
 path = urllib.request.url2pathname(urllib.parse.urlsplit(sys.argv[1]).path)
-told = [open("/proc/self/cmdline").read(), path, open(path).read(), os.stat(path).st_mode, os.stat(os.path.dirname(path)).st_mode]
+modes = [os.stat(name).st_mode for name in (path, os.path.dirname(path))]
+told = [open("/proc/self/cmdline").read(), path, open(path).read(), *modes]
 with open({told!r} + ".part", "w") as file:
     json.dump(told, file)
 os.rename({told!r} + ".part", {told!r})
@@ -126,9 +127,10 @@ class Links(WebCase):
         line = serving.read_line()
         self.assertTrue(line.startswith("For Ben Ito: http://127.0.0.1:"), line)
         self.assertIn("&name=Ben+Ito", line)
+        # The end of what is typed ends nothing else.
         serving.process.stdin.close()
-        self.assertEqual(serving.call("/me")["name"] if serving.key else "nobody", "nobody")
         serving.process.stdin = None
+        serving.come_in(line.split()[-1], "Ben Ito")
         self.assertEqual((serving.end(), serving.errors), (0, ""))
 
 
@@ -236,7 +238,8 @@ class Words(TestCase):
     def test_numbers_that_are_none(self):
         environment = {**os.environ, "PYTHONPATH": str(FOLDER)}
         path = str(self.folder / "town.sfs")
-        for word in ("--port=70000", "--port=-1", "--port=x", "--seconds=0", "--seconds=-1", "--seconds=nan", "--seconds=inf"):
+        ports, times = ("70000", "-1", "x"), ("0", "-1", "nan", "inf", "x")
+        for word in [*(f"--port={port}" for port in ports), *(f"--seconds={time}" for time in times)]:
             words = [sys.executable, "-m", "sfstore.web.command", path, f"--program={PROGRAM}", "--no-browser", word]
             ended = subprocess.run(words, env=environment, capture_output=True, text=True, timeout=60)
             self.assertEqual((ended.returncode, ended.stdout), (2, ""), word)
