@@ -121,20 +121,25 @@ def _told(server: Server, keeper: Keeper, asked: argparse.Namespace) -> Iterator
         print(f"{edits} edits from the journal were not saved yet: they are there, to undo too.")
     if torn:
         print(f"An edit that was not written to its end, nor answered, is dropped ({torn} bytes).")
-    with contextlib.ExitStack() as stack:
-        is_shown = has_screen() and not asked.no_browser
-        opening = stack.enter_context(contextlib.closing(Opening())) if is_shown else None
-        used = opening.close if opening else (lambda: None)
-        address = server.address(server.calls.logins.new_link(is_owners=True, used=used))
+    with contextlib.closing(Opening()) as opening:
+        address = server.address(server.calls.logins.new_link(is_owners=True, used=opening.close))
         minutes = f"{LINK_SECONDS / 60:g} minutes"
         print(f"The map is at {address}\nThis link lets one person in, once, within {minutes}.")
         for name in asked.link:
             _print_link(server, name)
         print(_TYPED, flush=True)
-        if opening:
-            opening.open(address)
+        if has_screen() and not asked.no_browser:
+            _open(opening, address)
         threading.Thread(target=_obey, args=[server], daemon=True).start()
         yield
+
+
+def _open(opening: Opening, address: str) -> None:
+    """Opens the browser, where that can be done: the link is printed in any case."""
+    try:
+        opening.open(address)
+    except OSError as error:
+        print(f"sfstore-web: no browser is opened: {error}", file=sys.stderr)
 
 
 def _obey(server: Server) -> None:

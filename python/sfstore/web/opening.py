@@ -27,10 +27,11 @@ class Opening:
     """A file that leads to an address, in a folder of its own; both are this user's alone."""
 
     def __init__(self) -> None:
-        self._folder = tempfile.mkdtemp(prefix="sfstore-", dir=_runtime_folder())
+        self._folder: str | None = None
 
     def open(self, address: str) -> None:
-        """Opens an address in the browser, and does not wait for it."""
+        """Opens an address in the browser, and does not wait for it. `OSError` where there is no room."""
+        self._folder = tempfile.mkdtemp(prefix="sfstore-", dir=_runtime_folder())
         path = Path(self._folder) / "open.html"
         with open(os.open(path, os.O_WRONLY | os.O_CREAT | os.O_EXCL, 0o600), "w", encoding="utf-8") as file:
             leading = f'<meta http-equiv="refresh" content="0; url={html.escape(address)}">'
@@ -40,7 +41,8 @@ class Opening:
 
     def close(self) -> None:
         """Takes file and folder away."""
-        shutil.rmtree(self._folder, ignore_errors=True)
+        if self._folder is not None:
+            shutil.rmtree(self._folder, ignore_errors=True)
 
 
 def _open(address: str) -> None:
