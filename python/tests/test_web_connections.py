@@ -47,14 +47,20 @@ class Slow(TestCase):
 
     def assert_given_up(self, begun):
         """Sends a byte now and then behind a beginning, until the connection is closed."""
+        end = time.monotonic() + 20
         with socket.create_connection(("127.0.0.1", self.port), timeout=0.05) as connection:
             connection.sendall(begun)
-            with contextlib.suppress(ConnectionError):
-                while True:
-                    with contextlib.suppress(socket.timeout):
-                        if not connection.recv(1):
-                            return
+            while time.monotonic() < end:
+                try:
+                    if not connection.recv(1):
+                        return
+                except socket.timeout:
+                    pass
+                except ConnectionError:
+                    return
+                with contextlib.suppress(ConnectionError):
                     connection.sendall(b"a")
+        self.fail("the connection is kept")
 
     def test_a_head_has_some_seconds_as_a_whole(self):
         self.assert_given_up(b"")
