@@ -27,8 +27,11 @@ BROWSER = """\
 #!{python}
 import json, os, sys, time, urllib.parse, urllib.request
 path = urllib.request.url2pathname(urllib.parse.urlsplit(sys.argv[1]).path)
-modes = [os.stat(name).st_mode for name in (path, os.path.dirname(path))]
-told = [open("/proc/self/cmdline").read(), path, open(path).read(), *modes]
+words = open("/proc/self/cmdline").read()
+try:
+    told = [words, path, open(path).read(), *(os.stat(name).st_mode for name in (path, os.path.dirname(path)))]
+except OSError:
+    told = [words, path, "no file", 0, 0]
 with open({told!r} + ".part", "w") as file:
     json.dump(told, file)
 os.rename({told!r} + ".part", {told!r})
