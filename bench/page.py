@@ -109,15 +109,15 @@ def measure(driver, serving, count: int) -> None:
     print(f"windows of {min(counts)} to {max(counts)} features:", end=" ")
     print(f"drawn in {statistics.median(drawn)} ms ({min(drawn)} to {max(drawn)}),", end=" ")
     print(f"painted in {statistics.median(painted)} ms ({min(painted)} to {max(painted)})")
-    body = {"layer": "parcels", "id": 7}
-    print(f"a further feature with its values: {1000 * spent(lambda: serving.call('/feature', **body)):.0f} ms")
     ben = serving.log_in("Ben")
-    line = f"set parcels {count // 2} number 5"
-    print(f"a value set: {1000 * spent(lambda: ben.line(line)):.0f} ms; values after it: ", end="")
-    print(f"{1000 * spent(lambda: serving.call('/feature', **body)):.0f} ms")
-    before = len(ann.log())
+    look = lambda: ben.feature("parcels", 7)
+    print(f"a further feature with its values: {1000 * spent(look):.0f} ms")
+    line, seen = f"set parcels {count // 2} number 5", ben.version()
+    print(f"a value set: {1000 * spent(lambda: ben.line(line, seen)):.0f} ms; values after it: ", end="")
+    print(f"{1000 * spent(look):.0f} ms")
+    before, seen = len(ann.log()), ben.version()
     began = time.monotonic()
-    ben.line(f"add parcels {parcel(count // 2 + 50)}")
+    ben.line(f"add parcels {parcel(count // 2 + 50)}", seen)
     ann.until(lambda: len(ann.log()) > before)
     print(f"an edit of another page told after {1000 * (time.monotonic() - began):.0f} ms")
     print(resident(serving.process.pid))
@@ -129,7 +129,7 @@ def main() -> None:
         path = Path(folder) / "parcels.sfs"
         make(path, count)
         began = time.monotonic()
-        serving = Serving(path, "--seconds=30", program=program)
+        serving = Serving(path, "--no-browser", "--seconds=30", program=program)
         print(f"{count} parcels: opened in {time.monotonic() - began:.1f} s")
         driver = browser.start()
         try:

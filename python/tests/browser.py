@@ -46,8 +46,11 @@ def start():
 class Page:
     """A page of a server, in a tab of its own."""
 
-    def __init__(self, driver, serving, name, known=("parcels-2", (180, 0)), is_there=None):
-        """A page that has come: it draws something, or what `is_there` says of it is so."""
+    def __init__(self, driver, serving, name, known=("parcels-2", (180, 0)), is_there=None, address=None):
+        """A page that has come: it draws something, or what `is_there` says of it is so.
+
+        Its address is one for the person, if no other one is given.
+        """
         from selenium.webdriver.common.by import By
         from selenium.webdriver.common.keys import Keys
 
@@ -55,12 +58,22 @@ class Page:
         self.driver, self.known = driver, known
         driver.switch_to.new_window("tab")
         self.tab = driver.current_window_handle
-        driver.get(serving.address)
+        driver.get(address or serving.address(name))
         if name:
-            self.until(lambda: self.one("#login").get_property("open"))
-            self.one("#login-name").send_keys(name, Keys.ENTER)
-            self.until(lambda: self.text("#person") == name)
+            self.come_in(name)
         self.until(lambda: is_there(self) if is_there else self.drawn(), 60)
+
+    def come_in(self, name):
+        """Logs in, under a name that the page asks for or knows by its link."""
+        self.until(lambda: self.one("#login").get_property("open"))
+        field = self.one("#login-name")
+        field.send_keys("" if field.get_property("readOnly") else name, self.keys.ENTER)
+        self.until(lambda: self.text("#person") == name)
+
+    def sure(self):
+        """Says yes to a question."""
+        self.until(lambda: self.one("#sure").get_property("open"))
+        self.use("#sure-yes")
 
     def here(self):
         """Goes to the tab of this page."""
@@ -119,6 +132,12 @@ class Page:
 
     def press(self, *keys, at="#map"):
         self.one(at).send_keys(*keys)
+
+    def send(self, *keys):
+        """Presses keys where the focus is, whichever element that is just now."""
+        from selenium.webdriver.common.action_chains import ActionChains
+
+        ActionChains(self.driver, duration=0).send_keys(*keys).perform()
 
     def use(self, selector):
         """Clicks a button."""

@@ -56,7 +56,7 @@ class PageCase(WebCase):
                 self.driver.switch_to.window(tab)
                 self.driver.close()
         self.driver.switch_to.window(self.first_tab)
-        faults = [entry["message"] for entry in told if not re.search(" (400|403|503) ", entry["message"])]
+        faults = [entry["message"] for entry in told if not re.search(" (400|403|409|503) ", entry["message"])]
         self.assertEqual(faults, [])
 
     def page(self, serving, name="Ann", **known):
@@ -116,6 +116,7 @@ class Day(PageCase):
         page.use("#go")
         page.until(lambda: page.script("return document.getElementById('world').getCTM().a") > 1)
         page.press(page.keys.DELETE)
+        page.sure()
         page.logged("delete parcels 3", "ok")
         page.tool("polygon")
         page.pick("#target", "parcels")
@@ -196,6 +197,7 @@ class Day(PageCase):
         page = self.open()
         page.choose((450, 100), "parcels 3, a polygon")
         page.use("#delete")
+        page.sure()
         page.logged("delete parcels 3", "ok")
         page.type("add parcels POLYGON ((360 0, 450 0, 450 300, 360 300, 360 0))", "ok 201")
         page.type("add parcels POLYGON ((450 0, 540 0, 540 300, 450 300, 450 0))", "ok 202")
@@ -305,7 +307,8 @@ class Editing(PageCase):
         page.until(lambda: "Refused (13 RingNotSimple): a ring meets itself." == page.text("#refusal h2"))
         [mark] = page.all(".fault-mark")
         frame = page.one("#map").rect
-        at = [float(mark.get_attribute(name)) + frame[side] for name, side in (("cx", "x"), ("cy", "y"))]
+        moved = map(float, re.findall("[-0-9.]+", mark.get_attribute("transform")))
+        at = [distance + frame[side] for distance, side in zip(moved, "xy")]
         for found, meant in zip(at, page.place((270, 150))):
             self.assertAlmostEqual(found, meant, delta=2)
         self.assertTrue(page.one("#overlay .refused").get_attribute("d"))
@@ -375,6 +378,7 @@ class Editing(PageCase):
         page.logged("vertex move wells 4 0 0 0 4501 161", "ok")
         page.until(lambda: held().get_attribute("aria-label") == "Vertex 0 of part 0, ring 0 at 4501 161")
         page.press(keys.DELETE)
+        page.driver.switch_to.active_element.send_keys(keys.ENTER)
         page.logged("delete wells 4", "ok")
         page.press(keys.CONTROL + "z")
         page.until(lambda: page.drawn("wells") == 4)

@@ -10,16 +10,18 @@ from sfstore.commands import Command, help_text, near_words
 from sfstore.geometry import Shape, read_wkb, write_wkt
 from sfstore.lines import geometry_of
 from sfstore.refusals import words_of
-from sfstore.store import Answer, Column, Refused, Store
+from sfstore.store import Answer, Column, Refused, Store, Value
+from sfstore.web.changes import Change, Target, feature_of
 from sfstore.web.editors import Editors
 from sfstore.web.events import Events
-from sfstore.web.keeper import Edit, Keeper
+from sfstore.web.keeper import Asked, ChangedMeanwhile, Edit, Keeper, Unavailable
+from sfstore.web.logins import Logins
 from sfstore.web.mirror import Mirror
 from sfstore.web.places import place_of
 from sfstore.web.steps import QUESTIONS, Step
 from sfstore.web.windows import ELEMENTS_MAX, GRID_MAX, GRID_MIN, Box, extent_of, window_of
 
-__all__ = ["BadCall", "Calls"]
+__all__ = ["BadCall", "Calls", "Outdated"]
 
 Body = dict[str, Any]
 """A JSON object."""
@@ -37,16 +39,23 @@ _VALUES_TIMES = 6
 _ROWS_MAX = ELEMENTS_MAX
 _LETTERS_MAX = 4_000_000
 
+_PAGE_LETTERS_MAX = 64
+
 
 class BadCall(Exception):
     """A call has not the form that it must have. The text says what is wrong."""
 
 
+class Outdated(Exception):
+    """An edit is not carried out, as its page has not seen what it edits. The text says why."""
+
+
 class Calls:
-    """The calls of pages over one store.
+    """The calls of pages over one store. Each is given the number of the editor who has logged in.
 
     Lines that change something go to the keeper, all else to second programs: what windows show to
-    one, and what people ask to another, so that a question that takes long delays no map.
+    one, values to another, and what people ask to a third, so that a question that takes long
+    delays no map.
     """
 
     def __init__(self, path: str, keeper: Keeper, program: str, seconds: float) -> None:
@@ -54,12 +63,14 @@ class Calls:
         self._title = os.path.basename(path)
         self._keeper = keeper
         self._editors = Editors(path)
+        self.logins = Logins(self._editors)
         self._looks = Mirror(keeper, program, seconds)
+        self._values = Mirror(keeper, program, _VALUES_TIMES * seconds)
         self._questions = Mirror(keeper, program, seconds)
         keeper.follow.append(self._tell_edit)
         keeper.anew.append(lambda: self.events.tell({"anew": True}))
-        self.by_path: dict[str, Callable[[Body], Body]] = {
-            "/login": self._log_in,
+        self.by_path: dict[str, Callable[[int, Body], Body]] = {
+            "/me": self._me,
             "/map": self._map,
             "/window": self._window,
             "/feature": self._feature,
@@ -68,14 +79,18 @@ class Calls:
 
     def close(self) -> None:
         """Ends the second programs."""
-        self._looks.close()
-        self._questions.close()
+        for mirror in (self._looks, self._values, self._questions):
+            mirror.close()
 
-    def _log_in(self, body: Body) -> Body:
-        number, name = self._editors.log_in(_text(body, "name"))
-        return {"editor": number, "name": name}
+    def log_in(self, body: Body) -> Body:
+        """Lets somebody in by a link, who has not logged in yet."""
+        return self.logins.log_in(_text(body, "link"), _text(body, "name"))._asdict()
 
-    def _map(self, body: Body) -> Body:
+    def _me(self, editor: int, body: Body) -> Body:
+        """Who has logged in."""
+        return {"editor": editor, "name": self._editors.name_of(editor)}
+
+    def _map(self, editor: int, body: Body) -> Body:
         """The layers with their columns, whose step is next, and how far the map reaches."""
 
         def question(store: Store) -> Body:
@@ -91,9 +106,9 @@ class Calls:
 
         version, to_undo, to_redo = self._keeper.steps()
         steps = {"undo": self._step(to_undo), "redo": self._step(to_redo)}
-        return {"title": self._title, "version": version, **steps, **self._looks.ask(question)}
+        return {"title": self._title, "version": version, **steps, **self._looks.ask(editor, question)}
 
-    def _window(self, body: Body) -> Body:
+    def _window(self, editor: int, body: Body) -> Body:
         """What a box has of the layers that are named."""
         box, wanted = _box(body), _names(body)
 
@@ -101,53 +116,95 @@ class Calls:
             layers = [layer.name for layer in store.layers() if layer.name in wanted]
             return {"layers": window_of(store, layers, box), "most": ELEMENTS_MAX}
 
-        return self._looks.ask(question)
+        return self._looks.ask(editor, question)
 
-    def _feature(self, body: Body) -> Body:
-        """A feature with its text, its coordinates and its values."""
+    def _feature(self, editor: int, body: Body) -> Body:
+        """A feature with its text, its coordinates and its values, and who has changed it last.
+
+        It is that of a version of the store, which edits of it have to name.
+        """
         layer, feature = _text(body, "layer"), _number(body, "id", 0, 2**32 - 1)
 
-        def look(store: Store) -> tuple[Shape, list[Column]]:
-            return read_wkb(bytes.fromhex(store.hex(layer, feature))), store.columns(layer)
+        def look(store: Store) -> tuple[Shape, list[Column], int]:
+            shape = read_wkb(bytes.fromhex(store.hex(layer, feature)))
+            return shape, store.columns(layer), self._looks.version
 
         try:
-            shape, columns = self._looks.ask(look)
+            shape, columns, version = self._looks.ask(editor, look)
         except Refused as refused:
-            return {"refused": self._refusal(refused, f"hex {layer} {feature}")}
-        told = {"layer": layer, "id": feature, "wkt": write_wkt(shape), **_shape(shape)}
-        return {**told, "values": self._values(layer, feature, columns)}
+            told: Body = {"refused": self._refusal(refused, f"hex {layer} {feature}")}
+        else:
+            told = {"layer": layer, "id": feature, "wkt": write_wkt(shape), **_shape(shape)}
+            told.update(self._values_of(editor, layer, feature, columns, version))
+        change = self._keeper.last_change(Target(layer, feature))
+        return {**told, "by": change and self._editors.name_of(change.editor)}
 
-    def _values(self, layer: str, feature: int, columns: list[Column]) -> list[Body]:
-        """The values of a feature, as texts: a browser's numbers have 53 bits."""
+    def _values_of(
+        self, editor: int, layer: str, feature: int, columns: list[Column], version: int
+    ) -> Body:
+        """The values of a feature, as texts, as a browser's numbers have 53 bits.
+
+        Of the version that they are of, and the one of the rest, the lower one is told.
+        """
+        asked = self._values
+
+        def question(store: Store) -> tuple[dict[str, Value], int]:
+            return asked.values.of(store, layer, feature), asked.version
+
         if not columns:
-            return []
-        asked = self._questions
-        values = asked.ask(lambda store: asked.values.of(store, layer, feature), _VALUES_TIMES)
-        return [
+            return {"values": [], "version": version}
+        values, values_version = asked.ask(editor, question)
+        told = [
             {**column._asdict(), "value": str(values[name]) if (name := column.name) in values else None}
             for column in columns
         ]
+        return {"values": told, "version": min(version, values_version)}
 
-    def _line(self, body: Body) -> Body:
-        """Carries out a line of the console, as the page's editor."""
-        editor, line = _number(body, "editor", 1, 255), _text(body, "line")
-        if not self._editors.is_one(editor):
-            raise BadCall("nobody has logged in under this number")
+    def _line(self, editor: int, body: Body) -> Body:
+        """Carries out a line of the console, as the editor who has logged in."""
+        line, page = _text(body, "line"), _text(body, "page")
+        if not 1 <= len(page) <= _PAGE_LETTERS_MAX:
+            raise BadCall(f"page has to be a text of 1 to {_PAGE_LETTERS_MAX} letters")
         words = line.split()
         if not words:
             return {"text": ""}
         if words[0] == "help":
             return {"text": help_text(words[1] if len(words) > 1 else "", OWN)}
+        seen = _number(body, "seen", 0, 2**53) if feature_of(line) else None
         try:
             if words == ["save"]:
                 return self._save(editor)
             if words[0] in QUESTIONS:
-                return _answered(self._questions.ask(lambda store: store.run(line)))
-            return _answered(self._keeper.carry_out(editor, line))
+                return _answered(self._questions.ask(editor, lambda store: store.run(line)))
+            return self._edit(Asked(editor, page, line, seen))
         except Refused as refused:
             return {"refused": self._refusal(refused, line)}
         except ValueError as error:
             raise BadCall(str(error)) from None
+
+    def _edit(self, asked: Asked) -> Body:
+        """Has a line carried out that changes something."""
+        try:
+            self._editors.keep(asked.editor)
+        except OSError as error:
+            raise Unavailable(
+                f"Your name can't be written beside the store: {error.strerror}. Nothing was done."
+            ) from error
+        try:
+            return _answered(self._keeper.carry_out(asked))
+        except ChangedMeanwhile as meanwhile:
+            raise Outdated(self._meanwhile(meanwhile.target, meanwhile.change)) from None
+
+    def _meanwhile(self, target: Target, change: Change | None) -> str:
+        """Who changed what before an edit, in a sentence."""
+        feature = f"{target.layer} {target.feature}"
+        if change is None:
+            return f"It is not known any more whether {feature} was changed meanwhile: look again."
+        who = self._editors.name_of(change.editor)
+        if target in change.targets:
+            did = "deleted" if change.line.startswith("delete") else "changed"
+            return f"{who} {did} {feature} meanwhile: look again."
+        return f"{who} changed {feature} meanwhile, by `{change.line}`: look again."
 
     def _save(self, editor: int) -> Body:
         self._keeper.save()
@@ -177,6 +234,7 @@ class Calls:
             {
                 "version": edit.version,
                 "number": edit.editor,
+                "page": edit.page,
                 "editor": self._editors.name_of(edit.editor),
                 "line": edit.line[:1_000],
                 "step": edit.step.line,

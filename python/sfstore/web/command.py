@@ -4,10 +4,12 @@ from __future__ import annotations
 
 import argparse
 import contextlib
+import math
 import os
 import signal
 import sys
-import webbrowser
+import threading
+from collections.abc import Iterator
 
 from sfstore.journal import JournalError
 from sfstore.store import ProgramEnded
@@ -15,9 +17,16 @@ from sfstore.storefile import fault_words
 from sfstore.web.calls import Calls
 from sfstore.web.editors import EditorsError
 from sfstore.web.keeper import Keeper
+from sfstore.web.logins import LINK_SECONDS
+from sfstore.web.opening import Opening, has_screen
 from sfstore.web.server import Server
 
 __all__ = ["main"]
+
+_TYPED = (
+    "`link` gives a link that lets one person in, under a new name; `link NAME` one that lets "
+    "somebody in as NAME. Ctrl-C ends it."
+)
 
 
 def main(words: list[str] | None = None) -> int:
@@ -45,19 +54,42 @@ def _parser() -> argparse.ArgumentParser:
         prog="sfstore-web",
         description="Serves a store's file as a page with a map, for the browsers of this machine; "
         "a new store where the file is missing. Every accepted edit is in a journal beside it before "
-        "it is answered. Ctrl-C ends it.",
+        f"it is answered. It reads lines from its standard input: {_TYPED}",
         epilog="Status 0: it was ended; 2: wrong words; 3: the store can't be opened.",
     )
     parser.add_argument("file", help="the store's file")
-    parser.add_argument("--port", type=int, default=0, help="the port; a free one if it is not given")
+    parser.add_argument(
+        "--port", type=_port, default=0, help="the port; a free one if it is not given"
+    )
+    parser.add_argument(
+        "--link",
+        action="append",
+        default=[],
+        metavar="NAME",
+        help="print a link for a person of this name too, as `link NAME` does; may be given again",
+    )
     parser.add_argument("--no-browser", action="store_true", help="only print the address")
     parser.add_argument(
-        "--seconds", type=float, default=10.0, help="how long a question may take; 10 if not given"
+        "--seconds", type=_seconds, default=10.0, help="how long a question may take; 10 if not given"
     )
     parser.add_argument(
         "--program", default="sfstore", help="the program sfstore (looked for on the PATH)"
     )
     return parser
+
+
+def _port(text: str) -> int:
+    port = int(text)
+    if not 0 <= port <= 65_535:
+        raise argparse.ArgumentTypeError(f"{text} is no port: these go from 0 to 65535")
+    return port
+
+
+def _seconds(text: str) -> float:
+    seconds = float(text)
+    if not 0 < seconds <= threading.TIMEOUT_MAX / 10 or math.isnan(seconds):
+        raise argparse.ArgumentTypeError(f"{text} is no time: it is more than 0")
+    return seconds
 
 
 def _failed(reason: str) -> int:
@@ -72,26 +104,82 @@ def _serve(asked: argparse.Namespace, keeper: Keeper) -> int:
         with Server(calls, asked.port) as server:
             for number in (signal.SIGINT, signal.SIGTERM):
                 signal.signal(number, signal.default_int_handler)
-            with contextlib.suppress(KeyboardInterrupt):
-                _tell(server, keeper, asked.no_browser)
+            # In the background nothing can be read, and trying it shall not stop the process.
+            signal.signal(signal.SIGTTIN, signal.SIG_IGN)
+            with contextlib.suppress(KeyboardInterrupt), _told(server, keeper, asked):
                 server.serve_forever()
     finally:
         calls.close()
     return 0
 
 
-def _tell(server: Server, keeper: Keeper, is_quiet: bool) -> None:
-    """Prints where the page is, and opens it where there is a browser."""
+@contextlib.contextmanager
+def _told(server: Server, keeper: Keeper, asked: argparse.Namespace) -> Iterator[None]:
+    """Tells where the page is, and opens it where there is a browser, while the body serves it."""
     edits, torn = keeper.recovered
     if edits:
         print(f"{edits} edits from the journal were not saved yet: they are there, to undo too.")
     if torn:
         print(f"An edit that was not written to its end, nor answered, is dropped ({torn} bytes).")
-    print(f"The map is at {server.address}\nCtrl-C ends it.", flush=True)
-    has_screen = any(map(os.environ.get, ("DISPLAY", "WAYLAND_DISPLAY"))) or sys.platform == "darwin"
-    if has_screen and not is_quiet:
-        with contextlib.suppress(webbrowser.Error):
-            webbrowser.open(server.address)
+    with contextlib.closing(Opening()) as opening:
+        address = server.address(server.calls.logins.new_link(is_owners=True, used=opening.close))
+        minutes = f"{LINK_SECONDS / 60:g} minutes"
+        print(f"The map is at {address}\nThis link lets one person in, once, within {minutes}.")
+        for name in asked.link:
+            _print_link(server, name)
+        print(_TYPED, flush=True)
+        if has_screen() and not asked.no_browser:
+            _open(opening, address)
+        threading.Thread(target=_obey, args=[server], daemon=True).start()
+        yield
+
+
+def _open(opening: Opening, address: str) -> None:
+    """Opens the browser, where that can be done: the link is printed in any case."""
+    try:
+        opening.open(address)
+    except OSError as error:
+        print(f"sfstore-web: no browser is opened: {error}", file=sys.stderr)
+
+
+def _obey(server: Server) -> None:
+    """Does what is typed at the terminal."""
+    for line in _typed_lines():
+        words = line.split(maxsplit=1)
+        if words[:1] == ["link"]:
+            _print_link(server, words[1] if len(words) > 1 else None)
+        elif words:
+            print(_TYPED, flush=True)
+
+
+def _print_link(server: Server, name: str | None) -> None:
+    """Prints a link for somebody new, or for somebody of a name."""
+    try:
+        link = server.calls.logins.new_link(name)
+    except EditorsError as error:
+        print(error, flush=True)
+        return
+    whom = f"For {name.strip()}" if name else "For somebody new"
+    print(f"{whom}: {server.address(link, name.strip() if name else '')}", flush=True)
+
+
+def _typed_lines() -> Iterator[str]:
+    """The lines of the standard input.
+
+    They are read past Python's own buffer: its lock would not let the process end in the middle of
+    a line.
+    """
+    rest = b""
+    while True:
+        try:
+            data = os.read(0, 4096)
+        except OSError:
+            return
+        if not data:
+            return
+        *lines, rest = (rest + data).split(b"\n")
+        for line in lines:
+            yield line.decode("utf-8", "replace")
 
 
 if __name__ == "__main__":

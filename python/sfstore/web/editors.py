@@ -8,10 +8,11 @@ import threading
 
 from sfstore import files
 
-__all__ = ["Editors", "EditorsError"]
+__all__ = ["Editors", "EditorsError", "as_name"]
 
 _NUMBER_MAX = 255
 _NAME_LETTERS_MAX = 40
+_FREE = ""
 
 
 class EditorsError(Exception):
@@ -22,51 +23,75 @@ class Editors:
     """The names of a store's editors, kept in a file beside it.
 
     So whoever logs in again under a name has the same number, and can undo what is still in the
-    journal. A name is no password: who has the address of the page may take any.
+    journal. A name is kept from its first edit on: one that was mistyped, and has edited nothing,
+    is forgotten at the end. In the list of the file a number without a name has an empty text.
     """
 
     def __init__(self, store: str) -> None:
         self._path = os.path.realpath(store) + ".editors"
         self._lock = threading.Lock()
-        self._names: list[str] = []
+        self._kept = self._read()
+        self._names = list(self._kept)
+
+    def _read(self) -> list[str]:
         try:
             with open(self._path, encoding="utf-8") as file:
                 names = json.load(file)
         except FileNotFoundError:
-            return
-        except ValueError as error:
+            return []
+        except (RecursionError, ValueError) as error:
             raise EditorsError(f"{self._path} can't be read: {error}") from None
         if not isinstance(names, list) or not all(isinstance(name, str) for name in names):
             raise EditorsError(f"{self._path} has no list of names")
-        self._names = names[:_NUMBER_MAX]
+        return names[:_NUMBER_MAX]
 
-    def log_in(self, name: str) -> tuple[int, str]:
-        """The number and the name of an editor, a new number for a new name."""
-        name = " ".join(name.split())
-        if not name or len(name) > _NAME_LETTERS_MAX or not name.isprintable():
-            raise EditorsError(f"A name has 1 to {_NAME_LETTERS_MAX} letters.")
+    def number_of(self, name: str) -> int:
+        """The number of an editor, a new one for a new name."""
         with self._lock:
             if name not in self._names:
-                if len(self._names) == _NUMBER_MAX:
-                    raise EditorsError(f"There are {_NUMBER_MAX} editors already.")
-                self._names.append(name)
-                self._write()
-            return self._names.index(name) + 1, name
+                self._take(name)
+            return self._names.index(name) + 1
+
+    def _take(self, name: str) -> None:
+        if _FREE in self._names:
+            self._names[self._names.index(_FREE)] = name
+        elif len(self._names) < _NUMBER_MAX:
+            self._names.append(name)
+        else:
+            raise EditorsError(f"There are {_NUMBER_MAX} editors already.")
+
+    def is_known(self, name: str) -> bool:
+        """Whether somebody has a name already."""
+        with self._lock:
+            return name in self._names
+
+    def keep(self, number: int) -> None:
+        """Has the name of an editor in the file, before the first edit. `OSError` where it can't be written."""
+        name = self._names[number - 1]
+        with self._lock:
+            if self._kept[number - 1 : number] == [name]:
+                return
+            kept = self._kept + [_FREE] * (number - len(self._kept))
+            kept[number - 1] = name
+            self._write(kept)
+            self._kept = kept
 
     def name_of(self, number: int) -> str:
         """The name of an editor, in words where it has none."""
         if number == 0:
             return "someone at the console"
-        if number > len(self._names):
-            return f"editor {number}"
-        return self._names[number - 1]
+        return "".join(self._names[number - 1 : number]) or f"editor {number}"
 
-    def is_one(self, number: int) -> bool:
-        """Whether a number is that of a name."""
-        return 1 <= number <= len(self._names)
-
-    def _write(self) -> None:
+    def _write(self, names: list[str]) -> None:
         with files.whole_file(self._path) as beside:
             with open(beside, "w", encoding="utf-8") as file:
-                json.dump(self._names, file, ensure_ascii=False)
+                json.dump(names, file, ensure_ascii=False)
                 file.write("\n")
+
+
+def as_name(text: str) -> str:
+    """A name as it is kept. `EditorsError` where it is none."""
+    name = " ".join(text.split())
+    if not name or len(name) > _NAME_LETTERS_MAX or not name.isprintable():
+        raise EditorsError(f"A name has 1 to {_NAME_LETTERS_MAX} letters.")
+    return name

@@ -10,9 +10,10 @@ from typing import NamedTuple, TypeVar
 
 from sfstore.journal import JournalError
 from sfstore.store import Answer, Editor, ProgramEnded, Refused, Store
+from sfstore.web.changes import Change, Changes, Target, feature_of
 from sfstore.web.steps import Step, Steps, is_edit
 
-__all__ = ["Edit", "Keeper", "Snapshot", "Unavailable"]
+__all__ = ["Asked", "ChangedMeanwhile", "Edit", "Keeper", "Snapshot", "Unavailable"]
 
 _T = TypeVar("_T")
 
@@ -21,12 +22,37 @@ class Unavailable(Exception):
     """What was asked for can't be told now. The text says why, in a sentence."""
 
 
+class ChangedMeanwhile(Exception):
+    """An edit is not carried out: its feature was changed since its page has looked at it."""
+
+    def __init__(self, target: Target, change: Change | None) -> None:
+        super().__init__(target, change)
+        self.target = target
+        self.change = change
+        """The change, or none where that is not known any more."""
+
+
+class Asked(NamedTuple):
+    """A line that a page wants to be carried out."""
+
+    editor: int
+    page: str
+    """Which page it is, among those of the editor."""
+    line: str
+    seen: int | None
+    """The version of the store that the page has seen of what the line edits.
+
+    None where it edits no feature that is there.
+    """
+
+
 class Edit(NamedTuple):
     """An accepted edit, undo or redo."""
 
     version: int
     """How many there were since the session began, this one counted."""
     editor: int
+    page: str
     line: str
     """The line, without the editor."""
     step: Step
@@ -62,6 +88,7 @@ class Keeper:
         self._program = program
         self._store: Store | None = None
         self._steps = Steps()
+        self._changes = Changes()
         self._version = 0
         self._file = 0
         self._thread = ThreadPoolExecutor(1, "keeper")
@@ -71,9 +98,17 @@ class Keeper:
             self._thread.shutdown()
             raise
 
-    def carry_out(self, editor: int, line: str) -> Answer:
-        """The answer of a line. `Refused` where the program refuses it."""
-        return self._do(lambda store: self._carry_out(store, editor, line))
+    def carry_out(self, asked: Asked) -> Answer:
+        """The answer of a line. `Refused` where the program refuses it.
+
+        `ChangedMeanwhile` where another page has changed its feature since: nothing comes between
+        this look and the edit.
+        """
+        return self._do(lambda store: self._carry_out(store, asked))
+
+    def last_change(self, target: Target) -> Change | None:
+        """The last change of a feature. It may be asked by any thread."""
+        return self._changes.last(target)
 
     def ask(self, question: Callable[[Editor], _T]) -> _T:
         """The answer of a question that takes no time to speak of."""
@@ -105,7 +140,7 @@ class Keeper:
         """Does a job. Where it ends the program, the store is opened anew by the next one."""
         try:
             return job(self._opened())
-        except (Refused, ValueError):
+        except (ChangedMeanwhile, Refused, ValueError):
             raise
         except (JournalError, ProgramEnded, RuntimeError, OSError) as error:
             if self._store is not None and not self._is_open(self._store):
@@ -131,18 +166,34 @@ class Keeper:
             self._steps = Steps(self._store.unsaved_lines)
             self._version += 1
             self._file += 1
+            # An edit that was in doubt may be there or not.
+            self._changes.forget(self._version)
         return self._store
 
-    def _carry_out(self, store: Store, editor: int, line: str) -> Answer:
+    def _carry_out(self, store: Store, asked: Asked) -> Answer:
+        self._check_seen(asked)
+        editor, line = asked.editor, asked.line
         answer = (store.editor(editor) if editor else store).run(line)
         if is_edit(answer):
             self._version += 1
-            step = self._steps.take(editor, line)
+            step = self._steps.take(editor, line, str(answer))
+            moved = line.strip()
+            did = f"{moved}: {step.line}" if moved in ("undo", "redo") else step.line
+            self._changes.take(Change(self._version, editor, asked.page, did, step.targets))
             steps = self._steps.to_undo, self._steps.to_redo
-            edit = Edit(self._version, editor, line, step, *steps)
+            edit = Edit(self._version, editor, asked.page, line, step, *steps)
             for told in self.follow:
                 told(edit)
         return answer
+
+    def _check_seen(self, asked: Asked) -> None:
+        """`ChangedMeanwhile` where a line edits what its page has not seen as it is."""
+        target = feature_of(asked.line)
+        if target is None or asked.seen is None:
+            return
+        change = self._changes.since(target, asked.seen, asked.editor, asked.page)
+        if change is not None or not self._changes.is_known_since(asked.seen):
+            raise ChangedMeanwhile(target, change)
 
     def _save(self, store: Store) -> None:
         store.save()

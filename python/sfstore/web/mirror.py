@@ -20,14 +20,24 @@ __all__ = ["Mirror"]
 
 _T = TypeVar("_T")
 
-# How many questions may wait at a time.
+# How many questions may wait at a time, and how many of one editor.
 _WAITING_MAX = 64
+_OF_ONE_EDITOR_MAX = 8
+
+
+class _Turn:
+    """The questions of one editor: one is asked at a time, some wait for it."""
+
+    def __init__(self) -> None:
+        self.asked = threading.Lock()
+        self.places = threading.BoundedSemaphore(_OF_ONE_EDITOR_MAX)
 
 
 class Mirror:
     """A program that is only asked, and the thread that asks it.
 
-    `values` may be used by questions alone, which have this thread.
+    Of each editor one question waits for it at a time: those of others wait for no more than that.
+    `values` and `version` may be used by questions alone, which have this thread.
     """
 
     def __init__(self, keeper: Keeper, program: str, seconds: float) -> None:
@@ -40,20 +50,21 @@ class Mirror:
         self.values = Values()
         self._thread = ThreadPoolExecutor(1, "mirror")
         self._places = threading.BoundedSemaphore(_WAITING_MAX)
+        self._turns: dict[int, _Turn] = {}
         keeper.follow.append(lambda edit: self._thread.submit(self._follow, edit))
         keeper.anew.append(lambda: self._thread.submit(self._drop))
 
-    def ask(self, question: Callable[[Store], _T], times: int = 1) -> _T:
-        """The answer of a question. `Unavailable` where it takes too long.
+    @property
+    def version(self) -> int:
+        """The version of the store whose content the program has."""
+        return self._version
 
-        It may take so many times as long as others.
-        """
-        if not self._places.acquire(blocking=False):
-            raise Unavailable("Too many questions wait: ask again later.")
-        try:
-            return self._thread.submit(lambda: self._ask(question, times * self._seconds)).result()
-        finally:
-            self._places.release()
+    def ask(self, editor: int, question: Callable[[Store], _T]) -> _T:
+        """The answer of an editor's question. `Unavailable` where it takes too long."""
+        turn = self._turns.setdefault(editor, _Turn())
+        with _place(turn.places, "Your questions before this one are not answered yet: wait for them."):
+            with turn.asked, _place(self._places, "Too many questions wait: ask again later."):
+                return self._thread.submit(lambda: self._ask(question)).result()
 
     def close(self) -> None:
         """Ends the program, also in the middle of a question. Those that wait are not asked."""
@@ -64,19 +75,19 @@ class Mirror:
         self._thread.shutdown()
         self._drop()
 
-    def _ask(self, question: Callable[[Store], _T], seconds: float) -> _T:
+    def _ask(self, question: Callable[[Store], _T]) -> _T:
         if self._closed:
             raise Unavailable("The server ends.")
         store = self._current()
         try:
-            with self._limited(store, seconds):
+            with self._limited(store):
                 return question(store)
         except ProgramEnded as ended:
             self._drop()
             raise Unavailable(f"{ended}. Ask again.") from ended
 
     @contextmanager
-    def _limited(self, store: Store, seconds: float) -> Iterator[None]:
+    def _limited(self, store: Store) -> Iterator[None]:
         """Stops the program where the body takes too long. `Unavailable` says so."""
         stopped = threading.Event()
 
@@ -84,7 +95,7 @@ class Mirror:
             stopped.set()
             store.stop()
 
-        timer = threading.Timer(seconds, stop)
+        timer = threading.Timer(self._seconds, stop)
         timer.start()
         try:
             yield
@@ -98,7 +109,7 @@ class Mirror:
                 self._drop()
         if stopped.is_set():
             raise Unavailable(
-                f"That took more than {seconds:g} seconds and was stopped: ask for less."
+                f"That took more than {self._seconds:g} seconds and was stopped: ask for less."
             )
 
     def _follow(self, edit: Edit) -> None:
@@ -131,6 +142,17 @@ class Mirror:
             self._store.close(save=False)
             self._store = None
             self.values.forget()
+
+
+@contextmanager
+def _place(places: threading.BoundedSemaphore, words: str) -> Iterator[None]:
+    """A place for the body. `Unavailable` with these words where there is none."""
+    if not places.acquire(blocking=False):
+        raise Unavailable(words)
+    try:
+        yield
+    finally:
+        places.release()
 
 
 def _loaded(program: str, snapshot: Snapshot) -> Store:

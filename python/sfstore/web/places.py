@@ -7,7 +7,7 @@ It reads a number and a geometry as JSON, and writes words and points.
 from __future__ import annotations
 
 import json
-import subprocess
+import subprocess  # nosec B404: what is started is this module itself
 import sys
 from pathlib import Path
 from typing import Any
@@ -24,7 +24,8 @@ _SECONDS = 2.0
 def place_of(number: int, shape: Shape) -> dict[str, Any] | None:
     """The words and points of a place where a geometry breaks a rule, if it is found in time."""
     try:
-        ended = subprocess.run(
+        # No shell: the words are fixed, and what people wrote goes to the standard input.
+        ended = subprocess.run(  # nosec B603: the words are this interpreter and this module
             [sys.executable, "-m", __name__],
             cwd=Path(sfstore.__file__).parent.parent,
             input=json.dumps([number, *shape]),

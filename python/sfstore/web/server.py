@@ -1,35 +1,46 @@
 """The server of the page: who may ask, and what for.
 
-It listens on the loopback interface alone. Each request has to name it as its host, to come from
-its own page where it says where from, and to bring the token in a cookie; the address that is
-printed has the token once, and is exchanged for the cookie. Nothing is named by paths but what
-stands in two fixed tables.
+It listens on the loopback interface alone. Each request has to name it as its host, and to come
+from its own page where it says where from. The files of the page are given to whoever asks, as they
+hold nothing of the store; each call, and what is told as it happens, wants the key of a login in a
+header, which a browser sends for no other page. Nothing is named by paths but what stands in two
+fixed tables.
 """
 
 from __future__ import annotations
 
-import hmac
+import io
 import json
 import queue
-import secrets
+import socket
 import sys
-import threading
+import time
+from collections.abc import Callable
+from functools import partial
+from http import HTTPStatus
 from http.server import BaseHTTPRequestHandler, ThreadingHTTPServer
 from importlib.resources import files
 from typing import Any
-from urllib.parse import parse_qs, urlsplit
+from urllib.parse import urlencode
 
 from sfstore.store import Refused
-from sfstore.web.calls import BadCall, Calls
+from sfstore.web.calls import BadCall, Calls, Outdated
+from sfstore.web.connections import Connections
 from sfstore.web.editors import EditorsError
 from sfstore.web.keeper import Unavailable
+from sfstore.web.logins import LoginRefused
 
 __all__ = ["Server"]
 
 # The longest line has 131,072 bytes, which may be written as several in JSON.
 _BODY_BYTES_MAX = 1 << 19
-# How many connections there are at most, those of pages that listen among them.
-_CONNECTIONS_MAX = 256
+# How long a request may take from its first byte to the end of its head, and then its body.
+_HEAD_SECONDS = 10.0
+_BODY_SECONDS = 10.0
+# How long a connection may be silent between two requests.
+_IDLE_SECONDS = 60.0
+# How long an answer may take to be taken.
+_TAKEN_SECONDS = 60.0
 # How long a page that listens hears nothing, so that one that is gone is noticed.
 _QUIET_SECONDS = 10.0
 
@@ -48,6 +59,8 @@ _GUARDS = {
     "X-Frame-Options": "DENY",
 }
 
+_NO_KEY = "open a link of sfstore-web; who runs it can type `link` for one"
+
 
 def _static_files() -> dict[str, tuple[str, bytes]]:
     """The files of the page by their paths, each with its type."""
@@ -60,40 +73,35 @@ def _static_files() -> dict[str, tuple[str, bytes]]:
 
 
 class Server(ThreadingHTTPServer):
-    """A server of one store, for the pages of those who have its address."""
+    """A server of one store, for the pages of those who have logged in."""
 
     daemon_threads = True
+    request_queue_size = 128
 
     def __init__(self, calls: Calls, port: int) -> None:
         self.calls = calls
         self.files = _static_files()
-        self.token = secrets.token_urlsafe(32)
-        self._places = threading.BoundedSemaphore(_CONNECTIONS_MAX)
+        self.connections = Connections()
         super().__init__(("127.0.0.1", port), _Handler)
         self.hosts = [f"{name}:{self.server_port}" for name in ("127.0.0.1", "localhost")]
-        self.cookie = f"sfstore-{self.server_port}"
 
-    @property
-    def address(self) -> str:
-        """The address to open, with the token."""
-        return f"http://{self.hosts[0]}/?token={self.token}"
+    def address(self, link: str, name: str = "") -> str:
+        """The address that lets somebody in by a link, which may be for a name.
 
-    def is_token(self, text: str) -> bool:
-        """Whether a text is the token, told in a time that says nothing of it."""
-        return hmac.compare_digest(text.encode(), self.token.encode())
+        What stands behind the # is for the page alone: a browser sends it to no server.
+        """
+        return f"http://{self.hosts[0]}/#" + urlencode({"link": link, **({"name": name} if name else {})})
 
     def process_request(self, request: Any, client_address: Any) -> None:
-        """Begins a thread for a connection, where there are not too many."""
-        if self._places.acquire(blocking=False):
-            super().process_request(request, client_address)
-        else:
-            self.shutdown_request(request)
+        """Begins a thread for a connection."""
+        self.connections.enter(request)
+        super().process_request(request, client_address)
 
     def process_request_thread(self, request: Any, client_address: Any) -> None:
         try:
             super().process_request_thread(request, client_address)
         finally:
-            self._places.release()
+            self.connections.leave(request)
 
     def handle_error(self, request: Any, client_address: Any) -> None:
         """Tells a fault of the server. A connection that breaks off is none."""
@@ -109,22 +117,63 @@ class _Refusal(Exception):
         self.status = status
 
 
+class _Incoming(io.RawIOBase):
+    """What a connection sends, until a moment: however slowly it comes, it takes no longer."""
+
+    def __init__(self, connection: socket.socket) -> None:
+        self._connection = connection
+        self._until = 0.0
+
+    def allow(self, seconds: float) -> None:
+        """Gives what is read from now on so much time."""
+        self._until = time.monotonic() + seconds
+
+    def readable(self) -> bool:
+        return True
+
+    def readinto(self, buffer: Any) -> int:
+        left = self._until - time.monotonic()
+        if left <= 0:
+            raise socket.timeout("the request takes too long")
+        self._connection.settimeout(left)
+        return self._connection.recv_into(buffer)
+
+
 class _Handler(BaseHTTPRequestHandler):
     server: Server
     protocol_version = "HTTP/1.1"
-    # How long a connection may send nothing, or take nothing.
-    timeout = 60
+    # An answer is not held back until the one before it is acknowledged.
+    disable_nagle_algorithm = True
+
+    def setup(self) -> None:
+        super().setup()
+        self.rfile.close()
+        self._incoming = _Incoming(self.connection)
+        self.rfile = self._requests = io.BufferedReader(self._incoming)
 
     def version_string(self) -> str:
         return "sfstore-web"
 
     def log_message(self, *_: object) -> None:
-        """Nothing is logged: the first address has the token."""
+        """Nothing is logged."""
 
     def send_error(self, code: int, message: str | None = None, explain: str | None = None) -> None:
         """What the server's own reading of a request finds wrong is told as all else."""
         self.close_connection = True
         self._reply_json(code, {"error": message or "the request can't be read"})
+
+    def handle_one_request(self) -> None:
+        """Waits for a request, and answers it."""
+        is_known = self.server.connections.is_known(self.connection)
+        self._incoming.allow(_IDLE_SECONDS if is_known else _HEAD_SECONDS)
+        self.close_connection = True
+        try:
+            if not self._requests.peek(1):
+                return
+        except socket.timeout:
+            return
+        self._incoming.allow(_HEAD_SECONDS)
+        super().handle_one_request()
 
     def do_GET(self) -> None:
         self._guarded(self._get)
@@ -132,7 +181,7 @@ class _Handler(BaseHTTPRequestHandler):
     def do_POST(self) -> None:
         self._guarded(self._post)
 
-    def _guarded(self, answer: Any) -> None:
+    def _guarded(self, answer: Callable[[], None]) -> None:
         """Answers a request that may be answered."""
         try:
             self._check_host()
@@ -143,12 +192,8 @@ class _Handler(BaseHTTPRequestHandler):
             self._reply_json(refusal.status, {"error": str(refusal)})
 
     def _get(self) -> None:
-        asked = urlsplit(self.path)
-        if asked.path == "/" and asked.query:
-            self._exchange_token(asked.query)
-            return
-        self._check_cookie()
         if self.path == "/events":
+            self._editor()
             self._send_events()
         elif self.path in self.server.files:
             kind, data = self.server.files[self.path]
@@ -159,17 +204,29 @@ class _Handler(BaseHTTPRequestHandler):
     def _post(self) -> None:
         if self.headers.get("Origin") is None:
             raise _Refusal(403, "the request does not say which page it is from")
-        self._check_cookie()
-        call = self.server.calls.by_path.get(self.path)
-        if call is None:
-            raise _Refusal(404, "there is nothing of that name")
+        answer = self._call()
         body = self._body()
         try:
-            self._reply_json(200, call(body))
+            self._reply_json(200, answer(body))
         except (BadCall, EditorsError, ValueError) as error:
             self._reply_json(400, {"error": str(error)})
+        except LoginRefused as error:
+            self._reply_json(403, {"error": str(error)})
+        except Outdated as error:
+            self._reply_json(409, {"error": str(error)})
         except (Unavailable, Refused) as error:
             self._reply_json(503, {"error": str(error)})
+
+    def _call(self) -> Callable[[dict[str, Any]], dict[str, Any]]:
+        """The call that is asked for. All but a login want a key."""
+        calls = self.server.calls
+        if self.path == "/login":
+            return calls.log_in
+        editor = self._editor()
+        call = calls.by_path.get(self.path)
+        if call is None:
+            raise _Refusal(404, "there is nothing of that name")
+        return partial(call, editor)
 
     def _check_host(self) -> None:
         """Refuses what was sent to another name, as by rebinding, or by another page."""
@@ -180,19 +237,15 @@ class _Handler(BaseHTTPRequestHandler):
         if len(origins) > 1 or (origins and origins[0] != f"http://{hosts[0]}"):
             raise _Refusal(403, "the request is from another page")
 
-    def _check_cookie(self) -> None:
-        for part in self.headers.get("Cookie", "").split(";"):
-            name, _, value = part.strip().partition("=")
-            if name == self.server.cookie and self.server.is_token(value):
-                return
-        raise _Refusal(403, "open the address that sfstore-web has printed")
-
-    def _exchange_token(self, query: str) -> None:
-        """Gives the cookie for the token of the printed address, and leads to the page."""
-        if not self.server.is_token(parse_qs(query).get("token", [""])[0]):
-            raise _Refusal(403, "open the address that sfstore-web has printed")
-        cookie = f"{self.server.cookie}={self.server.token}; HttpOnly; SameSite=Strict; Path=/"
-        self._reply(303, "text/plain", b"", {"Location": "/", "Set-Cookie": cookie})
+    def _editor(self) -> int:
+        """The number of the editor whose key the request brings."""
+        kind, _, key = self.headers.get("Authorization", "").partition(" ")
+        editor = self.server.calls.logins.editor_of(key) if kind == "Bearer" else None
+        if editor is None:
+            raise _Refusal(403, _NO_KEY)
+        if not self.server.connections.know(self.connection, editor):
+            raise _Refusal(503, "there are too many connections: close some pages")
+        return editor
 
     def _body(self) -> dict[str, Any]:
         """The JSON object that a request brings."""
@@ -203,6 +256,7 @@ class _Handler(BaseHTTPRequestHandler):
             raise _Refusal(411, "a call has a length")
         if len(length) > 9 or int(length) > _BODY_BYTES_MAX:
             raise _Refusal(413, f"a call has {_BODY_BYTES_MAX} bytes at most")
+        self._incoming.allow(_BODY_SECONDS)
         try:
             body = json.loads(self.rfile.read(int(length)))
         except (ValueError, RecursionError):
@@ -217,11 +271,11 @@ class _Handler(BaseHTTPRequestHandler):
         events = self.server.calls.events
         waiting = events.listen()
         try:
-            self._send_head(200, "text/event-stream", {"Connection": "close"})
+            self._write(self._head(200, "text/event-stream", {}))
             # The page asks for everything when it hears this: nothing is missed from here on.
             text: str | None = '{"hello": true}'
             while text is not None:
-                self.wfile.write(f"data: {text}\n\n".encode())
+                self._write(f"data: {text}\n\n".encode())
                 text = self._next_event(waiting)
         except OSError:
             pass
@@ -234,22 +288,31 @@ class _Handler(BaseHTTPRequestHandler):
             try:
                 return waiting.get(timeout=_QUIET_SECONDS)
             except queue.Empty:
-                self.wfile.write(b": still here\n\n")
+                self._write(b": still here\n\n")
 
     def _reply_json(self, status: int, body: dict[str, Any]) -> None:
         text = json.dumps(body, ensure_ascii=False, separators=(",", ":"))
         self._reply(status, "application/json", text.encode("utf-8", "replace"))
 
-    def _reply(
-        self, status: int, kind: str, data: bytes, headers: dict[str, str] | None = None
-    ) -> None:
-        self._send_head(status, kind, {"Content-Length": str(len(data)), **(headers or {})})
-        self.wfile.write(data)
+    def _reply(self, status: int, kind: str, data: bytes) -> None:
+        if self.server.connections.are_many():
+            self.close_connection = True
+        self._write(self._head(status, kind, {"Content-Length": str(len(data))}) + data)
 
-    def _send_head(self, status: int, kind: str, headers: dict[str, str]) -> None:
-        self.send_response(status)
-        if self.close_connection:
-            self.send_header("Connection", "close")
-        for name, value in {**_GUARDS, "Content-Type": kind, **headers}.items():
-            self.send_header(name, value)
-        self.end_headers()
+    def _head(self, status: int, kind: str, headers: dict[str, str]) -> bytes:
+        """The head of an answer."""
+        told = {
+            "Server": self.version_string(),
+            "Date": self.date_time_string(),
+            **_GUARDS,
+            "Content-Type": kind,
+            **headers,
+            **({"Connection": "close"} if self.close_connection else {}),
+        }
+        lines = [f"HTTP/1.1 {status} {HTTPStatus(status).phrase}"]
+        lines += [f"{name}: {value}" for name, value in told.items()]
+        return "\r\n".join([*lines, "", ""]).encode("latin-1")
+
+    def _write(self, data: bytes) -> None:
+        self.connection.settimeout(_TAKEN_SECONDS)
+        self.wfile.write(data)

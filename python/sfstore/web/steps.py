@@ -10,6 +10,8 @@ import re
 from collections.abc import Iterable
 from typing import NamedTuple
 
+from sfstore.web.changes import Target, targets_of
+
 __all__ = ["QUESTIONS", "Step", "Steps", "is_edit"]
 
 QUESTIONS = frozenset(
@@ -30,6 +32,8 @@ class Step(NamedTuple):
     """The number of the editor who made it."""
     line: str
     """The beginning of its line, without the editor."""
+    targets: tuple[Target, ...] = ()
+    """What it changes, and so does its undoing."""
 
 
 def is_edit(answer: object) -> bool:
@@ -51,8 +55,11 @@ class Steps:
             else:
                 self.take(int(found[1]), line[found.end() :])
 
-    def take(self, editor: int, line: str) -> Step:
-        """Follows an accepted line, and gives the step that it made or moved."""
+    def take(self, editor: int, line: str, answer: str = "") -> Step:
+        """Follows an accepted line, and gives the step that it made or moved.
+
+        Of an addition the answer tells which feature it made.
+        """
         words = line.split()
         if words == ["undo"]:
             self._undone.append(self._done.pop())
@@ -61,7 +68,8 @@ class Steps:
             self._done.append(self._undone.pop())
             return self._done[-1]
         self._undone.clear()
-        self._done.append(Step(editor, line.strip()[:_SHOWN_LETTERS]))
+        shown = line.strip()[:_SHOWN_LETTERS]
+        self._done.append(Step(editor, shown, targets_of(line, answer)))
         return self._done[-1]
 
     @property

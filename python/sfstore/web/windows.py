@@ -59,9 +59,10 @@ def _hexes(store: Editor, layer: str, features: list[int], most: int) -> list[st
     for begin in range(0, len(features), _PART):
         part = features[begin : begin + _PART]
         for answer in store.run_all(f"hex {layer} {feature}" for feature in part):
-            assert isinstance(answer, str), answer
-            hexes.append(answer)
-            most -= len(answer)
+            if isinstance(answer, Refused):
+                raise answer
+            hexes.append(str(answer))
+            most -= len(hexes[-1])
         if most < 0:
             return None
     return hexes

@@ -47,7 +47,7 @@ export class Asking {
     byId("ask-wkt").value = wkt;
     this.app.overlay.show("asked", shape);
     for (const name of layers) {
-      const answer = await this.app.run(`${how[0]} ${name} ${how[1]} ${wkt}`, true);
+      const answer = await this.app.run(`${how[0]} ${name} ${how[1]} ${wkt}`, { isFurther: true });
       if (answer.refused) break;
     }
   }

@@ -19,3 +19,15 @@ export function drawn(name, attributes = {}) {
 
 /** A number for people, with its thousands apart. */
 export const counted = (number) => number.toLocaleString("en");
+
+/** Asks whether something is to be done. The deed is what the button says. */
+export function sure(words, deed) {
+  const dialog = byId("sure");
+  byId("sure-words").textContent = words;
+  byId("sure-yes").textContent = deed;
+  byId("sure-yes").onclick = () => dialog.close("yes");
+  byId("sure-no").onclick = () => dialog.close();
+  dialog.returnValue = "";
+  dialog.showModal();
+  return new Promise((done) => (dialog.onclose = () => done(dialog.returnValue === "yes")));
+}

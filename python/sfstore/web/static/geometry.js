@@ -55,7 +55,7 @@ export function verticesOf(code, members) {
   return found;
 }
 
-/** The middles of the edges of a geometry, with the numbers that a vertex would get there. */
+/** The middles of the edges of a geometry, with the numbers that a vertex would get there, and how long the edges are. */
 export function middlesOf(code, members) {
   const found = [];
   if (isPoints(code)) return found;
@@ -64,7 +64,8 @@ export function middlesOf(code, members) {
       for (let at = 2; at < line.length; at += 2) {
         const x = Math.round((line[at - 2] + line[at]) / 2);
         const y = Math.round((line[at - 1] + line[at + 1]) / 2);
-        found.push({ part, ring, index: at / 2, x, y });
+        const length = Math.hypot(line[at] - line[at - 2], line[at + 1] - line[at - 1]);
+        found.push({ part, ring, index: at / 2, x, y, length });
       }
     }),
   );

@@ -47,6 +47,7 @@ export class Hand {
 
   #dragVertex(handle) {
     const { selection } = this.app;
+    selection.take(handle);
     return {
       move: (event, place) => selection.try(handle, this.#meant(event, place, selection.place)),
       end: () => selection.keep(handle),

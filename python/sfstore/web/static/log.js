@@ -6,10 +6,13 @@ const ENTRIES_MAX = 200;
 const ROWS_MAX = 100;
 
 export class Log {
-  constructor(onLine) {
+  /** `onLine` is given each line, and what `now` told when it was begun. */
+  constructor(onLine, now) {
     this.lines = [];
     this.at = 0;
+    let begun = null;
     const input = byId("line-text");
+    input.oninput = () => (begun = input.value ? (begun ?? now()) : null);
     byId("line").onsubmit = (event) => {
       event.preventDefault();
       const line = input.value.trim();
@@ -17,7 +20,8 @@ export class Log {
       this.lines.push(line);
       this.at = this.lines.length;
       input.value = "";
-      onLine(line);
+      onLine(line, begun ?? now());
+      begun = null;
     };
     input.onkeydown = (event) => {
       const step = { ArrowUp: -1, ArrowDown: 1 }[event.key];
@@ -25,6 +29,7 @@ export class Log {
       event.preventDefault();
       this.at = Math.min(this.lines.length, Math.max(0, this.at + step));
       input.value = this.lines[this.at] ?? "";
+      begun = now();
     };
   }
 

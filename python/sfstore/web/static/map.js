@@ -48,7 +48,7 @@ export class FeatureMap {
   follow() {
     this.#place();
     clearTimeout(this.rest);
-    if (this.layers.length && !this.#hasAll()) this.rest = setTimeout(() => this.refresh(), REST_MILLISECONDS);
+    this.rest = setTimeout(() => this.layers.length && !this.#hasAll() && this.refresh(), REST_MILLISECONDS);
   }
 
   /** Asks for what the window has, and draws it. Further calls meanwhile make one more round. */
@@ -62,12 +62,12 @@ export class FeatureMap {
     while (this.wanted) {
       this.wanted = false;
       const start = performance.now();
-      const { scale } = this.view;
-      const box = this.#box();
       const shown = this.layers.filter((layer) => layer.shown).map((layer) => layer.name);
-      const answer = await call("window", { box, layers: shown });
+      const asked = { box: this.#box(), scale: this.view.scale, view: this.#viewed() };
+      this.coming = asked;
+      const answer = await call("window", { box: asked.box, layers: shown }).finally(() => (this.coming = null));
       this.#show(answer.layers);
-      this.seen = { box, scale, most: answer.most };
+      this.seen = asked;
       this.onShown(this.#words());
       performance.measure("window", { start });
     }
@@ -79,8 +79,15 @@ export class FeatureMap {
     return [kept(Math.floor(left)), kept(Math.floor(bottom)), kept(Math.ceil(right)), kept(Math.ceil(top))];
   }
 
-  /** Whether what the window has is drawn already. */
+  /** What the view shows just now. */
+  #viewed() {
+    return this.view.box().join(" ");
+  }
+
+  /** Whether what the window has is drawn already, or is about to come. */
   #hasAll() {
+    if (this.coming) return this.coming.view === this.#viewed();
+    if (this.seen?.view === this.#viewed()) return true;
     if (!this.seen || this.layers.some((layer) => layer.shown && layer.isCounted)) return false;
     const [left, bottom, right, top] = this.view.box();
     const near = this.view.scale < this.seen.scale * 3;

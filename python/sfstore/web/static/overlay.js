@@ -3,6 +3,9 @@
 import { drawn } from "./dom.js";
 import { pathOf } from "./geometry.js";
 
+// How long, in pixels, an edge is at least that has a handle in its middle: each of the three has 24.
+const APART_PIXELS = 48;
+
 export class Overlay {
   constructor(layer, view) {
     this.view = view;
@@ -35,11 +38,13 @@ export class Overlay {
       this.paths[name].setAttribute("d", shape ? pathOf(shape.code, shape.members, pixels) : "");
     }
     this.faults.forEach((point, place) => put(this.marks.children[place], pixels(...point)));
-    for (const handle of this.handles.children) put(handle, pixels(handle.vertex.x, handle.vertex.y));
+    for (const handle of this.handles.children) {
+      put(handle, pixels(handle.vertex.x, handle.vertex.y));
+      handle.classList.toggle("crowded", handle.vertex.length * this.view.scale < APART_PIXELS);
+    }
   }
 }
 
-function put(circle, [left, top]) {
-  circle.setAttribute("cx", left);
-  circle.setAttribute("cy", top);
+function put(mark, [left, top]) {
+  mark.setAttribute("transform", `translate(${left} ${top})`);
 }

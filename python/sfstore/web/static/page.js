@@ -1,25 +1,31 @@
 // An editor of a store: this puts the parts of the page together.
 
 import { Asking } from "./asking.js";
-import { byId, counted, element } from "./dom.js";
+import { byId, counted, element, sure } from "./dom.js";
 import { Hand } from "./hand.js";
 import { Log } from "./log.js";
+import { Login } from "./login.js";
 import { FeatureMap } from "./map.js";
 import { Overlay } from "./overlay.js";
 import { Selection } from "./selection.js";
 import { call, CallFailed, listen } from "./server.js";
 import { followPointers, View } from "./view.js";
 
-const NAME = "sfstore-name";
 // Edits of these change nothing that is drawn.
 const UNDRAWN = /^[ \t]*(set|unset|column)[ \t]/;
 const PAN_PIXELS = 60;
-const LOST = "The connection is lost. Where sfstore-web was started again, open its new address.";
+const LOST = "The connection is lost. Where sfstore-web was started again, open its new link.";
+const SAVING = "Save for all? The history begins anew: nobody can undo what was done before.";
 
 class App {
   constructor() {
     const svg = byId("map");
     this.editor = null;
+    // Which page this is among those of one person, and the version of the store that it shows.
+    this.page = crypto.randomUUID();
+    this.version = 0;
+    this.isShown = false;
+    this.login = new Login();
     this.steps = { undo: null, redo: null };
     this.view = new View(svg, () => this.#follow());
     this.overlay = new Overlay(byId("overlay"), this.view);
@@ -27,7 +33,7 @@ class App {
     this.selection = new Selection(this);
     this.asking = new Asking(this);
     this.hand = new Hand(this);
-    this.log = new Log((line) => this.run(line));
+    this.log = new Log((line, seen) => this.run(line, { seen }), () => this.version);
     followPointers(svg, this.view, this.hand);
     svg.addEventListener("keydown", (event) => this.#mapKey(event));
     document.addEventListener("keydown", (event) => this.#anyKey(event));
@@ -37,40 +43,21 @@ class App {
   #wireButtons() {
     byId("undo").onclick = () => this.run("undo");
     byId("redo").onclick = () => this.run("redo");
-    byId("save").onclick = () => this.run("save");
+    byId("save").onclick = async () => (await sure(SAVING, "Save")) && this.run("save");
     byId("zoom-in").onclick = () => this.view.zoom(1.5);
     byId("zoom-out").onclick = () => this.view.zoom(1 / 1.5);
     byId("fit").onclick = () => this.showAll();
-    byId("person").onclick = () => byId("login").showModal();
+    byId("person").onclick = () => this.login.change();
     byId("refusal").querySelector("button").onclick = () => this.#closeRefusal();
-    byId("login").querySelector("form").onsubmit = (event) => {
-      event.preventDefault();
-      this.logIn(byId("login-name").value);
-    };
   }
 
-  /** Begins with the name that this page had before, or asks for one. */
+  /** Begins when somebody is in. */
   async begin() {
-    const name = sessionStorage.getItem(NAME);
-    if (name) await this.logIn(name);
-    else byId("login").showModal();
-    await this.showAll();
+    const { editor, name } = await this.login.enter();
+    this.editor = editor;
+    byId("person").textContent = name;
+    byId("map").focus();
     listen((event) => this.#hear(event), () => this.tell(LOST));
-  }
-
-  async logIn(name) {
-    try {
-      const answer = await call("login", { name });
-      this.editor = answer.editor;
-      sessionStorage.setItem(NAME, answer.name);
-      byId("person").textContent = answer.name;
-      byId("login-error").textContent = "";
-      byId("login").close();
-      this.#tellSteps(this.steps);
-      byId("map").focus();
-    } catch (fault) {
-      byId("login-error").textContent = fault.message;
-    }
   }
 
   /** Looks at the layers anew, and shows the whole map. */
@@ -96,17 +83,18 @@ class App {
     return found;
   }
 
-  /** Has a line carried out, and shows its answer. */
-  async run(line, isFurther = false) {
-    if (!this.editor) {
-      byId("login").showModal();
-      throw new CallFailed("Log in first.");
-    }
+  /**
+   * Has a line carried out, and shows its answer.
+   *
+   * `seen` is the version of the store that whoever wrote the line has seen.
+   */
+  async run(line, { isFurther = false, seen = this.version } = {}) {
     let answer;
     try {
-      answer = await call("line", { editor: this.editor, line });
+      answer = await call("line", { line, page: this.page, seen });
     } catch (fault) {
-      if (fault instanceof CallFailed) this.log.add(line, fault.message, "refused");
+      if (fault.status === 409) this.miss(line, fault.message);
+      else if (fault instanceof CallFailed) this.log.add(line, fault.message, "refused");
       throw fault;
     }
     this.log.addAnswer(line, answer);
@@ -117,6 +105,13 @@ class App {
       else if (answer.answer) await this.#redraw(line);
     }
     return answer;
+  }
+
+  /** Tells of a line that was not carried out, as somebody was there before. */
+  miss(line, words) {
+    this.log.add(line, words, "refused");
+    this.#showWords(words, {});
+    this.overlay.showRefused(null, []);
   }
 
   /** Adds what was drawn to a layer, and selects it. */
@@ -136,19 +131,25 @@ class App {
 
   /** Takes what the server tells all pages. */
   async #hear(event) {
-    if (event.hello || event.anew) {
-      await this.#readMap(false);
-      await this.map.refresh();
-      await this.selection.refresh();
-      return;
-    }
+    if (event.hello || event.anew) return this.#lookAnew();
     this.#tellSteps(event);
     if (event.saved) this.log.add("save", "The history begins anew.", "", event.saved);
-    else if (event.number !== this.editor) {
+    else if (event.number !== this.editor || event.page !== this.page) {
       const moved = event.line === event.step ? "ok" : event.step;
       this.log.add(event.line, moved, "other", event.editor);
       await this.#redraw(event.line);
     }
+    this.version = Math.max(this.version, event.version ?? 0);
+  }
+
+  /** Looks at everything, at first at the whole map. */
+  async #lookAnew() {
+    const { version, extent } = await this.#readMap(!this.isShown);
+    if (extent) this.view.fit(extent);
+    this.isShown = true;
+    await this.map.refresh();
+    await this.selection.refresh();
+    this.version = Math.max(this.version, version);
   }
 
   /** Draws what an edit may have changed. */
@@ -168,15 +169,21 @@ class App {
   }
 
   #tellRefused(refused) {
-    const box = byId("refusal");
-    box.querySelector("h2").textContent = `Refused (${refused.number} ${refused.name}): ${refused.reason}.`;
     const { place, whose } = refused;
-    box.querySelector(".reason").textContent = whose ? `The next step is ${whose.editor}'s: ${whose.line}` : "";
-    box.querySelector(".place").textContent = place ? `${place.words} (worked out outside of the proved program).` : "";
-    box.querySelector(".help").textContent = refused.help;
-    box.hidden = false;
+    this.#showWords(`Refused (${refused.number} ${refused.name}): ${refused.reason}.`, {
+      reason: whose ? `The next step is ${whose.editor}'s: ${whose.line}` : "",
+      place: place ? `${place.words} (worked out outside of the proved program).` : "",
+      help: refused.help,
+    });
     this.overlay.showRefused(refused.members ? refused : null, place?.points ?? []);
     if (place) this.#uncover(place.points[0]);
+  }
+
+  #showWords(title, { reason = "", place = "", help = "" }) {
+    const box = byId("refusal");
+    box.querySelector("h2").textContent = title;
+    for (const [name, words] of Object.entries({ reason, place, help })) box.querySelector(`.${name}`).textContent = words;
+    box.hidden = false;
   }
 
   /** Moves the map where the words hide a place that they tell of. */

@@ -1,32 +1,54 @@
 // The feature that is selected: its values, its text, and its vertices on the map.
 
-import { byId, drawn, element } from "./dom.js";
+import { byId, drawn, element, sure } from "./dom.js";
 import { boxOf, isInBox, KINDS, middlesOf, onGrid, verticesOf, withVertex } from "./geometry.js";
 import { call } from "./server.js";
 
 // How many vertices can be taken hold of at a time.
 const HANDLES_MAX = 300;
+// How wide, in pixels, a handle is to the mouse, and how wide it looks.
+const REACH_RADIUS = 12;
+const VERTEX_RADIUS = 6;
+const MIDDLE_RADIUS = 4;
+
 
 export class Selection {
   constructor(app) {
     this.app = app;
     this.feature = null;
     this.wanted = null;
-    byId("replace").onclick = () => this.#run(`replace ${this.#name()} ${byId("wkt").value.replaceAll("\n", " ")}`);
+    // The handle that is being moved, and has not been let go.
+    this.held = null;
+    this.turn = Promise.resolve();
+    this.isUnsure = false;
+    byId("replace").onclick = () => this.#replace();
     byId("delete").onclick = () => this.delete();
     byId("go").onclick = () => app.view.fit(boxOf(this.feature.members));
   }
 
-  #name() {
-    return `${this.feature.layer} ${this.feature.id}`;
-  }
-
-  #run(line) {
-    return this.app.run(line);
-  }
-
   get place() {
     return this.feature && { layer: this.feature.layer, id: this.feature.id };
+  }
+
+  /**
+   * Has an edit of a feature carried out, once those before it are answered and drawn.
+   *
+   * The server is told what was seen of the feature, and refuses what would meet something else.
+   * Where it matters which vertices there are, nothing is sent once the geometry is another one.
+   */
+  #edit(line, feature = this.feature, { needsShape = false, asSeen = false } = {}) {
+    const words = line(nameOf(feature));
+    const sent = this.turn.then(async () => {
+      if (this.isUnsure) await this.refresh();
+      this.isUnsure = false;
+      const now = isSame(this.feature, feature) ? this.feature : null;
+      if (needsShape && !now) return this.app.miss(words, `${nameOf(feature)} is selected no more.`);
+      if (needsShape && now.wkt !== feature.wkt) return this.app.miss(words, missed(now));
+      return this.app.run(words, { seen: (asSeen ? feature : (now ?? feature)).version });
+    });
+    // Whether it was done is not known where the answer is lost: it is looked at before the next one.
+    this.turn = sent.catch(() => (this.isUnsure = true));
+    return sent;
   }
 
   /** Selects a feature, or nothing. */
@@ -34,10 +56,12 @@ export class Selection {
     this.wanted = place;
     const found = place && (await call("feature", place));
     if (this.wanted !== place) return;
+    const before = this.feature;
     this.feature = found && !found.refused ? found : null;
     if (!this.feature) this.wanted = null;
+    if (before && place && isSame(before, place)) this.#giveUpOutdated(before, found.by);
     this.app.mark();
-    this.#tell();
+    this.#tell(before);
     this.showHandles();
   }
 
@@ -46,51 +70,86 @@ export class Selection {
     return this.wanted ? this.choose({ ...this.wanted }) : undefined;
   }
 
-  delete() {
-    if (this.feature) this.#run(`delete ${this.#name()}`);
+  #replace() {
+    this.sentText = typedText();
+    this.#edit((name) => `replace ${name} ${this.sentText}`);
   }
 
-  #tell() {
+  async delete() {
+    const { feature } = this;
+    if (!feature) return;
+    const words = `Delete ${nameOf(feature)}? It can be undone until somebody else edits.`;
+    if (await sure(words, "Delete")) await this.#edit((name) => `delete ${name}`, feature, { asSeen: true });
+  }
+
+  /** Gives up what is being typed or dragged where it was meant for what is there no more. */
+  #giveUpOutdated(before, by) {
+    const now = this.feature;
+    const words = missed({ ...before, by }, now ? "changed" : "deleted");
+    if (now?.wkt !== before.wkt) {
+      if (this.held) this.app.miss(vertexLine(this.held, before), words);
+      this.giveUp();
+      const isTyped = ![before.wkt, this.sentText].includes(typedText());
+      if (isTyped) this.app.miss(`replace ${nameOf(before)} ${typedText()}`, words);
+      byId("wkt").value = now?.wkt ?? "";
+    }
+    for (const { name, type, value } of before.values) {
+      const input = byId(`value-${name}`);
+      const left = now?.values.find((other) => other.name === name && other.type === type);
+      if (input.value === input.defaultValue || (left && left.value === value)) continue;
+      this.app.miss(valueLine(before, name, type, input.value), words);
+      input.value = input.defaultValue;
+    }
+  }
+
+  #tell(before) {
     const { feature } = this;
     byId("chosen").hidden = !feature;
-    byId("chosen-title").textContent = feature ? `${this.#name()}, a ${KINDS[feature.code]}` : "Nothing selected";
+    byId("chosen-title").textContent = feature ? `${nameOf(feature)}, a ${KINDS[feature.code]}` : "Nothing selected";
     if (!feature) return;
-    if (document.activeElement !== byId("wkt")) byId("wkt").value = feature.wkt;
+    if (!isSame(before, feature)) byId("wkt").value = feature.wkt;
     const shown = JSON.stringify([feature.layer, feature.id, feature.values.map(({ name, type }) => [name, type])]);
     // The same fields stay, so that nobody is disturbed who types in one of them.
-    if (shown !== this.shown) byId("values").replaceChildren(...feature.values.map((value) => this.#row(value)));
+    if (shown !== this.shown) byId("values").replaceChildren(...feature.values.map((value) => this.#row(value, feature)));
     this.shown = shown;
     feature.values.forEach(fill);
   }
 
   /** A row of the table: the name of a column, and a field for its value. */
-  #row({ name, type }) {
+  #row({ name, type }, feature) {
     const input = element("input", { id: `value-${name}`, autocomplete: "off", spellcheck: false });
     if (type === "int") input.inputMode = "numeric";
-    input.onchange = () => this.#set(name, type, input);
+    input.onchange = () => this.#set(feature, name, type, input);
     const clear = element("button", { type: "button", ariaLabel: `Clear ${name}`, title: `Clear ${name}` }, "×");
-    clear.onclick = () => this.#run(`unset ${this.#name()} ${name}`);
+    clear.onclick = () => this.#edit((words) => `unset ${words} ${name}`, feature);
     const label = element("label", { htmlFor: input.id }, `${name} (${type})`);
     return element("tr", {}, element("th", { scope: "row" }, label), element("td", {}, input), element("td", {}, clear));
   }
 
-  async #set(name, type, input) {
-    const value = type === "text" ? `'${input.value.replaceAll("'", "''")}'` : input.value.trim();
-    const isGone = type === "int" && value === "";
+  /** Sets a value that was typed. Where that is not done, the field shows the value that is there. */
+  async #set(feature, name, type, input) {
     const before = input.defaultValue;
     input.defaultValue = input.value;
-    const answer = await this.#run(isGone ? `unset ${this.#name()} ${name}` : `set ${this.#name()} ${name} ${value}`);
-    if (answer.refused) input.value = input.defaultValue = before;
+    let isSet = false;
+    try {
+      const answer = await this.#edit(() => valueLine(feature, name, type, input.value), feature);
+      isSet = !answer.refused;
+    } finally {
+      if (!isSet) {
+        input.value = input.defaultValue = before;
+        await this.refresh();
+      }
+    }
   }
 
   /** Draws a handle for each vertex that is seen, and one between each two. */
   showHandles() {
     const { overlay, view } = this.app;
-    const held = document.activeElement?.vertex;
+    const focused = document.activeElement?.vertex && document.activeElement;
     const handles = this.feature ? this.#handles(view.box(0.5)) : [];
     overlay.handles.replaceChildren(...handles);
     overlay.place();
-    if (held) this.#focusAgain(held);
+    if (focused) this.#focusAgain(focused);
   }
 
   #handles(seen) {
@@ -106,46 +165,62 @@ export class Selection {
 
   #handle(vertex, isNew) {
     const words = isNew ? "A new vertex" : `Vertex ${vertex.index} of part ${vertex.part}, ring ${vertex.ring}`;
-    const handle = drawn("circle", {
+    const handle = drawn("g", {
       class: isNew ? "handle middle" : "handle",
-      r: isNew ? 4 : 6,
       tabindex: isNew ? -1 : 0,
       role: "button",
       "aria-label": `${words} at ${vertex.x} ${vertex.y}`,
     });
+    handle.append(drawn("circle", { class: "reach", r: REACH_RADIUS }), drawn("circle", { class: "dot", r: isNew ? MIDDLE_RADIUS : VERTEX_RADIUS }));
     handle.vertex = { ...vertex, isNew };
+    // What its numbers count in.
+    handle.feature = this.feature;
     if (!isNew) handle.addEventListener("keydown", (event) => this.#key(event, handle));
     return handle;
   }
 
-  #focusAgain({ part, ring, index }) {
+  /** Goes back to a vertex whose handle is another one now, in the middle of a move too. */
+  #focusAgain({ vertex: { part, ring, index }, tried }) {
     const same = ({ vertex }) => vertex.part === part && vertex.ring === ring && vertex.index === index && !vertex.isNew;
-    ([...this.app.overlay.handles.children].find(same) ?? this.app.view.svg).focus();
+    const again = [...this.app.overlay.handles.children].find(same);
+    (again ?? this.app.view.svg).focus();
+    if (again && tried && this.held) {
+      again.tried = tried;
+      this.held = again;
+    }
   }
 
   focusFirst() {
     this.app.overlay.handles.querySelector(".handle:not(.middle)")?.focus();
   }
 
-  /** Shows a vertex at another place, before it is moved there. */
-  try(handle, [x, y]) {
-    const { code, members } = this.feature;
-    const { isNew } = handle.vertex;
-    this.app.overlay.show("sketch", { code, members: withVertex(code, members, handle.vertex, isNew, x, y) });
-    handle.tried = [x, y];
+  /** Begins a move of a vertex. */
+  take(handle) {
+    handle.isGivenUp = false;
   }
 
+  /** Shows a vertex at another place, before it is moved there. */
+  try(handle, [x, y]) {
+    const { code, members } = handle.feature;
+    if (handle.isGivenUp || !this.feature) return;
+    this.app.overlay.show("sketch", { code, members: withVertex(code, members, handle.vertex, handle.vertex.isNew, x, y) });
+    handle.tried = [x, y];
+    this.held = handle;
+  }
+
+  /** Ends the move of a vertex; what is tried with this handle afterwards is nothing. */
   giveUp() {
     this.app.overlay.show("sketch", null);
-    for (const handle of this.app.overlay.handles.children) handle.tried = null;
+    if (this.held) Object.assign(this.held, { tried: null, isGivenUp: true });
+    this.held = null;
   }
 
   /** Moves a vertex where it was tried last, or inserts it there. */
   async keep(handle) {
-    const { isNew } = handle.vertex;
-    const place = handle.tried;
+    if (!handle.tried) return;
+    const line = vertexLine(handle, handle.feature);
     this.giveUp();
-    if (place) await this.#run(`vertex ${isNew ? "insert" : "move"} ${this.#name()} ${numbers(handle.vertex)} ${place.join(" ")}`);
+    await this.#edit(() => line, handle.feature, { needsShape: true });
   }
 
   #key(event, handle) {
@@ -154,21 +229,51 @@ export class Selection {
     const move = moves[event.key];
     if (move) {
       const [x, y] = handle.tried ?? [handle.vertex.x, handle.vertex.y];
+      this.take(handle);
       this.try(handle, onGrid(x + move[0], y + move[1]));
     } else if (event.key === "Enter") this.keep(handle);
     else if (event.key === "Escape" && handle.tried) this.giveUp();
-    else if (event.key === "Delete") this.#run(`vertex remove ${this.#name()} ${numbers(handle.vertex)}`);
-    else if (event.key === "i" || event.key === "I") this.#insertBehind(handle.vertex);
+    else if (event.key === "Delete") this.#remove(handle);
+    else if (event.key === "i" || event.key === "I") this.#insertBehind(handle);
     else return;
     event.preventDefault();
     event.stopPropagation();
   }
 
-  #insertBehind({ part, ring, index }) {
-    const { code, members } = this.feature;
-    const middle = middlesOf(code, members).find((place) => place.part === part && place.ring === ring && place.index === index + 1);
-    if (middle) this.#run(`vertex insert ${this.#name()} ${numbers(middle)} ${middle.x} ${middle.y}`);
+  #remove({ vertex, feature }) {
+    this.#edit((name) => `vertex remove ${name} ${numbers(vertex)}`, feature, { needsShape: true });
   }
+
+  #insertBehind({ vertex: { part, ring, index }, feature }) {
+    const isBehind = (place) => place.part === part && place.ring === ring && place.index === index + 1;
+    const middle = middlesOf(feature.code, feature.members).find(isBehind);
+    if (!middle) return;
+    const line = (name) => `vertex insert ${name} ${numbers(middle)} ${middle.x} ${middle.y}`;
+    this.#edit(line, feature, { needsShape: true });
+  }
+}
+
+const nameOf = ({ layer, id }) => `${layer} ${id}`;
+
+/** Whether two are the same feature, whatever it looks like. */
+const isSame = (one, other) => one?.layer === other.layer && one.id === other.id;
+
+/** The text that stands in the field of the geometry, as a line takes it. */
+const typedText = () => byId("wkt").value.replaceAll("\n", " ");
+
+/** Who has changed a feature before something could be done, in a sentence. */
+const missed = (feature, did = "changed") => `${feature.by ?? "Somebody"} ${did} ${nameOf(feature)} meanwhile: look again.`;
+
+/** The line that moves or inserts a vertex where its handle was tried. */
+function vertexLine({ vertex, tried }, feature) {
+  return `vertex ${vertex.isNew ? "insert" : "move"} ${nameOf(feature)} ${numbers(vertex)} ${tried.join(" ")}`;
+}
+
+/** The line that sets a value that was typed, or clears it. */
+function valueLine(feature, name, type, typed) {
+  const value = type === "text" ? `'${typed.replaceAll("'", "''")}'` : typed.trim();
+  const isGone = type === "int" && value === "";
+  return isGone ? `unset ${nameOf(feature)} ${name}` : `set ${nameOf(feature)} ${name} ${value}`;
 }
 
 /** Shows a value in its field, but not over what is being typed there. */

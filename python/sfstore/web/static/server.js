@@ -1,28 +1,74 @@
 // The calls of the server, and what it tells.
 
+// How long after a loss of the connection it is tried again.
+const AGAIN_MILLISECONDS = 2_000;
+
+// Sent in a header, which a browser adds to nothing by itself: no other page can send it.
+let key = "";
+
+/** Has every further call speak for the person whose key this is, and gives the key before. */
+export function speakFor(given) {
+  const before = key;
+  key = given;
+  return before;
+}
+
 /** A call that was not carried out. The message is for people. */
-export class CallFailed extends Error {}
+export class CallFailed extends Error {
+  constructor(message, status = 0) {
+    super(message);
+    this.status = status;
+  }
+}
 
 /** Has the server carry out a call, and gives its answer. */
 export async function call(path, body) {
-  let response, answer;
+  const response = await asked(path, { method: "POST", body: JSON.stringify(body) });
+  let answer;
   try {
-    response = await fetch(path, {
-      method: "POST",
-      headers: { "Content-Type": "application/json" },
-      body: JSON.stringify(body),
-    });
     answer = await response.json();
   } catch {
-    throw new CallFailed("The server does not answer. Is sfstore-web still running?");
+    throw silent();
   }
-  if (!response.ok) throw new CallFailed(answer.error);
+  if (!response.ok) throw new CallFailed(answer.error, response.status);
   return answer;
 }
 
-/** Hears what the server tells all pages. */
-export function listen(onEvent, onLost) {
-  const source = new EventSource("events");
-  source.onmessage = (message) => onEvent(JSON.parse(message.data));
-  source.onerror = onLost;
+async function asked(path, words) {
+  const headers = { Authorization: `Bearer ${key}`, "Content-Type": "application/json" };
+  try {
+    return await fetch(path, { headers, cache: "no-store", ...words });
+  } catch {
+    throw silent();
+  }
+}
+
+const silent = () => new CallFailed("The server does not answer. Is sfstore-web still running?");
+
+/** Hears what the server tells all pages, again and again where the connection is lost. */
+export async function listen(onEvent, onLost) {
+  for (;;) {
+    try {
+      await hear(onEvent);
+    } catch {
+      // Whatever it was: the connection is lost.
+    }
+    onLost();
+    await new Promise((done) => setTimeout(done, AGAIN_MILLISECONDS));
+  }
+}
+
+/** Hears until the connection ends. An EventSource could not send the key. */
+async function hear(onEvent) {
+  const response = await asked("events", {});
+  if (!response.ok) return;
+  const reader = response.body.pipeThrough(new TextDecoderStream()).getReader();
+  let rest = "";
+  for (;;) {
+    const { value, done } = await reader.read();
+    if (done) return;
+    const lines = (rest + value).split("\n");
+    rest = lines.pop();
+    for (const line of lines) if (line.startsWith("data: ")) onEvent(JSON.parse(line.slice(6)));
+  }
 }

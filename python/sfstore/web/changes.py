@@ -1,0 +1,135 @@
+"""What was changed last, when and by whom, so that nobody edits what they have not seen.
+
+An edit of a feature says which version of the store its page has seen of it. Where another page has
+changed the feature since, the edit would meet something else than was meant: a vertex of another
+number, a value that somebody has just written.
+"""
+
+from __future__ import annotations
+
+import re
+from typing import NamedTuple
+
+__all__ = ["Change", "Changes", "Target", "feature_of", "targets_of"]
+
+# The program parts words by spaces and tabs alone, and drops a carriage return at the end.
+_BLANK = "[ \t]+"
+_WORD = "([^ \t\r]+)"
+_OF_FEATURE = re.compile(
+    f"[ \t]*(?:delete|replace|set|unset|vertex{_BLANK}(?:insert|move|remove)){_BLANK}{_WORD}{_BLANK}"
+    "([0-9]{1,10})(?![^ \t\r])"
+)
+_ADDITION = re.compile(f"[ \t]*(?:add|addhex){_BLANK}{_WORD}")
+_OF_LAYER = re.compile(
+    f"[ \t]*(?:layer{_BLANK}(?:add|drop|rename)|column{_BLANK}(?:add|drop)){_BLANK}{_WORD}"
+)
+_RENAMING = re.compile(f"[ \t]*layer{_BLANK}rename{_BLANK}{_WORD}{_BLANK}{_WORD}")
+
+# So many features are remembered. Beyond them all is forgotten, and pages have to look again once.
+_REMEMBERED_MAX = 100_000
+
+
+class Target(NamedTuple):
+    """What an edit changes: a feature, or where none is named whatever a layer has."""
+
+    layer: str
+    feature: int | None
+
+
+class Change(NamedTuple):
+    """An edit of something."""
+
+    version: int
+    """The version of the store that it made."""
+    editor: int
+    page: str
+    """The page that it came from, among those of its editor."""
+    line: str
+    """The beginning of its line."""
+    targets: tuple[Target, ...]
+    """What it has changed."""
+
+
+def feature_of(line: str) -> Target | None:
+    """The feature that a line edits, or none where it is no edit of a feature that is there."""
+    found = _OF_FEATURE.match(line)
+    return Target(found[1], int(found[2])) if found else None
+
+
+def targets_of(line: str, answer: str = "") -> tuple[Target, ...]:
+    """What a line that was accepted has changed; ``answer`` has the identifier of an addition.
+
+    Without the answer an addition may have been any feature of its layer.
+    """
+    feature = feature_of(line)
+    if feature is not None:
+        return (feature,)
+    addition = _ADDITION.match(line)
+    if addition is not None:
+        identifier = answer.partition(" ")[2]
+        return (Target(addition[1], int(identifier) if identifier else None),)
+    found = _RENAMING.match(line) or _OF_LAYER.match(line)
+    return tuple(Target(name, None) for name in found.groups()) if found else ()
+
+
+class _Last(NamedTuple):
+    """The last change of something, and the last one that came from another page than that."""
+
+    change: Change
+    other: Change | None
+
+
+class Changes:
+    """The last changes of what was changed. It belongs to one thread; `last` may be asked by all."""
+
+    def __init__(self) -> None:
+        self._last: dict[Target, _Last] = {}
+        self._known_from = 0
+
+    def take(self, change: Change) -> None:
+        """Remembers a change."""
+        if len(self._last) >= _REMEMBERED_MAX:
+            self.forget(change.version)
+        for target in change.targets:
+            before = self._last.get(target)
+            if before is None:
+                other = None
+            elif _is_from(before.change, change.editor, change.page):
+                other = before.other
+            else:
+                other = before.change
+            self._last[target] = _Last(change, other)
+
+    def forget(self, version: int) -> None:
+        """Forgets all: whoever has seen no more than what was before a version has to look again."""
+        self._last.clear()
+        self._known_from = version
+
+    def is_known_since(self, version: int) -> bool:
+        """Whether it is known what was changed after a version."""
+        return version >= self._known_from
+
+    def since(self, target: Target, version: int, editor: int, page: str) -> Change | None:
+        """The change of a feature after a version by another page than one, if there is one.
+
+        What a page has done itself it knows.
+        """
+        for place in (target, Target(target.layer, None)):
+            last = self._last.get(place)
+            if last is None:
+                continue
+            change = last.other if _is_from(last.change, editor, page) else last.change
+            if change is not None and change.version > version:
+                return change
+        return None
+
+    def last(self, target: Target) -> Change | None:
+        """The last change of a feature, or of its layer as a whole."""
+        places = (target, Target(target.layer, None))
+        found = [last.change for place in places if (last := self._last.get(place))]
+        return max(found, default=None)
+
+
+def _is_from(change: Change, editor: int, page: str) -> bool:
+    # A page that takes the name of another editor's is none of that editor's.
+    return (change.editor, change.page) == (editor, page)

@@ -1,0 +1,314 @@
+"""Tests of the page in a browser: what others do meanwhile, and who somebody is."""
+
+from __future__ import annotations
+
+import http.server
+import signal
+import threading
+import time
+import unittest
+
+from test_page import PageCase
+
+# Does a line as somebody else, and lets go of what is held by a key, before anything of it can be heard.
+BEHIND = """
+const [key, line, seen] = arguments, request = new XMLHttpRequest();
+request.open("POST", "line", false);
+request.setRequestHeader("Authorization", `Bearer ${key}`);
+request.setRequestHeader("Content-Type", "application/json");
+request.send(JSON.stringify({ page: "other", line, seen }));
+document.activeElement.dispatchEvent(new KeyboardEvent("keydown", { key: "Enter", bubbles: true }));
+return request.status;
+"""
+KEPT = "return [Object.keys(JSON.parse(localStorage['sfstore-keys'])), document.cookie, location.href]"
+
+
+class Meanwhile(PageCase):
+    """Two people at one feature."""
+
+    def two(self):
+        """A page with a parcel that is large on it, and somebody else."""
+        page = self.open("Ben")
+        self.ann = self.serving.log_in("Ann")
+        page.choose((270, 150), "parcels 2, a polygon")
+        page.use("#go")
+        page.until(lambda: page.script("return document.getElementById('world').getCTM().a") > 1)
+        return page
+
+    def told(self, page, words):
+        page.until(lambda: page.text("#refusal h2") == words and not page.one("#refusal").get_property("hidden"))
+
+    def wkt(self):
+        return self.ann.feature("parcels", 2)["wkt"]
+
+    def test_a_drag_is_given_up_when_its_feature_changes(self):
+        page = self.two()
+        mouse = page.mouse()
+        pointer = mouse.pointer_action
+        pointer.move_to_location(*page.place((360, 300))).pointer_down()
+        for point in ((365, 305), (370, 310)):
+            pointer.move_to_location(*page.place(point))
+        mouse.perform()
+        page.until(lambda: page.one("#overlay .sketch").get_attribute("d"))
+        self.ann.line("vertex insert parcels 2 0 0 1 270 -20")
+        self.told(page, "Ann changed parcels 2 meanwhile: look again.")
+        self.assertFalse(page.one("#overlay .sketch").get_attribute("d"))
+        mouse = page.mouse()
+        mouse.pointer_action.move_to_location(*page.place((380, 320))).pointer_up()
+        mouse.perform()
+        # A further edit is answered after whatever the drag may have sent.
+        page.type("set parcels 2 owner 'Ito'", "ok")
+        self.assertEqual(self.wkt(), "POLYGON ((180 0, 270 -20, 360 0, 360 300, 180 300, 180 0))")
+        self.assertIn("vertex move parcels 2 0 0 2 3", "".join(line for line, _ in page.log()))
+        page.drag((360, 300), (370, 310))
+        page.until(lambda: page.last().startswith("vertex move parcels 2 0 0 3 3"))
+
+    def test_a_drag_goes_on_when_something_else_changes(self):
+        page = self.two()
+        page.press("v")
+        page.send(page.keys.ARROW_DOWN)
+        self.ann.line("set parcels 2 owner 'Ito'")
+        self.ann.line("delete parcels 3")
+        page.logged("delete parcels 3", "ok")
+        page.until(lambda: page.one("#value-owner").get_property("value") == "Ito")
+        page.send(page.keys.ENTER)
+        page.logged("vertex move parcels 2 0 0 0 180 -1", "ok")
+
+    def test_a_vertex_is_not_moved_where_the_change_was_not_heard_yet(self):
+        page = self.two()
+        page.press("v")
+        page.send(page.keys.TAB, page.keys.ARROW_DOWN)
+        page.until(lambda: page.one("#overlay .sketch").get_attribute("d"))
+        line = "vertex insert parcels 2 0 0 1 270 -20"
+        self.assertEqual(page.script(BEHIND, self.ann.key, line, self.ann.version()), 200)
+        self.told(page, "Ann changed parcels 2 meanwhile: look again.")
+        self.assertIn("vertex move parcels 2 0 0 1 360 -1", [line for line, _ in page.log()])
+        self.assertEqual(self.wkt(), "POLYGON ((180 0, 270 -20, 360 0, 360 300, 180 300, 180 0))")
+
+    def test_two_drags_in_a_row(self):
+        page = self.two()
+        page.drag((270, 0), (270, -10))
+        page.drag((360, 0), (370, -10))
+        page.until(lambda: page.last().startswith("vertex move parcels 2 0 0"))
+        # The second one is of the numbers that are there, or is not sent.
+        self.assertIn("POLYGON ((180 0, 270 -10, 3", page.until(self.wkt))
+
+    def test_a_value_that_is_typed_is_given_up_when_it_changes(self):
+        page = self.two()
+        field = page.one("#value-owner")
+        before = field.get_property("value")
+        field.send_keys(page.keys.CONTROL + "a" + page.keys.NULL, "it's Ben's")
+        self.ann.line("set parcels 2 number 77")
+        page.until(lambda: page.one("#value-number").get_property("value") == "77")
+        self.assertEqual(field.get_property("value"), "it's Ben's")
+        self.ann.line("set parcels 2 owner 'Ito'")
+        self.told(page, "Ann changed parcels 2 meanwhile: look again.")
+        self.assertEqual(field.get_property("value"), "Ito")
+        self.assertNotEqual(before, "Ito")
+        line = "set parcels 2 owner 'it''s Ben''s'"
+        self.assertIn((line, "Ann changed parcels 2 meanwhile: look again."), page.log())
+        field.send_keys(page.keys.ENTER)
+        page.type("show streets")
+        self.assertEqual(self.ann.feature("parcels", 2)["values"][1]["value"], "Ito")
+
+    def test_a_text_is_typed_while_its_feature_is_deleted(self):
+        page = self.two()
+        page.one("#value-owner").send_keys(page.keys.CONTROL + "a" + page.keys.NULL, "a long text")
+        self.ann.line("delete parcels 2")
+        self.told(page, "Ann deleted parcels 2 meanwhile: look again.")
+        self.assertEqual(page.text("#chosen-title"), "Nothing selected")
+        self.assertIn("set parcels 2 owner 'a long text'", [line for line, _ in page.log()])
+
+    def test_a_geometry_that_is_typed_is_given_up_when_it_changes(self):
+        page = self.two()
+        page.script("document.getElementById('wkt').value = 'POLYGON ((0 0, 9 0, 9 9, 0 0))'")
+        self.ann.line("set parcels 2 number 77")
+        page.until(lambda: page.one("#value-number").get_property("value") == "77")
+        self.assertEqual(page.one("#wkt").get_property("value"), "POLYGON ((0 0, 9 0, 9 9, 0 0))")
+        self.ann.line("vertex move parcels 2 0 0 0 181 1")
+        self.told(page, "Ann changed parcels 2 meanwhile: look again.")
+        self.assertIn("(181 1, ", page.one("#wkt").get_property("value"))
+        page.script("document.getElementById('wkt').value = 'POLYGON ((180 0, 360 0, 360 300, 180 0))'")
+        page.use("#replace")
+        page.logged("replace parcels 2 POLYGON ((180 0, 360 0, 360 300, 180 0))", "ok")
+        page.until(lambda: page.one("#wkt").get_property("value") == "POLYGON ((180 0, 360 0, 360 300, 180 0))")
+        self.assertTrue(page.one("#refusal").get_property("hidden"))
+
+    def test_a_line_that_was_begun_before(self):
+        page = self.two()
+        page.one("#line-text").send_keys("vertex move parcels 2 0 0 1 ")
+        self.ann.line("vertex insert parcels 2 0 0 1 270 -20")
+        page.logged("vertex insert parcels 2 0 0 1 270 -20", "ok")
+        page.until(lambda: "270 -20" in page.one("#wkt").get_property("value"))
+        page.one("#line-text").send_keys("270 -30", page.keys.ENTER)
+        self.told(page, "Ann changed parcels 2 meanwhile: look again.")
+        page.one("#line-text").send_keys(page.keys.ARROW_UP, page.keys.ENTER)
+        page.until(lambda: page.log()[-1] == ("vertex move parcels 2 0 0 1 270 -30", "ok"))
+
+    def test_a_value_that_is_not_set_is_not_shown(self):
+        page = self.two()
+        field = page.one("#value-owner")
+        before = field.get_property("value")
+        self.serving.end(signal.SIGKILL)
+        field.send_keys(page.keys.CONTROL + "a" + page.keys.NULL, "New", page.keys.ENTER)
+        page.until(lambda: "does not answer" in page.text("#status"))
+        page.until(lambda: field.get_property("value") == before)
+        self.assertIn("set parcels 2 owner 'New'", [line for line, _ in page.log()])
+
+    def test_questions_before_what_can_not_be_taken_back(self):
+        page = self.two()
+        for button in ("#delete", "#save"):
+            page.use(button)
+            page.until(lambda: page.one("#sure").get_property("open"))
+            self.assertTrue(page.text("#sure-words"))
+            page.use("#sure-no")
+        page.type("layers")
+        self.assertEqual([line for line, _ in page.log()], ["layers"])
+        page.use("#save")
+        page.sure()
+        page.logged("save", "town.sfs is saved. The history begins anew.")
+
+    def test_a_deletion_is_of_what_was_seen_at_the_question(self):
+        page = self.two()
+        page.use("#delete")
+        page.until(lambda: page.one("#sure").get_property("open"))
+        self.ann.line("set parcels 2 owner 'Ito'")
+        page.until(lambda: page.one("#value-owner").get_property("value") == "Ito")
+        page.use("#sure-yes")
+        self.told(page, "Ann changed parcels 2 meanwhile: look again.")
+        self.assertIn("POLYGON", self.wkt())
+
+    def test_two_tabs_of_one_name(self):
+        one = self.open("Ann")
+        other = self.page(self.serving, "Ann")
+        other.choose((270, 150), "parcels 2, a polygon")
+        one.here().type("set parcels 2 owner 'Ito'", "ok")
+        one.type("add wells POINT (1290 450)", "ok 5")
+        other.here().until(lambda: other.drawn("wells") == 5)
+        other.until(lambda: other.one("#value-owner").get_property("value") == "Ito")
+        self.assertEqual([line for line, _ in other.log()], ["set parcels 2 owner 'Ito'", "add wells POINT (1290 450)"])
+        other.type("undo", "ok")
+        one.here().until(lambda: one.drawn("wells") == 4)
+        self.assertEqual([line for line, _ in one.log()].count("add wells POINT (1290 450)"), 1)
+
+
+class Coming(PageCase):
+    """Who somebody is, in the browser."""
+
+    def open_again(self, address):
+        self.driver.switch_to.new_window("tab")
+        self.driver.get(address)
+
+    def test_the_link_of_the_terminal_and_what_comes_of_it(self):
+        self.serving = self.serve()
+        page = self.page(self.serving, "Ann", address=self.serving.owners_address)
+        names, cookie, address = page.script(KEPT)
+        plain = f"http://{self.serving.host}/"
+        self.assertEqual((names, cookie, address), (["Ann"], "", plain))
+        page.type("add wells POINT (1290 450)", "ok 5")
+        # Another tab of the browser, and the link once more.
+        self.open_again(plain)
+        page.until(lambda: page.text("#person") == "Ann" and page.drawn("wells") == 5)
+        self.open_again(self.serving.owners_address)
+        page.until(lambda: page.one("#login").get_property("open"))
+        page.one("#login-name").send_keys("Mallory", page.keys.ENTER)
+        page.until(lambda: "not good any more" in page.text("#login-error"))
+        page.use("#login-names button")
+        page.until(lambda: page.text("#person") == "Ann" and page.drawn("wells") == 5)
+
+    def test_a_browser_of_two_people(self):
+        ann = self.open("Ann")
+        self.page(self.serving, "Ben")
+        ann.here().use("#person")
+        self.assertEqual([button.text for button in ann.all("#login-names button")], ["Go on as Ann", "Go on as Ben"])
+        ann.use("#login-leave")
+        ann.type("add wells POINT (1290 450)", "ok 5")
+        ann.use("#person")
+        ann.use("#login-names li:last-child button")
+        ann.until(lambda: ann.text("#person") == "Ben" and ann.drawn("wells") == 5)
+        ann.type("undo", "refused 36 NotYours")
+
+    def test_a_server_that_was_started_again(self):
+        page = self.open("Ann")
+        self.serving.end()
+        serving = self.serve(f"--port={self.serving.port}")
+        self.open_again(f"http://{serving.host}/")
+        page.until(lambda: page.one("#login").get_property("open"))
+        self.assertEqual(page.text("#login-error"), "Ann is logged in no more.")
+        self.assertIn("types `link`", page.text("#login-how"))
+        # A link that is opened in this tab.
+        page.script("location.href = arguments[0]", serving.address("Ann"))
+        page.come_in("Ann")
+
+    def test_another_server_of_this_machine_is_sent_nothing(self):
+        page = self.open("Ann")
+        sent = []
+
+        class Other(http.server.BaseHTTPRequestHandler):
+            def do_GET(self):
+                sent.append((self.path, str(self.headers)))
+                self.send_response(200)
+                self.end_headers()
+
+            def log_message(self, *_):
+                pass
+
+        other = http.server.HTTPServer(("127.0.0.1", 0), Other)
+        self.addCleanup(other.server_close)
+        threading.Thread(target=other.serve_forever, daemon=True).start()
+        self.addCleanup(other.shutdown)
+        key = page.script("return JSON.parse(localStorage['sfstore-keys']).Ann")
+        self.open_again(f"http://127.0.0.1:{other.server_port}/")
+        self.assertIsNone(page.script("return localStorage['sfstore-keys'] ?? null"))
+        self.assertTrue(sent)
+        for path, headers in sent:
+            self.assertNotIn("Cookie", headers)
+            self.assertNotIn(key, path + headers)
+
+    def test_a_link_for_a_name_asks_before_it_is_used(self):
+        ann = self.open("Ann")
+        self.open_again(self.serving.address("Ben"))
+        ann.until(lambda: ann.one("#login").get_property("open"))
+        self.assertEqual(ann.one("#login-name").get_property("value"), "Ben")
+        self.assertEqual(ann.text("#person"), "nobody")
+        self.assertNotIn("Ben", ann.script(KEPT)[0])
+
+    def test_the_first_picture_is_asked_for_once(self):
+        windows = "return performance.getEntriesByType('resource').filter(e => e.name.endsWith('/window')).length"
+        page = self.open("Ann")
+        time.sleep(0.5)
+        self.assertEqual(page.script(windows), 1)
+        points = "".join(f"add w POINT ({k % 200 * 10} {k // 200 * 10})\n" for k in range(20_001))
+        path = self.folder / "large.sfs"
+        self.make(f"layer add w point\n{points}layer add v point\nadd v POINT (5 5)\n".encode(), path)
+        page = self.page(self.serve(path=path), "Ann", known=("v-1", (5, 5)))
+        time.sleep(0.5)
+        self.assertEqual(page.script(windows), 1)
+
+
+class Aids(PageCase):
+    """What is read out, and how large what is clicked is."""
+
+    def test_what_is_selected_is_read_out(self):
+        page = self.open()
+        live = "return !!document.getElementById('chosen-title').closest('[aria-live=polite]')"
+        self.assertTrue(page.script(live))
+
+    def test_everything_that_is_clicked_has_24_pixels(self):
+        page = self.open()
+        page.choose((270, 150), "parcels 2, a polygon")
+        page.use("#go")
+        page.until(lambda: len(page.all(".handle.middle:not(.crowded)")) == 4)
+        page.type("query parcels intersects POINT (270 150)")
+        page.until(lambda: page.all("#hits button"))
+        small = """
+            return [...document.querySelectorAll("button, input, select, textarea, .handle")].filter((element) => {
+              const { width, height } = element.getBoundingClientRect();
+              return width && Math.min(width, height) < 23.9;
+            }).map((element) => element.outerHTML.slice(0, 80));
+            """
+        self.assertEqual(page.script(small), [])
+
+
+if __name__ == "__main__":
+    unittest.main()
