@@ -86,6 +86,22 @@ class Documents(unittest.TestCase):
                 self.assertTrue(path.stem == "Lib" or (crate, path.stem) in found, path)
 
 
+class Threats(unittest.TestCase):
+    """The page on who may do what to whom."""
+
+    def setUp(self):
+        self.text = (TOP / "docs" / "THREATS.md").read_text()
+
+    def test_every_row_names_tests_that_are_there(self):
+        rows = [line.split("|") for line in self.text.splitlines() if line.startswith("| ") and "Tests" not in line]
+        self.assertGreater(len(rows), 20)
+        for row in rows:
+            named = re.findall(r"`(test_\w+)\.(test_\w+)`", row[-2])
+            self.assertTrue(named, row[1])
+            for file, test in named:
+                self.assertIn(f"    def {test}(", (TOP / "python" / "tests" / f"{file}.py").read_text(), file)
+
+
 class Made(unittest.TestCase):
     """Pages that a script makes, and what it makes them from."""
 
