@@ -1,17 +1,11 @@
-//! Tests of valid geometries, their matrices, features and queries.
+//! Tests of valid geometries and of their matrices.
 #![tactic(auto)]
 
 #[cfg(test)]
 mod contact;
 #[cfg(test)]
-mod features;
-#[cfg(test)]
 mod prepared;
 #[cfg(test)]
-mod queries;
-#[cfg(test)]
 mod relate;
-#[cfg(test)]
-mod town;
 #[cfg(test)]
 mod validity;

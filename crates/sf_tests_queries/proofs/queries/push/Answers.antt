@@ -11,7 +11,7 @@ use Rattle.sf_layers.specs.Content.{admits, with_next_feature}
 use Rattle.sf_layers.specs.WellFormed.{IsFeature, IsLayer, id_end}
 use Rattle.sf_layers.proofs.Added.{IsLayer-with_next_feature}
 use Rattle.sf_layers.proofs.Issued.{lookup-next}
-use Rattle.sf_tests_shapes.proofs.queries.push.Goals as goal
+use Rattle.sf_tests_queries.proofs.queries.push.Goals as goal
 
 -- a valid geometry with no values fits a layer of all kinds
 plain-fits : (kind : LayerKind) (columns : List Column) (geometry : Geometry) → kind ≡ Any → IsHeld geometry → IsFeature kind columns (plain_feature geometry)

@@ -1,7 +1,7 @@
 use Rattle.std.proofs.Common.{◌≡◌}
 use Rattle.sf_layers.specs.declared.layer_kind.LayerKind.TheVariants.{Any}
 use Rattle.sf_layers.specs.WellFormed.{IsLayer}
-use Rattle.sf_tests_shapes.proofs.queries.with_shapes.Given as goal
+use Rattle.sf_tests_queries.proofs.queries.with_shapes.Given as goal
 
 -- the layer takes all kinds and is well formed
 abbrev pub invariant-loop-places : goal.invariant-loop-places
