@@ -1,21 +1,49 @@
-"""Files that are written whole or not at all."""
+"""Files that are written whole or not at all, and the names and modes of what stands beside them."""
 
 from __future__ import annotations
 
 import contextlib
+import errno
 import hashlib
 import os
+import re
+import secrets
+import stat
 from collections.abc import Iterator
+from typing import BinaryIO
 
-__all__ = ["digest", "replace", "sync", "whole_file"]
+__all__ = [
+    "digest",
+    "digest_of",
+    "give",
+    "is_at",
+    "keep_mode",
+    "made_beside",
+    "opened_here",
+    "remove_leftovers",
+    "replace",
+    "sync",
+    "whole_file",
+]
+
+# What is made beside a file `NAME` has the name `.NAME.sfstore-` and these digits: nobody else uses it.
+_MARK = ".sfstore-"
+_DIGITS = 12
 
 
 def digest(path: str) -> str:
     """The SHA-256 of a file's bytes, in hexadecimal. `OSError` where it can't be read."""
-    hashed = hashlib.sha256()
     with open(path, "rb") as file:
-        while block := file.read(1 << 20):
-            hashed.update(block)
+        return digest_of(file)
+
+
+def digest_of(file: BinaryIO) -> str:
+    """The SHA-256 of an open file's bytes, which is then at its beginning again."""
+    hashed = hashlib.sha256()
+    file.seek(0)
+    while block := file.read(1 << 20):
+        hashed.update(block)
+    file.seek(0)
     return hashed.hexdigest()
 
 
@@ -37,15 +65,102 @@ def replace(new: str, path: str) -> None:
     sync(os.path.dirname(os.path.abspath(path)))
 
 
-@contextlib.contextmanager
-def whole_file(path: str) -> Iterator[str]:
-    """The name of a file beside, which takes the place of ``path`` where the body ends well.
+def is_at(file: int, path: str) -> bool:
+    """Whether an open file is the one that a path names, and no link leads to it."""
+    try:
+        return os.path.samestat(os.fstat(file), os.lstat(path))
+    except FileNotFoundError:
+        return False
 
-    Where the body raises, the file beside is taken away, and ``path`` is as it was.
+
+def opened_here(path: str, flags: int) -> int:
+    """Opens a file for `open`, and no link in its place: whoever may put one there could lead elsewhere."""
+    return os.open(path, flags | os.O_NOFOLLOW | os.O_CLOEXEC, 0o600)
+
+
+def made_beside(path: str, like: str | None = None) -> str:
+    """Makes an empty file in a path's folder, under a name that nobody else uses, and gives the name.
+
+    It has the mode and the group of the file ``like``; where that is missing those of any new file.
     """
-    beside = path + ".part"
+    folder, name = os.path.split(os.path.abspath(path))
+    flags = os.O_WRONLY | os.O_CREAT | os.O_EXCL | os.O_NOFOLLOW | os.O_CLOEXEC
+    mode = 0o600 if like is not None and os.path.exists(like) else 0o666
+    while True:
+        beside = os.path.join(folder, f".{name}{_MARK}{secrets.token_hex(_DIGITS // 2)}")
+        with contextlib.suppress(FileExistsError):
+            os.close(os.open(beside, flags, mode))
+            break
+    if like is not None:
+        keep_mode(beside, like)
+    return beside
+
+
+def remove_leftovers(path: str) -> None:
+    """Takes away what `made_beside` has made for a path and an earlier process has left."""
+    folder, name = os.path.split(os.path.abspath(path))
+    leftover = re.compile(re.escape(f".{name}{_MARK}") + f"[0-9a-f]{{{_DIGITS}}}")
+    for found in os.listdir(folder):
+        if leftover.fullmatch(found):
+            # Where somebody else has put something under such a name, it stays.
+            with contextlib.suppress(OSError):
+                os.unlink(os.path.join(folder, found))
+
+
+def keep_mode(path: str, like: str) -> None:
+    """Gives a file the mode, the group and, where that can be, the owner of another one.
+
+    Nothing is changed where the other one is missing.
+    """
+    try:
+        wanted = os.stat(like)
+    except FileNotFoundError:
+        return
+    file = os.open(path, os.O_RDONLY | os.O_NOFOLLOW | os.O_CLOEXEC)
+    try:
+        give(file, wanted, stat.S_IMODE(wanted.st_mode) & 0o777)
+    finally:
+        os.close(file)
+
+
+def give(file: int, like: os.stat_result, mode: int) -> None:
+    """Gives an open file a mode, and the group and, where that can be, the owner of another one.
+
+    Where the group can't be had it gets no rights: they were meant for another group.
+    """
+    is_now = os.fstat(file)
+    if is_now.st_uid != like.st_uid:
+        with contextlib.suppress(PermissionError):
+            os.fchown(file, like.st_uid, like.st_gid)
+    if is_now.st_gid != like.st_gid:
+        with contextlib.suppress(PermissionError):
+            os.fchown(file, -1, like.st_gid)
+    is_now = os.fstat(file)
+    if is_now.st_gid != like.st_gid:
+        mode &= ~0o070
+    if stat.S_IMODE(is_now.st_mode) != mode:
+        os.fchmod(file, mode)
+
+
+@contextlib.contextmanager
+def whole_file(path: str, like: str | None = None) -> Iterator[str]:
+    """The name of an empty file beside, which takes the place of ``path`` where the body ends well.
+
+    It gets the mode and the group of the file ``like``, or where there is none of the one that is
+    there. A link that is there is not followed: the file takes its place. Where the body raises,
+    the file beside is taken away, and ``path`` is as it was.
+    """
+    if os.path.exists(path) and not os.path.isfile(path):
+        raise OSError(errno.EINVAL, "no file that another one could take the place of", path)
+    if (like is None or not os.path.exists(like)) and not os.path.islink(path):
+        like = path
+    beside = made_beside(path, like)
     try:
         yield beside
+        if not stat.S_ISREG(os.lstat(beside).st_mode):
+            raise OSError(errno.ELOOP, "something else stands in its place", beside)
+        if like is not None:
+            keep_mode(beside, like)
         sync(beside)
         replace(beside, path)
     except BaseException:

@@ -11,13 +11,12 @@ import struct
 from collections.abc import Callable, Sequence
 from typing import NamedTuple
 
+from sfstore.language import KINDS
+
 __all__ = ["KINDS", "NotTaken", "Shape", "read_wkb", "read_wkt", "write_wkb", "write_wkt"]
 
 Flat = Sequence[float]
 """Coordinates of points in their order: x, y, x, y, .."""
-
-KINDS = ["any", "point", "linestring", "polygon", "multipoint", "multilinestring", "multipolygon"]
-"""The kinds of layers by their codes, which those of well-known binary are too."""
 
 
 class NotTaken(ValueError):

@@ -15,15 +15,17 @@ that the edits before it are in a file of that digest, which was about to take t
 from __future__ import annotations
 
 import contextlib
+import errno
 import fcntl
 import os
 import subprocess
 import time
 import weakref
 import zlib
-from collections.abc import Iterable
+from collections.abc import Iterable, Iterator
 from dataclasses import dataclass
 from io import FileIO
+from typing import BinaryIO
 
 from sfstore import files, sidecar
 
@@ -34,6 +36,7 @@ _NEW = "new"
 
 # How long a session waits for the lock: a program that saves may outlive the process that began it.
 _LOCK_SECONDS = 2.0
+
 
 
 class JournalError(Exception):
@@ -59,6 +62,11 @@ class Records:
     """What stands behind the last line feed: a record that was not written to its end."""
     chain: int
     """The checksum of the last whole record, from which that of the next one goes on."""
+
+    @property
+    def edits(self) -> list[bytes]:
+        """The lines that are edits."""
+        return [line for line in self.lines if not line.startswith(b"#")]
 
 
 def read_records(data: bytes, path: str) -> Records:
@@ -100,6 +108,7 @@ class Journal:
         self.lines = []
         self.torn = b""
         self._is_new = False
+        self._file_seen: tuple[int, ...] = ()
         self._journal_path = self.path + ".journal"
         self._chain = 0
         self._lock = locked(self.path)
@@ -113,11 +122,8 @@ class Journal:
 
     def append(self, lines: Iterable[bytes]) -> None:
         """Writes accepted edits down. They are on the disk after `commit`, and not before."""
-        chain, records, added = self._chain, bytearray(), []
-        for line in lines:
-            chain = zlib.crc32(line, chain)
-            records += b"%08x %s" % (chain, line)
-            added.append(line)
+        added = list(lines)
+        records, chain = _records(added, self._chain)
         if not added:
             return
         self._is_synced = False
@@ -129,13 +135,26 @@ class Journal:
         self.lines += added
 
     def commit(self) -> None:
-        """Has all that was appended on the disk."""
+        """Has all that was appended on the disk, in the journal that the next session reads.
+
+        `JournalError` where the lock was taken away: another session may have begun. A journal that
+        was taken away is written anew.
+        """
         if self._is_synced:
             return
         try:
             os.fdatasync(self._file.fileno())
+            if not files.is_at(self._lock.fileno(), self.path + ".lock"):
+                raise JournalError(
+                    f"{self.path}.lock was taken away while {self.path} was open, so that another "
+                    f"session may have begun; what was answered before is in {self._journal_path}"
+                )
+            if not os.path.lexists(self._journal_path):
+                self._write_anew()
         except OSError as error:
             raise self._failure(error) from error
+        if not files.is_at(self._file.fileno(), self._journal_path):
+            raise JournalError(f"another file was put in the place of {self._journal_path}")
         self._is_synced = True
 
     def save(self, program: str) -> None:
@@ -143,44 +162,57 @@ class Journal:
 
         A second ``program`` makes a file beside from the old one and the edits. It takes the place
         of the old one when it is on the disk; a crash at any moment leaves the old file with the
-        journal that goes on from it, or the new one. `JournalError` where it can't be made: the
-        file and the journal are then as they were.
+        journal that goes on from it, or the new one. `JournalError` where it can't be made, and
+        where another program has changed the file: file and journal are then as they were.
         """
-        beside = self.path + ".new"
-        self.copy(beside, program)
-        try:
-            self._put_in_place(beside)
-        except BaseException:
-            self.close()
-            raise
+        with self._made(self.path) as beside:
+            self._have_made(beside, program, self.path)
+            try:
+                self._put_in_place(beside)
+            except BaseException:
+                self.close()
+                raise
 
     def copy(self, path: str, program: str) -> None:
         """Has a second program make another file of the store's file and the edits.
 
-        `JournalError` where it can't be made; no part of it is left then.
+        It takes the place of one that is there. `JournalError` where it can't be made, and where
+        the path is one of the store's own files; what is there is then as it was.
         """
-        words = [program, f"--save={path}"]
-        if self._base != _NEW:
-            words.append(f"--load={self.path}")
+        target = os.path.realpath(path)
+        if any(_is_same(target, self.path + end) for end in ("", ".journal", ".lock", ".json")):
+            raise JournalError(f"{path} is one of the files of {self.path}: no copy takes its place")
         try:
-            # The lock goes with it: no other session begins before it has ended.
-            ended = subprocess.run(
-                words,
-                input=b"".join(self.lines),
-                stdout=subprocess.PIPE,
-                pass_fds=[self._lock.fileno()],
-                start_new_session=True,
-            )
-            if ended.returncode or b"refused" in ended.stdout:
-                last = ended.stdout.rstrip(b"\n").rpartition(b"\n")[2].decode("utf-8", "replace")
-                raise JournalError(
-                    f"{path} could not be saved: {last or f'status {ended.returncode}'}; "
-                    f"all edits are in {self._journal_path}"
-                )
-        except BaseException:
-            with contextlib.suppress(FileNotFoundError):
-                os.unlink(path)
-            raise
+            with files.whole_file(target, None if os.path.exists(target) else self.path) as beside:
+                self._have_made(beside, program, path)
+        except OSError as error:
+            raise self._unsaved(path, str(error.strerror)) from error
+
+    @contextlib.contextmanager
+    def loading(self) -> Iterator[tuple[list[str], list[int]]]:
+        """The words by which a program loads the file that the edits go on from.
+
+        With them goes the open file that it has to be given, so that no other one is loaded, which
+        another program has put there. `JournalError` before and behind the body where the file is
+        not the one that the edits go on from.
+        """
+        if self._base == _NEW:
+            self.check_file()
+            yield [], []
+        else:
+            with self._opened_file() as file:
+                number = file.fileno()
+                yield [f"--load=/dev/fd/{number}"], [number]
+                self._file_seen = _state(self.path)
+                self._check(files.digest_of(file))
+                if files.is_at(number, self.path):
+                    return
+        self.check_file()
+
+    def check_file(self) -> None:
+        """`JournalError` where the store's file is another one than the edits go on from."""
+        self._file_seen = _state(self.path)
+        self._check(_base(self.path))
 
     @property
     def closed(self) -> bool:
@@ -198,66 +230,166 @@ class Journal:
             os.unlink(self._journal_path)
         self.close()
 
+    @contextlib.contextmanager
+    def _made(self, path: str) -> Iterator[str]:
+        """A file beside a path, taken away where it has not taken another one's place."""
+        try:
+            beside = files.made_beside(path, self.path)
+        except OSError as error:
+            raise self._unsaved(path, str(error.strerror)) from error
+        try:
+            yield beside
+        finally:
+            with contextlib.suppress(FileNotFoundError):
+                os.unlink(beside)
+
+    def _have_made(self, beside: str, program: str, wanted: str) -> None:
+        """Has a second program save the store's file with the edits to a file beside a wanted one."""
+        with self.loading() as (words, handed):
+            # The lock goes with it: no other session begins before it has ended.
+            ended = subprocess.run(
+                [program, f"--save={beside}", *words],
+                input=b"".join(self.lines),
+                stdout=subprocess.PIPE,
+                pass_fds=[self._lock.fileno(), *handed],
+                start_new_session=True,
+            )
+        if ended.returncode or b"refused" in ended.stdout:
+            last = ended.stdout.rstrip(b"\n").rpartition(b"\n")[2].decode("utf-8", "replace")
+            raise self._unsaved(wanted, last or f"status {ended.returncode}")
+
+    def _unsaved(self, path: str, reason: str) -> JournalError:
+        return JournalError(
+            f"{path} could not be saved: {reason}; all edits are in {self._journal_path}"
+        )
+
+    def _opened_file(self) -> BinaryIO:
+        """The store's file, where it is the one that the edits go on from."""
+        try:
+            file = open(self.path, "rb")
+        except FileNotFoundError:
+            raise self._changed() from None
+        try:
+            self._check(files.digest_of(file))
+        except BaseException:
+            file.close()
+            raise
+        return file
+
+    def _check(self, found: str) -> None:
+        if found != self._base:
+            raise self._changed()
+
+    def _changed(self) -> JournalError:
+        return JournalError(
+            f"{self.path} was changed or taken away by another program while it was open: nothing "
+            f"is saved over it; all edits since it was saved are in {self._journal_path}"
+        )
+
     def _put_in_place(self, beside: str) -> None:
         """Puts the file beside in the place of the old one, and begins a new journal."""
         saved = files.digest(beside)
+        files.keep_mode(beside, self.path)
         files.sync(beside)
         sidecar.follow(self.path, self._base, saved)
         self.append([_saved_record(saved)])
         self.commit()
+        # It was looked at behind the second program: only what has touched it since is looked at again.
+        if _state(self.path) != self._file_seen:
+            self.check_file()
         files.replace(beside, self.path)
         self._file.close()
         self._begin(saved)
+        _keep_to_writers(self._lock, self.path)
 
     def _open(self) -> None:
         """Reads the journal that is there, or begins one."""
-        for leftover in (self.path + ".new", self._journal_path + ".new"):
-            with contextlib.suppress(FileNotFoundError):
-                os.unlink(leftover)
-        if not os.path.exists(self._journal_path):
+        files.remove_leftovers(self.path)
+        files.remove_leftovers(self._journal_path)
+        try:
+            with open(self._journal_path, "rb", opener=files.opened_here) as file:
+                data = file.read()
+        except FileNotFoundError:
             self._is_new = True
             self._begin(self._base)
             return
-        with open(self._journal_path, "rb") as file:
-            records = read_records(file.read(), self._journal_path)
+        records = read_records(data, self._journal_path)
+        self.torn = records.torn
         if records.base != self._base:
-            self._check_saved(records)
+            self._check_nothing_is_lost(records)
             self._begin(self._base)
             return
-        self._go_on(records)
+        self._go_on(records, data[: records.size])
 
-    def _check_saved(self, records: Records) -> None:
-        """`JournalError` unless the journal ends with the saving of the file that is there."""
-        if records.lines[-1:] != [_saved_record(self._base)] or records.torn:
+    def _check_nothing_is_lost(self, records: Records) -> None:
+        """`JournalError` where the journal has edits that the file that is there may not have.
+
+        It has none where no edit was made since a save, or where it ends with the saving of just
+        this file.
+        """
+        if records.lines[-1:] == [_saved_record(self._base)] and not records.torn:
+            return
+        if self._base == _NEW:
             raise JournalError(
-                f"{self.path} is not the file that {self._journal_path} goes on from: "
-                "it was taken away, or changed without the journal"
+                f"{self.path} was taken away, from which {self._journal_path} goes on: bring it "
+                "back, or take the journal away too to begin a new store"
+            )
+        if records.edits:
+            raise JournalError(
+                f"{self.path} is not the file that {self._journal_path} goes on from: it was taken "
+                "away, or changed without the journal"
             )
 
-    def _go_on(self, records: Records) -> None:
-        """Takes up a journal behind its last whole record."""
-        self._file = FileIO(self._journal_path, "ab")
-        if records.torn:
-            self._file.truncate(records.size)
-            os.fsync(self._file.fileno())
-        self.torn = records.torn
+    def _go_on(self, records: Records, data: bytes) -> None:
+        """Takes up a journal behind its last whole record.
+
+        All of it is written anew: what stands there may be in memory alone since a sync has failed,
+        and a session whose lock was taken away may still write to the old file.
+        """
+        try:
+            self._write(data)
+        except OSError as error:
+            if error.errno not in (errno.ENOSPC, errno.EDQUOT):
+                raise
+            self._write_over(data)
         self._chain = records.chain
-        self.lines = [line for line in records.lines if not line.startswith(b"#")]
-        self._is_synced = True
+        self.lines = records.edits
 
     def _begin(self, base: str) -> None:
         """Begins a new journal over the file as it is now."""
         head = _TITLE + base.encode("ascii") + b"\n"
-        beside = self._journal_path + ".new"
-        with open(beside, "wb") as new:
-            new.write(head)
-        files.sync(beside)
-        files.replace(beside, self._journal_path)
-        self._file = FileIO(self._journal_path, "ab")
+        self._write(head)
         self._base = base
         self._chain = zlib.crc32(head)
-        self._is_synced = True
         self.lines = []
+
+    def _write_anew(self) -> None:
+        """Writes all records again, where the journal was taken away."""
+        head = _TITLE + self._base.encode("ascii") + b"\n"
+        records, self._chain = _records(self.lines, zlib.crc32(head))
+        self._file.close()
+        self._write(head + records)
+
+    def _write(self, data: bytes) -> None:
+        """Puts a journal in the place of the one that is there, and goes on in it."""
+        with files.whole_file(self._journal_path, self.path) as beside:
+            with open(beside, "wb") as new:
+                new.write(data)
+        self._take_up()
+
+    def _write_over(self, data: bytes) -> None:
+        """Writes a journal over itself, where there is no room for another one."""
+        with open(self._journal_path, "r+b", opener=files.opened_here) as file:
+            file.write(data)
+            file.truncate()
+            file.flush()
+            os.fsync(file.fileno())
+        self._take_up()
+
+    def _take_up(self) -> None:
+        """Opens the journal to append to it."""
+        self._file = FileIO(self._journal_path, "ab", opener=files.opened_here)
+        self._is_synced = True
 
     def _failure(self, error: OSError) -> JournalError:
         return JournalError(f"{self._journal_path} could not be written: {error.strerror}")
@@ -275,6 +407,15 @@ if hasattr(os, "register_at_fork"):
     os.register_at_fork(after_in_child=_close_inherited_files)
 
 
+def _records(lines: Iterable[bytes], chain: int) -> tuple[bytearray, int]:
+    """The records of lines behind those of a checksum, and the checksum of the last one."""
+    records = bytearray()
+    for line in lines:
+        chain = zlib.crc32(line, chain)
+        records += b"%08x %s" % (chain, line)
+    return records, chain
+
+
 def _saved_record(digest: str) -> bytes:
     """The line that says which file is about to have the edits."""
     return b"#saved %s\n" % digest.encode("ascii")
@@ -288,6 +429,23 @@ def _base(path: str) -> str:
         return _NEW
 
 
+def _state(path: str) -> tuple[int, ...]:
+    """What is another one after any writing to a file, or putting another one in its place."""
+    try:
+        found = os.stat(path)
+    except FileNotFoundError:
+        return ()
+    return found.st_dev, found.st_ino, found.st_size, found.st_mtime_ns, found.st_ctime_ns
+
+
+def _is_same(path: str, other: str) -> bool:
+    """Whether two paths name one file, be it there or not."""
+    try:
+        return os.path.samefile(path, other)
+    except FileNotFoundError:
+        return path == other
+
+
 def edits_left(path: str) -> int:
     """How many edits a store's journal has that its file has not. `JournalError` for a damaged one."""
     try:
@@ -297,7 +455,7 @@ def edits_left(path: str) -> int:
         return 0
     if records.lines and records.lines[-1] == _saved_record(_base(path)):
         return 0
-    return sum(not line.startswith(b"#") for line in records.lines)
+    return len(records.edits)
 
 
 def locked(path: str) -> FileIO:
@@ -305,20 +463,52 @@ def locked(path: str) -> FileIO:
 
     `JournalError` where another session has it.
     """
-    lock = FileIO(path + ".lock", "ab")
     until = time.monotonic() + _LOCK_SECONDS
     while True:
+        lock = FileIO(path + ".lock", "ab+", opener=files.opened_here)
         try:
             fcntl.flock(lock, fcntl.LOCK_EX | fcntl.LOCK_NB)
-            return lock
+            # Another session may have found it taken away, and made the one that counts.
+            if files.is_at(lock.fileno(), path + ".lock"):
+                _keep_to_writers(lock, path)
+                _write_holder(lock)
+                return lock
+            lock.close()
         except BlockingIOError:
+            holder = _holder(lock)
+            lock.close()
             if time.monotonic() > until:
-                lock.close()
-                raise JournalError(f"{path} is open in another session") from None
+                raise JournalError(f"{path} is open in another session{holder}") from None
             time.sleep(0.02)
         except BaseException:
             lock.close()
             raise
+
+
+def _keep_to_writers(lock: FileIO, path: str) -> None:
+    """Has only those open the lock who may write the store's file: others could keep all out."""
+    with contextlib.suppress(PermissionError):
+        try:
+            found = os.stat(path)
+        except FileNotFoundError:
+            os.fchmod(lock.fileno(), 0o600)
+            return
+        writers = found.st_mode & 0o222
+        files.give(lock.fileno(), found, 0o600 | writers | writers << 1)
+
+
+def _write_holder(lock: FileIO) -> None:
+    """Writes down who has the lock, where there is room for it: it is for people alone."""
+    with contextlib.suppress(OSError):
+        lock.truncate(0)
+        lock.write(b"%d\n" % os.getpid())
+
+
+def _holder(lock: FileIO) -> str:
+    """Who has the lock, in words, where that is written down."""
+    lock.seek(0)
+    digits = (lock.read(20) or b"").strip()
+    return f", of process {digits.decode()}" if digits.isdigit() else ""
 
 
 def _write_all(file: FileIO, data: bytearray) -> None:

@@ -3,6 +3,7 @@
 from __future__ import annotations
 
 from sfstore.geometry import NotTaken, Shape, read_wkb, read_wkt
+from sfstore.language import words_of_line
 from sfstore.store import Editor, Refused
 
 __all__ = ["geometry_of"]
@@ -10,9 +11,7 @@ __all__ = ["geometry_of"]
 
 def geometry_of(line: str, store: Editor) -> Shape | None:
     """The geometry that a refused line would have brought, or none where that is not known."""
-    words = line.split()
-    if words[0].startswith("@"):
-        words = words[1:]
+    words = words_of_line(line)
     given = {"add": 2, "addhex": 2, "replace": 3, "relate": 3, "match": 3, "query": 3}
     try:
         if words[0] == "addhex":

@@ -4,6 +4,8 @@ from __future__ import annotations
 
 from typing import NamedTuple
 
+from sfstore.language import GRID_MAX, GRID_MIN, LINE_MAX, POINTS_MAX, TEXT_MAX
+
 __all__ = ["BAD_FIELDS", "REFUSALS", "Words", "words_of"]
 
 
@@ -24,7 +26,7 @@ REFUSALS = {
         "a coordinate is not a whole number",
         "Coordinates are counted in steps of the grid: 12, not 12.5.",
     ),
-    4: Words("a coordinate is too large", "Coordinates go from -8388608 to 8388607."),
+    4: Words("a coordinate is too large", f"Coordinates go from {GRID_MIN} to {GRID_MAX}."),
     5: Words("the geometry is empty", "A geometry has at least one point; leave it out else."),
     6: Words(
         "the geometry is of a kind that the store has not",
@@ -32,7 +34,7 @@ REFUSALS = {
     ),
     7: Words("the binary ends too early", "Look whether all of it was copied."),
     8: Words("something stands behind the binary's geometry", "Give one geometry at a time."),
-    9: Words("the geometry has too many points", "4,096 are the most: split it."),
+    9: Words("the geometry has too many points", f"{POINTS_MAX:,} are the most: split it."),
     10: Words("a line has fewer than two points", "Repeated points count once: add another one."),
     11: Words("a ring is not closed", "Write its first point again as its last one."),
     12: Words("a ring has too few points", "It has at least three, and its first one again."),
@@ -52,7 +54,7 @@ REFUSALS = {
     23: Words("a column of the layer has that name already", "`columns LAYER` lists them."),
     24: Words(
         "the value is none that the column takes",
-        "An int takes digits; a text takes 'quotes', and 255 bytes at most.",
+        f"An int takes digits; a text takes 'quotes', and {TEXT_MAX} bytes at most.",
     ),
     25: Words(
         "the geometry has no such vertex",
@@ -66,7 +68,7 @@ REFUSALS = {
     30: Words("there is nothing to do again", "Any edit after an undo ends what could be."),
     31: Words("that is no command", "`help` lists them, and `help COMMAND` has an example."),
     32: Words("that is no pattern", "It has nine letters of T F * 0 1 2."),
-    33: Words("the line is too long", "131,072 bytes are the most."),
+    33: Words("the line is too long", f"{LINE_MAX:,} bytes are the most."),
     35: Words("there is no such place among the layers", "Places count from 0."),
     36: Words("the step is another editor's", "Who made it can undo it."),
 }

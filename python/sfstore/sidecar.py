@@ -95,9 +95,10 @@ def read(store: str) -> Sidecar:
 def write(store: str, found: Sidecar, digests: list[str]) -> None:
     """Writes the side-car of a store's file, whole or not at all, for files of these digests."""
     content = {"format": _FORMAT, **asdict(found), "digests": digests}
-    with files.whole_file(path_of(store)) as beside:
+    with files.whole_file(path_of(store), store) as beside:
         with open(beside, "w", encoding="utf-8") as file:
-            json.dump(content, file, ensure_ascii=False, indent=1)
+            # In ASCII, since half a pair of surrogates has no place in UTF-8.
+            json.dump(content, file, indent=1)
             file.write("\n")
 
 
@@ -122,11 +123,11 @@ def _read(path: str) -> Sidecar:
         raise SidecarError(
             f"{path} is missing: it has the grid and the reference system of the store"
         ) from None
-    except (OSError, ValueError) as error:
+    except (OSError, RecursionError, ValueError) as error:
         raise SidecarError(f"{path} can't be read: {error}") from None
     try:
         return _sidecar(content)
-    except (KeyError, TypeError, ValueError) as error:
+    except (AttributeError, KeyError, TypeError, ValueError) as error:
         raise SidecarError(f"{path} is no side-car of a store: {error!r}") from None
 
 
@@ -136,7 +137,8 @@ def _sidecar(content: dict[str, Any]) -> Sidecar:
     x, y, step = map(str, content["grid"])
     crs = content["crs"]
     layers = list(map(_layer, content["layers"]))
-    return Sidecar((x, y, step), crs and Crs(**crs), layers, list(map(str, content["digests"])))
+    known = None if crs is None else Crs(**crs)
+    return Sidecar((x, y, step), known, layers, list(map(str, content["digests"])))
 
 
 def _layer(content: dict[str, Any]) -> LayerOrigin:

@@ -23,7 +23,12 @@ from unittest import mock
 
 from support import FOLDER, PROGRAM, TestCase, child_of
 
-import sfstore.store
+import sfstore
+import sfstore.editor
+import sfstore.language
+import sfstore.program
+import sfstore.results
+import sfstore.wkt
 from sfstore import Column, Feature, Layer, ProgramEnded, Refused, Store
 
 SQUARE = "POLYGON ((0 0, 10 0, 10 10, 0 10, 0 0))"
@@ -548,7 +553,7 @@ class Batches(TestCase):
 
     def test_lines_about_as_long_as_a_batch(self):
         with Store() as store:
-            for length in range(sfstore.store._BATCH_BYTES - 3, sfstore.store._BATCH_BYTES + 4):
+            for length in range(sfstore.program.BATCH_BYTES - 3, sfstore.program.BATCH_BYTES + 4):
                 lines = ["layers".ljust(length), "redo", "layers".ljust(length)]
                 first, second, third = store.run_all(lines)
                 self.assertEqual((first, second.number, third), ([], 30, []))
@@ -1075,7 +1080,8 @@ class GeoInterfaces(TestCase):
 
 
 def load_tests(loader, tests, pattern):
-    tests.addTests(doctest.DocTestSuite(sfstore.store))
+    for module in (sfstore.editor, sfstore.language, sfstore.results, sfstore.store, sfstore.wkt):
+        tests.addTests(doctest.DocTestSuite(module, extraglobs=vars(sfstore)))
     return tests
 
 

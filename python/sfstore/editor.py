@@ -1,0 +1,405 @@
+"""The commands of one of the editors of a store, as calls."""
+
+from __future__ import annotations
+
+from collections.abc import Callable, Iterable
+from typing import cast
+
+from sfstore import spelling
+from sfstore.program import Link, batches
+from sfstore.results import Answer, Column, ColumnType, Feature, Kind, Layer, Predicate, Refused, Value
+from sfstore.rows import feature_of
+
+__all__ = ["Editor"]
+
+
+class Editor:
+    """One of the editors of a store, each known by a number, and its commands.
+
+    All editors see one content, and edit it in turn. An editor undoes and redoes its own edits
+    alone: where the one in turn is another's, it is refused as 36 NotYours. An accepted edit of
+    any of them leaves nothing to be done again for all.
+
+    `Store.editor` gives an editor. A `Store` is itself the editor of number 0.
+
+    >>> with Store() as store:
+    ...     ann, ben = store.editor(1), store.editor(2)
+    ...     ann.add_layer("wells", "point")
+    ...     ben.add("wells", "POINT (3 4)")
+    ...     try:
+    ...         ann.undo()
+    ...     except Refused as refused:
+    ...         refused.name
+    ...     ben.undo()
+    ...     ann.show("wells")
+    1
+    'NotYours'
+    []
+    """
+
+    def __init__(self, program: Link, address: bytes) -> None:
+        self._program = program
+        # What stands before each line.
+        self._address = address
+
+    def run(self, line: str) -> Answer:
+        """The answer of a command line: its one line, or the rows behind ``rows N`` as a list.
+
+        `Refused` where it is refused. `ValueError` for a line with a line feed, which would be
+        several, and for a blank one, which has no answer.
+
+        >>> with Store() as store:
+        ...     store.run("layer add wells point")
+        ...     store.run("add wells POINT (3 4)")
+        ...     store.run("show wells")
+        'ok'
+        'ok 1'
+        ['1 POINT (3 4)']
+        """
+        [outcome] = self._program.exchange([self._address + spelling.encoded(line)])
+        self._program.commit()
+        if isinstance(outcome, Refused):
+            raise outcome
+        return outcome
+
+    def run_all(
+        self,
+        lines: Iterable[str],
+        progress: Callable[[int, int], object] | None = None,
+    ) -> list[Answer | Refused]:
+        """The answers of many command lines in their order, faster than one by one.
+
+        Where a line is refused, its `Refused` stands among the answers, and the lines behind it are
+        carried out nevertheless. All lines are looked at before the first is sent: after
+        a `ValueError` none was carried out. ``progress`` is called after each batch with the number
+        of lines that are answered, and that of all lines.
+
+        With a journal the accepted edits are on the disk before the answers are given: all at once,
+        or before each call of ``progress``.
+
+        >>> with Store() as store:
+        ...     store.run_all(["layer add wells point", "add wells POINT (3 4)", "redo"])
+        ['ok', 'ok 1', Refused(30, 'NothingToRedo', 'redo')]
+        """
+        encoded = [self._address + spelling.encoded(line) for line in lines]
+        outcomes: list[Answer | Refused] = []
+        for batch in batches(encoded):
+            outcomes += self._program.exchange(batch)
+            if progress is not None:
+                self._program.commit()
+                progress(len(outcomes), len(encoded))
+        self._program.commit()
+        return outcomes
+
+    def add_layer(self, name: str, kind: Kind = "any") -> None:
+        """Adds a layer, the last one in drawing order.
+
+        >>> with Store() as store:
+        ...     store.add_layer("roads", "linestring")
+        """
+        self.run(f"layer add {spelling.name(name)} {spelling.one_of(Kind, kind)}")
+
+    def drop_layer(self, name: str) -> None:
+        """Takes a layer out, with all that it has.
+
+        >>> with Store() as store:
+        ...     store.add_layer("roads")
+        ...     store.drop_layer("roads")
+        ...     store.layers()
+        []
+        """
+        self.run(f"layer drop {spelling.name(name)}")
+
+    def rename_layer(self, old: str, new: str) -> None:
+        """Gives a layer another name.
+
+        >>> with Store() as store:
+        ...     store.add_layer("roads")
+        ...     store.rename_layer("roads", "streets")
+        ...     store.layers()
+        [Layer(name='streets', kind='any')]
+        """
+        self.run(f"layer rename {spelling.name(old)} {spelling.name(new)}")
+
+    def move_layer(self, name: str, place: int) -> None:
+        """Moves a layer to a place in the drawing order, counted from 0.
+
+        >>> with Store() as store:
+        ...     store.add_layer("roads")
+        ...     store.add_layer("wells")
+        ...     store.move_layer("wells", 0)
+        ...     [layer.name for layer in store.layers()]
+        ['wells', 'roads']
+        """
+        self.run(f"layer move {spelling.name(name)} {spelling.identifier(place)}")
+
+    def layers(self) -> list[Layer]:
+        """The layers, in drawing order.
+
+        >>> with Store() as store:
+        ...     store.layers()
+        []
+        """
+        rows = (row.split(" ") for row in self._rows("layers"))
+        return [Layer(name, cast(Kind, kind)) for name, kind in rows]
+
+    def add_column(self, layer: str, name: str, column_type: ColumnType) -> None:
+        """Adds a column behind the others of a layer. No feature has a value in it yet.
+
+        >>> with Store() as store:
+        ...     store.add_layer("wells")
+        ...     store.add_column("wells", "depth", "int")
+        """
+        self.run(f"column add {spelling.name(layer)} {spelling.name(name)} {spelling.one_of(ColumnType, column_type)}")
+
+    def drop_column(self, layer: str, name: str) -> None:
+        """Takes a column out of a layer, with its values.
+
+        >>> with Store() as store:
+        ...     store.add_layer("wells")
+        ...     store.add_column("wells", "depth", "int")
+        ...     store.drop_column("wells", "depth")
+        ...     store.columns("wells")
+        []
+        """
+        self.run(f"column drop {spelling.name(layer)} {spelling.name(name)}")
+
+    def columns(self, layer: str) -> list[Column]:
+        """The columns of a layer, in their order.
+
+        >>> with Store() as store:
+        ...     store.add_layer("wells")
+        ...     store.add_column("wells", "depth", "int")
+        ...     store.columns("wells")
+        [Column(name='depth', type='int')]
+        """
+        rows = (row.split(" ") for row in self._rows(f"columns {spelling.name(layer)}"))
+        return [Column(name, cast(ColumnType, column_type)) for name, column_type in rows]
+
+    def add(self, layer: str, geometry: str | bytes) -> int:
+        """Adds a feature to a layer, and gives its identifier.
+
+        The geometry is a well-known text, or the bytes of a well-known binary.
+
+        >>> with Store() as store:
+        ...     store.add_layer("roads")
+        ...     store.add("roads", "LINESTRING (0 0, 5 5)")
+        ...     store.add("roads", bytes.fromhex("0101000000000000000000f03f0000000000000040"))
+        1
+        2
+        """
+        if isinstance(geometry, str):
+            answer = self._line(f"add {spelling.name(layer)} {geometry}")
+        else:
+            answer = self._line(f"addhex {spelling.name(layer)} {memoryview(geometry).hex()}")
+        return int(answer.split(" ")[1])
+
+    def delete(self, layer: str, feature_id: int) -> None:
+        """Takes a feature out of its layer.
+
+        >>> with Store() as store:
+        ...     store.add_layer("wells")
+        ...     store.delete("wells", store.add("wells", "POINT (3 4)"))
+        ...     store.show("wells")
+        []
+        """
+        self.run(f"delete {spelling.name(layer)} {spelling.identifier(feature_id)}")
+
+    def replace(self, layer: str, feature_id: int, wkt: str) -> None:
+        """Gives a feature another geometry. It keeps its values.
+
+        >>> with Store() as store:
+        ...     store.add_layer("wells")
+        ...     store.replace("wells", store.add("wells", "POINT (3 4)"), "POINT (5 6)")
+        ...     store.show("wells")
+        [Feature(id=1, wkt='POINT (5 6)', values={})]
+        """
+        self.run(f"replace {spelling.name(layer)} {spelling.identifier(feature_id)} {spelling.geometry(wkt)}")
+
+    def vertex_insert(
+        self, layer: str, feature_id: int, part: int, ring: int, index: int, x: int, y: int
+    ) -> None:
+        """Inserts a vertex before the one of an index, or behind the last.
+
+        ``part`` is the element of a MultiLineString or MultiPolygon, ``ring`` the ring of
+        a polygon, 0 the shell; both are 0 elsewhere. ``index`` counts vertices from 0,
+        the point that closes a ring not among them.
+
+        >>> with Store() as store:
+        ...     store.add_layer("roads")
+        ...     store.add("roads", "LINESTRING (0 0, 5 5)")
+        ...     store.vertex_insert("roads", 1, part=0, ring=0, index=1, x=3, y=0)
+        ...     store.show("roads")[0].wkt
+        1
+        'LINESTRING (0 0, 3 0, 5 5)'
+        """
+        vertex = spelling.vertex(layer, feature_id, part, ring, index)
+        self.run(f"vertex insert {vertex} {spelling.integer(x)} {spelling.integer(y)}")
+
+    def vertex_move(
+        self, layer: str, feature_id: int, part: int, ring: int, index: int, x: int, y: int
+    ) -> None:
+        """Moves a vertex, named as for `vertex_insert`.
+
+        >>> with Store() as store:
+        ...     store.add_layer("roads")
+        ...     store.add("roads", "LINESTRING (0 0, 5 5)")
+        ...     store.vertex_move("roads", 1, part=0, ring=0, index=1, x=3, y=0)
+        ...     store.show("roads")[0].wkt
+        1
+        'LINESTRING (0 0, 3 0)'
+        """
+        vertex = spelling.vertex(layer, feature_id, part, ring, index)
+        self.run(f"vertex move {vertex} {spelling.integer(x)} {spelling.integer(y)}")
+
+    def vertex_remove(self, layer: str, feature_id: int, part: int, ring: int, index: int) -> None:
+        """Takes a vertex out, named as for `vertex_insert`.
+
+        >>> with Store() as store:
+        ...     store.add_layer("roads")
+        ...     store.add("roads", "LINESTRING (0 0, 3 0, 5 5)")
+        ...     store.vertex_remove("roads", 1, part=0, ring=0, index=1)
+        ...     store.show("roads")[0].wkt
+        1
+        'LINESTRING (0 0, 5 5)'
+        """
+        self.run(f"vertex remove {spelling.vertex(layer, feature_id, part, ring, index)}")
+
+    def set(self, layer: str, feature_id: int, column: str, value: Value) -> None:
+        """Sets the value of a feature in a column.
+
+        >>> with Store() as store:
+        ...     store.add_layer("wells")
+        ...     store.add_column("wells", "label", "text")
+        ...     store.set("wells", store.add("wells", "POINT (3 4)"), "label", "it's old")
+        ...     store.show("wells")[0].values
+        {'label': "it's old"}
+        """
+        self.run(f"set {spelling.name(layer)} {spelling.identifier(feature_id)} {spelling.name(column)} {spelling.value(value)}")
+
+    def unset(self, layer: str, feature_id: int, column: str) -> None:
+        """Clears the value of a feature in a column, if there is one.
+
+        >>> with Store() as store:
+        ...     store.add_layer("wells")
+        ...     store.add_column("wells", "depth", "int")
+        ...     store.unset("wells", store.add("wells", "POINT (3 4)"), "depth")
+        """
+        self.run(f"unset {spelling.name(layer)} {spelling.identifier(feature_id)} {spelling.name(column)}")
+
+    def show(self, layer: str) -> list[Feature]:
+        """The features of a layer, by rising identifier.
+
+        >>> with Store() as store:
+        ...     store.add_layer("wells")
+        ...     store.add("wells", "POINT (3 4)")
+        ...     store.show("wells")
+        1
+        [Feature(id=1, wkt='POINT (3 4)', values={})]
+        """
+        return [feature_of(row) for row in self._rows(f"show {spelling.name(layer)}")]
+
+    def hex(self, layer: str, feature_id: int) -> str:
+        """The geometry of a feature as well-known binary, in hexadecimal.
+
+        ``bytes.fromhex`` makes bytes of it, and `add` takes these.
+
+        >>> with Store() as store:
+        ...     store.add_layer("wells")
+        ...     store.hex("wells", store.add("wells", "POINT (1 2)"))
+        '0101000000000000000000f03f0000000000000040'
+        """
+        return self._line(f"hex {spelling.name(layer)} {spelling.identifier(feature_id)}")
+
+    def box(self, layer: str, feature_id: int) -> tuple[int, int, int, int]:
+        """The least box that has the whole geometry of a feature: least x and y, greatest x and y.
+
+        >>> with Store() as store:
+        ...     store.add_layer("roads")
+        ...     store.box("roads", store.add("roads", "LINESTRING (0 0, 5 7, 10 -3)"))
+        (0, -3, 10, 7)
+        """
+        answer = self._line(f"box {spelling.name(layer)} {spelling.identifier(feature_id)}")
+        min_x, min_y, max_x, max_y = map(int, answer.split(" "))
+        return min_x, min_y, max_x, max_y
+
+    def simple(self, layer: str, feature_id: int) -> bool:
+        """Whether the geometry of a feature is simple: it passes through no point twice.
+
+        >>> with Store() as store:
+        ...     store.add_layer("roads")
+        ...     store.simple("roads", store.add("roads", "LINESTRING (0 0, 4 4, 4 0, 0 4)"))
+        False
+        """
+        return self._line(f"simple {spelling.name(layer)} {spelling.identifier(feature_id)}") == "true"
+
+    def relate(self, layer: str, feature_id: int, wkt: str) -> str:
+        """The DE-9IM matrix of the geometry of a feature with the given one, nine characters.
+
+        >>> with Store() as store:
+        ...     store.add_layer("wells")
+        ...     store.relate("wells", store.add("wells", "POINT (3 4)"), "LINESTRING (0 4, 9 4)")
+        '0FFFFF102'
+        """
+        return self._line(f"relate {spelling.name(layer)} {spelling.identifier(feature_id)} {spelling.geometry(wkt)}")
+
+    def match(self, layer: str, pattern: str, wkt: str) -> list[int]:
+        """The features whose matrix with the given geometry matches a pattern.
+
+        They are given by their identifiers, rising. A pattern has nine letters of ``TF*012``.
+
+        >>> with Store() as store:
+        ...     store.add_layer("wells")
+        ...     store.add("wells", "POINT (3 4)")
+        ...     store.match("wells", "T********", "LINESTRING (0 4, 9 4)")
+        1
+        [1]
+        """
+        rows = self._rows(f"match {spelling.name(layer)} {spelling.pattern(pattern)} {spelling.geometry(wkt)}")
+        return [int(row) for row in rows]
+
+    def query(self, layer: str, predicate: Predicate, wkt: str) -> list[int]:
+        """The features of which a predicate holds with the given geometry.
+
+        They are given by their identifiers, rising.
+
+        >>> with Store() as store:
+        ...     store.add_layer("wells")
+        ...     store.add("wells", "POINT (3 4)")
+        ...     store.query("wells", "within", "POLYGON ((0 0, 9 0, 9 9, 0 9, 0 0))")
+        1
+        [1]
+        """
+        rows = self._rows(f"query {spelling.name(layer)} {spelling.one_of(Predicate, predicate)} {spelling.geometry(wkt)}")
+        return [int(row) for row in rows]
+
+    def undo(self) -> None:
+        """Takes back the last edit that is not undone yet, where it is this editor's.
+
+        >>> with Store() as store:
+        ...     store.add_layer("wells")
+        ...     store.undo()
+        ...     store.layers()
+        []
+        """
+        self.run("undo")
+
+    def redo(self) -> None:
+        """Does the last edit that was undone again, where it is this editor's.
+
+        >>> with Store() as store:
+        ...     store.add_layer("wells")
+        ...     store.undo()
+        ...     store.redo()
+        ...     store.layers()
+        [Layer(name='wells', kind='any')]
+        """
+        self.run("redo")
+
+    def _line(self, line: str) -> str:
+        """The answer of a command that has one line."""
+        return cast(str, self.run(line))
+
+    def _rows(self, line: str) -> list[str]:
+        """The rows that answer a command."""
+        return cast("list[str]", self.run(line))

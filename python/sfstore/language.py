@@ -1,0 +1,212 @@
+"""The console's language in one table: its commands, what each touches, its words and its limits.
+
+docs/CONSOLE.md of the project says what they mean. What other parts of the project know of the
+language is made from here, or compared with it by a test.
+"""
+
+from __future__ import annotations
+
+import re
+from typing import Literal, NamedTuple, Optional
+
+__all__ = [
+    "COLUMN_TYPES",
+    "COMMANDS",
+    "EDITOR_MAX",
+    "EDITS",
+    "GRID_MAX",
+    "GRID_MIN",
+    "IDENTIFIER_MAX",
+    "INT_MAX",
+    "INT_MIN",
+    "KINDS",
+    "LINE_MAX",
+    "NAME",
+    "PATTERN",
+    "POINTS_MAX",
+    "PREDICATES",
+    "QUESTIONS",
+    "TEXT_MAX",
+    "Command",
+    "Touched",
+    "edits_of",
+    "words_of_line",
+]
+
+KINDS = ["any", "point", "linestring", "polygon", "multipoint", "multilinestring", "multipolygon"]
+"""The kinds of layers by their codes, which those of well-known binary are too."""
+
+COLUMN_TYPES = ["int", "text"]
+"""The types of columns."""
+
+PREDICATES = [
+    "equals",
+    "disjoint",
+    "intersects",
+    "touches",
+    "within",
+    "contains",
+    "crosses",
+    "overlaps",
+]
+"""What may be asked of a feature's geometry and a given one."""
+
+LINE_MAX = 131_072
+"""How many bytes a line has at most, without its line feed."""
+
+EDITOR_MAX = 255
+"""The greatest number of an editor; the least one is 1, and 0 is whoever names none."""
+
+IDENTIFIER_MAX = 4_294_967_295
+"""The greatest identifier, place, part, ring or index."""
+
+INT_MIN, INT_MAX = -(2**63), 2**63 - 1
+"""From where to where the values of a column of whole numbers go."""
+
+TEXT_MAX = 255
+"""How many bytes of UTF-8 a text of a column has at most."""
+
+GRID_MIN, GRID_MAX = -8_388_608, 8_388_607
+"""From where to where coordinates go."""
+
+POINTS_MAX = 4_096
+"""How many points a geometry has at most."""
+
+NAME = re.compile(r"[A-Za-z][A-Za-z0-9_]{0,31}")
+"""A name of a layer or a column."""
+
+PATTERN = re.compile(r"[TtFf*012]{9}")
+"""A pattern of matrices."""
+
+Touched = Literal["layers", "columns", "geometries", "values", "history"]
+"""What an edit changes: which layers there are, their columns, geometries, values; or it moves a step."""
+
+
+class Command(NamedTuple):
+    """A command: its words, what it does, an example, and what it touches."""
+
+    usage: str
+    meaning: str
+    example: str
+    touches: Optional[Touched] = None
+    """What it changes; a question, and a command of a console alone, changes nothing of the store."""
+
+    @property
+    def word(self) -> str:
+        """Its first word."""
+        return self.usage.split(" ")[0]
+
+
+COMMANDS = [
+    Command(
+        "layer add NAME KIND",
+        "adds a layer, the last one in drawing order",
+        "layer add wells point",
+        "layers",
+    ),
+    Command("layer drop LAYER", "takes a layer out, with all that it has", "layer drop wells", "layers"),
+    Command("layer rename LAYER NAME", "gives a layer another name", "layer rename roads streets", "layers"),
+    Command(
+        "layer move LAYER PLACE",
+        "moves a layer in drawing order, from 0",
+        "layer move wells 0",
+        "layers",
+    ),
+    Command("layers", "lists the layers in drawing order", "layers"),
+    Command(
+        "column add LAYER NAME TYPE",
+        "adds a column: int or text",
+        "column add wells depth int",
+        "columns",
+    ),
+    Command("column drop LAYER COLUMN", "takes a column out", "column drop wells depth", "columns"),
+    Command("columns LAYER", "lists the columns of a layer", "columns wells"),
+    Command("add LAYER WKT", "adds a feature, and tells its number", "add wells POINT (3 4)", "geometries"),
+    Command(
+        "addhex LAYER HEX",
+        "adds a feature of a well-known binary",
+        "addhex wells 0101000000000000000000f03f0000000000000040",
+        "geometries",
+    ),
+    Command("delete LAYER ID", "takes a feature out", "delete wells 1", "geometries"),
+    Command(
+        "replace LAYER ID WKT",
+        "gives a feature another geometry",
+        "replace wells 1 POINT (5 6)",
+        "geometries",
+    ),
+    Command(
+        "vertex insert LAYER ID PART RING INDEX X Y",
+        "inserts a vertex before the one of an index; part and ring are 0 where there is one",
+        "vertex insert roads 1 0 0 1 3 0",
+        "geometries",
+    ),
+    Command(
+        "vertex move LAYER ID PART RING INDEX X Y",
+        "moves a vertex",
+        "vertex move roads 1 0 0 1 3 0",
+        "geometries",
+    ),
+    Command(
+        "vertex remove LAYER ID PART RING INDEX",
+        "takes a vertex out",
+        "vertex remove roads 1 0 0 1",
+        "geometries",
+    ),
+    Command(
+        "set LAYER ID COLUMN VALUE",
+        "sets a value: digits, or a 'text'",
+        "set wells 1 label 'old'",
+        "values",
+    ),
+    Command("unset LAYER ID COLUMN", "clears a value", "unset wells 1 label", "values"),
+    Command("show LAYER", "lists the features of a layer with their values", "show wells"),
+    Command("hex LAYER ID", "tells a geometry as well-known binary", "hex wells 1"),
+    Command("box LAYER ID", "tells the corners of the least box of a feature", "box roads 1"),
+    Command("simple LAYER ID", "tells whether a geometry passes no point twice", "simple roads 1"),
+    Command(
+        "relate LAYER ID WKT",
+        "tells the DE-9IM matrix of a feature with a geometry",
+        "relate parcels 1 POINT (5 5)",
+    ),
+    Command(
+        "match LAYER PATTERN WKT",
+        "lists the features whose matrix matches a pattern of T F * 0 1 2",
+        "match parcels T******** POINT (5 5)",
+    ),
+    Command(
+        "query LAYER PREDICATE WKT",
+        "lists the features of which a predicate holds with a geometry",
+        "query parcels contains POINT (5 5)",
+    ),
+    Command("undo", "takes the last edit back", "undo", "history"),
+    Command("redo", "does what was undone again", "redo", "history"),
+]
+"""The commands of the program."""
+
+EDITS = frozenset(command.word for command in COMMANDS if command.touches)
+"""The first words of the lines that change a store, or what can be undone."""
+
+QUESTIONS = frozenset(command.word for command in COMMANDS if not command.touches)
+"""The first words of the lines that change nothing."""
+
+_ADDRESS = re.compile(r"@[0-9]{1,3}")
+
+
+def edits_of(*touched: Touched) -> frozenset[str]:
+    """The first words of the edits that touch one of these.
+
+    >>> sorted(edits_of("values", "history"))
+    ['redo', 'set', 'undo', 'unset']
+    """
+    return frozenset(command.word for command in COMMANDS if command.touches in touched)
+
+
+def words_of_line(line: str) -> list[str]:
+    """The words of a line as the program parts them, without the editor that it names.
+
+    >>> words_of_line(" @7 add\\twells  POINT (3 4) ")
+    ['add', 'wells', 'POINT', '(3', '4)']
+    """
+    words = [word for word in re.split("[ \t]+", line.removesuffix("\r")) if word]
+    return words[1:] if words and _ADDRESS.fullmatch(words[0]) else words

@@ -1,0 +1,233 @@
+"""A running program, the pipes to and from it, and batches of lines that go through them."""
+
+from __future__ import annotations
+
+import os
+import subprocess
+import threading
+import warnings
+import weakref
+from collections.abc import Iterable, Iterator, Sequence
+from typing import BinaryIO, Protocol, cast
+
+from sfstore.results import Answer, ProgramEnded, Refused
+
+__all__ = ["BATCH_BYTES", "Link", "Program", "batches", "is_edit", "started"]
+
+BATCH_BYTES = 4096
+"""The least room that a pipe has.
+
+An empty one takes as many bytes at once, so that the module never waits for room while the program
+waits for its answers to be read. A longer line is sent alone: the program answers nothing before it
+has the whole line.
+"""
+
+# How much of the output is read ahead.
+_OUTPUT_BUFFER_BYTES = 65_536
+
+# No answer, and no row of one, begins so.
+_LAST_WORDS = (b"fault serve ", b"fault words ", b"fault load ", b"fault save ", b"error: ")
+
+
+class Link(Protocol):
+    """What editors need of the program that holds their store."""
+
+    def exchange(self, lines: Sequence[bytes]) -> list[Answer | Refused]:
+        """Sends lines, each with its line feed, and reads as many answers."""
+
+    def commit(self) -> None:
+        """Has all accepted edits where a crash does not reach them. Answers are given after it."""
+
+    def close(self) -> None:
+        """Saves the store, and ends the program."""
+
+    def abort(self) -> None:
+        """Ends the program, and saves nothing."""
+
+    def stop(self) -> None:
+        """Kills the program, from any thread."""
+
+
+class Program:
+    """A running program, the pipes to and from it, and who may use them."""
+
+    def __init__(self, words: list[str], handed: Sequence[int] = ()) -> None:
+        self._thread = threading.current_thread()
+        self._owner = os.getpid()
+        self._closed = False
+        self._last_line = b""
+        # In a session of its own no key of the terminal ends the program while it saves.
+        self._process = subprocess.Popen(
+            words,
+            bufsize=_OUTPUT_BUFFER_BYTES,
+            stdin=subprocess.PIPE,
+            stdout=subprocess.PIPE,
+            start_new_session=True,
+            pass_fds=handed,
+        )
+        self._input = cast(BinaryIO, self._process.stdin)
+        self._output = cast(BinaryIO, self._process.stdout)
+        self._finalizer = weakref.finalize(self, _abandon, self._process, self._owner)
+        _programs.add(self)
+
+    def exchange(self, lines: Sequence[bytes]) -> list[Answer | Refused]:
+        """Sends lines, each with its line feed, and reads as many answers.
+
+        More than one line may be sent only where all together have `BATCH_BYTES` at most.
+        """
+        self.check_user()
+        if self._closed:
+            raise RuntimeError("the store is closed")
+        if self._has_ended():
+            raise self._ending()
+        self._last_line = b""
+        try:
+            self._send(b"".join(lines))
+            return [self._outcome(line) for line in lines]
+        except (BrokenPipeError, EOFError):
+            self._drain()
+            raise self._ending() from None
+        except BaseException:
+            # An answer may be half read: whatever came next would be taken for another one.
+            self._kill()
+            raise
+
+    def commit(self) -> None:
+        """Nothing is kept elsewhere than in the program."""
+
+    def close(self) -> None:
+        """Ends the input, and waits for the program to save and to end."""
+        self.check_user()
+        if self._closed:
+            return
+        self._closed = True
+        # From here on nothing kills the program: it may be saving.
+        self._finalizer.detach()
+        if not self._has_ended():
+            self._input.close()
+            self._last_line = b""
+            self._drain()
+        if self._process.returncode != 0:
+            raise self._ending()
+
+    def abort(self) -> None:
+        """Kills the program, so that it saves nothing. A forked process leaves it alone."""
+        if os.getpid() == self._owner and not self._closed:
+            self._closed = True
+            self._kill()
+
+    def stop(self) -> None:
+        """Kills the program, and leaves the pipes to the thread that reads them."""
+        self._process.kill()
+
+    def close_inherited_input(self) -> None:
+        """Closes the copy of the input that a forked process has: the program shall see its end."""
+        self._input.close()
+
+    def check_user(self) -> None:
+        """`RuntimeError` in another thread or process than the one that made the store."""
+        if os.getpid() != self._owner:
+            raise RuntimeError("the store belongs to the process before the fork: make another one")
+        if threading.current_thread() is not self._thread:
+            raise RuntimeError("the store belongs to the thread that made it: use it only there")
+
+    def _has_ended(self) -> bool:
+        return self._process.returncode is not None
+
+    def _ending(self) -> ProgramEnded:
+        """How the program ended."""
+        last_line = self._last_line.removesuffix(b"\n").decode("utf-8", "replace")
+        return ProgramEnded(self._process.returncode, last_line)
+
+    def _send(self, data: bytes) -> None:
+        rest = memoryview(data)
+        while rest:
+            rest = rest[os.write(self._input.fileno(), rest) :]
+
+    def _outcome(self, line: bytes) -> Answer | Refused:
+        """Reads the answer of a line."""
+        first = self._read_line()
+        if first.startswith("rows "):
+            return [self._read_line() for _ in range(int(first[5:]))]
+        if first.startswith("refused "):
+            _, number, name = first.split(" ")
+            return Refused(int(number), name, line[:-1].decode("utf-8"))
+        return first
+
+    def _read_line(self) -> str:
+        """Reads a line of an answer. `EOFError` where the program ends instead."""
+        line = self._output.readline()
+        self._last_line = line or self._last_line
+        if not line.endswith(b"\n") or line.startswith(_LAST_WORDS):
+            raise EOFError
+        return line[:-1].decode("utf-8")
+
+    def _drain(self) -> None:
+        """Reads what is left of the output, and waits for the end of the program."""
+        for line in self._output:
+            self._last_line = line
+        self._release()
+
+    def _kill(self) -> None:
+        self._process.kill()
+        self._release()
+
+    def _release(self) -> None:
+        """Waits for the end of the program, and closes the pipes."""
+        self._process.wait()
+        self._finalizer.detach()
+        self._input.close()
+        self._output.close()
+
+
+def started(words: list[str], handed: Sequence[int] = ()) -> Program:
+    """A program that has loaded its file. `ProgramEnded` where it could not.
+
+    The open files that are ``handed`` to it have the same numbers there.
+    """
+    program = Program(words, handed)
+    # There is nothing to undo yet: the refusal shows that the file is loaded.
+    [answer] = program.exchange([b"undo\n"])
+    if not isinstance(answer, Refused):
+        program.abort()
+        raise RuntimeError(f"{words[0]} is another program than sfstore")
+    return program
+
+
+def is_edit(outcome: Answer | Refused) -> bool:
+    """Whether a line was an edit that was accepted: these alone are answered so."""
+    return isinstance(outcome, str) and (outcome == "ok" or outcome.startswith("ok "))
+
+
+_programs: weakref.WeakSet[Program] = weakref.WeakSet()
+
+
+def _abandon(process: subprocess.Popen[bytes], owner: int) -> None:
+    """Kills the program of a store that was not closed, but from no other process than its own."""
+    if os.getpid() == owner:
+        with process:
+            process.kill()
+        warnings.warn("a store was not closed: it was not saved", ResourceWarning)
+
+
+def _close_inherited_inputs() -> None:
+    for program in list(_programs):
+        program.close_inherited_input()
+
+
+if hasattr(os, "register_at_fork"):
+    os.register_at_fork(after_in_child=_close_inherited_inputs)
+
+
+def batches(lines: Iterable[bytes]) -> Iterator[list[bytes]]:
+    """The lines in their order, as many at a time as may be sent at once."""
+    batch: list[bytes] = []
+    size = 0
+    for line in lines:
+        if batch and size + len(line) > BATCH_BYTES:
+            yield batch
+            batch, size = [], 0
+        batch.append(line)
+        size += len(line)
+    if batch:
+        yield batch

@@ -1,0 +1,170 @@
+"""What a store answers: layers, columns and features as values, and why it did not answer."""
+
+from __future__ import annotations
+
+import os
+from dataclasses import dataclass
+from typing import Any, Literal, NamedTuple, Union
+
+from sfstore.wkt import coordinates_of
+
+__all__ = [
+    "Answer",
+    "Column",
+    "ColumnType",
+    "Feature",
+    "Kind",
+    "Layer",
+    "PathName",
+    "Predicate",
+    "ProgramEnded",
+    "Recovered",
+    "Refused",
+    "Value",
+]
+
+Answer = Union[str, list[str]]
+"""What a command is answered with: one line, or the rows behind a line ``rows N``."""
+
+Value = Union[int, str]
+"""The value of a feature in a column: a whole number of 64 bits, or a text."""
+
+Kind = Literal[
+    "any", "point", "linestring", "polygon", "multipoint", "multilinestring", "multipolygon"
+]
+"""Which geometries a layer takes."""
+
+ColumnType = Literal["int", "text"]
+"""Which values a column takes."""
+
+Predicate = Literal[
+    "equals", "disjoint", "intersects", "touches", "within", "contains", "crosses", "overlaps"
+]
+"""What may be asked of a feature's geometry and a given one."""
+PathName = Union[str, "os.PathLike[str]"]
+"""The name of a file."""
+
+
+class Refused(Exception):
+    """The store refused a command, and nothing was changed.
+
+    >>> with Store() as store:
+    ...     try:
+    ...         store.run("show wells")
+    ...     except Refused as refused:
+    ...         refused.number, refused.name, refused.line
+    (18, 'NoLayer', 'show wells')
+    """
+
+    number: int
+    """The number of the refusal. docs/CONSOLE.md has them all."""
+    name: str
+    """Its name, which belongs to the number."""
+    line: str
+    """The line that was refused."""
+
+    def __init__(self, number: int, name: str, line: str) -> None:
+        super().__init__(number, name, line)
+        self.number = number
+        self.name = name
+        self.line = line
+
+    def __str__(self) -> str:
+        shown = self.line if len(self.line) <= 200 else self.line[:200] + ".."
+        return f"{self.number} {self.name}: {shown}"
+
+
+class ProgramEnded(Exception):
+    """The program ended, and its store with it.
+
+    >>> try:
+    ...     Store(load="/no/such/file")
+    ... except ProgramEnded as ended:
+    ...     ended.status, ended.last_line
+    (3, 'fault load Open')
+    """
+
+    status: int
+    """The status of the program, or less than 0 where a signal of that number killed it."""
+    last_line: str
+    """The last line that it wrote since the last answer. Empty where there is none."""
+
+    def __init__(self, status: int, last_line: str) -> None:
+        super().__init__(status, last_line)
+        self.status = status
+        self.last_line = last_line
+
+    def __str__(self) -> str:
+        if self.status < 0:
+            return f"the program was killed by signal {-self.status}"
+        return f"the program ended with status {self.status}: {self.last_line or 'no last line'}"
+
+
+class Recovered(NamedTuple):
+    """What the opening of a store found in its journal.
+
+    >>> Recovered(edits=12, torn=0).edits
+    12
+    """
+
+    edits: int
+    """How many edits the last save did not have. They are there again, and can be undone."""
+    torn: int
+    """How many bytes of an edit were dropped that was not written to its end, nor answered."""
+
+
+class Layer(NamedTuple):
+    """A layer, as `Store.layers` lists it.
+
+    >>> Layer("wells", "point").kind
+    'point'
+    """
+
+    name: str
+    kind: Kind
+
+
+class Column(NamedTuple):
+    """A column of a layer, as `Store.columns` lists it.
+
+    >>> Column("depth", "int").type
+    'int'
+    """
+
+    name: str
+    type: ColumnType
+
+
+@dataclass(frozen=True)
+class Feature:
+    """A feature of a layer, as `Store.show` lists it.
+
+    It has the interface by which shapely, geopandas and others take geometries:
+    ``shapely.geometry.shape(feature)``, ``geopandas.GeoDataFrame.from_features(features)``.
+
+    >>> Feature(1, "POINT (3 4)", {"depth": 12}).values["depth"]
+    12
+    """
+
+    id: int
+    """The identifier in its layer."""
+    wkt: str
+    """The geometry, as canonical well-known text."""
+    values: dict[str, Value]
+    """The values that are set, by the names of their columns, in the order of the columns."""
+
+    @property
+    def __geo_interface__(self) -> dict[str, Any]:
+        """The feature as a mapping in the form of GeoJSON, with tuples of whole numbers.
+
+        `ValueError` where `wkt` is no canonical text.
+
+        >>> Feature(1, "LINESTRING (0 0, 5 -7)", {}).__geo_interface__["geometry"]
+        {'type': 'LineString', 'coordinates': ((0, 0), (5, -7))}
+        """
+        return {
+            "type": "Feature",
+            "id": self.id,
+            "geometry": coordinates_of(self.wkt),
+            "properties": dict(self.values),
+        }

@@ -1,0 +1,100 @@
+"""Names, numbers and texts as words of a line. `ValueError` for those that have no place in one."""
+
+from __future__ import annotations
+
+import operator
+import re
+from typing import Any, get_args
+
+from sfstore.language import EDITOR_MAX, IDENTIFIER_MAX, INT_MAX, INT_MIN, NAME, PATTERN
+from sfstore.results import Value
+
+__all__ = [
+    "editor",
+    "encoded",
+    "geometry",
+    "identifier",
+    "integer",
+    "name",
+    "one_of",
+    "pattern",
+    "value",
+    "vertex",
+]
+
+
+def encoded(line: str) -> bytes:
+    """A line as it is sent, with its line feed. `ValueError` where it would not get one answer."""
+    if "\n" in line:
+        raise ValueError("a line feed stands in the line")
+    # The program drops a carriage return right before the line feed.
+    if not line.removesuffix("\r").strip(" \t"):
+        raise ValueError("the line is blank")
+    return line.encode("utf-8") + b"\n"
+
+
+def name(text: str) -> str:
+    """The name of a layer or a column."""
+    if not NAME.fullmatch(text):
+        raise ValueError(
+            f"{text!r} is no name: 1 to 32 ASCII letters, digits or underscores, a letter first"
+        )
+    return text
+
+
+def pattern(text: str) -> str:
+    """A pattern of matrices."""
+    if not PATTERN.fullmatch(text):
+        raise ValueError(f"{text!r} is no pattern: nine letters of TF*012")
+    return text
+
+
+def one_of(words: Any, word: str) -> str:
+    """A word, if it is one of those of a `Literal`."""
+    if word not in get_args(words):
+        raise ValueError(f"{word!r} is not one of these: {', '.join(get_args(words))}")
+    return word
+
+
+def geometry(wkt: str) -> str:
+    """A well-known text, of which the program says whether it is one."""
+    if not isinstance(wkt, str):
+        raise TypeError(f"a well-known text is wanted, not {type(wkt).__name__}")
+    return wkt
+
+
+def integer(number: int) -> int:
+    """A whole number of any type that is one, such as those of numpy."""
+    return int(operator.index(number))
+
+
+def identifier(number: int) -> int:
+    """An identifier, a place, a part, a ring or an index."""
+    wanted = integer(number)
+    if not 0 <= wanted <= IDENTIFIER_MAX:
+        raise ValueError(f"{wanted} is not from 0 to {IDENTIFIER_MAX}")
+    return wanted
+
+
+def editor(number: int) -> int:
+    """The number of an editor, where it is one."""
+    number = operator.index(number)
+    if not 1 <= number <= EDITOR_MAX:
+        raise ValueError(f"no number of an editor: {number}")
+    return number
+
+
+def vertex(layer: str, feature_id: int, part: int, ring: int, index: int) -> str:
+    """A vertex, by the numbers that name it."""
+    numbers = map(identifier, (feature_id, part, ring, index))
+    return " ".join([name(layer), *map(str, numbers)])
+
+
+def value(given: Value) -> str:
+    """A value as the console wants it: digits, or a text in quotes, each quote in it doubled."""
+    if isinstance(given, str):
+        return "'" + given.replace("'", "''") + "'"
+    number = integer(given)
+    if not INT_MIN <= number <= INT_MAX:
+        raise ValueError(f"{number} has more than 64 bits")
+    return str(number)
