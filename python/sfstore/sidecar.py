@@ -13,7 +13,19 @@ from typing import Any
 
 from sfstore import files
 
-__all__ = ["ColumnOrigin", "Crs", "LayerOrigin", "Sidecar", "SidecarError", "follow", "read", "write"]
+__all__ = [
+    "ColumnOrigin",
+    "Crs",
+    "LayerOrigin",
+    "Sidecar",
+    "SidecarError",
+    "follow",
+    "next_of",
+    "path_of",
+    "read",
+    "settle",
+    "write",
+]
 
 _FORMAT = "sfstore side-car 1"
 
@@ -81,8 +93,26 @@ def path_of(store: str) -> str:
     return store + ".json"
 
 
+def next_of(store: str) -> str:
+    """Where the side-car stands of a file that is about to take the place of the store's."""
+    return path_of(store) + ".next"
+
+
+def settle(store: str) -> bool:
+    """Puts the side-car of the store's file in its place, where whoever brought the file broke off before.
+
+    Whether it was there to be put. `SidecarError` where something else stands there.
+    """
+    path = next_of(store)
+    if not os.path.lexists(path) or files.digest(store) not in _read(path).digests:
+        return False
+    files.replace(path, path_of(store))
+    return True
+
+
 def read(store: str) -> Sidecar:
     """The side-car of a store's file. `SidecarError` where it is missing, wrong, or another's."""
+    settle(store)
     found = _read(path_of(store))
     if files.digest(store) not in found.digests:
         raise SidecarError(
@@ -104,11 +134,12 @@ def write(store: str, found: Sidecar, digests: list[str]) -> None:
 
 def follow(store: str, old: str, new: str) -> None:
     """Has the side-car belong to a new file too, where there is one that belongs to the old file."""
-    if not os.path.exists(path_of(store)):
-        return
     try:
+        settle(store)
+        if not os.path.exists(path_of(store)):
+            return
         found = _read(path_of(store))
-    except SidecarError:
+    except (FileNotFoundError, SidecarError):
         # It is left as it is: whoever needs it is told what is wrong with it.
         return
     if old in found.digests and old != new:

@@ -333,7 +333,6 @@ class BreakingOff(SetCase):
 
     def check(self):
         """The store opens, and its side-car is of it."""
-        publishing.settle(str(self.store))
         found = sidecar.read(str(self.store))
         is_old = self.store.read_bytes() == self.old
         self.assertEqual(found.grid[2], "0.01" if is_old else "1")
@@ -432,7 +431,17 @@ class BreakingOff(SetCase):
             Path(f"{self.store}.json.next").write_text(content)
             status, _, err = give_back(self.store, self.target)
             self.assertEqual(status, 3)
-            self.assertIn("town.sfs.json.next is no side-car of a store", err)
+            self.assertRegex(err, r"town\.sfs\.json\.next (is no side-car of a store|can't be read)")
+
+    def test_a_session_that_saves_first_keeps_the_new_side_car(self):
+        """The import was ended before its last rename, and nobody has read the side-car since."""
+        self.assertEqual(self.bring_in()[0], 0)
+        side_car = Path(f"{self.store}.json")
+        side_car.rename(f"{side_car}.next")
+        with Store(self.store, journal=True, program=PROGRAM) as store:
+            store.delete("wells", 7)
+        self.assertEqual(sidecar.read(str(self.store)).grid[2], "1")
+        self.assertFalse(Path(f"{side_car}.next").exists())
 
     def test_an_interrupt_while_a_place_is_looked_for(self):
         """A real program with a real signal: nothing is half, and it is said."""

@@ -15,7 +15,7 @@ from collections.abc import Callable
 from dataclasses import dataclass
 
 from sfstore import files, journal, sidecar
-from sfstore.exchange import ogr, outcome, publishing
+from sfstore.exchange import ogr, outcome
 from sfstore.exchange.formats import FORMATS, Part, format_of, parts_of
 from sfstore.exchange.grid import Grid
 from sfstore.exchange.placing import Place, check_free, placed
@@ -181,7 +181,7 @@ def _sidecar(wishes: Wishes) -> Sidecar:
 
     `sidecar.SidecarError` where it is not as it has to be.
     """
-    publishing.settle(wishes.store)
+    sidecar.settle(wishes.store)
     path = sidecar.path_of(wishes.store)
     if wishes.grid is not None:
         if os.path.lexists(path):

@@ -12,16 +12,14 @@ The steps, and what a crash behind each leaves:
     the new file takes the place      the new file, and the side-car that fits it, as .next
     .next takes the side-car's place  the new file with its side-car
 
-Whoever reads a side-car has `settle` do the last step first, where the digest says that it is due.
+Whoever reads a side-car has `sidecar.settle` do the last step first, where the digest says that it is due.
 """
 
 from __future__ import annotations
 
 import contextlib
-import json
 import os
 import subprocess  # nosec B404: the store's own program is started, without a shell.
-from typing import Any
 
 from sfstore import files, journal, sidecar
 from sfstore.exchange.ogr import ExchangeError
@@ -30,7 +28,7 @@ from sfstore.sidecar import Sidecar
 from sfstore.storefile import FileLayer
 from sfstore.storefile import write as write_store
 
-__all__ = ["check_target", "publish", "settle"]
+__all__ = ["check_target", "publish"]
 
 
 def check_target(target: str, overwrite: bool) -> None:
@@ -57,7 +55,7 @@ def publish(
     path = os.path.realpath(target)
     with journal.locked(path), room_beside(path) as room:
         check_target(target, overwrite)
-        settle(path)
+        sidecar.settle(path)
         made, beside = _made(room, layers, program, target), os.path.join(room, "side-car")
         if os.path.exists(path):
             os.chmod(made, os.stat(path).st_mode & 0o777)
@@ -87,37 +85,15 @@ def _made(room: str, layers: list[FileLayer], program: str, target: str) -> str:
 
 def _put(path: str, made: str, side_car: str) -> None:
     """Puts the new file and its side-car in the place of the old ones."""
-    files.replace(side_car, _next(path))
+    files.replace(side_car, sidecar.next_of(path))
     try:
         with contextlib.suppress(FileNotFoundError):
             os.unlink(path + ".journal")
         files.replace(made, path)
-        settle(path)
+        sidecar.settle(path)
     except OSError as error:
         if os.path.exists(made):
             # The old file stands there: the new side-car would be that of none.
-            os.unlink(_next(path))
+            os.unlink(sidecar.next_of(path))
             raise
         raise ExchangeError(f"{path} is written, but may not be on the disk: {error}") from None
-
-
-def settle(path: str) -> bool:
-    """Puts the side-car of a store's file in its place, where its import was broken off before that.
-
-    Whether it was there to be put.
-    """
-    try:
-        with open(_next(path), encoding="utf-8") as file:
-            content: Any = json.load(file)
-        if files.digest(path) not in content["digests"]:
-            return False
-        files.replace(_next(path), sidecar.path_of(path))
-    except FileNotFoundError:
-        return False
-    except (KeyError, TypeError, ValueError, RecursionError):
-        raise ExchangeError(f"{_next(path)} is no side-car of a store: take it away") from None
-    return True
-
-
-def _next(path: str) -> str:
-    return sidecar.path_of(path) + ".next"
