@@ -33,7 +33,10 @@ WHOLE = [-8388608, -8388608, 8388607, 8388607]
 SLOW = """\
 #!{python}
 import select, subprocess, sys
-child = subprocess.Popen([{program!r}, *sys.argv[1:]], stdin=subprocess.PIPE, stdout=subprocess.PIPE)
+# The store's file is handed on as an open one.
+child = subprocess.Popen(
+    [{program!r}, *sys.argv[1:]], stdin=subprocess.PIPE, stdout=subprocess.PIPE, close_fds=False
+)
 for line in sys.stdin.buffer:
     if line.startswith(b"simple"):
         # Until its reader is gone.

@@ -15,6 +15,7 @@ from support import PROGRAM
 from test_web import SLOW, WHOLE, Listening
 from web_support import WebCase
 
+from sfstore.language import COMMANDS
 from sfstore.web.changes import Change, Changes, Target, feature_of, targets_of
 
 SQUARE = "POLYGON ((0 0, 100 0, 100 100, 0 100, 0 0))"
@@ -146,10 +147,12 @@ class Meanwhile(WebCase):
     @unittest.skipUnless(sys.platform == "linux", "looks at processes")
     def test_what_was_seen_before_the_store_was_opened_again(self):
         seen = self.ben.version()
-        for child in os.listdir(f"/proc/{self.serving.process.pid}/task"):
-            with open(f"/proc/{self.serving.process.pid}/task/{child}/children") as file:
-                for program in file.read().split():
-                    os.kill(int(program), signal.SIGKILL)
+        for thread in os.listdir(f"/proc/{self.serving.process.pid}/task"):
+            # A thread may end meanwhile.
+            with contextlib.suppress(FileNotFoundError):
+                with open(f"/proc/{self.serving.process.pid}/task/{thread}/children") as file:
+                    for program in file.read().split():
+                        os.kill(int(program), signal.SIGKILL)
         self.assertEqual(self.ann.posted("layer add v any", 0)[0], 503)
         words = "It is not known any more whether p 1 was changed meanwhile: look again."
         self.assert_outdated(self.ben, "delete p 1", seen, words)
@@ -201,6 +204,14 @@ class Remembered(unittest.TestCase):
             ("layers", "", []),
         ):
             self.assertEqual(targets_of(line, answer), tuple(targets), line)
+
+    def test_each_edit_of_the_language_is_known(self):
+        changes_nothing = {"layer move LAYER PLACE", "undo", "redo"}
+        for command in COMMANDS:
+            if command.touches:
+                self.assertEqual(bool(feature_of(command.example)), " LAYER ID" in command.usage, command.usage)
+                targets = targets_of(command.example, "ok 1")
+                self.assertEqual(not targets, command.usage in changes_nothing, command.usage)
 
     def test_only_so_much_is_remembered(self):
         changes = Changes()

@@ -10,14 +10,21 @@ from __future__ import annotations
 import re
 from typing import NamedTuple
 
+from sfstore.language import COMMANDS
+
 __all__ = ["Change", "Changes", "Target", "feature_of", "targets_of"]
 
 # The program parts words by spaces and tabs alone, and drops a carriage return at the end.
 _BLANK = "[ \t]+"
 _WORD = "([^ \t\r]+)"
+# The words of edits before the layer and the identifier of a feature.
+_FRONTS = {
+    front.replace(" ", _BLANK)
+    for front, place, _ in (each.usage.partition(" LAYER ID") for each in COMMANDS if each.touches)
+    if place
+}
 _OF_FEATURE = re.compile(
-    f"[ \t]*(?:delete|replace|set|unset|vertex{_BLANK}(?:insert|move|remove)){_BLANK}{_WORD}{_BLANK}"
-    "([0-9]{1,10})(?![^ \t\r])"
+    f"[ \t]*(?:{'|'.join(sorted(_FRONTS))}){_BLANK}{_WORD}{_BLANK}([0-9]{{1,10}})(?![^ \t\r])"
 )
 _ADDITION = re.compile(f"[ \t]*(?:add|addhex){_BLANK}{_WORD}")
 _OF_LAYER = re.compile(

@@ -12,12 +12,7 @@ from typing import NamedTuple
 
 from sfstore.web.changes import Target, targets_of
 
-__all__ = ["QUESTIONS", "Step", "Steps", "is_edit"]
-
-QUESTIONS = frozenset(
-    ["layers", "columns", "show", "hex", "box", "simple", "relate", "match", "query"]
-)
-"""The first words of the lines that change nothing."""
+__all__ = ["Step", "Steps", "is_edit"]
 
 _ADDRESS = re.compile(r"[ \t]*@([0-9]{1,3})[ \t]+")
 
