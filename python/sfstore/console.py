@@ -10,6 +10,7 @@ import argparse
 import contextlib
 import os
 import pydoc
+import re
 import shlex
 import shutil
 import subprocess
@@ -97,9 +98,25 @@ def _history_path() -> str | None:
     """Where the lines of earlier sessions are kept, or none where nothing can be written there."""
     state = os.environ.get("XDG_STATE_HOME") or os.path.join(Path.home(), ".local", "state")
     folder = os.path.join(state, "sfstore")
-    with contextlib.suppress(OSError):
-        os.makedirs(folder, exist_ok=True)
-    return os.path.join(folder, "history") if os.access(folder, os.W_OK) else None
+    path = os.path.join(folder, "history")
+    try:
+        os.makedirs(folder, mode=0o700, exist_ok=True)
+        # Values of the store stand in it: it is for this user alone.
+        file = os.open(path, os.O_WRONLY | os.O_CREAT | os.O_NOFOLLOW | os.O_CLOEXEC, 0o600)
+    except OSError:
+        return None
+    try:
+        os.fchmod(file, 0o600)
+    except OSError:
+        return None
+    finally:
+        os.close(file)
+    return path
+
+
+def _lines_of(text: str) -> list[str]:
+    """The lines of what was typed or pasted; a letter that other programs take for an end is none."""
+    return re.split("\r\n|\r|\n", text)
 
 
 class Console:
@@ -125,20 +142,20 @@ class Console:
         print("`help` lists the commands; Tab completes them; `quit` leaves.")
         while not self._is_over:
             try:
-                lines = self._terminal.ask(f"{os.path.basename(self._path)}> ").splitlines()
+                lines = _lines_of(self._terminal.ask(f"{os.path.basename(self._path)}> "))
             except KeyboardInterrupt:
                 continue
             except EOFError:
                 lines = ["quit"]
             for line in lines:
-                self._carry_out(line.strip())
+                self._carry_out(line.strip(" \t"))
 
     def _carry_out(self, line: str) -> None:
         """Carries out a line. Where that ends the program, the store is opened anew."""
         if not line:
             return
         try:
-            word = line.split()[0]
+            word = re.split("[ \t]+", line)[0]
             if word in self._own:
                 self._own[word](shlex.split(line)[1:])
             else:
@@ -284,8 +301,10 @@ class Console:
                 print("This store has layers: name another file behind the source, and open that.")
                 return
             self._store.close()
-            importing.main([*words, self._path, "--overwrite"])
-            self._store = self._opened()
+            try:
+                importing.main([*words, self._path, "--overwrite"])
+            finally:
+                self._store = self._opened()
 
     def _export(self, words: list[str]) -> None:
         """Gives the store back as a map; it is saved first."""

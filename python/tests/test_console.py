@@ -9,6 +9,7 @@ import pty
 import re
 import select
 import signal
+import stat
 import struct
 import subprocess
 import sys
@@ -16,10 +17,11 @@ import termios
 import time
 import unittest
 from importlib.util import find_spec
+from unittest import mock
 
 from support import FOLDER, PROGRAM, TestCase
 
-from sfstore import Store, commands
+from sfstore import Store, commands, console
 from sfstore.lines import geometry_of
 
 HAS_TOOLKIT = find_spec("prompt_toolkit") is not None
@@ -93,6 +95,59 @@ class Terminal:
             os.kill(self.process, signal.SIGKILL)
             os.waitpid(self.process, 0)
         os.close(self.file)
+
+
+class Typed:
+    """A terminal at which some texts are typed or pasted, one after another."""
+
+    def __init__(self, texts):
+        self.texts = list(texts)
+
+    def ask(self, _):
+        if not self.texts:
+            raise EOFError
+        return self.texts.pop(0)
+
+
+class Pasted(TestCase):
+    """What is carried out of a text that was pasted, in this process."""
+
+    def carry_out(self, *texts):
+        """The store's points and their labels after some texts, and what was printed."""
+        path = self.folder / "town.sfs"
+        with mock.patch("builtins.print") as printed:
+            console.Console(str(path), PROGRAM, lambda _: Typed([*texts, "save"])).run()
+        with Store(load=path, program=PROGRAM) as store:
+            shown = [(feature.wkt, feature.values) for feature in store.show("w")] if store.layers() else []
+        return shown, " ".join(str(call.args) for call in printed.call_args_list)
+
+    def test_a_letter_that_looks_like_an_end_of_line_is_none(self):
+        begin = "layer add w point\ncolumn add w t text\r\nadd w POINT (1 1)"
+        for letter in "\u2028\u2029\x85":
+            for left in self.folder.glob("town.sfs*"):
+                left.unlink()
+            shown, _ = self.carry_out(begin, f"set w 1 t 'one{letter}delete w 1{letter}two'")
+            self.assertEqual(shown, [("POINT (1 1)", {"t": f"one{letter}delete w 1{letter}two"})])
+
+    @unittest.skipUnless(HAS_GDAL, "no GDAL")
+    def test_an_import_with_wrong_words_leaves_the_store_open(self):
+        source = self.folder / "no.gpkg"
+        with mock.patch("sys.stderr"):
+            shown, said = self.carry_out(f"import {source} --grid a b c", "layer add w point", "add w POINT (1 1)")
+        self.assertEqual(shown, [("POINT (1 1)", {})])
+        self.assertNotIn("closed", said)
+
+    def test_the_history_is_for_this_user_alone(self):
+        with mock.patch.dict(os.environ, XDG_STATE_HOME=str(self.folder / "state")):
+            path = console._history_path()
+            self.assertEqual(stat.S_IMODE(os.stat(path).st_mode), 0o600)
+            self.assertEqual(stat.S_IMODE(os.stat(os.path.dirname(path)).st_mode), 0o700)
+            os.chmod(path, 0o644)
+            self.assertEqual(console._history_path(), path)
+            self.assertEqual(stat.S_IMODE(os.stat(path).st_mode), 0o600)
+            os.unlink(path)
+            os.symlink(self.folder / "other", path)
+            self.assertIsNone(console._history_path())
 
 
 class ConsoleCase(TestCase):

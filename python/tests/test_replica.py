@@ -10,6 +10,7 @@ import re
 import shutil
 import signal
 import socket
+import stat
 import subprocess
 import sys
 import textwrap
@@ -550,6 +551,31 @@ class Divergence(ReplicaCase):
         self.assert_told("is damaged, and the one before is taken")
         self.assertEqual(cleo.run("show w"), ["1 POINT (7 3)"])
         self.assertEqual(self.file(cleo, at), files[0])
+
+    def test_a_damaged_file_that_loads_is_not_served(self):
+        """One bit of a coordinate is another one: the sum in the log says so, and stays as it was."""
+        ann, cleo = self.town("ann", "cleo")
+        self.cut(ann, cleo)
+        ann.run("add w POINT (7 3)")
+        at, files = self.cut(ann, cleo)
+        sums = "SELECT DISTINCT sum FROM sfstore.sums WHERE at = %s"
+        [[right]] = self.ask(sums, [at])
+        cleo.close()
+        [path] = (self.folder / "cleo").glob(f"{at:020}-*.sfs")
+        damaged = bytearray(files[0])
+        place = files[0].index(bytes.fromhex("0000000000001c40"))
+        damaged[place + 6] ^= 0x04
+        path.write_bytes(damaged)
+        with Store(load=path, program=PROGRAM) as store:
+            self.assertEqual([feature.wkt for feature in store.show("w")], ["POINT (6 3)"])
+        cleo = self.replica("cleo")
+        self.assert_told("has not the sum that this login has put down for it")
+        self.assertEqual(cleo.run("show w"), ["1 POINT (7 3)"])
+        self.assertEqual(self.file(cleo, at), files[0])
+        self.assertEqual([list(row) for row in self.ask(sums, [at])], [[right]])
+        self.assertEqual(stat.S_IMODE((self.folder / "cleo").stat().st_mode), 0o700)
+        [path] = (self.folder / "cleo").glob(f"{at:020}-*.sfs")
+        self.assertEqual(stat.S_IMODE(path.stat().st_mode), 0o600)
 
     def test_a_log_whose_lines_were_changed(self):
         ann, ben = self.town("ann", "ben")

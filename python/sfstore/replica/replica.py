@@ -103,7 +103,7 @@ class Replica:
         self._patience = patience
         self._progress = progress
         self._teller = Teller(tell)
-        self._folder.mkdir(parents=True, exist_ok=True)
+        self._folder.mkdir(mode=0o700, parents=True, exist_ok=True)
         self._lock = locked(str(self._folder / "replica"))
         self._snapshots = Snapshots(self._folder)
         self._fence = Fence(self._folder / "timeline")
@@ -303,6 +303,13 @@ class Replica:
         self._snapshots.clear()
         while True:
             self._go_to_newest()
+            if self._snapshot is not None and not self._is_as_put_down(self._snapshot):
+                self._teller.tell(
+                    f"{self._snapshot.path} has not the sum that this login has put down for it: "
+                    "it is damaged, and the one before is taken"
+                )
+                self._snapshots.put_aside(self._snapshot)
+                continue
             try:
                 self._begin()
                 return
@@ -311,6 +318,17 @@ class Replica:
                     raise ReplicaStopped(f"the program does not begin: {ended}") from ended
                 self._teller.tell(f"{self._snapshot.path} is damaged, and the one before is taken: {ended}")
                 self._snapshots.put_aside(self._snapshot)
+
+    def _is_as_put_down(self, snapshot: Snapshot) -> bool:
+        """Whether a file has the sum that this login has put down in the log, where it has put one down.
+
+        Where the log can't be asked it is not known, and the comparison at the next cut tells.
+        """
+        try:
+            told = self._following.sums(snapshot.at).get(self._login)
+        except LogUnreachable:
+            return True
+        return told in (None, files.digest(str(snapshot.path)))
 
     def _begin(self) -> None:
         """Has a program begin from the file of this place."""

@@ -53,6 +53,7 @@ class Snapshots:
 
     def keep(self, aside: Path, at: int, chain: bytes) -> Snapshot:
         """Makes a file that was saved the newest one: whole and on the disk, or not at all."""
+        os.chmod(aside, 0o600)
         files.sync(str(aside))
         kept = Snapshot(at, chain, self._folder / f"{at:020}-{chain.hex()}.sfs")
         files.replace(str(aside), str(kept.path))
