@@ -13,7 +13,7 @@ import pydoc
 import re
 import shlex
 import shutil
-import subprocess
+import subprocess  # nosec B404: sfmap is started, without a shell.
 import sys
 import tempfile
 import warnings
@@ -91,7 +91,7 @@ class _PlainTerminal:
         readline.set_completer(completer)
 
     def ask(self, prompt: str) -> str:
-        return input(prompt)
+        return input(prompt)  # nosec B322: Python 3 gives the text as it is.
 
 
 def _history_path() -> str | None:
@@ -281,7 +281,7 @@ class Console:
             copy = os.path.join(folder, "copy.sfs")
             self._store.copy(copy)
             with open(copy, "rb") as store, open(beside, "wb") as svg:
-                ended = subprocess.run([program], stdin=store, stdout=svg)
+                ended = subprocess.run([program], stdin=store, stdout=svg)  # nosec B603: a list of words, none of a stranger.
             if ended.returncode:
                 raise RuntimeError(f"sfmap ended with status {ended.returncode}: no picture is drawn")
         print(f"{target} is drawn.")

@@ -18,7 +18,7 @@ import contextlib
 import errno
 import fcntl
 import os
-import subprocess
+import subprocess  # nosec B404: the store's own program is started, without a shell.
 import time
 import weakref
 import zlib
@@ -247,7 +247,7 @@ class Journal:
         """Has a second program save the store's file with the edits to a file beside a wanted one."""
         with self.loading() as (words, handed):
             # The lock goes with it: no other session begins before it has ended.
-            ended = subprocess.run(
+            ended = subprocess.run(  # nosec B603: a list of words, of which some are paths.
                 [program, f"--save={beside}", *words],
                 input=b"".join(self.lines),
                 stdout=subprocess.PIPE,

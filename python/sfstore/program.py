@@ -3,7 +3,7 @@
 from __future__ import annotations
 
 import os
-import subprocess
+import subprocess  # nosec B404: the store's own program is started, without a shell.
 import threading
 import warnings
 import weakref
@@ -57,7 +57,7 @@ class Program:
         self._closed = False
         self._last_line = b""
         # In a session of its own no key of the terminal ends the program while it saves.
-        self._process = subprocess.Popen(
+        self._process = subprocess.Popen(  # nosec B603: a list of words, of which some are paths.
             words,
             bufsize=_OUTPUT_BUFFER_BYTES,
             stdin=subprocess.PIPE,

@@ -46,7 +46,7 @@ def asked(line: str) -> Asked:
     """
     line = line.removesuffix("\r")
     front = _FRONT.match(line)
-    assert front is not None
+    assert front is not None  # nosec B101: for the checker of types; the pattern matches any text.
     named, word = front.groups()
     editor = None if named is None else int(named)
     if editor is not None and not 1 <= editor <= 255:

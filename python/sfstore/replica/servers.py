@@ -9,7 +9,7 @@ import contextlib
 import os
 import shutil
 import signal
-import subprocess
+import subprocess  # nosec B404: servers of one's own are started, without a shell.
 import tempfile
 import time
 from collections.abc import Sequence
@@ -82,7 +82,7 @@ class Server:
             words += ["-c", option]
         with open(self._folder / "log", "ab") as log:
             words[0] = str(self._bin / words[0])
-            self._process = subprocess.Popen(
+            self._process = subprocess.Popen(  # nosec B603: a list of words of this program.
                 words, cwd="/", stdin=subprocess.DEVNULL, stdout=log, stderr=log, start_new_session=True, **_owner()
             )
         self._wait_for(self.dsn())
@@ -130,7 +130,7 @@ class Server:
         """The processes of this server alone, the first of them first."""
         main = self._postmaster()
         words = ["ps", "-o", "pid=", "--ppid", str(main)]
-        children = subprocess.run(words, capture_output=True, text=True).stdout.split()
+        children = subprocess.run(words, capture_output=True, text=True).stdout.split()  # nosec B603: a list of words of this program.
         return [main, *map(int, children)]
 
     def _postmaster(self) -> int:
@@ -149,7 +149,7 @@ class Server:
     def _run(self, words: Sequence[str]) -> None:
         """Runs a program of PostgreSQL to its end."""
         whole = [str(self._bin / words[0]), *words[1:]]
-        ended = subprocess.run(whole, cwd="/", capture_output=True, text=True, **_owner())
+        ended = subprocess.run(whole, cwd="/", capture_output=True, text=True, **_owner())  # nosec B603: a list of words of this program.
         if ended.returncode:
             raise RuntimeError(f"{words[0]}: {ended.stderr.strip()}")
 
