@@ -1,0 +1,150 @@
+"""Tests of a store with a journal near other programs, other users and files that are not what they seem."""
+
+from __future__ import annotations
+
+import contextlib
+import os
+import stat
+import subprocess
+import unittest
+
+from support import PROGRAM, TestCase
+
+from sfstore import JournalError, Refused, Store
+
+
+class JournalThreats(TestCase):
+    def setUp(self):
+        super().setUp()
+        self.path = self.folder / "town.sfs"
+        with self.opened() as store:
+            store.add_layer("w", "point")
+            store.add("w", "POINT (0 0)")
+
+    def opened(self):
+        return Store(self.path, journal=True, program=PROGRAM)
+
+    def points(self):
+        with Store(load=self.path, program=PROGRAM) as store:
+            return [feature.wkt for feature in store.show("w")]
+
+    def other_program_adds(self, point):
+        """What a script does that knows of no journal."""
+        words = [PROGRAM, f"--load={self.path}", f"--save={self.path}"]
+        subprocess.run(words, input=f"add w {point}\n".encode(), check=True, stdout=subprocess.DEVNULL)
+
+    def mode(self, ending=""):
+        return stat.S_IMODE(os.stat(f"{self.path}{ending}").st_mode)
+
+    def test_nothing_is_saved_over_what_another_program_wrote(self):
+        store = self.opened()
+        store.add("w", "POINT (1 1)")
+        self.other_program_adds("POINT (9 9)")
+        for call in (store.save, lambda: store.copy(self.folder / "copy.sfs")):
+            with self.assertRaisesRegex(JournalError, "changed or taken away by another program"):
+                call()
+        self.assertEqual(self.points(), ["POINT (0 0)", "POINT (9 9)"])
+        self.assertFalse((self.folder / "copy.sfs").exists())
+        store.close(save=False)
+        self.assertIn(b"add w POINT (1 1)", (self.folder / "town.sfs.journal").read_bytes())
+        with self.assertRaisesRegex(JournalError, "is not the file that .* goes on from"):
+            self.opened()
+
+    def test_a_journal_without_edits_keeps_nobody_out(self):
+        with self.opened():
+            pass
+        self.other_program_adds("POINT (9 9)")
+        with self.opened() as store:
+            self.assertEqual([feature.wkt for feature in store.show("w")], ["POINT (0 0)", "POINT (9 9)"])
+
+    def test_a_session_without_its_lock_answers_nothing(self):
+        stale = self.opened()
+        stale.add("w", "POINT (1 1)")
+        os.unlink(f"{self.path}.lock")
+        with self.opened() as store:
+            with self.assertRaises(JournalError):
+                stale.add("w", "POINT (2 2)")
+            stale.close(save=False)
+            store.add("w", "POINT (3 3)")
+        self.assertEqual(self.points(), ["POINT (0 0)", "POINT (1 1)", "POINT (3 3)"])
+
+    def test_a_journal_that_is_taken_away_is_written_anew(self):
+        store = self.opened()
+        store.add("w", "POINT (1 1)")
+        os.unlink(f"{self.path}.journal")
+        store.add("w", "POINT (2 2)")
+        store.close(save=False)
+        with self.opened() as store:
+            self.assertEqual(len(store.show("w")), 3)
+
+    def test_nothing_gives_more_than_the_file(self):
+        for mode in (0o600, 0o640, 0o644):
+            os.chmod(self.path, mode)
+            with self.opened() as store:
+                store.add("w", "POINT (1 1)")
+                self.assertEqual(self.mode(".journal"), mode)
+                store.save()
+                self.assertEqual((self.mode(), self.mode(".journal")), (mode, mode))
+                store.copy(self.folder / "copy.sfs")
+                self.assertEqual(stat.S_IMODE((self.folder / "copy.sfs").stat().st_mode), mode)
+            (self.folder / "copy.sfs").unlink()
+
+    def test_only_writers_can_hold_the_lock(self):
+        os.chmod(self.path, 0o644)
+        with self.opened():
+            self.assertEqual(self.mode(".lock"), 0o600)
+
+    def test_files_of_the_user_are_left_alone(self):
+        precious = self.folder / "precious.txt"
+        precious.write_text("precious")
+        names = [".new", ".part", ".journal.new", ".journal.part", ".json.part"]
+        for name in names:
+            os.symlink(precious, f"{self.path}{name}")
+        with self.opened() as store:
+            store.add("w", "POINT (1 1)")
+            store.save()
+        self.assertEqual(precious.read_text(), "precious")
+        for name in names:
+            self.assertEqual(os.readlink(f"{self.path}{name}"), str(precious))
+
+    def test_a_journal_that_is_a_link_is_not_followed(self):
+        other = self.folder / "other"
+        other.write_text("other")
+        os.unlink(f"{self.path}.journal")
+        os.symlink(other, f"{self.path}.journal")
+        with contextlib.suppress(JournalError, OSError), self.opened() as store:
+            store.add("w", "POINT (1 1)")
+        self.assertEqual(other.read_text(), "other")
+
+    def test_a_side_car_that_is_none_stops_no_save(self):
+        for content in ("[" * 100_000, '{"format": "sfstore side-car 1", "layers": ["x"]}', "5", ""):
+            (self.folder / "town.sfs.json").write_text(content)
+            with self.opened() as store:
+                store.add("w", "POINT (1 1)")
+                store.save()
+            self.assertEqual((self.folder / "town.sfs.json").read_text(), content)
+        self.assertEqual(len(self.points()), 5)
+
+    def test_a_copy_takes_the_place_of_none_of_the_stores_files(self):
+        with self.opened() as store:
+            store.add("w", "POINT (1 1)")
+            for name in ("", ".journal", ".lock"):
+                with self.assertRaisesRegex(JournalError, "no copy takes its place"):
+                    store.copy(f"{self.path}{name}")
+        self.assertEqual(len(self.points()), 2)
+
+    def test_a_copy_that_fails_leaves_the_older_one(self):
+        copy = self.folder / "copy.sfs"
+        copy.write_text("yesterday")
+        with self.opened() as store:
+            store.add("w", "POINT (1 1)")
+            script = self.script("#!/bin/sh\ncat > /dev/null\necho 'fault save Write'\nexit 4\n")
+            with self.assertRaisesRegex(JournalError, "could not be saved"):
+                store._program._journal.copy(str(copy), str(script))
+            with contextlib.suppress(Refused):
+                store.undo()
+        self.assertEqual(copy.read_text(), "yesterday")
+
+
+if __name__ == "__main__":
+    unittest.main()
