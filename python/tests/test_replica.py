@@ -7,6 +7,7 @@ import hashlib
 import os
 import random
 import re
+import select
 import shutil
 import signal
 import socket
@@ -288,7 +289,8 @@ class Sessions(ReplicaCase):
         answers += b"refused 101 OtherEditor\nrefused 33 LineTooLong\nok\n"
         self.assertEqual((said.stdout, said.stderr, said.returncode), (answers, b"", 0))
 
-    def test_many_at_a_socket(self):
+    def listening(self):
+        """A replica that listens at a socket: its process, and the socket's path."""
         words = ["run", str(self.folder / "ann"), self.dsn("ann"), "--program", PROGRAM, "--listen"]
         process = subprocess.Popen(
             [sys.executable, "-m", "sfstore.replica.command", *words],
@@ -301,6 +303,10 @@ class Sessions(ReplicaCase):
         until = time.monotonic() + 30
         while not path.exists() and time.monotonic() < until:
             time.sleep(0.02)
+        return process, path
+
+    def test_many_at_a_socket(self):
+        process, path = self.listening()
         self.assertEqual(path.stat().st_mode & 0o077, 0)
         first, second, third = (self.connected(path) for _ in range(3))
         self.assertEqual(self.asked(first, b"layer add w point\nadd w POINT (3 4)\n", 2), [b"ok", b"ok 1"])
@@ -317,11 +323,29 @@ class Sessions(ReplicaCase):
         self.assertEqual(process.wait(30), 130)
         self.assertFalse(path.exists())
 
+    def test_more_than_there_is_room_for_at_a_socket(self):
+        """Whoever comes beyond the places is sent away; those who are there are answered, and places come free."""
+        process, path = self.listening()
+        first = self.connected(path)
+        self.assertEqual(self.asked(first, b"layer add w point\n", 1), [b"ok"])
+        others = [self.connected(path) for _ in range(300)]
+        self.assertTrue(select.select([others[-1]], [], [], 30)[0])
+        gone = [other for other in others if select.select([other], [], [], 0)[0]]
+        self.assertEqual([other.recv(1) for other in gone], [b""] * 45)
+        self.assertEqual(self.asked(first, b"add w POINT (3 4)\n", 1), [b"ok 1"])
+        for other in others:
+            other.close()
+        self.assertEqual(self.asked(first, b"show w\n", 2), [b"rows 1", b"1 POINT (3 4)"])
+        self.assertEqual(self.asked(self.connected(path), b"show w\n", 2), [b"rows 1", b"1 POINT (3 4)"])
+        process.send_signal(signal.SIGINT)
+        self.assertEqual(process.wait(30), 130)
+
     def connected(self, path):
         connection = socket.socket(socket.AF_UNIX)
         self.addCleanup(connection.close)
-        connection.settimeout(30)
+        # Where many come at once it waits for its turn.
         connection.connect(str(path))
+        connection.settimeout(30)
         return connection
 
     def asked(self, connection, lines, count):

@@ -186,9 +186,10 @@ class Link:
             if tick is not None and now > ticked + _TICK_SECONDS:
                 ticked = now
                 tick()
-            reading = [self._raw] if state == psycopg2.extensions.POLL_READ else []
-            writing = [self._raw] if state == psycopg2.extensions.POLL_WRITE else []
-            select.select(reading, writing, [], min(_TICK_SECONDS, until - now + 0.001))
+            watched = select.poll()
+            is_reading = state == psycopg2.extensions.POLL_READ
+            watched.register(self._raw.fileno(), select.POLLIN if is_reading else select.POLLOUT)
+            watched.poll(1_000 * min(_TICK_SECONDS, until - now + 0.001))
 
 
 def _first_line(error: Exception) -> str:

@@ -21,6 +21,8 @@ __all__ = ["listen", "serve"]
 _LINE_BYTES = 131_072
 _READ_BYTES = 1 << 16
 _IDLE_SECONDS = 1.0
+# How many connections are answered at one time: each has an open file, of which a process has 1,024 as a rule.
+_PEERS_MAX = 256
 # How long lines may wait while others write.
 _FOLLOW_SECONDS = 0.2
 # How long one who asks may let answers lie, while others wait.
@@ -78,16 +80,31 @@ def listen(replica: Replica, path: Path, tell: Callable[[str], object]) -> None:
     answers lying, or has a line that is not acknowledged, is sent away. `ReplicaStopped` ends it,
     and so does an interrupt.
     """
-    with _door(path) as door, contextlib.ExitStack() as connections:
-        peers: dict[int, tuple[_Peer, socket.socket]] = {}
-        while True:
-            for number in _ready(replica, [door.fileno(), *peers], tell):
-                if number == door.fileno():
-                    connection = connections.enter_context(door.accept()[0])
-                    connection.settimeout(_SEND_SECONDS)
-                    peers[connection.fileno()] = _Peer(connection.recv, connection.sendall), connection
-                elif not _is_answered(replica, peers[number][0], tell):
-                    peers.pop(number)[1].close()
+    peers: dict[int, tuple[_Peer, socket.socket]] = {}
+    with _door(path) as door:
+        try:
+            while True:
+                for number in _ready(replica, [door.fileno(), *peers], tell):
+                    if number == door.fileno():
+                        _enter(door, peers, tell)
+                    elif not _is_answered(replica, peers[number][0], tell):
+                        peers.pop(number)[1].close()
+        finally:
+            for _, connection in peers.values():
+                connection.close()
+
+
+def _enter(
+    door: socket.socket, peers: dict[int, tuple[_Peer, socket.socket]], tell: Callable[[str], object]
+) -> None:
+    """Lets one more in, where there is room: whoever comes beyond that is sent away at once."""
+    connection = door.accept()[0]
+    if len(peers) >= _PEERS_MAX:
+        connection.close()
+        tell(f"{_PEERS_MAX} connections are open: one more is sent away")
+        return
+    connection.settimeout(_SEND_SECONDS)
+    peers[connection.fileno()] = _Peer(connection.recv, connection.sendall), connection
 
 
 def _is_answered(replica: Replica, peer: _Peer, tell: Callable[[str], object]) -> bool:
@@ -123,7 +140,10 @@ def _ready(replica: Replica, given: list[int], tell: Callable[[str], object]) ->
     """Waits for lines or for news of the log, which is followed. Which of the streams have lines."""
     news = [number for number in (replica.fileno(),) if number >= 0]
     seconds = 0.0 if replica.has_news() else _IDLE_SECONDS
-    ready, _, _ = select.select([*given, *news], [], [], seconds)
+    watched = select.poll()
+    for number in [*given, *news]:
+        watched.register(number, select.POLLIN)
+    ready = [number for number, _ in watched.poll(1_000 * seconds)]
     lines = [number for number in ready if number in given]
     if not lines or len(lines) < len(ready) or replica.has_news():
         _follow(replica, tell)
