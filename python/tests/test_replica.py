@@ -18,6 +18,7 @@ import textwrap
 import threading
 import time
 import unittest
+import unittest.mock
 import uuid
 from pathlib import Path
 
@@ -521,9 +522,9 @@ class Divergence(ReplicaCase):
         self.assertEqual(len(list((self.folder / "cleo").glob("*.wrong"))), 1)
         self.assertEqual(owning.state(self.owner).cuts[-1].alike, 3)
 
-    def test_a_replica_that_differs_again_stops(self):
+    def test_a_replica_that_differs_again_from_the_trusted_one_stops(self):
         ann, ben = self.town("ann", "ben")
-        cleo = self.replica("cleo", program=self.wrong_program(False))
+        cleo = self.replica("cleo", program=self.wrong_program(False), trust="ann")
         ann.run("add w POINT (7 3)")
         with self.assertRaisesRegex(ReplicaStopped, "carried out again it was the same"):
             self.cut(ann, ben, cleo)
@@ -533,6 +534,68 @@ class Divergence(ReplicaCase):
         # The others are right, and go on.
         self.assertEqual(ann.run("add w POINT (1 1)"), "ok 2")
         self.assertEqual((ann.restarts, ben.restarts), (0, 0))
+
+    def lie(self, login, at, total="0" * 64):
+        """Has a login put down a sum that no file has."""
+        self.ask("SELECT sfstore.put_sum(%s, %s)", (at, total), login=login)
+
+    def compare(self, replica):
+        """Has a replica look at the sums of the others now."""
+        replica._compared = 0.0
+        replica.follow()
+
+    def test_one_login_does_not_stop_the_others(self):
+        [ann] = self.town("ann")
+        ann.run("add w POINT (7 3)")
+        at, files = self.cut(ann)
+        self.lie("ben", at)
+        self.compare(ann)
+        # Carried out once more, and no oftener.
+        self.assertEqual(ann.restarts, 1)
+        self.lie("cleo", at)
+        with unittest.mock.patch("time.monotonic", lambda now=time.monotonic: now() + 3600):
+            self.compare(ann)
+        self.compare(ann)
+        self.assertEqual((ann.restarts, self.file(ann, at)), (1, files[0]))
+        self.assert_told(f"at the cut {at} 1 replicas have .* 2 another one; it goes on, and a person has to look")
+        self.assertEqual(ann.run("add w POINT (1 1)"), "ok 2")
+        ann.close()
+        ann = self.replica("ann")
+        self.assertEqual(ann.run("show w"), ["1 POINT (7 3)", "2 POINT (1 1)"])
+
+    def test_a_wrong_sum_behind_a_drop_takes_no_file_away(self):
+        [ann] = self.town("ann")
+        at, files = self.cut(ann)
+        owning.drop_before(self.owner, at, 1, "0", 5)
+        self.lie("ben", at)
+        self.compare(ann)
+        self.assertEqual((ann.restarts, self.file(ann, at)), (0, files[0]))
+        self.assert_told("it goes on, and a person has to look")
+        ann.close()
+        self.assertEqual(self.replica("ann").run("show w"), [])
+
+    def test_the_trusted_login_decides(self):
+        ann, ben = self.town("ann", "ben", trust="cleo")
+        cleo = self.replica("cleo")
+        ann.run("add w POINT (7 3)")
+        at, files = self.cut(cleo, ann)
+        self.lie("ben", at)
+        self.compare(ann)
+        self.assertEqual((ann.restarts, self.file(ann, at)), (0, files[0]))
+        # Where others alone differ, a file of the trusted one is taken still.
+        [file] = (self.folder / "cleo").glob(f"{at:020}-*.sfs")
+        dora = self.replica("rita", begin_from=file, trust="cleo")
+        self.assertEqual(dora.run("show w"), ["1 POINT (7 3)"])
+
+    def test_a_sum_is_put_down_once(self):
+        [ann] = self.town("ann")
+        at, _ = self.cut(ann)
+        before = owning.state(self.owner).cuts
+        with self.assertRaisesRegex(LogRefused, f"ann has put down another file for the cut {at} before") as caught:
+            self.lie("ann", at)
+        self.assertEqual(caught.exception.code, "SF105")
+        self.lie("ann", at, before[0].sums["ann"])
+        self.assertEqual(owning.state(self.owner).cuts, before)
 
     def test_the_first_one_at_a_cut_finds_out_later(self):
         cleo, ann, ben = self.town("cleo", "ann", "ben", program=PROGRAM)
@@ -562,6 +625,32 @@ class Divergence(ReplicaCase):
         self.assertEqual(cleo.run("show w"), ["1 POINT (7 3)"])
         self.assertEqual(self.file(cleo, at), files[0])
 
+    def test_a_changed_file_of_the_only_replica_is_not_begun_from(self):
+        [ann] = self.town("ann")
+        ann.run("add w POINT (7 3)")
+        at, files = self.cut(ann)
+        before = owning.state(self.owner).cuts
+        ann.close()
+        [path] = (self.folder / "ann").glob(f"{at:020}-*.sfs")
+        with Store(PROGRAM, save=path) as other:
+            other.add_layer("other", "point")
+        ann = self.replica("ann")
+        self.assertEqual(ann.run("show w"), ["1 POINT (7 3)"])
+        self.assertEqual((self.file(ann, at), owning.state(self.owner).cuts), (files[0], before))
+        self.assert_told(f"{path} is damaged, and the one before is taken: it is not the file that ann has put down")
+        self.assertEqual(len(list((self.folder / "ann").glob("*.wrong"))), 1)
+
+    def test_a_file_of_a_reader_that_does_not_load(self):
+        [ann] = self.town("ann")
+        rita = self.replica("rita")
+        ann.run("add w POINT (7 3)")
+        at, files = self.cut(ann, rita)
+        rita.close()
+        [path] = (self.folder / "rita").glob(f"{at:020}-*.sfs")
+        path.write_bytes(files[0][:-1])
+        rita = self.replica("rita")
+        self.assert_told("is damaged, and the one before is taken: .*BadFile")
+        self.assertEqual((rita.run("show w"), self.file(rita, at)), (["1 POINT (7 3)"], files[0]))
 
     def test_a_file_that_does_not_load(self):
         ann, cleo = self.town("ann", "cleo")
@@ -593,7 +682,7 @@ class Divergence(ReplicaCase):
         with Store(load=path, program=PROGRAM) as store:
             self.assertEqual([feature.wkt for feature in store.show("w")], ["POINT (6 3)"])
         cleo = self.replica("cleo")
-        self.assert_told("has not the sum that this login has put down for it")
+        self.assert_told("is damaged, and the one before is taken: it is not the file that")
         self.assertEqual(cleo.run("show w"), ["1 POINT (7 3)"])
         self.assertEqual(self.file(cleo, at), files[0])
         self.assertEqual([list(row) for row in self.ask(sums, [at])], [[right]])

@@ -85,6 +85,9 @@ def _add_run(run: argparse.ArgumentParser) -> None:
     run.add_argument("--editor", metavar="LOG", help="the login by which lines are put down, where it is another one")
     run.add_argument("--from", dest="begin_from", metavar="FILE", help="the file of another replica to begin from")
     run.add_argument(
+        "--trust", metavar="LOGIN", help="whose files are the right ones: stop where the file here differs again"
+    )
+    run.add_argument(
         "--listen",
         action="store_true",
         help="answer all programs of this user that come to the socket in the folder, in the place of standard input",
@@ -136,6 +139,7 @@ def _run(asked: argparse.Namespace) -> int:
         editor=asked.editor,
         program=asked.program,
         begin_from=asked.begin_from,
+        trust=asked.trust,
         patience=asked.patience,
         tell=teller.tell,
         progress=_Progress().tell,

@@ -240,8 +240,16 @@ class Following(_Servers):
         rows = self._ask(words, (place,), until)
         return bytes(rows[0][0]) if rows else None
 
+    def first(self, until: float = 0.0) -> int | None:
+        """The first place that was not dropped; none where all are."""
+        [(at,)] = self._ask("SELECT min(at) FROM sfstore.log", until=until)
+        return None if at is None else int(at)
+
     def put_sum(self, place: int, total: str, until: float = 0.0) -> bool:
-        """Puts down what the own file is at a cut. False where the login is not that of a replica."""
+        """Puts down what the own file is at a cut. False where the login is not that of a replica.
+
+        `LogRefused` where the login has put down another file there before (``SF105``).
+        """
         words = "SELECT sfstore.put_sum(%s, %s)"
         try:
             self._ask(words, (place, total), until)

@@ -160,13 +160,17 @@ BEGIN
   RETURN place;
 END $$;
 
--- Puts down the sum of this replica's file at a cut; it takes the place of an earlier one.
+-- Puts down the sum of this replica's file at a cut, once: another sum behind it is refused, since it would tell of a
+-- file that was changed, or of a login that says now this and now that.
 CREATE FUNCTION sfstore.put_sum(place bigint, file text) RETURNS void
 LANGUAGE plpgsql SECURITY DEFINER SET search_path = pg_catalog, pg_temp AS $$
 BEGIN
-  INSERT INTO sfstore.sums (at, replica, sum) VALUES (place, session_user, file)
-    ON CONFLICT (at, replica) DO UPDATE SET sum = EXCLUDED.sum WHERE sums.sum <> EXCLUDED.sum;
-  NOTIFY sfstore_log;
+  INSERT INTO sfstore.sums (at, replica, sum) VALUES (place, session_user, file) ON CONFLICT (at, replica) DO NOTHING;
+  IF FOUND THEN
+    NOTIFY sfstore_log;
+  ELSIF EXISTS (SELECT FROM sfstore.sums WHERE at = place AND replica = session_user AND sum <> file) THEN
+    RAISE '% has put down another file for the cut % before', session_user, place USING ERRCODE = 'SF105';
+  END IF;
 END $$;
 
 -- Drops all up to a cut where so many replicas have the same file, and none another one. The cut has to be older than

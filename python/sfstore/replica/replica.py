@@ -13,7 +13,7 @@ from typing import Union
 from sfstore import files
 from sfstore.journal import locked
 from sfstore.replica.lines import LINE_MAX, Asked, asked
-from sfstore.replica.links import check_driver
+from sfstore.replica.links import LogRefused, check_driver
 from sfstore.replica.log import Entry, Fence, Following, LogUnreachable, Writing, chained
 from sfstore.replica.snapshots import Snapshot, Snapshots
 from sfstore.replica.telling import Teller
@@ -28,8 +28,6 @@ Outcome = Union[Answer, Refused]
 _TRIES = 3
 # How often it looks whether its file is that of the others, in seconds.
 _COMPARE_SECONDS = 1.0
-# How long a replica waits, in seconds, for others whose file differs, where as many are for it as against it.
-_DOUBT_SECONDS = 30.0
 # How many lines are put down as one, and of how many bytes but for one line.
 _GROUP_LINES, _GROUP_BYTES = 1000, 1_000_000
 # From how many entries on a replica tells how far it is.
@@ -75,8 +73,10 @@ class Replica:
 
     ``log`` are the words of connection of PostgreSQL, with as many hosts as there are servers.
     ``editor`` are those by which lines are put down, where they are of another login.
-    ``begin_from`` is the file of another replica, for a folder that has none. ``patience`` is
-    how long a line is tried, and how long servers are looked for at the beginning, in seconds.
+    ``begin_from`` is the file of another replica, for a folder that has none. ``trust`` is the
+    login of the replica whose files are the right ones: one that differs from it stops.
+    ``patience`` is how long a line is tried, and how long servers are looked for at the beginning,
+    in seconds.
     ``tell`` is told in a sentence what keeps the replica waiting, and nothing (an empty text) where
     nothing does any more; ``progress`` how far it is, and how far the log goes.
 
@@ -93,6 +93,7 @@ class Replica:
         editor: str | None = None,
         program: str | os.PathLike[str] = "sfstore",
         begin_from: str | os.PathLike[str] | None = None,
+        trust: str | None = None,
         patience: float = 60.0,
         tell: Callable[[str], object] = lambda text: None,
         progress: Callable[[int, int], object] = lambda at, last: None,
@@ -102,7 +103,10 @@ class Replica:
         self._program = os.fsdecode(program)
         self._patience = patience
         self._progress = progress
+        self._trust = trust
         self._teller = Teller(tell)
+        # Others that differ are told of once, however often the servers are told of meanwhile.
+        self._differing = Teller(tell)
         self._folder.mkdir(mode=0o700, parents=True, exist_ok=True)
         self._lock = locked(str(self._folder / "replica"))
         self._snapshots = Snapshots(self._folder)
@@ -273,9 +277,11 @@ class Replica:
         if begin_from is not None:
             self._bring(Path(begin_from))
         self._check_chain()
-        self._load()
+        self._load(until)
         try:
-            self._catch_up(self._following.last(until), until)
+            last = self._following.last(until)
+            self._catch_up(last, until)
+            self._compare_now(last, until)
         except BaseException:
             self._store.close(save=False)
             raise
@@ -291,22 +297,27 @@ class Replica:
         """Takes the file of another replica, after a look at what the log has of it."""
         brought = self._snapshots.bring(given)
         total = files.digest(str(brought.path))
-        sums = set(self._following.sums(brought.at).values())
-        if self._following.chain_at_cut(brought.at) != brought.chain or sums != {total}:
+        sums = self._following.sums(brought.at)
+        wanted = {sums[self._trust]} if self._trust in sums else set(sums.values())
+        if self._following.chain_at_cut(brought.at) != brought.chain or wanted != {total}:
             self._snapshots.put_aside(brought)
             raise ReplicaStopped(
                 f"{given} is not what all replicas had at place {brought.at}: begin from another one's file"
             )
 
-    def _load(self) -> None:
-        """Begins from the newest file that loads, or from nothing."""
+    def _load(self, until: float | None = None) -> None:
+        """Begins from the newest file that is what the log has of it, and loads; or from nothing.
+
+        Until some moment the log is tried, and `LogUnreachable` then. Where none is given, a file
+        that the log does not tell of now is taken: `_compare` finds out when the log is there.
+        """
         self._snapshots.clear()
         while True:
             self._go_to_newest()
-            if self._snapshot is not None and not self._is_as_put_down(self._snapshot):
+            if self._snapshot is not None and not self._is_as_told(self._snapshot, until):
                 self._teller.tell(
-                    f"{self._snapshot.path} has not the sum that this login has put down for it: "
-                    "it is damaged, and the one before is taken"
+                    f"{self._snapshot.path} is damaged, and the one before is taken: "
+                    f"it is not the file that {self._login} has put down"
                 )
                 self._snapshots.put_aside(self._snapshot)
                 continue
@@ -319,16 +330,18 @@ class Replica:
                 self._teller.tell(f"{self._snapshot.path} is damaged, and the one before is taken: {ended}")
                 self._snapshots.put_aside(self._snapshot)
 
-    def _is_as_put_down(self, snapshot: Snapshot) -> bool:
-        """Whether a file has the sum that this login has put down in the log, where it has put one down.
+    def _is_as_told(self, snapshot: Snapshot, until: float | None) -> bool:
+        """Whether a file is what this login has put down, or what others have, where the login has put one down.
 
-        Where the log can't be asked it is not known, and the comparison at the next cut tells.
+        A login may have put down a wrong one, and have carried the lines out anew after that.
         """
         try:
-            told = self._following.sums(snapshot.at).get(self._login)
+            sums = self._following.sums(snapshot.at, until or 0.0)
         except LogUnreachable:
+            if until is not None:
+                raise
             return True
-        return told in (None, files.digest(str(snapshot.path)))
+        return self._login not in sums or files.digest(str(snapshot.path)) in sums.values()
 
     def _begin(self) -> None:
         """Has a program begin from the file of this place."""
@@ -337,7 +350,6 @@ class Replica:
         self._store = Store(self._program, load=path, save=self._aside)
         if path is not None:
             self._sum = files.digest(str(path))
-            self._vote()
 
     def _check_chain(self) -> None:
         """`ReplicaStopped` where the newest file is not one of this log."""
@@ -463,36 +475,64 @@ class Replica:
         try:
             if self._following.chain_at_cut(self._snapshot.at) is not None:
                 self._votes = self._following.put_sum(self._snapshot.at, self._sum)
-        except LogUnreachable as error:
+        except (LogUnreachable, LogRefused) as error:
             self._teller.tell(str(error))
 
-    def _compare(self) -> None:
-        """`_GivenUp` where the newest file is not that of the most replicas; it is set aside then.
+    def _compare_now(self, place: int, until: float) -> None:
+        """Compares the newest file at the beginning, and is at a place of the log again after that."""
+        try:
+            self._compare()
+        except LogUnreachable as error:
+            # `follow` compares it when a server is there.
+            self._teller.tell(str(error))
+        except _GivenUp as reason:
+            self._begin_again(str(reason))
+            self._catch_up(place, until)
 
-        `ReplicaStopped` where it was the same again after that.
+    def _compare(self) -> None:
+        """Puts down what the newest file is. `_GivenUp` where it may be wrong; it is set aside then.
+
+        Where it was the same again after that, `ReplicaStopped` if it is not that of the trusted
+        login. Else it is told: anybody who may put down sums could stop all others.
         """
         self._compared = time.monotonic()
         if self._snapshot is None:
             return
         sums = self._following.sums(self._snapshot.at)
-        if sums.pop(self._login, None) != self._sum:
+        own = sums.pop(self._login, None)
+        reason = self._doubt(self._snapshot.at, own, sums)
+        if reason:
+            self._go_back(self._snapshot, reason)
+        if own is None:
             self._vote()
+        if reason and self._trust in sums:
+            raise ReplicaStopped(f"{reason}; carried out again it was the same")
+        self._differing.tell(reason and f"{reason}; it goes on, and a person has to look at the machines")
+
+    def _doubt(self, place: int, own: str | None, sums: dict[str, str]) -> str:
+        """Why the newest file may be wrong, by the sums of the login itself and of others; empty where it is not."""
+        if self._trust in sums:
+            return "" if sums[self._trust] == self._sum else f"at the cut {place} {self._trust} has another file"
         others = Counter(sums.values())
         for_it = others.pop(self._sum, 0) + 1
         against = max(others.values(), default=0)
         if against >= for_it:
-            self._differ(self._snapshot, for_it, against)
+            return f"at the cut {place} {for_it} replicas have the file that is here, and {against} another one"
+        if own not in (None, self._sum) and for_it == 1:
+            return f"at the cut {place} {self._login} has put down another file than the one that is here"
+        return ""
 
-    def _differ(self, snapshot: Snapshot, for_it: int, against: int) -> None:
-        """What is done about a file that others have not."""
-        reason = f"at the cut {snapshot.at} {for_it} replicas have the file that is here, and {against} another one"
-        if self._differed_at != snapshot.at:
-            self._differed_at, self._doubt_until = snapshot.at, self._compared + _DOUBT_SECONDS
-            self._snapshots.put_aside(snapshot)
-            raise _GivenUp(reason)
-        if against > for_it or self._compared > self._doubt_until:
-            raise ReplicaStopped(f"{reason}; carried out again it was the same")
-        self._teller.tell(f"{reason}; the others are waited for")
+    def _go_back(self, snapshot: Snapshot, reason: str) -> None:
+        """Sets a file aside that may be wrong, with `_GivenUp`, once and where the log has all behind the one before."""
+        if self._differed_at == snapshot.at:
+            return
+        before = self._snapshots.before(snapshot)
+        first = self._following.first()
+        if first is None or first > (0 if before is None else before.at) + 1:
+            return
+        self._differed_at = snapshot.at
+        self._snapshots.put_aside(snapshot)
+        raise _GivenUp(reason)
 
 
 def _checked(line: str) -> str:

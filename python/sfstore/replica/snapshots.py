@@ -47,6 +47,10 @@ class Snapshots:
         """The file to begin from."""
         return max(self._all(), default=None)
 
+    def before(self, later: Snapshot) -> Snapshot | None:
+        """The file to begin from where a later one is wrong."""
+        return max((it for it in self._all() if it.at < later.at), default=None)
+
     def aside(self) -> Path:
         """Where a program is to save. The name is new: one that was left alone may save to its own still."""
         return self._folder / f"aside-{uuid.uuid4().hex}"
