@@ -228,6 +228,52 @@ class Writing(ReplicaCase):
         self.assertEqual(ann.run_all([line] * 70), [f"ok {k + 1}" for k in range(70)])
         self.assertEqual(len(self.replica("ben").run("show w")), 70)
 
+    def test_other_users_can_not_read_a_replica(self):
+        before = os.umask(0o022)
+        self.addCleanup(os.umask, before)
+        ann = self.replica("ann", folder=self.folder / "new")
+        ann.run("layer add w point")
+        self.cut(ann)
+        folder = self.folder / "new"
+        self.assertEqual(folder.stat().st_mode & 0o777, 0o700)
+        self.assertTrue({"timeline", ".sfs"} <= {path.suffix or path.name for path in folder.iterdir()})
+        self.assert_private(folder)
+        # An earlier version gave others the right to read.
+        ann.close()
+        for path in folder.iterdir():
+            path.chmod(0o644)
+        self.replica("ann", folder=folder)
+        self.assert_private(folder)
+
+    def assert_private(self, folder):
+        modes = {path.name: oct(path.stat().st_mode & 0o777) for path in folder.iterdir()}
+        self.assertEqual(set(modes.values()), {"0o600"}, modes)
+
+    SLOW = """\
+        import ctypes, subprocess, sys, os, time
+        flag = {flag!r}
+        def follow(): ctypes.CDLL(None).prctl(1, 9)  # the program is killed with this one
+        program = subprocess.Popen([{program!r}, *sys.argv[1:]], stdin=subprocess.PIPE, bufsize=0, preexec_fn=follow)
+        for line in sys.stdin.buffer:
+            if {once} and line.startswith(b"match") and os.path.exists(flag): time.sleep(600)
+            program.stdin.write(line)
+        program.stdin.close()
+        sys.exit(program.wait())
+        """
+
+    def test_a_question_that_takes_too_long_is_ended(self):
+        [ann] = self.town("ann")
+        ann.close()
+        ann = self.replica("ann", program=self.flagged(self.SLOW, True), question_seconds=0.5)
+        ann.run("add w POINT (7 3)")
+        for count in range(1, 6):
+            begun = time.monotonic()
+            self.assertEqual(shown(ann.run_all(["match w w"])), [refused(103, "TooLong", "match w w")])
+            self.assertLess(time.monotonic() - begun, 20)
+            self.assertEqual((ann.run("show w"), ann.restarts), (["1 POINT (7 3)"], count))
+        self.assert_told("a question took longer than 0.5 seconds: match w w")
+        self.assertEqual(ann.run("add w POINT (1 1)"), "ok 2")
+
     def test_one_process_has_a_folder(self):
         self.town("ann")
         with self.assertRaisesRegex(JournalError, "open in another session"):
