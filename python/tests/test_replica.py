@@ -7,6 +7,7 @@ import hashlib
 import os
 import random
 import re
+import resource
 import shutil
 import signal
 import socket
@@ -363,11 +364,47 @@ class Sessions(ReplicaCase):
         self.assertEqual(process.wait(30), 130)
         self.assertFalse(path.exists())
 
+    def test_more_at_a_socket_than_are_let_in(self):
+        words = ["run", str(self.folder / "ann"), self.dsn("ann"), "--program", PROGRAM, "--listen"]
+        soft, hard = resource.getrlimit(resource.RLIMIT_NOFILE)
+        if hard != resource.RLIM_INFINITY and hard < 2000:
+            self.skipTest("this process may not open 2,000 files")
+        resource.setrlimit(resource.RLIMIT_NOFILE, (max(soft, 2000), hard))
+        self.addCleanup(resource.setrlimit, resource.RLIMIT_NOFILE, (soft, hard))
+        process = subprocess.Popen(
+            [sys.executable, "-m", "sfstore.replica.command", *words],
+            env={**os.environ, "PYTHONPATH": str(FOLDER)},
+            stderr=subprocess.PIPE,
+        )
+        self.addCleanup(process.communicate)
+        self.addCleanup(process.kill)
+        path = self.folder / "ann" / "socket"
+        until = time.monotonic() + 30
+        while not path.exists() and time.monotonic() < until:
+            time.sleep(0.02)
+        first = self.connected(path)
+        self.assertEqual(self.asked(first, b"layer add w point\n", 1), [b"ok"])
+        held = [self.connected(path) for _ in range(1200)]
+        self.assertEqual(self.asked(held[0], b"layers\n", 2), [b"rows 1", b"w point"])
+        self.assertEqual(held[-1].recv(1), b"")
+        # Those that end make room again, and leave no file open behind them.
+        for connection in held:
+            connection.close()
+        self.assertEqual(self.asked(first, b"layers\n", 2), [b"rows 1", b"w point"])
+        for _ in range(600):
+            with self.connected(path) as short:
+                self.assertEqual(self.asked(short, b"layers\n", 2), [b"rows 1", b"w point"])
+        self.assertLess(len(os.listdir(f"/proc/{process.pid}/fd")), 100)
+        process.send_signal(signal.SIGINT)
+        self.assertEqual(process.wait(30), 130)
+        self.assertIn(b"500 programs are connected, and no more are let in", process.stderr.read())
+
     def connected(self, path):
         connection = socket.socket(socket.AF_UNIX)
         self.addCleanup(connection.close)
-        connection.settimeout(30)
+        # With a limit of time it would not wait while many are to be let in.
         connection.connect(str(path))
+        connection.settimeout(30)
         return connection
 
     def asked(self, connection, lines, count):
