@@ -7,11 +7,10 @@ import hashlib
 import os
 import random
 import re
-import select
+import resource
 import shutil
 import signal
 import socket
-import stat
 import subprocess
 import sys
 import textwrap
@@ -230,6 +229,52 @@ class Writing(ReplicaCase):
         self.assertEqual(ann.run_all([line] * 70), [f"ok {k + 1}" for k in range(70)])
         self.assertEqual(len(self.replica("ben").run("show w")), 70)
 
+    def test_other_users_can_not_read_a_replica(self):
+        before = os.umask(0o022)
+        self.addCleanup(os.umask, before)
+        ann = self.replica("ann", folder=self.folder / "new")
+        ann.run("layer add w point")
+        self.cut(ann)
+        folder = self.folder / "new"
+        self.assertEqual(folder.stat().st_mode & 0o777, 0o700)
+        self.assertTrue({"timeline", ".sfs"} <= {path.suffix or path.name for path in folder.iterdir()})
+        self.assert_private(folder)
+        # An earlier version gave others the right to read.
+        ann.close()
+        for path in folder.iterdir():
+            path.chmod(0o644)
+        self.replica("ann", folder=folder)
+        self.assert_private(folder)
+
+    def assert_private(self, folder):
+        modes = {path.name: oct(path.stat().st_mode & 0o777) for path in folder.iterdir()}
+        self.assertEqual(set(modes.values()), {"0o600"}, modes)
+
+    SLOW = """\
+        import ctypes, subprocess, sys, os, time
+        flag = {flag!r}
+        def follow(): ctypes.CDLL(None).prctl(1, 9)  # the program is killed with this one
+        program = subprocess.Popen([{program!r}, *sys.argv[1:]], stdin=subprocess.PIPE, bufsize=0, preexec_fn=follow)
+        for line in sys.stdin.buffer:
+            if {once} and line.startswith(b"match") and os.path.exists(flag): time.sleep(600)
+            program.stdin.write(line)
+        program.stdin.close()
+        sys.exit(program.wait())
+        """
+
+    def test_a_question_that_takes_too_long_is_ended(self):
+        [ann] = self.town("ann")
+        ann.close()
+        ann = self.replica("ann", program=self.flagged(self.SLOW, True), question_seconds=0.5)
+        ann.run("add w POINT (7 3)")
+        for count in range(1, 6):
+            begun = time.monotonic()
+            self.assertEqual(shown(ann.run_all(["match w w"])), [refused(103, "TooLong", "match w w")])
+            self.assertLess(time.monotonic() - begun, 20)
+            self.assertEqual((ann.run("show w"), ann.restarts), (["1 POINT (7 3)"], count))
+        self.assert_told("a question took longer than 0.5 seconds: match w w")
+        self.assertEqual(ann.run("add w POINT (1 1)"), "ok 2")
+
     def test_one_process_has_a_folder(self):
         self.town("ann")
         with self.assertRaisesRegex(JournalError, "open in another session"):
@@ -290,8 +335,7 @@ class Sessions(ReplicaCase):
         answers += b"refused 101 OtherEditor\nrefused 33 LineTooLong\nok\n"
         self.assertEqual((said.stdout, said.stderr, said.returncode), (answers, b"", 0))
 
-    def listening(self):
-        """A replica that listens at a socket: its process, and the socket's path."""
+    def test_many_at_a_socket(self):
         words = ["run", str(self.folder / "ann"), self.dsn("ann"), "--program", PROGRAM, "--listen"]
         process = subprocess.Popen(
             [sys.executable, "-m", "sfstore.replica.command", *words],
@@ -304,10 +348,6 @@ class Sessions(ReplicaCase):
         until = time.monotonic() + 30
         while not path.exists() and time.monotonic() < until:
             time.sleep(0.02)
-        return process, path
-
-    def test_many_at_a_socket(self):
-        process, path = self.listening()
         self.assertEqual(path.stat().st_mode & 0o077, 0)
         first, second, third = (self.connected(path) for _ in range(3))
         self.assertEqual(self.asked(first, b"layer add w point\nadd w POINT (3 4)\n", 2), [b"ok", b"ok 1"])
@@ -324,27 +364,45 @@ class Sessions(ReplicaCase):
         self.assertEqual(process.wait(30), 130)
         self.assertFalse(path.exists())
 
-    def test_more_than_there_is_room_for_at_a_socket(self):
-        """Whoever comes beyond the places is sent away; those who are there are answered, and places come free."""
-        process, path = self.listening()
+    def test_more_at_a_socket_than_are_let_in(self):
+        words = ["run", str(self.folder / "ann"), self.dsn("ann"), "--program", PROGRAM, "--listen"]
+        soft, hard = resource.getrlimit(resource.RLIMIT_NOFILE)
+        if hard != resource.RLIM_INFINITY and hard < 2000:
+            self.skipTest("this process may not open 2,000 files")
+        resource.setrlimit(resource.RLIMIT_NOFILE, (max(soft, 2000), hard))
+        self.addCleanup(resource.setrlimit, resource.RLIMIT_NOFILE, (soft, hard))
+        process = subprocess.Popen(
+            [sys.executable, "-m", "sfstore.replica.command", *words],
+            env={**os.environ, "PYTHONPATH": str(FOLDER)},
+            stderr=subprocess.PIPE,
+        )
+        self.addCleanup(process.communicate)
+        self.addCleanup(process.kill)
+        path = self.folder / "ann" / "socket"
+        until = time.monotonic() + 30
+        while not path.exists() and time.monotonic() < until:
+            time.sleep(0.02)
         first = self.connected(path)
         self.assertEqual(self.asked(first, b"layer add w point\n", 1), [b"ok"])
-        others = [self.connected(path) for _ in range(300)]
-        self.assertTrue(select.select([others[-1]], [], [], 30)[0])
-        gone = [other for other in others if select.select([other], [], [], 0)[0]]
-        self.assertEqual([other.recv(1) for other in gone], [b""] * 45)
-        self.assertEqual(self.asked(first, b"add w POINT (3 4)\n", 1), [b"ok 1"])
-        for other in others:
-            other.close()
-        self.assertEqual(self.asked(first, b"show w\n", 2), [b"rows 1", b"1 POINT (3 4)"])
-        self.assertEqual(self.asked(self.connected(path), b"show w\n", 2), [b"rows 1", b"1 POINT (3 4)"])
+        held = [self.connected(path) for _ in range(1200)]
+        self.assertEqual(self.asked(held[0], b"layers\n", 2), [b"rows 1", b"w point"])
+        self.assertEqual(held[-1].recv(1), b"")
+        # Those that end make room again, and leave no file open behind them.
+        for connection in held:
+            connection.close()
+        self.assertEqual(self.asked(first, b"layers\n", 2), [b"rows 1", b"w point"])
+        for _ in range(600):
+            with self.connected(path) as short:
+                self.assertEqual(self.asked(short, b"layers\n", 2), [b"rows 1", b"w point"])
+        self.assertLess(len(os.listdir(f"/proc/{process.pid}/fd")), 100)
         process.send_signal(signal.SIGINT)
         self.assertEqual(process.wait(30), 130)
+        self.assertIn(b"500 programs are connected, and no more are let in", process.stderr.read())
 
     def connected(self, path):
         connection = socket.socket(socket.AF_UNIX)
         self.addCleanup(connection.close)
-        # Where many come at once it waits for its turn.
+        # With a limit of time it would not wait while many are to be let in.
         connection.connect(str(path))
         connection.settimeout(30)
         return connection
@@ -664,31 +722,6 @@ class Divergence(ReplicaCase):
         self.assert_told("is damaged, and the one before is taken")
         self.assertEqual(cleo.run("show w"), ["1 POINT (7 3)"])
         self.assertEqual(self.file(cleo, at), files[0])
-
-    def test_a_damaged_file_that_loads_is_not_served(self):
-        """One bit of a coordinate is another one: the sum in the log says so, and stays as it was."""
-        ann, cleo = self.town("ann", "cleo")
-        self.cut(ann, cleo)
-        ann.run("add w POINT (7 3)")
-        at, files = self.cut(ann, cleo)
-        sums = "SELECT DISTINCT sum FROM sfstore.sums WHERE at = %s"
-        [[right]] = self.ask(sums, [at])
-        cleo.close()
-        [path] = (self.folder / "cleo").glob(f"{at:020}-*.sfs")
-        damaged = bytearray(files[0])
-        place = files[0].index(bytes.fromhex("0000000000001c40"))
-        damaged[place + 6] ^= 0x04
-        path.write_bytes(damaged)
-        with Store(load=path, program=PROGRAM) as store:
-            self.assertEqual([feature.wkt for feature in store.show("w")], ["POINT (6 3)"])
-        cleo = self.replica("cleo")
-        self.assert_told("is damaged, and the one before is taken: it is not the file that")
-        self.assertEqual(cleo.run("show w"), ["1 POINT (7 3)"])
-        self.assertEqual(self.file(cleo, at), files[0])
-        self.assertEqual([list(row) for row in self.ask(sums, [at])], [[right]])
-        self.assertEqual(stat.S_IMODE((self.folder / "cleo").stat().st_mode), 0o700)
-        [path] = (self.folder / "cleo").glob(f"{at:020}-*.sfs")
-        self.assertEqual(stat.S_IMODE(path.stat().st_mode), 0o600)
 
     def test_a_log_whose_lines_were_changed(self):
         ann, ben = self.town("ann", "ben")

@@ -5,6 +5,7 @@ from __future__ import annotations
 import argparse
 import os
 import sys
+import threading
 import time
 from collections.abc import Callable
 from pathlib import Path
@@ -49,6 +50,13 @@ def main(words: list[str] | None = None) -> int:
         return 130
 
 
+def _seconds(text: str) -> float:
+    seconds = float(text)
+    if not 0 < seconds <= threading.TIMEOUT_MAX / 10:
+        raise argparse.ArgumentTypeError(f"{text} is no time: it is more than 0")
+    return seconds
+
+
 def _failed(reason: str, status: int) -> int:
     print(f"sfstore-replica: {reason}", file=sys.stderr)
     return status
@@ -91,6 +99,9 @@ def _add_run(run: argparse.ArgumentParser) -> None:
         "--listen",
         action="store_true",
         help="answer all programs of this user that come to the socket in the folder, in the place of standard input",
+    )
+    run.add_argument(
+        "--seconds", type=_seconds, default=10.0, help="how long a question may take; 10 if not given"
     )
     run.add_argument(
         "--patience", type=float, default=60.0, help="for how many seconds a line is tried; 60 if not given"
@@ -141,6 +152,7 @@ def _run(asked: argparse.Namespace) -> int:
         begin_from=asked.begin_from,
         trust=asked.trust,
         patience=asked.patience,
+        question_seconds=asked.seconds,
         tell=teller.tell,
         progress=_Progress().tell,
     ) as replica:

@@ -4,7 +4,7 @@ from __future__ import annotations
 
 import importlib
 import re
-import select
+import selectors
 import time
 from collections.abc import Callable, Sequence
 from typing import Any
@@ -186,10 +186,15 @@ class Link:
             if tick is not None and now > ticked + _TICK_SECONDS:
                 ticked = now
                 tick()
-            watched = select.poll()
             is_reading = state == psycopg2.extensions.POLL_READ
-            watched.register(self._raw.fileno(), select.POLLIN if is_reading else select.POLLOUT)
-            watched.poll(1_000 * min(_TICK_SECONDS, until - now + 0.001))
+            _wait_for(self._raw, is_reading, min(_TICK_SECONDS, until - now + 0.001))
+
+
+def _wait_for(raw: Any, is_reading: bool, seconds: float) -> None:
+    """Waits for a connection's socket, whatever its number is. It may be another one than before."""
+    with selectors.DefaultSelector() as selector:
+        selector.register(raw, selectors.EVENT_READ if is_reading else selectors.EVENT_WRITE)
+        selector.select(seconds)
 
 
 def _first_line(error: Exception) -> str:

@@ -108,6 +108,7 @@ class Fence:
         self.timeline = timeline
         if self._path is not None:
             with files.whole_file(str(self._path)) as beside:
+                Path(beside).chmod(0o600)
                 Path(beside).write_text(f"{timeline}\n")
 
 

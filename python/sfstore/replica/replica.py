@@ -2,11 +2,13 @@
 
 from __future__ import annotations
 
+import contextlib
 import os
+import threading
 import time
 import uuid
 from collections import Counter
-from collections.abc import Callable, Iterable, Sequence
+from collections.abc import Callable, Iterable, Iterator, Sequence
 from pathlib import Path
 from typing import Union
 
@@ -76,7 +78,7 @@ class Replica:
     ``begin_from`` is the file of another replica, for a folder that has none. ``trust`` is the
     login of the replica whose files are the right ones: one that differs from it stops.
     ``patience`` is how long a line is tried, and how long servers are looked for at the beginning,
-    in seconds.
+    and ``question_seconds`` how long a question may take, in seconds.
     ``tell`` is told in a sentence what keeps the replica waiting, and nothing (an empty text) where
     nothing does any more; ``progress`` how far it is, and how far the log goes.
 
@@ -95,6 +97,7 @@ class Replica:
         begin_from: str | os.PathLike[str] | None = None,
         trust: str | None = None,
         patience: float = 60.0,
+        question_seconds: float = 10.0,
         tell: Callable[[str], object] = lambda text: None,
         progress: Callable[[int, int], object] = lambda at, last: None,
     ) -> None:
@@ -104,9 +107,11 @@ class Replica:
         self._patience = patience
         self._progress = progress
         self._trust = trust
+        self._question_seconds = question_seconds
         self._teller = Teller(tell)
         # Others that differ are told of once, however often the servers are told of meanwhile.
         self._differing = Teller(tell)
+        # The store's content, for this user alone. A folder that is there keeps the mode that it was given.
         self._folder.mkdir(mode=0o700, parents=True, exist_ok=True)
         self._lock = locked(str(self._folder / "replica"))
         self._snapshots = Snapshots(self._folder)
@@ -248,13 +253,41 @@ class Replica:
         """The answer of a question, by a store that has all that was ever shown here."""
         for _ in range(_TRIES):
             self._catch_up(self._seen, time.monotonic() + self._patience)
+            stopped = threading.Event()
             try:
-                return self._store.run(question)
+                with self._limited(stopped):
+                    return self._store.run(question)
             except Refused as refused:
                 return refused
             except ProgramEnded as ended:
+                if stopped.is_set():
+                    return self._too_long(question)
                 self._begin_again(str(ended))
         raise ReplicaStopped(f"the program ended {_TRIES} times over a question: {question[:200]}")
+
+    @contextlib.contextmanager
+    def _limited(self, stopped: threading.Event) -> Iterator[None]:
+        """Ends the program where the body takes too long: everybody else waits for it."""
+
+        def stop(store: Store = self._store) -> None:
+            stopped.set()
+            store.stop()
+
+        timer = threading.Timer(self._question_seconds, stop)
+        timer.start()
+        try:
+            yield
+        finally:
+            timer.cancel()
+            timer.join()
+
+    def _too_long(self, question: str) -> Refused:
+        """Has the store begin again whose program was ended over a question, and gives the refusal."""
+        # It is no failure of the store's: another question may be as long.
+        self._failures = 0
+        reason = f"a question took longer than {self._question_seconds:g} seconds: {question[:200]}"
+        self._begin_again(reason)
+        return Refused(103, "TooLong", question)
 
     # Beginning, and beginning again
 

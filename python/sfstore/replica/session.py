@@ -4,7 +4,7 @@ from __future__ import annotations
 
 import contextlib
 import os
-import select
+import selectors
 import socket
 import time
 from collections.abc import Callable, Iterator
@@ -21,12 +21,13 @@ __all__ = ["listen", "serve"]
 _LINE_BYTES = 131_072
 _READ_BYTES = 1 << 16
 _IDLE_SECONDS = 1.0
-# How many connections are answered at one time: each has an open file, of which a process has 1,024 as a rule.
-_PEERS_MAX = 256
 # How long lines may wait while others write.
 _FOLLOW_SECONDS = 0.2
 # How long one who asks may let answers lie, while others wait.
 _SEND_SECONDS = 5.0
+# How many may ask at once. Each one has a file of the process, of which Debian gives it 1,024.
+_PEERS = 500
+_TOO_MANY = "{} programs are connected, and no more are let in: a connection that was left open has to end first"
 
 
 class _Peer:
@@ -77,8 +78,8 @@ def listen(replica: Replica, path: Path, tell: Callable[[str], object]) -> None:
     """Answers all who come to a socket, which this user alone can open, and follows the log meanwhile.
 
     They are answered in turn: while a line of one waits for a standby, the others wait. Who leaves
-    answers lying, or has a line that is not acknowledged, is sent away. `ReplicaStopped` ends it,
-    and so does an interrupt.
+    answers lying, or has a line that is not acknowledged, is sent away, and so is who comes when
+    500 are there. `ReplicaStopped` ends it, and so does an interrupt.
     """
     peers: dict[int, tuple[_Peer, socket.socket]] = {}
     with _door(path) as door:
@@ -86,7 +87,7 @@ def listen(replica: Replica, path: Path, tell: Callable[[str], object]) -> None:
             while True:
                 for number in _ready(replica, [door.fileno(), *peers], tell):
                     if number == door.fileno():
-                        _enter(door, peers, tell)
+                        _let_in(door, peers, tell)
                     elif not _is_answered(replica, peers[number][0], tell):
                         peers.pop(number)[1].close()
         finally:
@@ -94,14 +95,19 @@ def listen(replica: Replica, path: Path, tell: Callable[[str], object]) -> None:
                 connection.close()
 
 
-def _enter(
+def _let_in(
     door: socket.socket, peers: dict[int, tuple[_Peer, socket.socket]], tell: Callable[[str], object]
 ) -> None:
-    """Lets one more in, where there is room: whoever comes beyond that is sent away at once."""
-    connection = door.accept()[0]
-    if len(peers) >= _PEERS_MAX:
+    """Lets one more in who asks, or sends them away where there are too many."""
+    try:
+        connection = door.accept()[0]
+    except OSError as error:
+        # The one who came is gone, or the process may open no more files.
+        tell(f"a program could not be let in: {error}")
+        return
+    if len(peers) >= _PEERS:
         connection.close()
-        tell(f"{_PEERS_MAX} connections are open: one more is sent away")
+        tell(_TOO_MANY.format(len(peers)))
         return
     connection.settimeout(_SEND_SECONDS)
     peers[connection.fileno()] = _Peer(connection.recv, connection.sendall), connection
@@ -140,14 +146,20 @@ def _ready(replica: Replica, given: list[int], tell: Callable[[str], object]) ->
     """Waits for lines or for news of the log, which is followed. Which of the streams have lines."""
     news = [number for number in (replica.fileno(),) if number >= 0]
     seconds = 0.0 if replica.has_news() else _IDLE_SECONDS
-    watched = select.poll()
-    for number in [*given, *news]:
-        watched.register(number, select.POLLIN)
-    ready = [number for number, _ in watched.poll(1_000 * seconds)]
-    lines = [number for number in ready if number in given]
+    ready = _readable([*given, *news], seconds)
+    lines = [number for number in ready if number not in news]
     if not lines or len(lines) < len(ready) or replica.has_news():
         _follow(replica, tell)
     return lines
+
+
+def _readable(numbers: list[int], seconds: float) -> list[int]:
+    """Which of some open files can be read, after some seconds at most."""
+    # Standard input may be a plain file, which poll takes and epoll does not.
+    with selectors.PollSelector() as selector:
+        for number in numbers:
+            selector.register(number, selectors.EVENT_READ)
+        return [key.fd for key, _ in selector.select(seconds)]
 
 
 def _follow(replica: Replica, tell: Callable[[str], object]) -> None:

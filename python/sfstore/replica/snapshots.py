@@ -37,6 +37,14 @@ class Snapshots:
 
     def __init__(self, folder: Path) -> None:
         self._folder = folder
+        self._keep_from_others()
+
+    def _keep_from_others(self) -> None:
+        """Takes rights away that an earlier version gave: the log is read by its logins alone, and so is this."""
+        for path in self._folder.iterdir():
+            is_own = path.name == "timeline" or _NAME.fullmatch(path.name.removesuffix(".wrong"))
+            if is_own and path.is_file() and not path.is_symlink():
+                path.chmod(0o600)
 
     def clear(self) -> None:
         """Takes away what was not saved to its end."""
@@ -52,12 +60,17 @@ class Snapshots:
         return max((it for it in self._all() if it.at < later.at), default=None)
 
     def aside(self) -> Path:
-        """Where a program is to save. The name is new: one that was left alone may save to its own still."""
-        return self._folder / f"aside-{uuid.uuid4().hex}"
+        """An empty file to which a program is to save, of this user alone.
+
+        The name is new: a program that was left alone may save to its own still.
+        """
+        path = self._folder / f"aside-{uuid.uuid4().hex}"
+        path.touch(0o600, exist_ok=False)
+        return path
 
     def keep(self, aside: Path, at: int, chain: bytes) -> Snapshot:
         """Makes a file that was saved the newest one: whole and on the disk, or not at all."""
-        os.chmod(aside, 0o600)
+        aside.chmod(0o600)
         files.sync(str(aside))
         kept = Snapshot(at, chain, self._folder / f"{at:020}-{chain.hex()}.sfs")
         files.replace(str(aside), str(kept.path))
