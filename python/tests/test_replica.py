@@ -977,6 +977,31 @@ class Servers(ReplicaCase):
         ben.follow()
         self.assertEqual(ben.run("show w"), ["1 POINT (1 1)"])
 
+    def test_the_owner_finds_the_primary_behind_a_server_that_hangs(self):
+        # The servers are named in one order: the one that hangs is the first.
+        if self.pair.primary.name != "a":
+            self.pair.primary.kill()
+            self.pair.fail_over()
+            self.pair.renew_standby()
+        stalled = self.pair.primary.processes()
+        self.addCleanup(self.end, stalled)
+        self.pair.primary.stall()
+        self.pair.fail_over()
+        dsn = self.dsn("postgres")
+        try:
+            begun = time.monotonic()
+            self.assertEqual(owning.state(dsn).at, 0)
+            self.assertLess(time.monotonic() - begun, 20)
+            # No standby is there to be waited for.
+            quiet = dsn + " options='-c synchronous_commit=local'"
+            owning.add_login(quiet, "zoe", is_editor=False, is_replica=False)
+            owning.create_database(quiet)
+        finally:
+            self.end(stalled)
+            self.pair.standby._reap()
+        self.pair.renew_standby()
+        self.ask("DROP ROLE zoe", database="postgres")
+
     def old_primary(self):
         """Has the standby take over, and gives the server that was the primary, in a folder of its own."""
         name, standby = self.pair.primary.name, self.pair.standby.name

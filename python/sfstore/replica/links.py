@@ -22,6 +22,7 @@ __all__ = [
     "NoAnswer",
     "check_driver",
     "database_of",
+    "place_of",
     "primary_of",
     "servers_of",
 ]
@@ -38,6 +39,9 @@ _WATCH = {
     "application_name": "sfstore-replica",
     "client_encoding": "UTF8",
 }
+
+# Of what file the write-ahead log is, whose name begins with the timeline; empty on a standby.
+_WRITTEN = "SELECT CASE WHEN pg_is_in_recovery() THEN '' ELSE pg_walfile_name(pg_current_wal_insert_lsn()) END"
 
 # A server that is a standby refuses what writes so.
 _READ_ONLY = "25006"
@@ -78,22 +82,53 @@ def servers_of(dsn: str) -> list[str]:
     ['dbname=town host=a port=1', 'dbname=town host=b port=2']
     """
     words = psycopg2.extensions.parse_dsn(dsn)
-    hosts = words.pop("host", "").split(",")
-    ports = words.pop("port", "").split(",")
-    if len(ports) == 1:
-        ports *= len(hosts)
-    if len(ports) != len(hosts):
-        raise ValueError(f"{len(hosts)} hosts, but {len(ports)} ports")
-    places = ({"host": host, "port": port} for host, port in zip(hosts, ports))
+    lists = {key: words.pop(key, "").split(",") for key in ("host", "hostaddr", "port")}
+    count = max(len(lists["host"]), len(lists["hostaddr"]))
+    for key, items in lists.items():
+        # One port is that of all hosts; no host and no address are those of none.
+        if len(items) == 1 and (key == "port" or not items[0]):
+            items *= count
+        if len(items) != count:
+            raise ValueError(f"{count} hosts, but {len(items)} of {key}")
+    places = [dict(zip(lists, place)) for place in zip(*lists.values())]
     return [
         str(psycopg2.extensions.make_dsn(**words, **{key: it for key, it in place.items() if it}))
         for place in places
     ]
 
 
-def primary_of(dsn: str) -> str:
-    """Words of connection by which PostgreSQL itself chooses a server that takes writes."""
-    return str(psycopg2.extensions.make_dsn(dsn, target_session_attrs="read-write"))
+def place_of(dsn: str) -> str:
+    """Where a server is, without the login's secrets."""
+    words = psycopg2.extensions.parse_dsn(dsn)
+    return f"the server {words.get('host') or words.get('hostaddr', 'here')}:{words.get('port', '5432')}"
+
+
+def primary_of(dsn: str) -> Link:
+    """A connection to the server that takes writes: of several that do, to that of the highest timeline.
+
+    Each server of the words has a limit of time of its own, so that one that hangs hides no other.
+    `LinkLost` where none takes writes.
+    """
+    reasons: list[str] = []
+    found: list[tuple[str, Link]] = []
+    for server in servers_of(dsn):
+        try:
+            link = Link(server)
+            [(file,)] = link.ask(_WRITTEN, seconds=_CONNECT_SECONDS)
+        except (LinkLost, LogRefused) as error:
+            reasons.append(f"{place_of(server)}: {error}")
+            continue
+        if file:
+            found.append((file, link))
+        else:
+            link.close()
+            reasons.append(f"{place_of(server)} is a standby")
+    if not found:
+        raise LinkLost("; ".join(reasons))
+    found.sort(key=lambda it: it[0][:8])
+    for _, link in found[:-1]:
+        link.close()
+    return found[-1][1]
 
 
 def database_of(dsn: str) -> tuple[str, str]:

@@ -9,7 +9,7 @@ from pathlib import Path
 from typing import Any, NamedTuple, TypeVar
 
 from sfstore import files
-from sfstore.replica.links import Link, LinkLost, LogRefused, NoAnswer, servers_of
+from sfstore.replica.links import Link, LinkLost, LogRefused, NoAnswer, place_of, servers_of
 
 __all__ = ["Entry", "Fence", "Following", "LogUnreachable", "Standing", "Writing", "chained"]
 
@@ -167,11 +167,11 @@ class _Servers:
             try:
                 link, standing = _looked_at(dsn)
             except (LinkLost, LogRefused) as error:
-                reasons.append(f"{_place(dsn)}: {error}")
+                reasons.append(f"{place_of(dsn)}: {error}")
                 continue
             objection = self._fence.objection(standing)
             if objection or (best is not None and standing.timeline <= self._timeline):
-                reasons.append(f"{_place(dsn)} {objection}")
+                reasons.append(f"{place_of(dsn)} {objection}")
                 link.close()
                 continue
             if best is not None:
@@ -206,7 +206,7 @@ class _Servers:
                 continue
             other.close()
             if standing.timeline > self._timeline:
-                raise LinkLost(f"{_place(dsn)} has taken over from {_place(link.dsn)}")
+                raise LinkLost(f"{place_of(dsn)} has taken over from {place_of(link.dsn)}")
         self._looked = time.monotonic()
 
 
@@ -408,9 +408,3 @@ def _looked_at(dsn: str) -> tuple[Link, Standing]:
         link.close()
         raise
     return link, Standing(int(file[:8], 16) if file else 0, at, bytes(chain), bytes(start))
-
-
-def _place(dsn: str) -> str:
-    """Where a server is, without the login's secrets."""
-    words = dict(word.split("=", 1) for word in dsn.split(" ") if "=" in word)
-    return f"the server {words.get('host', 'here')}:{words.get('port', '5432')}"

@@ -68,7 +68,7 @@ class State(NamedTuple):
 def create_database(dsn: str) -> None:
     """Makes the database of some words of connection in UTF-8, where it is missing."""
     name, elsewhere = database_of(dsn)
-    link = Link(elsewhere)
+    link = primary_of(elsewhere)
     try:
         words = "SELECT quote_ident(%s), EXISTS (SELECT FROM pg_database WHERE datname = %s)"
         [(quoted, is_there)] = link.ask(words, (name, name))
@@ -84,7 +84,7 @@ def set_up(dsn: str, standbys: int) -> None:
     A line is given out where so many standbys have it. `LogRefused` where the database has a log
     already, is not in UTF-8, or the login may not.
     """
-    link = Link(primary_of(dsn))
+    link = primary_of(dsn)
     try:
         [(encoding,)] = link.ask("SHOW server_encoding")
         if encoding != "UTF8":
@@ -100,7 +100,7 @@ def add_login(dsn: str, login: str, *, is_editor: bool, is_replica: bool) -> int
     Where there is no such login it is made, without a password. Gives the editor's number: the
     lowest that is not given. `LoginExists` where it is an editor already.
     """
-    link = Link(primary_of(dsn))
+    link = primary_of(dsn)
     try:
         words = "SELECT quote_ident(%s), EXISTS (SELECT FROM pg_roles WHERE rolname = %s)"
         [(name, is_there)] = link.ask(words, (login, login))
@@ -156,7 +156,7 @@ def drop_before(dsn: str, at: int, replicas: int, age: str, seconds: float) -> i
 
 def state(dsn: str) -> State:
     """How the log stands."""
-    link = Link(primary_of(dsn))
+    link = primary_of(dsn)
     try:
         [(at, wanted)] = link.ask("SELECT at, standbys FROM sfstore.head")
         [(first,)] = link.ask("SELECT min(at) FROM sfstore.log")
