@@ -9,6 +9,7 @@ from support import FOLDER, PROGRAM, TestCase
 
 from sfstore import Refused, Store, language
 from sfstore.replica import lines as replica_lines
+from sfstore.replica import session
 
 TOP = FOLDER.parent
 CONSOLE = (TOP / "docs" / "CONSOLE.md").read_text(encoding="utf-8")
@@ -25,6 +26,13 @@ class Language(TestCase):
     def test_replicas_know_the_words_of_the_table(self):
         self.assertEqual(replica_lines.EDITS, language.EDITS)
         self.assertEqual(replica_lines.QUESTIONS, language.QUESTIONS)
+
+    def test_scripts_and_sockets_know_the_table(self):
+        script = (FOLDER / "sfstore" / "web" / "static" / "geometry.js").read_text(encoding="utf-8")
+        [kinds] = re.findall(r"KINDS = \[(.*?)\]", script)
+        self.assertEqual(re.findall(r'"(\w+)"', kinds), language.KINDS)
+        self.assertEqual(re.findall(r"GRID_MAX = (\d+)", script), [str(language.GRID_MAX)])
+        self.assertEqual(session._LINE_BYTES, language.LINE_MAX)
 
     def test_the_page_of_the_language_has_each_command(self):
         rows = " ".join(re.findall(r"^\| `([^|]*)` \|", CONSOLE, re.MULTILINE))

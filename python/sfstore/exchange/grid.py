@@ -8,9 +8,11 @@ from dataclasses import dataclass
 from decimal import Decimal, InvalidOperation
 from fractions import Fraction
 
+from sfstore.language import GRID_MAX, GRID_MIN
+
 __all__ = ["LEAST", "MOST", "Grid", "OffGrid", "Outside", "Rounding"]
 
-LEAST, MOST = -8_388_608, 8_388_607
+LEAST, MOST = GRID_MIN, GRID_MAX
 """The coordinates of the store, in steps from the origin."""
 
 # Further than the nearest step can be from the one that a quotient of doubles tells.

@@ -8,7 +8,7 @@ from typing import Any
 
 from sfstore.commands import Command, help_text, near_words
 from sfstore.geometry import Shape, read_wkb, write_wkt
-from sfstore.language import QUESTIONS
+from sfstore.language import GRID_MAX, GRID_MIN, QUESTIONS
 from sfstore.lines import geometry_of
 from sfstore.refusals import words_of
 from sfstore.store import Answer, Column, Refused, Store, Value
@@ -20,7 +20,7 @@ from sfstore.web.logins import Logins
 from sfstore.web.mirror import Mirror
 from sfstore.web.places import place_of
 from sfstore.web.steps import Step
-from sfstore.web.windows import ELEMENTS_MAX, GRID_MAX, GRID_MIN, Box, extent_of, window_of
+from sfstore.web.windows import ELEMENTS_MAX, Box, extent_of, window_of
 
 __all__ = ["BadCall", "Calls", "Outdated"]
 

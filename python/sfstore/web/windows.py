@@ -10,6 +10,7 @@ from collections.abc import Sequence
 from typing import Any
 
 from sfstore.geometry import read_wkb
+from sfstore.language import GRID_MAX, GRID_MIN
 from sfstore.store import Editor, Refused
 
 __all__ = ["ELEMENTS_MAX", "Box", "extent_of", "window_of"]
@@ -19,8 +20,6 @@ Box = tuple[int, int, int, int]
 
 ELEMENTS_MAX = 20_000
 """How many features a page draws at most."""
-
-GRID_MIN, GRID_MAX = -8_388_608, 8_388_607
 
 # How many hexadecimal digits of geometries a page is sent at most: some 2,000,000 points.
 _DIGITS_MAX = 64_000_000
