@@ -258,7 +258,7 @@ class Trial:
             path = Path(folder) / "one.sfs"
             words = [self._program, f"--save={path}"]
             given = "".join(lines).encode()
-            subprocess.run(words, input=given, stdout=subprocess.DEVNULL, check=True)  # nosec B603: no shell; its own words
+            subprocess.run(words, input=given, stdout=subprocess.DEVNULL, check=True)  # nosec B603: its own words
             return path.read_bytes()
 
 
