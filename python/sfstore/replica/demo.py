@@ -5,7 +5,7 @@ from __future__ import annotations
 import hashlib
 import os
 import random
-import subprocess  # nosec B404: servers of one's own are started, without a shell.
+import subprocess  # nosec B404: programs of this machine are started without a shell
 import sys
 import tempfile
 import threading
@@ -97,7 +97,7 @@ class Person:
     def _started(self) -> subprocess.Popen[bytes]:
         path = os.pathsep.join([str(_MODULES), *filter(None, [os.environ.get("PYTHONPATH")])])
         with open(self._said, "ab") as said:
-            return subprocess.Popen(  # nosec B603: a list of words of this program.
+            return subprocess.Popen(  # nosec B603: no shell; the words are the demonstration's own
                 self._words,
                 stdin=subprocess.PIPE,
                 stdout=subprocess.PIPE,
@@ -164,7 +164,8 @@ class Trial:
         owning.set_up(owner, 1)
         for login in self.LOGINS:
             number = owning.add_login(owner, login, is_editor=True, is_replica=True)
-            assert number is not None  # nosec B101: for the checker of types; it always holds.
+            if number is None:
+                raise AssertionError("an editor has a number")
             if number == 1:
                 link = Link(self.pair.primary.dsn(login))
                 link.ask("SELECT sfstore.append(ARRAY[gen_random_uuid()], ARRAY['layer add w point'])")
@@ -256,7 +257,8 @@ class Trial:
         with tempfile.TemporaryDirectory() as folder:
             path = Path(folder) / "one.sfs"
             words = [self._program, f"--save={path}"]
-            subprocess.run(words, input="".join(lines).encode(), stdout=subprocess.DEVNULL, check=True)  # nosec B603: a list of words of this program.
+            given = "".join(lines).encode()
+            subprocess.run(words, input=given, stdout=subprocess.DEVNULL, check=True)  # nosec B603: its own words
             return path.read_bytes()
 
 

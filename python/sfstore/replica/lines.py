@@ -5,13 +5,10 @@ from __future__ import annotations
 import re
 from typing import NamedTuple
 
+# The edits go to the log, and `sfstore.is_edit` of log.sql has them too; the questions are answered here.
+from sfstore.language import EDITS, QUESTIONS
+
 __all__ = ["EDITS", "LINE_MAX", "QUESTIONS", "Asked", "asked"]
-
-EDITS = frozenset("layer column add addhex delete replace vertex set unset undo redo".split())
-"""The first words of the lines that go to the log; `sfstore.is_edit` of log.sql has them too."""
-
-QUESTIONS = frozenset("layers columns show hex box simple relate match query".split())
-"""Those of the lines that the store here answers."""
 
 LINE_MAX = 131_067
 """How many bytes a line of the log may have: the console's most, without ``@255`` and a blank."""
@@ -46,7 +43,8 @@ def asked(line: str) -> Asked:
     """
     line = line.removesuffix("\r")
     front = _FRONT.match(line)
-    assert front is not None  # nosec B101: for the checker of types; the pattern matches any text.
+    if front is None:
+        raise AssertionError("each part of the pattern may be empty")
     named, word = front.groups()
     editor = None if named is None else int(named)
     if editor is not None and not 1 <= editor <= 255:

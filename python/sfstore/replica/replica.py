@@ -556,7 +556,7 @@ class Replica:
         return ""
 
     def _go_back(self, snapshot: Snapshot, reason: str) -> None:
-        """Sets a file aside that may be wrong, with `_GivenUp`, once and where the log has all behind the one before."""
+        """Sets a file aside that may be wrong, with `_GivenUp`: once, and where the lines can be carried out again."""
         if self._differed_at == snapshot.at:
             return
         before = self._snapshots.before(snapshot)

@@ -9,7 +9,7 @@ import contextlib
 import os
 import shutil
 import signal
-import subprocess  # nosec B404: servers of one's own are started, without a shell.
+import subprocess  # nosec B404: programs of this machine are started without a shell
 import tempfile
 import time
 from collections.abc import Sequence
@@ -82,7 +82,7 @@ class Server:
             words += ["-c", option]
         with open(self._folder / "log", "ab") as log:
             words[0] = str(self._bin / words[0])
-            self._process = subprocess.Popen(  # nosec B603: a list of words of this program.
+            self._process = subprocess.Popen(  # nosec B603: no shell; PostgreSQL's program
                 words, cwd="/", stdin=subprocess.DEVNULL, stdout=log, stderr=log, start_new_session=True, **_owner()
             )
         self._wait_for(self.dsn())
@@ -130,7 +130,8 @@ class Server:
         """The processes of this server alone, the first of them first."""
         main = self._postmaster()
         words = ["ps", "-o", "pid=", "--ppid", str(main)]
-        children = subprocess.run(words, capture_output=True, text=True).stdout.split()  # nosec B603: a list of words of this program.
+        said = subprocess.run(words, capture_output=True, text=True)  # nosec B603, B607: no shell; ps of the PATH
+        children = said.stdout.split()
         return [main, *map(int, children)]
 
     def _postmaster(self) -> int:
@@ -149,7 +150,7 @@ class Server:
     def _run(self, words: Sequence[str]) -> None:
         """Runs a program of PostgreSQL to its end."""
         whole = [str(self._bin / words[0]), *words[1:]]
-        ended = subprocess.run(whole, cwd="/", capture_output=True, text=True, **_owner())  # nosec B603: a list of words of this program.
+        ended = subprocess.run(whole, cwd="/", capture_output=True, text=True, **_owner())  # nosec B603: no shell
         if ended.returncode:
             raise RuntimeError(f"{words[0]}: {ended.stderr.strip()}")
 
