@@ -29,7 +29,7 @@ from sfstore.commands import COMMANDS
 from sfstore.replica import LogUnreachable, NotAcknowledged, Replica, ReplicaStopped, owning
 from sfstore.replica.demo import Trial
 from sfstore.replica.lines import EDITS, QUESTIONS, asked
-from sfstore.replica.links import Link, LinkLost, LogRefused
+from sfstore.replica.links import Link, LinkLost, LogRefused, servers_of
 from sfstore.replica.servers import Pair, Server
 
 SCHEMA = (FOLDER / "sfstore" / "replica" / "log.sql").read_text()
@@ -58,6 +58,18 @@ class Lines(TestCase):
             ("und\xa0o", None, "und\xa0o", "und\xa0o"),
         ]:
             self.assertEqual(asked(line), (editor, word, rest))
+
+    @unittest.skipIf(missing(), missing())
+    def test_the_servers_of_some_words(self):
+        for words, servers in [
+            ("host=a,b port=1,2", ["host=a port=1", "host=b port=2"]),
+            ("host=a,b port=1", ["host=a port=1", "host=b port=1"]),
+            ("host=a,b hostaddr=1.1.1.1,2.2.2.2", ["host=a hostaddr=1.1.1.1", "host=b hostaddr=2.2.2.2"]),
+            ("hostaddr=1.1.1.1,2.2.2.2", ["hostaddr=1.1.1.1", "hostaddr=2.2.2.2"]),
+        ]:
+            self.assertEqual(servers_of(words), servers, words)
+        with self.assertRaisesRegex(ValueError, "3 hosts, but 2 of host"):
+            servers_of("host=a,b hostaddr=1.1.1.1,2.2.2.2,3.3.3.3")
 
     def test_the_log_takes_the_edits_of_the_module(self):
         [words] = re.findall(r"\^\[ \\t\]\*\(([a-z|]+)\)", SCHEMA)
