@@ -347,7 +347,8 @@ class Sessions(ReplicaCase):
         answers += b"refused 101 OtherEditor\nrefused 33 LineTooLong\nok\n"
         self.assertEqual((said.stdout, said.stderr, said.returncode), (answers, b"", 0))
 
-    def test_many_at_a_socket(self):
+    def listening(self):
+        """A replica that listens at a socket: its process, and the socket's path."""
         words = ["run", str(self.folder / "ann"), self.dsn("ann"), "--program", PROGRAM, "--listen"]
         process = subprocess.Popen(
             [sys.executable, "-m", "sfstore.replica.command", *words],
@@ -360,6 +361,10 @@ class Sessions(ReplicaCase):
         until = time.monotonic() + 30
         while not path.exists() and time.monotonic() < until:
             time.sleep(0.02)
+        return process, path
+
+    def test_many_at_a_socket(self):
+        process, path = self.listening()
         self.assertEqual(path.stat().st_mode & 0o077, 0)
         first, second, third = (self.connected(path) for _ in range(3))
         self.assertEqual(self.asked(first, b"layer add w point\nadd w POINT (3 4)\n", 2), [b"ok", b"ok 1"])
@@ -377,23 +382,12 @@ class Sessions(ReplicaCase):
         self.assertFalse(path.exists())
 
     def test_more_at_a_socket_than_are_let_in(self):
-        words = ["run", str(self.folder / "ann"), self.dsn("ann"), "--program", PROGRAM, "--listen"]
         soft, hard = resource.getrlimit(resource.RLIMIT_NOFILE)
         if hard != resource.RLIM_INFINITY and hard < 2000:
             self.skipTest("this process may not open 2,000 files")
         resource.setrlimit(resource.RLIMIT_NOFILE, (max(soft, 2000), hard))
         self.addCleanup(resource.setrlimit, resource.RLIMIT_NOFILE, (soft, hard))
-        process = subprocess.Popen(
-            [sys.executable, "-m", "sfstore.replica.command", *words],
-            env={**os.environ, "PYTHONPATH": str(FOLDER)},
-            stderr=subprocess.PIPE,
-        )
-        self.addCleanup(process.communicate)
-        self.addCleanup(process.kill)
-        path = self.folder / "ann" / "socket"
-        until = time.monotonic() + 30
-        while not path.exists() and time.monotonic() < until:
-            time.sleep(0.02)
+        process, path = self.listening()
         first = self.connected(path)
         self.assertEqual(self.asked(first, b"layer add w point\n", 1), [b"ok"])
         held = [self.connected(path) for _ in range(1200)]
