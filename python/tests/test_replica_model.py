@@ -2,6 +2,7 @@
 
 from __future__ import annotations
 
+import contextlib
 import random
 import unittest
 
@@ -9,6 +10,7 @@ from replica_support import ReplicaCase
 
 from sfstore import Refused
 from sfstore.replica import ReplicaStopped, owning
+from sfstore.replica.links import LogRefused
 
 OPERATIONS = 40
 # The coordinates are odd numbers below 64, so that one bit of a double makes another whole number.
@@ -24,6 +26,7 @@ class Model(ReplicaCase):
         "undo": 3,
         "look": 4,
         "cut": 5,
+        "drop": 2,
         "reopen": 4,
         "damage": 4,
         "break_off": 2,
@@ -35,7 +38,7 @@ class Model(ReplicaCase):
         self.did = []
         self.points = []
         self.last = ""
-        self.at = None
+        self.at, self.dropped = None, None
         self.open = dict(zip(logins, self.town(*logins)))
         self.follow()
 
@@ -76,6 +79,13 @@ class Model(ReplicaCase):
         self.last = ""
         self.follow()
 
+    def drop(self):
+        """What stands before the last cut is dropped, where all sums there are one."""
+        if self.at is not None:
+            with contextlib.suppress(LogRefused):
+                owning.drop_before(self.owner, self.at, len(self.open), "0", 5)
+                self.dropped = self.at
+
     def reopen(self):
         login = self.somebody()
         self.open.pop(login).close()
@@ -90,7 +100,8 @@ class Model(ReplicaCase):
         login = self.somebody()
         self.open.pop(login).close()
         newest = max((self.folder / login).glob("*.sfs"), default=None)
-        if newest is not None:
+        # Where the lines behind the file before were dropped, a person has to bring another replica's file.
+        if newest is not None and self.at != self.dropped:
             data = bytearray(newest.read_bytes())
             place = data.rfind(b"\x40") - 1
             if place > 20:
