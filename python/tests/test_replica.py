@@ -29,7 +29,7 @@ from sfstore.commands import COMMANDS
 from sfstore.replica import LogUnreachable, NotAcknowledged, Replica, ReplicaStopped, owning
 from sfstore.replica.demo import Trial
 from sfstore.replica.lines import EDITS, QUESTIONS, asked
-from sfstore.replica.links import Link, LinkLost, LogRefused
+from sfstore.replica.links import Link, LinkLost, LogRefused, servers_of
 from sfstore.replica.servers import Pair, Server
 
 SCHEMA = (FOLDER / "sfstore" / "replica" / "log.sql").read_text()
@@ -58,6 +58,18 @@ class Lines(TestCase):
             ("und\xa0o", None, "und\xa0o", "und\xa0o"),
         ]:
             self.assertEqual(asked(line), (editor, word, rest))
+
+    @unittest.skipIf(missing(), missing())
+    def test_the_servers_of_some_words(self):
+        for words, servers in [
+            ("host=a,b port=1,2", ["host=a port=1", "host=b port=2"]),
+            ("host=a,b port=1", ["host=a port=1", "host=b port=1"]),
+            ("host=a,b hostaddr=1.1.1.1,2.2.2.2", ["host=a hostaddr=1.1.1.1", "host=b hostaddr=2.2.2.2"]),
+            ("hostaddr=1.1.1.1,2.2.2.2", ["hostaddr=1.1.1.1", "hostaddr=2.2.2.2"]),
+        ]:
+            self.assertEqual(servers_of(words), servers, words)
+        with self.assertRaisesRegex(ValueError, "3 hosts, but 2 of host"):
+            servers_of("host=a,b hostaddr=1.1.1.1,2.2.2.2,3.3.3.3")
 
     def test_the_log_takes_the_edits_of_the_module(self):
         [words] = re.findall(r"\^\[ \\t\]\*\(([a-z|]+)\)", SCHEMA)
@@ -335,7 +347,8 @@ class Sessions(ReplicaCase):
         answers += b"refused 101 OtherEditor\nrefused 33 LineTooLong\nok\n"
         self.assertEqual((said.stdout, said.stderr, said.returncode), (answers, b"", 0))
 
-    def test_many_at_a_socket(self):
+    def listening(self):
+        """A replica that listens at a socket: its process, and the socket's path."""
         words = ["run", str(self.folder / "ann"), self.dsn("ann"), "--program", PROGRAM, "--listen"]
         process = subprocess.Popen(
             [sys.executable, "-m", "sfstore.replica.command", *words],
@@ -348,6 +361,10 @@ class Sessions(ReplicaCase):
         until = time.monotonic() + 30
         while not path.exists() and time.monotonic() < until:
             time.sleep(0.02)
+        return process, path
+
+    def test_many_at_a_socket(self):
+        process, path = self.listening()
         self.assertEqual(path.stat().st_mode & 0o077, 0)
         first, second, third = (self.connected(path) for _ in range(3))
         self.assertEqual(self.asked(first, b"layer add w point\nadd w POINT (3 4)\n", 2), [b"ok", b"ok 1"])
@@ -365,23 +382,12 @@ class Sessions(ReplicaCase):
         self.assertFalse(path.exists())
 
     def test_more_at_a_socket_than_are_let_in(self):
-        words = ["run", str(self.folder / "ann"), self.dsn("ann"), "--program", PROGRAM, "--listen"]
         soft, hard = resource.getrlimit(resource.RLIMIT_NOFILE)
         if hard != resource.RLIM_INFINITY and hard < 2000:
             self.skipTest("this process may not open 2,000 files")
         resource.setrlimit(resource.RLIMIT_NOFILE, (max(soft, 2000), hard))
         self.addCleanup(resource.setrlimit, resource.RLIMIT_NOFILE, (soft, hard))
-        process = subprocess.Popen(
-            [sys.executable, "-m", "sfstore.replica.command", *words],
-            env={**os.environ, "PYTHONPATH": str(FOLDER)},
-            stderr=subprocess.PIPE,
-        )
-        self.addCleanup(process.communicate)
-        self.addCleanup(process.kill)
-        path = self.folder / "ann" / "socket"
-        until = time.monotonic() + 30
-        while not path.exists() and time.monotonic() < until:
-            time.sleep(0.02)
+        process, path = self.listening()
         first = self.connected(path)
         self.assertEqual(self.asked(first, b"layer add w point\n", 1), [b"ok"])
         held = [self.connected(path) for _ in range(1200)]
