@@ -40,7 +40,8 @@ class JournalThreats(TestCase):
         store = self.opened()
         store.add("w", "POINT (1 1)")
         self.other_program_adds("POINT (9 9)")
-        for call in (store.save, lambda: store.copy(self.folder / "copy.sfs")):
+        # By the lines that are not saved a second program would be given what the page shows.
+        for call in (store.save, lambda: store.copy(self.folder / "copy.sfs"), lambda: store.unsaved_lines):
             with self.assertRaisesRegex(JournalError, "changed or taken away by another program"):
                 call()
         self.assertEqual(self.points(), ["POINT (0 0)", "POINT (9 9)"])
