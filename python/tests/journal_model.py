@@ -29,6 +29,9 @@ OWN = ["town.sfs", "town.sfs.journal", "town.sfs.lock", "town.sfs.json", "copy.s
 WRONG_SIDECARS = ['{"format": "sfstore side-car 1", "grid": ["0", "0", "1"], "crs": null, "digests": [], "layers": ["x"]}']
 WRONG_SIDECARS += ["[" * 100_000, '{"format": NaN}', "", '{"format": "sfstore side-car 1", "grid": "abc", "crs": "x"}']
 
+# What the model does itself is no call of the package.
+REAL_UNLINK = os.unlink
+
 
 class Crash(BaseException):
     """The process ends here: nothing behind it is done."""
@@ -370,6 +373,7 @@ class Run:
         "edit": 12, "batch": 4, "save": 5, "close": 2, "leave": 3, "kill": 3, "crash": 8, "fault": 6,
         "full": 2, "write_foreign": 2, "write_foreign_meanwhile": 4, "remove_file": 1, "remove_lock": 2,
         "remove_journal": 1, "cut": 2, "change": 2, "copy": 2, "copy_onto_own": 1, "second": 1,
+        "remove_lock_meanwhile": 1, "swap_meanwhile": 2,
     }  # fmt: skip
 
     def _note(self, name):
@@ -470,7 +474,7 @@ class Run:
     def _copy(self):
         path = os.path.join(self.folder, "copy.sfs")
         # Where it breaks off it may have taken the place of the old one: then it is whole.
-        self.copied.add(written(after(self.saved, self.lines + self.maybe)))
+        self.copied.add(self._file_of(after(self.saved, self.lines + self.maybe)))
         self.store.copy(path)
         self.copied = {self._bytes("copy.sfs")}
         if self._points_of(path) != after(self.saved, self.lines + self.maybe):
@@ -562,7 +566,7 @@ class Run:
         """An operation on a full disk."""
         what = self._something()
         self._note(what.__name__)
-        is_there = os.path.exists(self.path + ".journal")
+        is_there = all(os.path.exists(self.path + ending) for ending in (".journal", ".lock"))
         was_open = self.store is not None
         self.disk.is_full = True
         try:
@@ -570,7 +574,7 @@ class Run:
         finally:
             self.disk.is_full = False
         # Where there are no edits a new journal may have to be begun, which takes room.
-        if ended is not None and not was_open and is_there and edits_left(self.path) and not self.excuse:
+        if ended is not None and not was_open and is_there and not self.excuse and edits_left(self.path):
             raise Violation(f"a full disk keeps the store from being opened: {ended}")
         self._learn()
 
@@ -598,7 +602,9 @@ class Run:
 
     def write_foreign(self):
         """Another program writes the file: over it, or by a rename."""
-        points = [f"POINT ({self.dice.randint(1, 99)} 9)"]
+        # Always another file: one with the bytes that the edits go on from is the same one.
+        self.number += 1
+        points = [f"POINT ({self.number} 9)"]
         if not os.path.exists(self.path):
             self.mode = None
         if self.dice.random() < 0.5 or not os.path.exists(self.path):
@@ -669,17 +675,62 @@ class Run:
         if self.store is None or self.excuse or self.foreign is not None:
             self._drop()
             return
-        stale, lines, maybe = self.store, self.lines, self.maybe
-        self.store = None
-        self.open()
-        for what in (lambda: stale.run("layer add v point"), lambda: stale.run("layer add u point")):
-            with contextlib.suppress(JournalError, RuntimeError, Refused):
-                if str(what()) == "ok":
-                    raise Violation("a session without its lock answered an edit")
+        stale, self.store = self.store, None
+        error = None
+        if self.dice.random() < 0.5:
+            self.open()
+            self._stale_edits(stale)
+        else:
+            # What is not answered may be there or not, where the new session reads the journal behind it.
+            self.maybe = self.maybe + self._stale_lines()
+            plan = Plan(self.dice.randint(0, 12), lambda: self._stale_edits(stale), is_behind=self.dice.random() < 0.5)
+            error = self._planned(plan, self.open)
         if self.dice.random() < 0.5:
             with contextlib.suppress(JournalError, RuntimeError):
                 stale.save()
         stale.close(save=False)
+        self._raise_unless_refused(error)
+
+    def _stale_lines(self):
+        """Edits of which one at least would be taken."""
+        return ["layer add w point", f"add w POINT ({self.number} 4)"]
+
+    def _stale_edits(self, stale):
+        """A session whose lock was taken away answers no edit."""
+        for line in self._stale_lines():
+            with contextlib.suppress(JournalError, RuntimeError, Refused):
+                if str(stale.run(line)).startswith("ok"):
+                    raise Violation("a session without its lock answered an edit")
+
+    def remove_lock_meanwhile(self):
+        """The lock is taken away between its opening and its locking: another one counts then."""
+        if self.store is None and not self.excuse and self.foreign is None:
+            path = self.path + ".lock"
+            plan = Plan(0, lambda: self.disk.real["unlink"](path), ["open"], is_behind=True)
+            self._raise_unless_refused(self._planned(plan, self.open))
+            self._raise_unless_refused(self._planned(None, self.edit))
+            self.second()
+
+    def swap_meanwhile(self):
+        """Another file stands in the place of the store's while the second program runs, and no longer."""
+        if self.store is None or not os.path.exists(self.path):
+            return
+        real, aside = self.disk.real["program"], self.path + ".aside"
+
+        def swapped(*arguments, **named):
+            self.disk.real["replace"](self.path, aside)
+            self._write_file(["POINT (7 7)"])
+            try:
+                return real(*arguments, **named)
+            finally:
+                self.disk.real["replace"](aside, self.path)
+
+        self.disk.real["program"] = swapped
+        try:
+            error = self._planned(None, self.dice.choice([self.save, self.copy]))
+        finally:
+            self.disk.real["program"] = real
+        self._raise_unless_refused(error)
 
     def remove_journal(self):
         """The journal is taken away: while a session lives it is written anew; else the edits are given up."""
@@ -846,8 +897,25 @@ class Run:
     def _points_of(self, path):
         if not os.path.exists(path):
             return None
+        if self.program != "small":
+            with Store(load=path, program=self.program) as store:
+                return self._content(store)
         return loaded([f"--load={path}"])
 
     def _write_file(self, points, ending=""):
+        data = self._file_of(points)
         with open(self.path + ending, "wb") as file:
-            file.write(written(points))
+            file.write(data)
+
+    def _file_of(self, points):
+        """The bytes of a file with some points, as the program writes them."""
+        if self.program == "small":
+            return written(points)
+        lines = [] if points is None else ["layer add w point", *(f"add w {point}" for point in points)]
+        path = f"{self.folder}.made"
+        words = [self.program, f"--save={path}"]
+        subprocess.run(words, input="".join(f"{line}\n" for line in lines).encode(), check=True, stdout=subprocess.DEVNULL)
+        with open(path, "rb") as file:
+            data = file.read()
+        REAL_UNLINK(path)
+        return data

@@ -3,11 +3,10 @@
 from __future__ import annotations
 
 import os
-import sys
 import tempfile
 import unittest
 
-from support import TestCase
+from support import PROGRAM, TestCase
 
 from journal_model import Run, Violation
 
@@ -19,12 +18,12 @@ def folder_of_lists():
     return tempfile.TemporaryDirectory(dir="/dev/shm" if os.access("/dev/shm", os.W_OK) else None)
 
 
-def broken(seeds, count=16):
+def broken(seeds, program="small", count=16):
     """The seeds whose lists break the model, with what is wrong."""
     found = {}
     for seed in seeds:
         with folder_of_lists() as folder:
-            run = Run(seed, folder)
+            run = Run(seed, folder, program)
             try:
                 run.steps(count)
             except Violation as wrong:
@@ -35,6 +34,9 @@ def broken(seeds, count=16):
 class Model(TestCase):
     def test_thousands_of_lists(self):
         self.assertEqual(broken(range(LISTS)), {})
+
+    def test_some_lists_over_the_real_program(self):
+        self.assertEqual(broken(range(60), PROGRAM), {})
 
 
 if __name__ == "__main__":

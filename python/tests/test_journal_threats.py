@@ -40,7 +40,8 @@ class JournalThreats(TestCase):
         store = self.opened()
         store.add("w", "POINT (1 1)")
         self.other_program_adds("POINT (9 9)")
-        for call in (store.save, lambda: store.copy(self.folder / "copy.sfs")):
+        # By the lines that are not saved a second program would be given what the page shows.
+        for call in (store.save, lambda: store.copy(self.folder / "copy.sfs"), lambda: store.unsaved_lines):
             with self.assertRaisesRegex(JournalError, "changed or taken away by another program"):
                 call()
         self.assertEqual(self.points(), ["POINT (0 0)", "POINT (9 9)"])
@@ -108,13 +109,15 @@ class JournalThreats(TestCase):
             self.assertEqual(os.readlink(f"{self.path}{name}"), str(precious))
 
     def test_a_journal_that_is_a_link_is_not_followed(self):
+        # One that could be appended to, which is somebody else's.
         other = self.folder / "other"
-        other.write_text("other")
-        os.unlink(f"{self.path}.journal")
+        os.rename(f"{self.path}.journal", other)
+        before = other.read_bytes()
         os.symlink(other, f"{self.path}.journal")
-        with contextlib.suppress(JournalError, OSError), self.opened() as store:
+        with self.assertRaises(OSError), self.opened() as store:
             store.add("w", "POINT (1 1)")
-        self.assertEqual(other.read_text(), "other")
+            store.close(save=False)
+        self.assertEqual(other.read_bytes(), before)
 
     def test_a_side_car_that_is_none_stops_no_save(self):
         for content in ("[" * 100_000, '{"format": "sfstore side-car 1", "layers": ["x"]}', "5", ""):
