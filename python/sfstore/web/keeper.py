@@ -162,8 +162,14 @@ class Keeper:
             with warnings.catch_warnings():
                 # A torn record is told by `recovered`.
                 warnings.simplefilter("ignore", RuntimeWarning)
-                self._store = Store(self._path, journal=True, program=self._program)
-            self._steps = Steps(self._store.unsaved_lines)
+                store = Store(self._path, journal=True, program=self._program)
+            try:
+                self._steps = Steps(store.unsaved_lines)
+            except BaseException:
+                # Another program has written the file in this very moment.
+                store.close(save=False)
+                raise
+            self._store = store
             self._version += 1
             self._file += 1
             # An edit that was in doubt may be there or not.
