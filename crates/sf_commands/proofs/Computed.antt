@@ -1,5 +1,5 @@
 -- Commands of lines, computed from the definitions alone.
-use Rattle.std.proofs.Common.{◌≡◌, pos, negsuc, Ok, Err, [], codes, refl}
+use Rattle.std.proofs.Common.{◌≡◌, pos, negsuc, Ok, Err, None, Some, [], ◌∷◌, codes, refl}
 use Rattle.sf_refusals.specs.declared.refusal.Refusal.TheVariants.{Syntax, OffGrid, OutOfRange, BadCommand}
 use Rattle.sf_geometry.specs.declared.geometry.Geometry.TheVariants as geometries
 use Rattle.sf_geometry.specs.declared.kind.Kind.TheVariants as kinds
@@ -7,7 +7,7 @@ use Rattle.sf_layers.specs.declared.layer_kind.LayerKind.TheVariants.{Only}
 use Rattle.sf_features.specs.declared.attr_value.AttrValue.TheVariants as values
 use Rattle.sf_features.specs.declared.column_type.ColumnType.TheVariants as types
 use Rattle.sf_steps.specs.declared.edit.Edit.TheVariants as edits
-use Rattle.sf_commands.specs.declared.command.Command.TheVariants.{Edit, Undo, Redo, Layers, Columns, Show, Hex, Simple, Extent}
+use Rattle.sf_commands.specs.declared.command.Command.TheVariants.{Edit, Undo, Redo, Layers, Columns, Show, Get, Find, Hex, Simple, Extent}
 use Rattle.sf_commands.specs.Commands.{command_of}
 
 layer_added : command_of (codes "layer add wells multipolygon") ≡ Ok (0, Edit (edits.AddLayer (codes "wells") (Only kinds.MultiPolygon)))
@@ -74,6 +74,19 @@ steps = (refl, refl)
 
 lists : (command_of (codes "layers") ≡ Ok (0, Layers)) × (command_of (codes "columns wells") ≡ Ok (0, Columns (codes "wells"))) × (command_of (codes "show wells") ≡ Ok (0, Show (codes "wells")))
 lists = (refl, refl, refl)
+
+features_asked : (command_of (codes "get wells 7") ≡ Ok (0, Get (codes "wells") (7 ∷ []))) × (command_of (codes "@3 get wells 3 1  0003 ") ≡ Ok (3, Get (codes "wells") (3 ∷ 1 ∷ 3 ∷ [])))
+features_asked = (refl, refl)
+
+features_not_asked : (command_of (codes "get") ≡ Err BadCommand) × (command_of (codes "get wells") ≡ Err BadCommand) × (command_of (codes "get wells 1 x") ≡ Err BadCommand) × (command_of (codes "get wells 4294967296") ≡ Err BadCommand)
+features_not_asked = (refl, refl, refl, refl)
+
+values_sought : (command_of (codes "find wells depth -12 ") ≡ Ok (0, Find (codes "wells") (codes "depth") (Some (values.Int (negsuc 11)))))
+    × (command_of (codes "find wells label 'it''s old'") ≡ Ok (0, Find (codes "wells") (codes "label") (Some (values.Text (codes "it's old"))))) × (command_of (codes "find wells label ") ≡ Ok (0, Find (codes "wells") (codes "label") None))
+values_sought = (refl, refl, refl)
+
+values_not_sought : (command_of (codes "find") ≡ Err BadCommand) × (command_of (codes "find wells") ≡ Err BadCommand) × (command_of (codes "find wells label old") ≡ Err BadCommand) × (command_of (codes "find wells depth 1 2") ≡ Err BadCommand)
+values_not_sought = (refl, refl, refl, refl)
 
 geometries_asked : (command_of (codes "hex wells 7") ≡ Ok (0, Hex (codes "wells") 7)) × (command_of (codes "box wells 7") ≡ Ok (0, Extent (codes "wells") 7))
     × (command_of (codes "simple wells 7") ≡ Ok (0, Simple (codes "wells") 7))

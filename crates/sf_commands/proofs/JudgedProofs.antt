@@ -6,7 +6,7 @@ use Rattle.hex.specs.Hex.{decode_of}
 use Rattle.sf_refusals.specs.declared.refusal.Refusal.{Refusal}
 use Rattle.sf_refusals.specs.declared.refusal.Refusal.TheVariants.{BadCommand, BadPattern, LineTooLong, Syntax}
 use Rattle.sf_refusals.specs.declared.refusal.Refusal.TheVariants as refusals
-use Rattle.sf_grid.specs.Plane.{Coordinates, IsOnGrid}
+use Rattle.sf_grid.specs.Plane.{IsOnGrid}
 use Rattle.sf_geometry.specs.Parts.{points_of}
 use Rattle.sf_geometry.specs.declared.geometry.Geometry.{Geometry}
 use Rattle.sf_geometry.specs.Size.{IsSized}
@@ -37,7 +37,7 @@ use Rattle.sf_commands.specs.declared.verb.Action.{Action}
 use Rattle.sf_commands.specs.declared.verb.Action.TheVariants as actions
 use Rattle.sf_commands.specs.Words.{words, skip_blanks, skip_word, trimmed_end}
 use Rattle.sf_commands.specs.Values.{point_by, point_of, value_of}
-use Rattle.sf_commands.specs.Commands.{action_of, add_arguments, add_column, add_layer, addhex_arguments, addressed, addressed_command, after_two_words, alone, behind_at, by_editor, by_verb, by_words, by_digits, by_first_word, bytes_command, column_arguments, column_command, column_type_of, command_of, delete_arguments, drop_column, drop_layer, editor_of, faultless, feature_arguments, feature_command, feature_named, given, hex_command, id_of, insert_vertex, layer_arguments, layer_command, layer_kind_of, made, match_arguments, move_layer, move_vertex, of_layer, of_text, predicate_of, query_arguments, relate_arguments, remove_vertex, rename_layer, replace_arguments, set_arguments, unset_arguments, valid_of, verb_of, vertex_arguments, vertex_command, vertex_place, with_geometry, with_id}
+use Rattle.sf_commands.specs.Commands.{action_of, add_arguments, add_column, add_layer, addhex_arguments, addressed, addressed_command, after_two_words, alone, behind_at, by_editor, by_verb, by_words, by_digits, by_first_word, bytes_command, column_arguments, column_command, column_type_of, delete_arguments, drop_column, drop_layer, editor_of, faultless, feature_arguments, feature_command, feature_named, find_arguments, get_arguments, given, hex_command, id_of, ids_of, insert_vertex, layer_arguments, layer_command, layer_kind_of, made, match_arguments, move_layer, move_vertex, of_layer, of_text, predicate_of, query_arguments, relate_arguments, remove_vertex, rename_layer, replace_arguments, set_arguments, sought_of, unset_arguments, valid_of, verb_of, vertex_arguments, vertex_command, vertex_place, with_geometry, with_id}
 use Rattle.sf_commands.specs.Laws.{GivenGeometriesAreJudgedOverThePlane, HasFaultyGiven, HasJudgedGiven, HasValidGiven, SpellsValid, given_text}
 
 -- what is said of what was made of a text behind the verb
@@ -303,6 +303,19 @@ unset_judged : (t : List ℕ) (arguments : List (List ℕ)) → Judged t (unset_
 unset_judged t (layer ∷ id ∷ column ∷ []) = given_judged t (id_of id) _ (λ id. tt)
 unset_judged t arguments = bad t
 
+get_judged : (t : List ℕ) (arguments : List (List ℕ)) → Judged t (get_arguments arguments)
+get_judged t [] = bad t
+get_judged t (layer ∷ ids) = given_judged t (ids_of ids) _ (λ ids. tt)
+
+sought_other : (value : List (List ℕ)) (text : List ℕ) → IfErr (sought_of value text) IsOther
+sought_other [] text = tt
+sought_other (first ∷ more) text = given_other (value_of (trimmed_end text)) _ (λ value. tt)
+
+find_judged : (t : List ℕ) (arguments : List (List ℕ)) (text : List ℕ) → Judged t (find_arguments arguments text)
+find_judged t [] text = bad t
+find_judged t (layer ∷ []) text = bad t
+find_judged t (layer ∷ column ∷ value) text = made_judged t (sought_of value text) _ (sought_other value text) (λ sought. tt)
+
 after_two_words_judged : (t : List ℕ) (make : List ℕ → List ℕ → List ℕ → Result Command Refusal) (arguments : List (List ℕ)) → ((layer word : List ℕ) → Judged t (make layer word t))
     → Judged t (after_two_words make arguments t)
 after_two_words_judged t make (layer ∷ word ∷ first ∷ more) judged = judged layer word
@@ -349,6 +362,8 @@ by_verb_judged (Some verbs.Redo) rest = alone_judged (behind rest) Redo (words r
 by_verb_judged (Some verbs.Layers) rest = alone_judged (behind rest) Layers (words rest) tt
 by_verb_judged (Some verbs.Columns) rest = of_layer_judged (behind rest) Columns (words rest) (λ layer. tt)
 by_verb_judged (Some verbs.Show) rest = of_layer_judged (behind rest) Show (words rest) (λ layer. tt)
+by_verb_judged (Some verbs.Get) rest = get_judged (behind rest) (words rest)
+by_verb_judged (Some verbs.Find) rest = find_judged (behind rest) (words rest) (behind rest)
 by_verb_judged (Some verbs.Hex) rest = feature_judged (behind rest) Hex (words rest) (λ layer id. tt)
 by_verb_judged (Some verbs.Box) rest = feature_judged (behind rest) Extent (words rest) (λ layer id. tt)
 by_verb_judged (Some verbs.Simple) rest = feature_judged (behind rest) Simple (words rest) (λ layer id. tt)

@@ -30,7 +30,7 @@ use Rattle.sf_commands.specs.declared.verb.Action.{Action}
 use Rattle.sf_commands.specs.declared.verb.Action.TheVariants as actions
 use Rattle.sf_commands.specs.Words.{words, skip_blanks, skip_word, trimmed_end}
 use Rattle.sf_commands.specs.Values.{point_by, point_of, value_of}
-use Rattle.sf_commands.specs.Commands.{action_of, add_arguments, add_column, add_layer, addhex_arguments, addressed, addressed_command, after_two_words, alone, by_editor, by_verb, by_words, bytes_command, column_arguments, column_command, column_type_of, command_of, delete_arguments, drop_column, drop_layer, feature_arguments, feature_command, feature_named, given, hex_command, id_of, insert_vertex, layer_arguments, layer_command, layer_kind_of, made, match_arguments, move_layer, move_vertex, of_layer, of_text, predicate_of, query_arguments, relate_arguments, remove_vertex, rename_layer, replace_arguments, set_arguments, unset_arguments, valid_of, verb_of, vertex_arguments, vertex_command, vertex_place, with_geometry}
+use Rattle.sf_commands.specs.Commands.{action_of, add_arguments, add_column, add_layer, addhex_arguments, addressed, addressed_command, after_two_words, alone, by_editor, by_verb, by_words, bytes_command, column_arguments, column_command, column_type_of, command_of, delete_arguments, drop_column, drop_layer, feature_arguments, feature_command, feature_named, find_arguments, get_arguments, given, hex_command, id_of, ids_of, insert_vertex, layer_arguments, layer_command, layer_kind_of, made, match_arguments, move_layer, move_vertex, of_layer, of_text, predicate_of, query_arguments, relate_arguments, remove_vertex, rename_layer, replace_arguments, set_arguments, sought_of, unset_arguments, valid_of, verb_of, vertex_arguments, vertex_command, vertex_place, with_geometry}
 use Rattle.sf_commands.specs.Laws.{CommandsBringGridPoints}
 use Rattle.sf_commands.proofs.PointLemmas.{spelled_on_grid}
 
@@ -185,6 +185,15 @@ unset_brings : (arguments : List (List ℕ)) → Brings (unset_arguments argumen
 unset_brings (layer ∷ id ∷ column ∷ []) = given_brings (id_of id) _ (λ id. tt)
 unset_brings arguments = tt
 
+get_brings : (arguments : List (List ℕ)) → Brings (get_arguments arguments)
+get_brings [] = tt
+get_brings (layer ∷ ids) = given_brings (ids_of ids) _ (λ ids. tt)
+
+find_brings : (arguments : List (List ℕ)) (text : List ℕ) → Brings (find_arguments arguments text)
+find_brings [] text = tt
+find_brings (layer ∷ []) text = tt
+find_brings (layer ∷ column ∷ value) text = made_brings (sought_of value text) _ (λ sought. tt)
+
 -- of questions with a geometry of their own
 with_geometry_brings : {X : Type 0} (command : List ℕ → X → Geometry → Command) (layer : List ℕ) (spelled : Result X Refusal) (geometry : Result Geometry Refusal)
     → ((x : X) (given : Geometry) → BringsOnGrid (command layer x given)) → Brings (with_geometry command layer spelled geometry)
@@ -232,6 +241,8 @@ by_verb_brings (Some verbs.Redo) rest = alone_brings Redo (words rest) tt
 by_verb_brings (Some verbs.Layers) rest = alone_brings Layers (words rest) tt
 by_verb_brings (Some verbs.Columns) rest = of_layer_brings Columns (words rest) (λ layer. tt)
 by_verb_brings (Some verbs.Show) rest = of_layer_brings Show (words rest) (λ layer. tt)
+by_verb_brings (Some verbs.Get) rest = get_brings (words rest)
+by_verb_brings (Some verbs.Find) rest = find_brings (words rest) (skip_blanks (skip_word (skip_word rest)))
 by_verb_brings (Some verbs.Hex) rest = feature_brings Hex (words rest) (λ layer id. tt)
 by_verb_brings (Some verbs.Box) rest = feature_brings Extent (words rest) (λ layer id. tt)
 by_verb_brings (Some verbs.Simple) rest = feature_brings Simple (words rest) (λ layer id. tt)

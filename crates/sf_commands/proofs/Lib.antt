@@ -6,6 +6,7 @@ pub mod QuoteLemmas
 pub mod PointLemmas
 pub mod VertexLemmas
 pub mod QueryLemmas
+pub mod LookupLemmas
 pub mod Computed
 pub mod ComputedQueries
 pub mod LawProofs

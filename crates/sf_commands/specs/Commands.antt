@@ -1,5 +1,5 @@
 -- The command of a line.
-use Rattle.std.specs.Prelude.{◌≡◌, ℕ, ◌^◌, Bool, true, false, ◌&&◌, List, [], ◌∷◌, length, Option, None, Some, Result, Ok, Err, nat_eq, nat_lt, nat_le, bytes_eq, codes, if◌then◌else◌}
+use Rattle.std.specs.Prelude.{◌≡◌, ℕ, ◌^◌, Bool, true, false, ◌&&◌, List, [], ◌∷◌, length, Option, None, Some, Result, Ok, Err, nat_eq, nat_lt, nat_le, option_and_then, option_map, bytes_eq, codes, if◌then◌else◌}
 use Rattle.std.specs.Char.{is_ascii_digit}
 use Rattle.std.specs.List.{list_all}
 use Rattle.std.specs.Map.{lookup}
@@ -26,6 +26,7 @@ use Rattle.sf_wkb.specs.Faults.{refusal_of as refusal_of_bytes}
 use Rattle.sf_wkb.specs.Grammar.{read as read_bytes}
 use Rattle.sf_layers.specs.declared.layer_kind.LayerKind.{LayerKind}
 use Rattle.sf_layers.specs.declared.layer_kind.LayerKind.TheVariants.{Any, Only}
+use Rattle.sf_features.specs.declared.attr_value.AttrValue.{AttrValue}
 use Rattle.sf_features.specs.declared.column_type.ColumnType.{ColumnType}
 use Rattle.sf_features.specs.declared.column_type.ColumnType.TheVariants as types
 use Rattle.sf_steps.specs.declared.edit.Edit.TheVariants as edits
@@ -34,7 +35,7 @@ use Rattle.sf_commands.specs.declared.verb.Verb.TheVariants as verbs
 use Rattle.sf_commands.specs.declared.verb.Action.{Action}
 use Rattle.sf_commands.specs.declared.verb.Action.TheVariants as actions
 use Rattle.sf_commands.specs.declared.command.Command.{Command}
-use Rattle.sf_commands.specs.declared.command.Command.TheVariants.{Edit, Undo, Redo, Layers, Columns, Show, Hex, Simple, Extent, Relate, Match, Query}
+use Rattle.sf_commands.specs.declared.command.Command.TheVariants.{Edit, Undo, Redo, Layers, Columns, Show, Get, Find, Hex, Simple, Extent, Relate, Match, Query}
 use Rattle.sf_commands.specs.declared.vertex_place.VertexPlace.{VertexPlace}
 use Rattle.sf_commands.specs.Words.{words, skip_blanks, skip_word, trimmed_end}
 use Rattle.sf_commands.specs.Values.{point_of, value_of}
@@ -42,7 +43,7 @@ use Rattle.sf_commands.specs.Values.{point_of, value_of}
 -- the words of the verbs that ask, and change neither the store nor its history
 abbrev pub asking_verbs : List (List ℕ × Verb)
 asking_verbs = (codes "layers", verbs.Layers) ∷ (codes "columns", verbs.Columns) ∷ (codes "show", verbs.Show)
-    ∷ (codes "hex", verbs.Hex) ∷ (codes "box", verbs.Box) ∷ (codes "simple", verbs.Simple)
+    ∷ (codes "get", verbs.Get) ∷ (codes "find", verbs.Find) ∷ (codes "hex", verbs.Hex) ∷ (codes "box", verbs.Box) ∷ (codes "simple", verbs.Simple)
     ∷ (codes "relate", verbs.Relate) ∷ (codes "match", verbs.Match) ∷ (codes "query", verbs.Query) ∷ []
 
 -- the asking verb that a word spells
@@ -85,6 +86,19 @@ id_digits_max = 10
 abbrev pub id_of : List ℕ → Option ℕ
 id_of word = let id = digits_value word in
     if (nat_le (length word) id_digits_max && list_all is_ascii_digit word) && (nat_lt 0 (length word) && nat_lt id (2 ^ 32)) then Some id else None
+
+-- what is made of each of a list, where something is made of all of them
+abbrev pub each : {X Y : Type 0} → (X → Option Y) → List X → Option (List Y)
+each make [] = Some []
+each make (x ∷ xs) = option_and_then (λ y. option_map (λ ys. y ∷ ys) (each make xs)) (make x)
+
+-- how many identifiers `get` takes at most
+abbrev pub ids_max : ℕ
+ids_max = 1000
+
+-- the identifiers that words spell: one to 1,000 of them
+abbrev pub ids_of : List (List ℕ) → Option (List ℕ)
+ids_of words = if nat_lt 0 (length words) && nat_le (length words) ids_max then each id_of words else None
 
 -- what is made of a word that could be read
 abbrev pub given : {X Y : Type 0} → Option X → (X → Result Y Refusal) → Result Y Refusal
@@ -262,6 +276,21 @@ abbrev pub unset_arguments : List (List ℕ) → Result Command Refusal
 unset_arguments (layer ∷ id ∷ column ∷ []) = given (id_of id) (λ id. Ok (Edit (edits.ClearValue layer id column)))
 unset_arguments arguments = Err BadCommand
 
+-- the command of the words after `get`: a layer and identifiers
+abbrev pub get_arguments : List (List ℕ) → Result Command Refusal
+get_arguments [] = Err BadCommand
+get_arguments (layer ∷ ids) = given (ids_of ids) (λ ids. Ok (Get layer ids))
+
+-- the value that is sought, where there are words for one; it is the text
+abbrev pub sought_of : List (List ℕ) → List ℕ → Result (Option AttrValue) Refusal
+sought_of [] text = Ok None
+sought_of (first ∷ more) text = given (value_of (trimmed_end text)) (λ value. Ok (Some value))
+
+-- the command of the words after `find`: a layer and a column; a value is the rest of the line from the third of them on
+abbrev pub find_arguments : List (List ℕ) → List ℕ → Result Command Refusal
+find_arguments (layer ∷ column ∷ value) text = made (sought_of value text) (λ sought. Ok (Find layer column sought))
+find_arguments arguments text = Err BadCommand
+
 -- what is made of a layer, the word after it, and the text, the rest of the line from the third word on
 abbrev pub after_two_words : (List ℕ → List ℕ → List ℕ → Result Command Refusal) → List (List ℕ) → List ℕ → Result Command Refusal
 after_two_words make (layer ∷ word ∷ first ∷ more) text = make layer word text
@@ -312,6 +341,8 @@ by_verb (Some verbs.Redo) rest = alone Redo (words rest)
 by_verb (Some verbs.Layers) rest = alone Layers (words rest)
 by_verb (Some verbs.Columns) rest = of_layer Columns (words rest)
 by_verb (Some verbs.Show) rest = of_layer Show (words rest)
+by_verb (Some verbs.Get) rest = get_arguments (words rest)
+by_verb (Some verbs.Find) rest = find_arguments (words rest) (skip_blanks (skip_word (skip_word rest)))
 by_verb (Some verbs.Hex) rest = feature_arguments Hex (words rest)
 by_verb (Some verbs.Box) rest = feature_arguments Extent (words rest)
 by_verb (Some verbs.Simple) rest = feature_arguments Simple (words rest)

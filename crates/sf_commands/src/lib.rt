@@ -5,8 +5,10 @@ mod addressing;
 mod column_commands;
 mod command;
 mod feature_commands;
+mod identifiers;
 pub mod laws;
 mod layer_commands;
+mod lookup_commands;
 mod parsing;
 mod point;
 mod query_commands;
@@ -18,6 +20,7 @@ mod vertex_place;
 mod words;
 
 pub use command::Command;
+pub use identifiers::Identifiers;
 pub use parsing::parse;
 pub use sf_refusals::Refusal;
 pub use words::is_blank_text;

@@ -12,6 +12,7 @@ use super::feature_commands::{
     replace_arguments, set_arguments, show_arguments, simple_arguments, unset_arguments,
 };
 use super::layer_commands::{layer_arguments, layers_arguments};
+use super::lookup_commands::{find_arguments, get_arguments};
 use super::query_commands::{match_arguments, query_arguments, relate_arguments};
 use super::verb::{Verb, verb_of};
 use super::vertex_commands::vertex_arguments;
@@ -66,6 +67,8 @@ fn arguments_of(alloc: Global, verb: Option<Verb>, words: Words<'_>) -> Result<C
         Some(Verb::Layers) => layers_arguments(words),
         Some(Verb::Columns) => columns_arguments(alloc, words),
         Some(Verb::Show) => show_arguments(alloc, words),
+        Some(Verb::Get) => get_arguments(alloc, words),
+        Some(Verb::Find) => find_arguments(alloc, words),
         Some(Verb::Hex) => hex_arguments(alloc, words),
         Some(Verb::Box) => box_arguments(alloc, words),
         Some(Verb::Simple) => simple_arguments(alloc, words),

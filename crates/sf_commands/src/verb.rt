@@ -18,6 +18,8 @@ pub(crate) enum Verb {
     Layers,
     Columns,
     Show,
+    Get,
+    Find,
     Hex,
     Box,
     Simple,
@@ -78,6 +80,10 @@ fn asking_verb_of(word: &str) -> Option<Verb>
         Some(Verb::Columns)
     } else if word == "show" {
         Some(Verb::Show)
+    } else if word == "get" {
+        Some(Verb::Get)
+    } else if word == "find" {
+        Some(Verb::Find)
     } else if word == "hex" {
         Some(Verb::Hex)
     } else if word == "box" {

@@ -1,4 +1,4 @@
--- Sessions that compare features with given geometries, computed from the definitions alone.
+-- Sessions that compare features with given geometries, or look them up, computed from the definitions alone.
 use Rattle.std.proofs.Common.{◌≡◌, ◌++◌, codes, refl}
 use Rattle.std.specs.Fmt.{digits}
 use Rattle.std.specs.Str.{is_utf8, chars}
@@ -18,3 +18,11 @@ faults_of_questions = refl
 pub lines_that_cross : output_of (line (codes "layer add l linestring") ++ line (codes "add l LINESTRING (0 0, 2 1)") ++ line (codes "relate l 1 LINESTRING (0 1, 1 0)") ++ line (codes "query l crosses LINESTRING (0 1, 1 0)")) ≡ line (codes "ok") ++ line (codes "ok 1") ++ line (codes "0F1FF0102") ++ line (codes "rows 1") ++ line (codes "1")
 unfolding is_utf8 chars encode digits
 lines_that_cross = refl
+
+pub features_got : output_of (line (codes "layer add w any") ++ line (codes "column add w n int") ++ line (codes "column add w t text") ++ line (codes "add w POINT (1 1)") ++ line (codes "add w LINESTRING (0 0, 5 5)") ++ line (codes "add w POINT (3 -3)") ++ line (codes "set w 1 n 12") ++ line (codes "set w 3 n 12") ++ line (codes "set w 3 t 'it''s'") ++ line (codes "get w 3 1 2 3") ++ line (codes "get w 2") ++ line (codes "get w 1 4") ++ line (codes "get v 1") ++ line (codes "get w 0")) ≡ line (codes "ok") ++ line (codes "ok") ++ line (codes "ok") ++ line (codes "ok 1") ++ line (codes "ok 2") ++ line (codes "ok 3") ++ line (codes "ok") ++ line (codes "ok") ++ line (codes "ok") ++ line (codes "rows 4") ++ line (codes "3 POINT (3 -3) n=12 t='it''s'") ++ line (codes "1 POINT (1 1) n=12") ++ line (codes "2 LINESTRING (0 0, 5 5)") ++ line (codes "3 POINT (3 -3) n=12 t='it''s'") ++ line (codes "rows 1") ++ line (codes "2 LINESTRING (0 0, 5 5)") ++ line (codes "refused 21 NoFeature") ++ line (codes "refused 18 NoLayer") ++ line (codes "refused 21 NoFeature")
+unfolding is_utf8 chars encode digits
+features_got = refl
+
+pub features_found : output_of (line (codes "layer add w any") ++ line (codes "column add w n int") ++ line (codes "column add w t text") ++ line (codes "add w POINT (1 1)") ++ line (codes "add w LINESTRING (0 0, 5 5)") ++ line (codes "add w POINT (3 -3)") ++ line (codes "set w 1 n 12") ++ line (codes "set w 3 n 12") ++ line (codes "set w 3 t 'it''s'") ++ line (codes "find w n 12") ++ line (codes "find w n +013") ++ line (codes "find w t 'it''s'") ++ line (codes "find w t") ++ line (codes "find v n 'x'") ++ line (codes "find w m 1") ++ line (codes "find w n 'x'") ++ line (codes "find w t 1") ++ line (codes "find w n")) ≡ line (codes "ok") ++ line (codes "ok") ++ line (codes "ok") ++ line (codes "ok 1") ++ line (codes "ok 2") ++ line (codes "ok 3") ++ line (codes "ok") ++ line (codes "ok") ++ line (codes "ok") ++ line (codes "rows 2") ++ line (codes "1") ++ line (codes "3") ++ line (codes "rows 0") ++ line (codes "rows 1") ++ line (codes "3") ++ line (codes "rows 1") ++ line (codes "3") ++ line (codes "refused 18 NoLayer") ++ line (codes "refused 22 NoColumn") ++ line (codes "refused 24 WrongValue") ++ line (codes "refused 24 WrongValue") ++ line (codes "rows 2") ++ line (codes "1") ++ line (codes "3")
+unfolding is_utf8 chars encode digits
+features_found = refl

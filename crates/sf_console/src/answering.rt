@@ -2,25 +2,27 @@
 ghost use Rattle.std.specs.Prelude.{◌≡◌, ◌⊎◌, ℕ, List, Ok, Err, false, true, map, MatchResult};
 ghost use Rattle.sf_layers.specs.Content.{layer_of};
 ghost use Rattle.sf_lines.specs.Buffers.{IsBufferOf};
-ghost use Rattle.sf_console.specs.Answers.{reply_text, refusal_line, rows, rows_of, layer_row, column_rows as column_rows_of, feature_rows as feature_rows_of, found, told, hex_text, simple_text, box_text, related_text, found_rows};
+ghost use Rattle.sf_console.specs.Answers.{reply_text, refusal_line, rows, rows_of, layer_row, column_rows as column_rows_of, feature_rows as feature_rows_of, found, found_by, got, told, hex_text, simple_text, box_text, related_text, found_rows};
 ghost use Rattle.sf_console.specs.Readings.{Asked, reading, text_reading};
 ghost use Rattle.sf_console.specs.Session.{IsAnswered, IsLastAnswered};
 
+use super::finding::{column_of, ids_with, may_be_sought};
 use super::reply::{Reply, hex_line};
-use super::rows::{column_rows, feature_rows, id_rows, layer_rows};
-use sf_commands::{Command, is_blank_text, parse};
+use super::rows::{column_rows, feature_rows, id_rows, layer_rows, rows_under};
+use sf_commands::{Command, Identifiers, is_blank_text, parse};
 use sf_history::Editor;
-use sf_layers::{Store, Text};
+use sf_layers::{AttrValue, Store, Text};
 use sf_lines::{LineBuffer, without_return};
 use sf_query::{Ask, query, relate_one};
 use sf_refusals::Refusal;
-use sf_steps::Answer;
+use sf_steps::{Answer, Edit};
 use sf_validity::{Valid, is_simple};
 use std::alloc::Global;
 use std::str::from_utf8;
 
-/// Answers a line that had its line feed.
-pub(crate) fn answer_line(
+/// Answers a line that had its line feed. The reply is sent as `reply_text` says: what has one line by `AnswerLine` or
+/// `matrix_line`, which take no memory, and rows as they are.
+pub fn answer_line(
     alloc: Global,
     editor: &mut Editor,
     buffer: &LineBuffer,
@@ -34,8 +36,8 @@ pub(crate) fn answer_line(
     answer_text(alloc, editor, without_return(bytes))
 }
 
-/// Answers the last line, which had no line feed, if there is one.
-pub(crate) fn answer_last_line(
+/// Answers the last line, which had no line feed, if there is one; the reply is sent as that of `answer_line`.
+pub fn answer_last_line(
     alloc: Global,
     editor: &mut Editor,
     buffer: &LineBuffer,
@@ -67,8 +69,8 @@ fn answer_text(alloc: Global, editor: &mut Editor, bytes: &[u8]) -> Result<Reply
 }
 
 /// Carries a command out, of the editor of that number. Nothing is read any more, so memory may be wanting only for what
-/// takes it here.
-fn execute(
+/// takes it here. The reply is sent as that of `answer_line`.
+pub fn execute(
     alloc: Global,
     editor: &mut Editor,
     asker: u8,
@@ -77,10 +79,7 @@ fn execute(
     ensures { IsAnswered editor.old (Asked false (Ok (asker, command))) (reply_text result) editor.new }
 {
     match command {
-        Command::Edit(edit) => match editor.edit_as(alloc, asker, edit) {
-            Ok(answer) => Ok(Reply::Accepted(answer)),
-            Err((_, refusal)) => Err(refusal),
-        },
+        Command::Edit(edit) => carry_out_edit(alloc, editor, asker, edit),
         Command::Undo => {
             editor.undo_as(alloc, asker)?;
             Ok(Reply::Accepted(Answer::Done))
@@ -92,6 +91,10 @@ fn execute(
         Command::Layers => layers(alloc, editor.store()),
         Command::Columns(name) => columns(alloc, editor.store(), &name),
         Command::Show(name) => show(alloc, editor.store(), &name),
+        Command::Get(layer, ids) => get(alloc, editor.store(), &layer, &ids),
+        Command::Find(layer, column, sought) => {
+            find(alloc, editor.store(), &layer, &column, &sought)
+        }
         Command::Hex(layer, id) => hex(alloc, editor.store(), &layer, id),
         Command::Simple(layer, id) => simple(alloc, editor.store(), &layer, id),
         Command::Extent(layer, id) => extent(editor.store(), &layer, id),
@@ -104,6 +107,21 @@ fn execute(
             let ask = Ask::Named(predicate);
             features(alloc, editor.store(), &layer, &ask, &given)
         }
+    }
+}
+
+/// Carries an edit out, of the editor of that number.
+fn carry_out_edit(
+    alloc: Global,
+    editor: &mut Editor,
+    asker: u8,
+    edit: Edit,
+) -> Result<Reply, Refusal>
+    ensures { IsAnswered editor.old (Asked false (Ok (asker, Command.Edit edit))) (reply_text result) editor.new }
+{
+    match editor.edit_as(alloc, asker, edit) {
+        Ok(answer) => Ok(Reply::Accepted(answer)),
+        Err((_, refusal)) => Err(refusal),
     }
 }
 
@@ -128,6 +146,33 @@ fn show(alloc: Global, store: &Store, name: &Text) -> Result<Reply, Refusal>
 {
     let layer = store.layer(name.as_str()).ok_or(Refusal::NoLayer)?;
     Ok(Reply::Lines(feature_rows(alloc, layer)?))
+}
+
+/// The features under these identifiers in the layer of that name, in their order.
+fn get(alloc: Global, store: &Store, name: &Text, ids: &Identifiers) -> Result<Reply, Refusal>
+    ensures { (reply_text result ≡ got (layer_of store.now name.now) ids.now) ⊎ (reply_text result ≡ refusal_line Refusal.Memory) }
+{
+    let layer = store.layer(name.as_str()).ok_or(Refusal::NoLayer)?;
+    Ok(Reply::Lines(rows_under(alloc, layer, ids.as_slice())?))
+}
+
+/// The identifiers of the features with a value in the column of that name: this one, where one is given.
+fn find(
+    alloc: Global,
+    store: &Store,
+    name: &Text,
+    column: &Text,
+    sought: &Option<AttrValue>,
+) -> Result<Reply, Refusal>
+    ensures { (reply_text result ≡ found_by (layer_of store.now name.now) column.now sought.now) ⊎ (reply_text result ≡ refusal_line Refusal.Memory) }
+{
+    let layer = store.layer(name.as_str()).ok_or(Refusal::NoLayer)?;
+    let column = column_of(layer, column.as_str()).ok_or(Refusal::NoColumn)?;
+    if !may_be_sought(column.column_type, sought) {
+        return Err(Refusal::WrongValue);
+    }
+    let ids = ids_with(alloc, layer, column.number, sought)?;
+    Ok(Reply::Lines(id_rows(alloc, ids.as_slice())?))
 }
 
 /// The canonical bytes of a feature's geometry.

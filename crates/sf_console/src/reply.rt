@@ -9,7 +9,7 @@ use std::alloc::{AllocError, Global};
 
 /// What a line that is not refused is answered with.
 #[derive(Drop)]
-pub(crate) enum Reply {
+pub enum Reply {
     /// Nothing, since the line has no word.
     Nothing,
     /// The answer of an edit or an undo.
@@ -35,7 +35,7 @@ pub(crate) fn hex_line(alloc: Global, valid: &Valid) -> Result<String, AllocErro
 }
 
 /// The nine letters of a matrix, and a line feed. They stand on the stack, so they take no memory.
-pub(crate) fn matrix_line(matrix: &Matrix) -> [u8; 10]
+pub fn matrix_line(matrix: &Matrix) -> [u8; 10]
     ensures { result ≡ line_of (matrix_text matrix.now.0) }
 {
     let [ii, ib, ie, bi, bb, be, ei, eb, ee] = matrix.text();

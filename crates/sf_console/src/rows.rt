@@ -1,11 +1,13 @@
 //! Answers of rows: their number, and a line for each.
-ghost use Rattle.std.specs.Prelude.{◌≡◌, ◌++◌, decimal, flat_map, map, string_bytes, IfOk, OnOk};
+ghost use Rattle.std.specs.Prelude.{◌≡◌, ◌++◌, ◌⊎◌, decimal, flat_map, map, string_bytes, None, IfOk, IsSomeAnd, MatchResult, OnOk};
 ghost use Rattle.std.specs.List.{prefix_len};
+ghost use Rattle.sf_commands.specs.Commands.{each};
 ghost use Rattle.sf_commands.specs.Values.{is_plain, quoted};
-ghost use Rattle.sf_console.specs.Answers.{column_rows as column_rows_of, column_type_word as column_type_word_of, feature_rows as feature_rows_of, layer_kind_word as layer_kind_word_of, layer_row, rows, shown_value};
+ghost use Rattle.sf_console.specs.Answers.{column_rows as column_rows_of, column_type_word as column_type_word_of, feature_row, feature_rows as feature_rows_of, layer_kind_word as layer_kind_word_of, layer_row, line, row_under, rows, shown_value};
 
 use sf_geometry::Kind;
 use sf_layers::{AttrValue, Column, ColumnType, Feature, Layer, LayerKind, Store};
+use sf_refusals::Refusal;
 use std::alloc::{AllocError, Global};
 
 /// A row for each layer, in order.
@@ -75,12 +77,44 @@ pub(crate) fn feature_rows(alloc: Global, layer: &Layer) -> Result<String, Alloc
     let mut text = String::new(alloc);
     writeln!(text, "rows {}", layer.feature_count())?;
     for (id, feature) in layer.features() {
-        write!(text, "{id} ")?;
-        sf_wkt::append(alloc, &mut text, feature.valid().geometry())?;
-        push_values(&mut text, layer, feature)?;
-        text.push('\n')?;
+        push_feature(alloc, &mut text, layer, *id, feature)?;
     }
     Ok(text)
+}
+
+/// A row for each of these identifiers, in their order. `NoFeature` where the layer has none under one of them,
+/// `Memory` where no memory was found.
+pub(crate) fn rows_under(alloc: Global, layer: &Layer, ids: &[u32]) -> Result<String, Refusal>
+    ensures { MatchResult result
+        (λ text. IsSomeAnd (each (row_under layer.now) ids.now) (λ texts. string_bytes text ≡ rows texts))
+        (λ refusal. (refusal ≡ Refusal.Memory) ⊎ ((refusal ≡ Refusal.NoFeature) × (each (row_under layer.now) ids.now ≡ None))) }
+{
+    let mut text = String::new(alloc);
+    writeln!(text, "rows {}", ids.len())?;
+    for id in ids {
+        let Some(feature) = layer.feature(*id) else {
+            return Err(Refusal::NoFeature);
+        };
+        push_feature(alloc, &mut text, layer, *id, feature)?;
+    }
+    Ok(text)
+}
+
+/// The row of a feature of the layer, with its line feed.
+fn push_feature(
+    alloc: Global,
+    text: &mut String,
+    layer: &Layer,
+    id: u32,
+    feature: &Feature,
+) -> Result<(), AllocError>
+    ensures { OnOk result (string_bytes text.new
+        ≡ string_bytes text.old ++ line (feature_row layer.now.columns (id, feature.now))) }
+{
+    write!(text, "{id} ")?;
+    sf_wkt::append(alloc, text, feature.valid().geometry())?;
+    push_values(text, layer, feature)?;
+    text.push('\n')
 }
 
 /// A row for each identifier, in their order.

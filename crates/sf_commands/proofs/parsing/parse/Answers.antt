@@ -1,4 +1,3 @@
-use Rattle.std.proofs.Common.{◌≡◌, sym}
 use Rattle.sf_commands.proofs.AddressLemmas.{parse-refused}
 use Rattle.sf_commands.proofs.parsing.parse.Goals as goal
 

@@ -1,6 +1,6 @@
 use Rattle.std.proofs.Common.{◌≡◌, ◌≤◌, ◌+◌, ◌++◌, ◌∷◌, [], codes, length, decimal, ap, ◌∙◌, arith, subst, sym, length-append}
 use Rattle.sf_console.proofs.AnswerLemmas.{length-decimal-byte, length-name_of}
-use Rattle.sf_console.proofs.answer_line.AnswerLine.refused.Goals as goal
+use Rattle.sf_console.proofs.one_line.AnswerLine.refused.Goals as goal
 
 pub push_decimal-requires : goal.push_decimal-requires
 push_decimal-requires c =

@@ -14,7 +14,7 @@ const ROOM: usize = 48;
 
 /// An answer of one line, with its line feed. It stands on the stack, so it takes no memory.
 #[derive(Drop)]
-pub(crate) struct AnswerLine {
+pub struct AnswerLine {
     text: InlineText<ROOM>,
 }
 
@@ -31,7 +31,7 @@ impl Model for AnswerLine {
 
 impl AnswerLine {
     /// The answer of an accepted edit or undo.
-    pub(crate) fn accepted(answer: Answer) -> AnswerLine
+    pub fn accepted(answer: Answer) -> AnswerLine
         ensures { result ≡ accepted_line answer }
     {
         let mut line = AnswerLine::empty();
@@ -47,7 +47,7 @@ impl AnswerLine {
     }
 
     /// The answer of a refusal: its number and its name.
-    pub(crate) fn refused(refusal: Refusal) -> AnswerLine
+    pub fn refused(refusal: Refusal) -> AnswerLine
         ensures { result ≡ refusal_line refusal }
     {
         let mut line = AnswerLine::empty();
@@ -60,7 +60,7 @@ impl AnswerLine {
     }
 
     /// The answer of a test.
-    pub(crate) fn truth(is: bool) -> AnswerLine
+    pub fn truth(is: bool) -> AnswerLine
         ensures { result ≡ line_of (truth_word is) }
     {
         let mut line = AnswerLine::empty();
@@ -69,7 +69,7 @@ impl AnswerLine {
     }
 
     /// The corners of a box, the least one first.
-    pub(crate) fn extent(extent: Extent) -> AnswerLine
+    pub fn extent(extent: Extent) -> AnswerLine
         ensures { result ≡ line_of (extent_text extent) }
     {
         let mut line = AnswerLine::empty();
@@ -85,7 +85,7 @@ impl AnswerLine {
     }
 
     /// The bytes of the answer.
-    pub(crate) fn as_bytes(&self) -> &[u8]
+    pub fn as_bytes(&self) -> &[u8]
         ensures { result.now ≡ self.now }
     {
         self.text.as_str().as_bytes()

@@ -1,7 +1,7 @@
 use Rattle.std.proofs.Common.{◌≡◌, ℕ, List, ◌≤◌, ◌+◌, ◌++◌, ◌∷◌, [], decimal, length, ap, ◌∙◌, arith, length-append}
 use Rattle.sf_console.proofs.AnswerLemmas.{length-decimal-id}
-use Rattle.sf_console.proofs.answer_line.AnswerLine.push_integer.Goals.{then-number-lt0, else-number-lt0}
-use Rattle.sf_console.proofs.answer_line.AnswerLine.push_integer.Goals as goal
+use Rattle.sf_console.proofs.one_line.AnswerLine.push_integer.Goals.{then-number-lt0, else-number-lt0}
+use Rattle.sf_console.proofs.one_line.AnswerLine.push_integer.Goals as goal
 
 with_sign : (before after : List ℕ) → after ≡ before ++ 45 ∷ [] → length after ≤ length before + 1
 with_sign before after is = omega (arith, ap length is ∙ length-append before (45 ∷ []))

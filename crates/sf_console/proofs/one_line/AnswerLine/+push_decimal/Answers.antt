@@ -1,7 +1,7 @@
 use Rattle.std.proofs.Common.{◌≡◌, ◌+◌, ◌/◌, ◌%◌, ◌++◌, ◌∷◌, [], length, decimal, sym, ap, ◌∙◌, append_assoc, arith, rules, length-append}
 use Rattle.std.proofs.lemmas.Fmt.{decimal_digit}
 use Rattle.sf_console.proofs.AnswerLemmas.{decimal-more, length-decimal-more}
-use Rattle.sf_console.proofs.answer_line.AnswerLine.+push_decimal.Goals as goal
+use Rattle.sf_console.proofs.one_line.AnswerLine.+push_decimal.Goals as goal
 
 pub push_decimal-requires : goal.push_decimal-requires
 push_decimal-requires t c =

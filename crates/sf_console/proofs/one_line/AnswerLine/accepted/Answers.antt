@@ -1,6 +1,6 @@
 use Rattle.std.proofs.Common.{◌≡◌, ◌≤◌, ◌+◌, ◌++◌, codes, length, decimal, ap, ◌∙◌, arith, length-append}
 use Rattle.sf_console.proofs.AnswerLemmas.{length-decimal-id}
-use Rattle.sf_console.proofs.answer_line.AnswerLine.accepted.Goals as goal
+use Rattle.sf_console.proofs.one_line.AnswerLine.accepted.Goals as goal
 
 pub push_decimal-requires : goal.push_decimal-requires
 push_decimal-requires c =

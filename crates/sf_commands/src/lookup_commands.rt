@@ -1,0 +1,69 @@
+//! Commands that look features up: by their identifiers, and by a value.
+ghost use Rattle.std.specs.Prelude.{◌≡◌, ok_or};
+ghost use Rattle.sf_refusals.specs.declared.refusal.Refusal.TheVariants.{BadCommand};
+ghost use Rattle.sf_commands.specs.Commands.{find_arguments as find_command_of, get_arguments as get_command_of, ids_of as ids_spelled, sought_of as sought_spelled, OrMemory};
+ghost use Rattle.sf_commands.specs.Words.{words as words_of, skip_blanks, skip_word};
+
+use super::command::Command;
+use super::identifiers::Identifiers;
+use super::spelling::{id_of, text_of};
+use super::value::value_of;
+use super::words::{Words, trimmed_end};
+use sf_layers::AttrValue;
+use sf_refusals::Refusal;
+use std::alloc::Global;
+
+/// How many identifiers `get` takes at most.
+const IDS_MAX: usize = 1000;
+
+/// The command of the words after `get`.
+pub(crate) fn get_arguments(alloc: Global, mut words: Words<'_>) -> Result<Command, Refusal>
+    ensures { OrMemory (get_command_of (words_of words.entry)) result }
+{
+    let layer = words.next()?;
+    let ids = ids_of(alloc, words)?;
+    let layer = text_of(alloc, layer)?;
+    Ok(Command::Get(layer, ids))
+}
+
+/// The identifiers that all words of a line spell, one to 1,000 of them.
+fn ids_of(alloc: Global, mut words: Words<'_>) -> Result<Identifiers, Refusal>
+    ensures { OrMemory (ok_or (ids_spelled (words_of words.entry)) BadCommand) result }
+{
+    let mut ids = Identifiers::new(alloc);
+    for _ in 0..IDS_MAX {
+        let id = id_of(words.next()?).ok_or(Refusal::BadCommand)?;
+        ids.push(id)?;
+        if words.finish().is_ok() {
+            return Ok(ids);
+        }
+    }
+    Err(Refusal::BadCommand)
+}
+
+/// The command of the words after `find`. A value is the rest of the line from the third of them on, without blanks
+/// at its end.
+pub(crate) fn find_arguments(alloc: Global, mut words: Words<'_>) -> Result<Command, Refusal>
+    ensures { OrMemory (find_command_of (words_of words.entry) (skip_blanks (skip_word (skip_word words.entry)))) result }
+{
+    let layer = words.next()?;
+    let column = words.next()?;
+    let sought = sought_of(alloc, words)?;
+    let layer = text_of(alloc, layer)?;
+    let column = text_of(alloc, column)?;
+    Ok(Command::Find(layer, column, sought))
+}
+
+/// The value that the rest of a line spells, or None where nothing stands there.
+fn sought_of(alloc: Global, words: Words<'_>) -> Result<Option<AttrValue>, Refusal>
+    ensures { OrMemory (sought_spelled (words_of words.entry) (skip_blanks words.entry)) result }
+{
+    let Ok(text) = words.rest() else {
+        return Ok(None);
+    };
+    let value = value_of(alloc, trimmed_end(text))?;
+    if value.is_none() {
+        return Err(Refusal::BadCommand);
+    }
+    Ok(value)
+}

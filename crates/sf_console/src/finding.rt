@@ -1,0 +1,77 @@
+//! Features by a value in a column.
+ghost use Rattle.std.specs.Prelude.{◌≡◌, IfOk, option_copied};
+ghost use Rattle.sf_layers.specs.Content.{column_named};
+ghost use Rattle.sf_console.specs.Answers.{has_sought as has_sought_of, ids_with as ids_with_of, is_sought as is_sought_of, may_be_sought as may_be_sought_of, same_value as same_value_of};
+
+use sf_layers::{AttrValue, Column, ColumnType, Feature, Layer};
+use std::alloc::{AllocError, Global};
+
+/// The column of a name, or None where the layer has none.
+pub(crate) fn column_of<'a>(layer: &'a Layer, name: &str) -> Option<&'a Column>
+    ensures { option_copied result ≡ column_named layer.now name.now }
+{
+    match layer.column_place(name) {
+        Some(place) => layer.column_at(place),
+        None => None,
+    }
+}
+
+/// Whether a value that is sought may stand in a column of the type; where none is given there is nothing to ask.
+pub(crate) fn may_be_sought(column_type: ColumnType, sought: &Option<AttrValue>) -> bool
+    ensures { result ≡ may_be_sought_of column_type sought.now }
+{
+    match sought {
+        Some(value) => value.is_of_type(column_type),
+        None => true,
+    }
+}
+
+/// The identifiers of the features with a value that is sought in the column of a number, rising. Each feature is looked
+/// at once, and no value is copied.
+pub(crate) fn ids_with(
+    alloc: Global,
+    layer: &Layer,
+    number: u16,
+    sought: &Option<AttrValue>,
+) -> Result<Vec<u32>, AllocError>
+    ensures { IfOk result (λ ids. ids.items ≡ ids_with_of number sought.now layer.now) }
+{
+    let mut ids = Vec::new(alloc);
+    for (id, feature) in layer.features() {
+        if has_sought(feature, number, sought) {
+            ids.push(*id)?;
+        }
+    }
+    Ok(ids)
+}
+
+/// Whether a feature has a value that is sought in the column of a number.
+fn has_sought(feature: &Feature, number: u16, sought: &Option<AttrValue>) -> bool
+    ensures { result ≡ has_sought_of number sought.now feature.now }
+{
+    match feature.value(number) {
+        Some(value) => is_sought(sought, value),
+        None => false,
+    }
+}
+
+/// Whether a value is the one that is sought; each is, where none is given.
+fn is_sought(sought: &Option<AttrValue>, value: &AttrValue) -> bool
+    ensures { result ≡ is_sought_of sought.now value.now }
+{
+    match sought {
+        Some(sought) => same_value(sought, value),
+        None => true,
+    }
+}
+
+/// Whether two values are one.
+fn same_value(value: &AttrValue, other: &AttrValue) -> bool
+    ensures { result ≡ same_value_of value.now other.now }
+{
+    match (value, other) {
+        (AttrValue::Int(a), AttrValue::Int(b)) => *a == *b,
+        (AttrValue::Text(a), AttrValue::Text(b)) => a.as_str() == b.as_str(),
+        _ => false,
+    }
+}
