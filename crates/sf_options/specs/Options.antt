@@ -1,6 +1,7 @@
 -- Beside the headline, which says nothing of the words of the command line.
 -- The command of the program, and what its words ask for, by clap's own definitions.
 use Rattle.std.specs.Prelude.{◌≡◌, ℕ, List, [], Option, Some, Result, Ok, Err, codes}
+use Rattle.clap.specs.declared.builder.action.ArgAction.TheVariants.{SetTrue}
 use Rattle.clap.specs.Words.{App, Row, Rule, Kinds, IsAmong, new_app, new_rule, with_rule, matches_of, fault_of, first_of, kind_of}
 use Rattle.sf_options.specs.declared.asked.Options.{Options}
 use Rattle.sf_options.specs.declared.asked.OptionsFault.{OptionsFault}
@@ -10,9 +11,17 @@ use Rattle.sf_options.specs.declared.asked.OptionsFault.TheVariants.{Memory, Ref
 abbrev pub option_rule : List ℕ → Rule
 option_rule name = record (new_rule name) { long = Some name; value_names = 1 }
 
--- the program's command: two options
+-- a flag `--NAME`
+abbrev pub flag_rule : List ℕ → Rule
+flag_rule name = record (new_rule name) { long = Some name; action = Some SetTrue }
+
+-- the options that load and save a file
+abbrev pub two_files : App
+two_files = with_rule (with_rule (new_app (codes "sfstore")) (option_rule (codes "load"))) (option_rule (codes "save"))
+
+-- the program's command: three options with a file, and a flag
 abbrev pub program : App
-program = with_rule (with_rule (new_app (codes "sfstore")) (option_rule (codes "load"))) (option_rule (codes "save"))
+program = with_rule (with_rule two_files (option_rule (codes "store"))) (flag_rule (codes "keep"))
 
 -- the matches of the command on these words
 abbrev pub program_matches : List (List ℕ) → List Row

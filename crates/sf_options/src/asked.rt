@@ -12,6 +12,10 @@ pub struct Options {
     pub load: Option<String>,
     /// The file to save to after serving.
     pub save: Option<String>,
+    /// The store's file, beside which every accepted edit is kept in a journal.
+    pub store: Option<String>,
+    /// Whether the end of the input leaves the edits in the journal, and saves nothing.
+    pub keep: bool,
 }
 
 /// Why the words were not taken.

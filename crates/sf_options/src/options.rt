@@ -2,11 +2,11 @@
 ghost use Rattle.std.specs.Prelude.{◌≡◌, ℕ, List, map, codes, IfOk, string_bytes};
 ghost use Rattle.std.specs.Option.{option_map};
 ghost use Rattle.clap.specs.Words.{app_of, found_of, first_value, FailsBy};
-ghost use Rattle.sf_options.specs.Options.{program, program_matches, program_faults, given, IsRefusedBy};
+ghost use Rattle.sf_options.specs.Options.{program, two_files, program_matches, program_faults, given, IsRefusedBy};
 
 use super::asked::{Options, OptionsFault};
 use clap::error::ErrorKind;
-use clap::{Arg, ArgMatches, Command, Error};
+use clap::{Arg, ArgAction, ArgMatches, Command, Error};
 use std::alloc::{AllocError, Global};
 
 /// What the program is.
@@ -14,8 +14,9 @@ const ABOUT: &str =
     "A store of vector map features in named layers, where every edit can be undone exactly.\nReads a line of a command at a time from standard input, and answers each on standard output.";
 
 /// An example, and the commands.
-const EXAMPLE_AND_COMMANDS: &str = "Example:
+const EXAMPLE_AND_COMMANDS: &str = "Examples:
   sfstore --load parcels.sfs --save parcels.sfs < edits
+  sfstore --store parcels.sfs < edits
 
 Commands, one on a line:
   layer add NAME KIND             a layer more: of any kind, or of point, linestring, polygon,
@@ -38,14 +39,19 @@ Commands, one on a line:
   unset LAYER ID COLUMN           no value
   undo                            the last edit taken back
   redo                            the last edit taken back done again
+  save                            with --store: the store's file has all from here on
   show LAYER                      features with their values
+  get LAYER ID [ID ..]            these features of it, 1,000 at most, in this order
+  find LAYER COLUMN [VALUE]       features with this value in the column, or with any
   hex LAYER ID                    the geometry in well-known binary
   box LAYER ID                    the least box round the geometry
   simple LAYER ID                 whether the geometry is simple
   relate LAYER ID WKT             the DE-9IM matrix of feature and geometry
   match LAYER PATTERN WKT         features whose matrix matches nine letters of TF*012
   query LAYER PREDICATE WKT       features that equal, intersect, touch .. the geometry: equals,
-                                  disjoint, intersects, touches, within, contains, crosses, overlaps";
+                                  disjoint, intersects, touches, within, contains, crosses, overlaps
+
+A line may begin with the editor who gives it, from @1 to @255: @2 add wells POINT (3 4).";
 
 /// The command with its texts for the user, which change nothing of what it takes.
 fn described<'a>(command: Command<'a>) -> Command<'a>
@@ -54,9 +60,9 @@ fn described<'a>(command: Command<'a>) -> Command<'a>
     command.about(ABOUT).after_help(EXAMPLE_AND_COMMANDS)
 }
 
-/// The command: two options, each with a file.
-fn command<'a>(alloc: Global) -> Result<Command<'a>, AllocError>
-    ensures { IfOk result (λ command. app_of command ≡ program) }
+/// The command with the options that load and save a file.
+fn with_files<'a>(alloc: Global) -> Result<Command<'a>, AllocError>
+    ensures { IfOk result (λ command. app_of command ≡ two_files) }
 {
     let load = Arg::new(alloc, "load")
         .long("load")
@@ -69,6 +75,23 @@ fn command<'a>(alloc: Global) -> Result<Command<'a>, AllocError>
     described(Command::new(alloc, "sfstore"))
         .arg(load)?
         .arg(save)
+}
+
+/// The command: three options, each with a file, and a flag.
+fn command<'a>(alloc: Global) -> Result<Command<'a>, AllocError>
+    ensures { IfOk result (λ command. app_of command ≡ program) }
+{
+    let store = Arg::new(alloc, "store")
+        .long("store")
+        .value_name("FILE")
+        .help(
+            "Keeps every accepted edit in FILE.journal before it is answered, and saves to FILE at the end",
+        );
+    let keep = Arg::new(alloc, "keep")
+        .long("keep")
+        .action(ArgAction::SetTrue)
+        .help("With --store: leaves the edits in the journal at the end, and saves nothing");
+    with_files(alloc)?.arg(store)?.arg(keep)
 }
 
 /// What clap makes of the words.
@@ -102,11 +125,13 @@ fn option_text(
 /// `Refused` where the words are not those of the command or ask for help, `Memory` where no memory
 /// is found.
 pub fn asked<'a>(alloc: Global, words: &'a [&'a str]) -> Result<Options, OptionsFault>
-    // The values that the command's matches give the two options.
+    // The values that the command's matches give the options with a file.
     ensures load { IfOk result (λ asked. option_map string_bytes asked.load
         ≡ given (codes "load") (program_matches (map (λ word. word.now) words.now))) }
     ensures save { IfOk result (λ asked. option_map string_bytes asked.save
         ≡ given (codes "save") (program_matches (map (λ word. word.now) words.now))) }
+    ensures store { IfOk result (λ asked. option_map string_bytes asked.store
+        ≡ given (codes "store") (program_matches (map (λ word. word.now) words.now))) }
 
     // Words are taken only where they have no fault, and refused only for one that they have.
     ensures faults { IsRefusedBy (program_faults (map (λ word. word.now) words.now)) result }
@@ -115,7 +140,14 @@ pub fn asked<'a>(alloc: Global, words: &'a [&'a str]) -> Result<Options, Options
         Ok(matches) => {
             let load = option_text(alloc, &matches, "load")?;
             let save = option_text(alloc, &matches, "save")?;
-            Ok(Options { load, save })
+            let store = option_text(alloc, &matches, "store")?;
+            let keep = matches.get_flag("keep");
+            Ok(Options {
+                load,
+                save,
+                store,
+                keep,
+            })
         }
         Err(error) => match error.kind() {
             ErrorKind::OutOfMemory => Err(OptionsFault::Memory),

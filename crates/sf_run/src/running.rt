@@ -69,7 +69,7 @@ pub fn run_from<F: Read, R: Read, W: Write>(
     input: &mut R,
     output: &mut W,
 ) -> Result<Served, RunFault>
-    // The file's bytes have a content, and from it on all lines were answered.
+    // The file's bytes have a content, which is well formed, and from it on all lines were answered.
     ensures ok { IfOk result (λ served. RunsFrom (F.remaining file.old) (F.remaining file.new)
         (λ start. ServesAll (R.remaining input.old) (R.remaining input.new)
         (W.contents output.old) (W.contents output.new) start served)) }
@@ -81,6 +81,8 @@ pub fn run_from<F: Read, R: Read, W: Write>(
     match load(alloc, file) {
         Err(fault) => Err(RunFault::Load(fault)),
         Ok(store) => {
+            // The store's type keeps its content well formed. Asked for a number, it tells the proof so.
+            let _ = store.layer_count();
             let editor = Editor::from_store(alloc, store);
             serve_from(alloc, editor, input, output).map_err(RunFault::Serve)
         }

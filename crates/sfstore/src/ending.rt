@@ -1,6 +1,7 @@
 //! How a run ends before its time: its status, and its last words.
 use sf_console::ServeFault;
 use sf_file::{LoadFault, SaveFault};
+use sf_keeping::KeepFault;
 use sf_options::OptionsFault;
 use sf_run::RunFault;
 use std::fmt;
@@ -18,6 +19,38 @@ pub enum Ending {
     /// The file to save to could not be opened or made.
     SaveOpen,
     Save(SaveFault),
+    /// A store that is kept is named beside a file to load or to save, or is not named where its end is.
+    Options,
+    /// Another session has the store.
+    Taken,
+    Journal(JournalFault),
+    /// Serving a store that is kept ended.
+    Keep(KeepFault),
+}
+
+/// Why a journal could not be opened. Places are bytes from its beginning.
+#[derive(Clone, Copy, Debug, PartialEq, Eq)]
+pub enum JournalFault {
+    Memory,
+    Read,
+    /// It could not be written anew.
+    Write,
+    /// It goes on from another file.
+    OtherFile,
+    /// What stands there is no record behind those before it.
+    Damaged(usize),
+    /// The record there is no edit that is accepted.
+    NotAccepted(usize),
+}
+
+/// The name of what ended serving a store that is kept.
+fn keep_name(fault: KeepFault) -> &'static str {
+    match fault {
+        KeepFault::Read => "Read",
+        KeepFault::Write => "Write",
+        KeepFault::Journal => "Journal",
+        KeepFault::Memory => "Memory",
+    }
 }
 
 impl From<RunFault> for Ending {
@@ -34,12 +67,12 @@ impl Ending {
     /// saving, and 0 where help was asked for.
     pub fn status(&self) -> u8 {
         match self {
-            Ending::Serve(_) => 1,
-            Ending::Arguments | Ending::Words(OptionsFault::Memory) => 2,
+            Ending::Serve(_) | Ending::Keep(_) => 1,
+            Ending::Arguments | Ending::Options | Ending::Words(OptionsFault::Memory) => 2,
             Ending::Words(OptionsFault::Refused(error)) => {
                 if error.exit_code() == 0 { 0 } else { 2 }
             }
-            Ending::LoadOpen | Ending::Load(_) => 3,
+            Ending::LoadOpen | Ending::Load(_) | Ending::Taken | Ending::Journal(_) => 3,
             Ending::SaveOpen | Ending::Save(_) => 4,
         }
     }
@@ -61,6 +94,22 @@ impl fmt::Display for Ending {
             Ending::SaveOpen => writeln!(f, "fault save Open"),
             Ending::Save(SaveFault::Memory) => writeln!(f, "fault save Memory"),
             Ending::Save(SaveFault::Write) => writeln!(f, "fault save Write"),
+            Ending::Options => writeln!(
+                f,
+                "error: --store goes with neither --load nor --save, and --keep goes with --store"
+            ),
+            Ending::Taken => writeln!(f, "fault load Taken"),
+            Ending::Journal(JournalFault::Memory) => writeln!(f, "fault journal Memory"),
+            Ending::Journal(JournalFault::Read) => writeln!(f, "fault journal Read"),
+            Ending::Journal(JournalFault::Write) => writeln!(f, "fault journal Write"),
+            Ending::Journal(JournalFault::OtherFile) => writeln!(f, "fault journal OtherFile"),
+            Ending::Journal(JournalFault::Damaged(place)) => {
+                writeln!(f, "fault journal Damaged {place}")
+            }
+            Ending::Journal(JournalFault::NotAccepted(place)) => {
+                writeln!(f, "fault journal NotAccepted {place}")
+            }
+            Ending::Keep(fault) => writeln!(f, "fault serve {}", keep_name(*fault)),
         }
     }
 }

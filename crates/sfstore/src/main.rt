@@ -1,15 +1,19 @@
 //! The program: loads the store of a file where one is named, answers the command lines of its standard
-//! input on its standard output, and saves the store where a file is named.
+//! input on its standard output, and saves the store where a file is named; or does so over a store whose every accepted
+//! edit it keeps in a journal.
 #![tactic(auto)]
 
 mod ending;
+mod storing;
 
 use ending::Ending;
 use sf_options::{Options, OptionsFault, options};
 use sf_run::{Served, run_from};
+use std::fs::File;
 use std::process::ExitCode;
 use std::rt::{Env, Files};
 use std::{env, fs, io};
+use storing::run_stored;
 
 /// Why the system's words could not be had.
 fn arguments_fault(error: &io::Error) -> Ending {
@@ -70,10 +74,28 @@ fn saved(
 }
 
 /// The whole run.
-fn run(rt: &(impl Files + Env + Input + Print + AllocGlobal)) -> Result<(), Ending> {
+fn run(
+    rt: &(impl Files<File = File> + Env + Input + Print + Eprint + AllocGlobal),
+) -> Result<(), Ending> {
     let asked = asked(rt)?;
-    let served = served(rt, &asked.load)?;
-    saved(rt, &asked.save, &served)
+    let Some(path) = &asked.store else {
+        if asked.keep {
+            return Err(Ending::Options);
+        }
+        let served = served(rt, &asked.load)?;
+        return saved(rt, &asked.save, &served);
+    };
+    if asked.load.is_some() || asked.save.is_some() {
+        return Err(Ending::Options);
+    }
+    run_stored(
+        rt,
+        rt.alloc(),
+        path.as_str(),
+        asked.keep,
+        &mut rt.reader(),
+        io::writer(rt),
+    )
 }
 
 fn main(rt: HostRuntime) -> ExitCode {

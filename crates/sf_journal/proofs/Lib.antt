@@ -1,0 +1,4 @@
+mod RecordLaws
+pub mod FeedLaws
+pub mod FrontLaws
+mod SumLaws

@@ -1,0 +1,11 @@
+//! The journal of a store as bytes: a head that names the file which it goes on from, and a record for each edit since.
+#![tactic(auto)]
+
+mod file_sums;
+mod heads;
+pub mod laws;
+mod sums;
+
+pub use file_sums::{SumFault, sum_of};
+pub use heads::{FileSum, head};
+pub use sums::{MARK_LEN, Sum};

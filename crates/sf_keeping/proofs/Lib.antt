@@ -1,0 +1,10 @@
+pub mod CallLaws
+pub mod InputLaws
+pub mod KeptLaws
+pub mod MomentLaws
+pub mod Underways
+pub mod TakingLaws
+pub mod ServingLaws
+pub mod ReplayLaws
+pub mod CarryingLaws
+pub mod KeepingLaws

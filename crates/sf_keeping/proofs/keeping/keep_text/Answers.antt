@@ -1,0 +1,34 @@
+use Rattle.std.proofs.Common.{◌∙◌, ap}
+use Rattle.sf_streams.proofs.SendingLaws.{OnErr-from}
+use Rattle.sf_keeping.specs.Waiting.{with_text, with_answer}
+use Rattle.sf_keeping.proofs.CallLaws.{OnOk-map, OnErr-map}
+use Rattle.sf_keeping.proofs.Underways.{BreaksWithin-before}
+use Rattle.sf_keeping.proofs.KeepingLaws.{IsTold-of, GoesOnBy-changed, GoesOnBy-stays, GoesOnBy-as, BreaksWithin-changed, BreaksWithin-stays, BreaksWithin-as}
+use Rattle.sf_keeping.proofs.keeping.keep_text.Goals as goal
+
+pub returns-in_err-make_room-clause-broken : goal.returns-in_err-make_room-clause-broken
+returns-in_err-make_room-clause-broken g c = OnErr-from c.from_residual.result (λ line is. BreaksWithin-before _ _ _ _ _ c.in_err-make_room.ensures.broken)
+
+pub returns-then-as_bytes-gt-ACCEPTED_MAX-clause-broken : goal.returns-then-as_bytes-gt-ACCEPTED_MAX-clause-broken
+returns-then-as_bytes-gt-ACCEPTED_MAX-clause-broken g c = λ line is.
+    BreaksWithin-changed _ _ _ c.make_room.new.pending _ _ line c.args.text.now _ c.in_ok-make_room.ensures.ok is c.in-Changed.ensures.0 c.in-Changed.ensures.1
+
+pub returns-else-as_bytes-gt-ACCEPTED_MAX-clause-ok : goal.returns-else-as_bytes-gt-ACCEPTED_MAX-clause-ok
+returns-else-as_bytes-gt-ACCEPTED_MAX-clause-ok g c = λ line is.
+    GoesOnBy-changed _ _ _ c.make_room.new.pending _ _ _ line c.args.text.now _ c.in_ok-make_room.ensures.ok is c.in-Changed.ensures.0 c.in-Changed.ensures.1
+    (c.put.ensures ∙ ap (λ w. with_answer w c.as_bytes-in-Changed.result.now) c.keep.ensures
+    ∙ ap (with_answer (with_text c.make_room.new.pending c.args.text.now)) (c.as_bytes-in-Changed.ensures ∙ c.accepted-answer.ensures))
+
+pub returns-in-Told-clause-ok : goal.returns-in-Told-clause-ok
+returns-in-Told-clause-ok g c = OnOk-map c.tell_reply.result
+    (λ tells line is. GoesOnBy-as _ _ _ _ c.args.editor.now c.carry_out.new.editor _ c.in-Told.ensures.1
+    (GoesOnBy-stays _ _ _ _ c.make_room.new.pending _ _ _ _ c.in_ok-make_room.ensures.ok
+    (tells c.args.editor.now line (IsTold-of _ c.carry_out.new.editor line c.args.text.now _ is c.in-Told.ensures.0 c.in-Told.ensures.1))))
+    c.tell_reply.ensures.ok
+
+pub returns-in-Told-clause-broken : goal.returns-in-Told-clause-broken
+returns-in-Told-clause-broken g c = OnErr-map c.tell_reply.result
+    (λ tells line is. BreaksWithin-as _ _ _ c.args.editor.now c.carry_out.new.editor _ c.in-Told.ensures.1
+    (BreaksWithin-stays _ _ _ _ c.make_room.new.pending _ _ _ c.in_ok-make_room.ensures.ok
+    (tells c.args.editor.now line (IsTold-of _ c.carry_out.new.editor line c.args.text.now _ is c.in-Told.ensures.0 c.in-Told.ensures.1))))
+    c.tell_reply.ensures.broken

@@ -1,0 +1,35 @@
+-- What a text of a journal does: the edits that were accepted, done again.
+use Rattle.std.specs.Prelude.{◌≡◌, ℕ, List, [], ◌∷◌, Option, None, Some, Result, Ok, Err}
+use Rattle.sf_refusals.specs.declared.refusal.Refusal.{Refusal}
+use Rattle.sf_steps.specs.declared.answer.Answer.{Answer}
+use Rattle.sf_history.specs.History.{Machine, edited, undone, redone}
+use Rattle.sf_commands.specs.declared.command.Command.{Command}
+use Rattle.sf_commands.specs.declared.command.Command.TheVariants.{Edit, Undo, Redo}
+use Rattle.sf_console.specs.Readings.{Reading, Asked, text_reading}
+
+-- the machine of an accepted edit
+abbrev pub after_edit : Result (Machine × Answer) Refusal → Option Machine
+after_edit (Ok done) = Some done.0
+after_edit (Err refusal) = None
+
+-- the machine of an accepted undo or redo
+abbrev pub after_move : Result Machine Refusal → Option Machine
+after_move (Ok machine) = Some machine
+after_move (Err refusal) = None
+
+-- the machine after an accepted edit, undo or redo; nothing else changes it
+abbrev pub commanded : Machine → Result (ℕ × Command) Refusal → Option Machine
+commanded machine (Ok (editor, Edit edit)) = after_edit (edited editor machine edit)
+commanded machine (Ok (editor, Undo)) = after_move (undone editor machine)
+commanded machine (Ok (editor, Redo)) = after_move (redone editor machine)
+commanded machine other = None
+
+-- the machine after what a line asks, where that is an accepted edit, undo or redo
+abbrev pub changed : Machine → Reading → Option Machine
+changed machine (Asked takes command) = commanded machine command
+changed machine other = None
+
+-- the texts lead from the one machine to the other, each an accepted edit, undo or redo
+abbrev pub Leads : Machine → List (List ℕ) → Machine → Type 0
+Leads old [] new = new ≡ old
+Leads old (text ∷ texts) new = (mid : Machine) × (changed old (text_reading text) ≡ Some mid) × Leads mid texts new

@@ -1,0 +1,40 @@
+-- Where edits are kept and answers go: the calls that were made, and what is known of both after them.
+use Rattle.std.specs.Prelude.{◌≡◌, ℕ, Bool, true, false, List, [], ◌∷◌, ◌++◌, Option, None, Some, if◌then◌else◌}
+
+-- what was asked: bytes that were put behind the journal; bytes of which a front may stand behind it, since the call failed;
+-- that all bytes before are on the disk, which was told; bytes that were put out, or a front of them
+pub data Call : Type 0 where
+  Appends : List ℕ → Call
+  Fails : List ℕ → Call
+  Syncs : Call
+  Answers : List ℕ → Call
+
+-- the bytes of the journal that a crash leaves in any case, those behind them of which it leaves some front, the bytes that
+-- were put out at most, and whether a call failed, behind which nothing more is known to be kept
+pub record Standing : Type 0 where
+  pub kept : List ℕ
+  pub waiting : List ℕ
+  pub answered : List ℕ
+  pub broken : Bool
+
+-- before the first call
+abbrev pub nothing_yet : Standing
+nothing_yet = record { kept = []; waiting = []; answered = []; broken = false }
+
+-- after one more call
+abbrev pub after_call : Standing → Call → Standing
+after_call standing (Appends bytes) = record standing { waiting = standing.waiting ++ bytes }
+after_call standing (Fails bytes) = record standing { waiting = standing.waiting ++ bytes; broken = true }
+after_call standing Syncs = if standing.broken then standing else record standing { kept = standing.kept ++ standing.waiting; waiting = [] }
+after_call standing (Answers bytes) = record standing { answered = standing.answered ++ bytes }
+
+-- after several calls
+abbrev pub after_calls : Standing → List Call → Standing
+after_calls standing [] = standing
+after_calls standing (call ∷ calls) = after_calls (after_call standing call) calls
+
+-- the known calls grow by these
+abbrev pub Makes : Option (List Call) → Option (List Call) → List Call → Type 0
+Makes None new calls = Unit {0}
+Makes (Some before) None calls = ⊥
+Makes (Some before) (Some after) calls = after ≡ before ++ calls

@@ -1,0 +1,12 @@
+pub mod Desks
+pub mod Waiting
+pub mod Inputs
+pub mod Changes
+pub mod Outcomes
+pub mod Replays
+pub mod Kept
+pub mod Saves
+pub mod Moments
+pub mod Underway
+pub mod Serving
+pub mod Laws

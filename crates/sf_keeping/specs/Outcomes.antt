@@ -1,0 +1,24 @@
+-- Internal: who wants to trust the program need not read this file.
+-- What becomes of a line that is carried out.
+use Rattle.std.specs.Prelude.{◌≡◌, ℕ, ◌≤◌, false, List, length, Some, Ok}
+use Rattle.sf_history.specs.History.{Machine}
+use Rattle.sf_lines.specs.Lines.{line_max}
+use Rattle.sf_commands.specs.declared.command.Command.{Command}
+use Rattle.sf_console.specs.Answers.{accepted_line, reply, reply_text}
+use Rattle.sf_console.specs.Readings.{Asked, text_reading}
+use Rattle.sf_console.specs.Session.{IsAnswered}
+use Rattle.sf_keeping.specs.Changes.{changed, commanded}
+use Rattle.sf_keeping.specs.declared.carrying.Outcome.{Outcome}
+use Rattle.sf_keeping.specs.declared.carrying.Outcome.TheVariants.{Changed, Told}
+
+-- what becomes of a text: it changed the machine and is answered so, or changed nothing
+abbrev pub IsOutcome : Machine → List ℕ → Outcome → Machine → Type 0
+IsOutcome old text (Changed answer) new =
+    IsAnswered old (text_reading text) (accepted_line answer) new × (changed old (text_reading text) ≡ Some new) × (length text ≤ line_max)
+IsOutcome old text (Told told) new = IsAnswered old (text_reading text) (reply_text told) new × (new ≡ old)
+
+-- what becomes of a command
+abbrev pub Becomes : Machine → ℕ → Command → Outcome → Machine → Type 0
+Becomes old asker command (Changed answer) new =
+    (reply old (Ok (asker, command)) ≡ (new, accepted_line answer)) × (commanded old (Ok (asker, command)) ≡ Some new)
+Becomes old asker command (Told told) new = IsAnswered old (Asked false (Ok (asker, command))) (reply_text told) new × (new ≡ old)

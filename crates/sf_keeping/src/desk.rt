@@ -1,0 +1,93 @@
+//! Where edits are kept and answers go.
+ghost use Rattle.std.specs.Prelude.{◌≡◌, List, [], ◌∷◌, Option, None, OnOk, OnErr};
+ghost use Rattle.sf_keeping.specs.Desks.{Call, Makes};
+ghost use Rattle.sf_keeping.specs.Desks.Call.{Appends, Fails, Syncs, Answers};
+ghost use Rattle.sf_keeping.specs.declared.desk.KeepFault.TheVariants.{Journal, Memory, Read, Write};
+
+use sf_streams::{ReadFault, WriteFault};
+use std::alloc::AllocError;
+
+/// The journal could not be written, or not be synced. What it has is not known then.
+#[derive(Clone, Copy, Debug, PartialEq, Eq)]
+pub struct JournalFault;
+
+/// Why a session ended before its input did.
+#[derive(Clone, Copy, Debug, PartialEq, Eq)]
+pub enum KeepFault {
+    /// The input could not be read.
+    Read,
+    /// The output could not be written.
+    Write,
+    /// The journal could not be written or synced.
+    Journal,
+    /// Out of memory.
+    Memory,
+}
+
+impl From<AllocError> for KeepFault {
+    ghost from_gives = { λ _ fault. fault ≡ Memory };
+
+    fn from(_error: AllocError) -> KeepFault {
+        KeepFault::Memory
+    }
+}
+
+impl From<ReadFault> for KeepFault {
+    ghost from_gives = { λ _ fault. fault ≡ Read };
+
+    fn from(_fault: ReadFault) -> KeepFault {
+        KeepFault::Read
+    }
+}
+
+impl From<WriteFault> for KeepFault {
+    ghost from_gives = { λ _ fault. fault ≡ Write };
+
+    fn from(_fault: WriteFault) -> KeepFault {
+        KeepFault::Write
+    }
+}
+
+impl From<JournalFault> for KeepFault {
+    ghost from_gives = { λ _ fault. fault ≡ Journal };
+
+    fn from(_fault: JournalFault) -> KeepFault {
+        KeepFault::Journal
+    }
+}
+
+/// A journal, and an output. Contracts see the calls in their order, where they are told, as those of `Write` see the
+/// bytes that a writer has.
+pub trait Desk {
+    ghost use Rattle.std.specs.Prelude.{List, Option, None};
+    ghost use Rattle.sf_keeping.specs.Desks.{Call};
+
+    // The calls that were made, where they are known.
+    ghost calls: { Self → Option (List Call) } = { λ _. None };
+
+    /// Puts all of these bytes behind the journal.
+    ///
+    /// # Errors
+    ///
+    /// Where that fails; a front of the bytes may stand there then.
+    fn append(&mut self, bytes: &[u8]) -> Result<(), JournalFault>
+        ensures ok { OnOk result (Makes (calls self.old) (calls self.new) (Appends bytes.now ∷ [])) }
+        ensures failed { OnErr result (Makes (calls self.old) (calls self.new) (Fails bytes.now ∷ [])) };
+
+    /// Returns once all that was put behind the journal is on the disk.
+    ///
+    /// # Errors
+    ///
+    /// Where that is not known.
+    fn sync(&mut self) -> Result<(), JournalFault>
+        ensures ok { OnOk result (Makes (calls self.old) (calls self.new) (Syncs ∷ [])) }
+        ensures failed { OnErr result (Makes (calls self.old) (calls self.new) []) };
+
+    /// Puts all of these bytes out, and flushes the output.
+    ///
+    /// # Errors
+    ///
+    /// Where that fails; a front of the bytes may be out then.
+    fn answer(&mut self, bytes: &[u8]) -> Result<(), WriteFault>
+        ensures { Makes (calls self.old) (calls self.new) (Answers bytes.now ∷ []) };
+}
