@@ -126,6 +126,9 @@ layers
 columns a
 show a
 show c
+get a 4 2 4
+find a depth
+find a label 'it''s'
 hex a 2
 box a 4
 simple a 4

@@ -28,6 +28,8 @@ vertex remove
 set
 unset
 show
+get
+find
 hex
 box
 simple

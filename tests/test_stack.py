@@ -56,14 +56,22 @@ GEOMETRIES = [
 
 SESSION = [
     "layer add a any",
+    "column add a depth int",
+    "column add a label text",
     *(f"add a {geometry}" for geometry in GEOMETRIES),
+    "set a 2 depth 12",
+    "set a 3 label 'it''s old'",
     *(f"{question} a {number}" for number in range(1, 7) for question in ("hex", "box", "simple")),
+    "get a 1 2 3 4 5 6 1",
+    f"get a {' '.join(['6'] * 1000)}",
+    "find a depth 12",
+    "find a label",
     f"relate a 1 {GEOMETRIES[2]}",
     f"query a intersects {GEOMETRIES[0]}",
     f"match a ****1**** {GEOMETRIES[5]}",
     "vertex remove a 1 0 0 7",
-    *["undo"] * 7,
-    *["redo"] * 7,
+    *["undo"] * 9,
+    *["redo"] * 9,
     "show a",
 ]
 

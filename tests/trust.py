@@ -34,6 +34,22 @@ HEADLINE: list[tuple[str, list[str]]] = [
     ("sf_query/src/laws.rt", []),
     ("sf_relate/src/laws.rt", ["matrices_are_over_the_plane"]),
     ("sf_rules/src/laws.rt", []),
+    ("sf_keeping/src/keeping.rt", ["serve_kept"]),
+    ("sf_keeping/src/replaying.rt", ["replay"]),
+    ("sf_keeping/src/laws.rt", []),
+    ("sf_folder/src/saving.rt", ["save"]),
+    ("sf_folder/src/journals.rt", ["renew"]),
+    ("sf_folder/src/choosing.rt", ["choose"]),
+    ("sf_folder/src/laws.rt", []),
+    ("sf_journal/src/file_sums.rt", ["sum_of"]),
+    ("sf_journal/src/laws.rt", []),
+]
+
+# The traits whose calls these contracts speak of, as they are declared.
+TRAITS: list[tuple[str, str]] = [
+    ("sf_keeping/src/desk.rt", "Desk"),
+    ("sf_folder/src/folder.rt", "Folder"),
+    ("sf_folder/src/beside.rt", "Source"),
 ]
 
 # The page's sections, in reading order, and the crates whose definitions stand in each.
@@ -52,6 +68,7 @@ SUBJECTS: list[tuple[str, list[str]]] = [
         ["sf_lines", "sf_streams", "sf_wkt", "sf_wkb", "sf_format", "sf_loading", "sf_saving"],
     ),
     ("The session", ["sf_commands", "sf_console", "sf_run"]),
+    ("The journal and the save", ["sf_journal", "sf_keeping", "sf_folder"]),
 ]
 
 # How a file begins whose definitions compute what others mean, and one that no reader needs.
@@ -62,6 +79,7 @@ WORD = re.compile(r"[^\W\d_][\w'\-+]*|◌?[^\w\s◌(){}\[\],;]+◌?")
 DECLARED = re.compile(r"(?:abbrev |pub |record |data )+([^\s:({]+)")
 USE = re.compile(r"^ *(?:pub )?(?:ghost )?use Rattle\.([\w.]+)\.\{([^}]*)\}", re.MULTILINE)
 FUNCTION = re.compile(r"(?:^ *///[^\n]*\n)*^ *pub fn (\w+).*?^ *\{", re.MULTILINE | re.DOTALL)
+TRAIT = re.compile(r"(?:^///[^\n]*\n)*^pub trait (\w+).*?^\}", re.MULTILINE | re.DOTALL)
 CODE_TYPE = re.compile(r"^pub (?:enum|struct) (\w+).*?^\}", re.MULTILINE | re.DOTALL)
 
 
@@ -152,6 +170,12 @@ def clauses(path: str, functions: list[str]) -> Iterator[tuple[str, str]]:
             yield item[1], item[0][:-1].rstrip()
 
 
+def trait_text(path: str, trait: str) -> str:
+    """A trait of a file of code, with its documentation."""
+    text = (CRATES / path).read_text(encoding="utf-8")
+    return next(item[0] for item in TRAIT.finditer(text) if item[1] == trait)
+
+
 def words_of(text: str) -> set[str]:
     """The words of a definition, without its comments."""
     return set(WORD.findall(re.sub(r"(--|//).*", "", text)))
@@ -174,6 +198,9 @@ def closure(files: dict[str, Source]) -> set[Name]:
         source = Source({}, brought_in(text))
         for _, contract in clauses(path, functions):
             left += cited(contract, source, path)
+    for path, trait in TRAITS:
+        text = (CRATES / path).read_text(encoding="utf-8")
+        left += cited(trait_text(path, trait), Source({}, brought_in(text)), path)
     found: set[Name] = set()
     while left:
         name = left.pop()
@@ -241,6 +268,8 @@ def statement() -> str:
     for path, functions in HEADLINE:
         contracts = [textwrap.dedent(text) for _, text in clauses(path, functions)]
         parts.append(f"### `{path}`\n\n" + block("rust", contracts))
+    for path, trait in TRAITS:
+        parts.append(f"### The trait of `{path}`\n\n" + block("rust", [trait_text(path, trait)]))
     return "\n".join(parts)
 
 
@@ -300,9 +329,11 @@ INTRODUCTION = """# What has to be read to trust the program
 
 `tests/trust.py --write` makes this page from the contracts and from `specs/`; a test fails where it is out of date.
 
-> For every list of edits that the store accepts, followed by the inverses that it gave, last first, the store is again what it was, in every layer, counter, column and attribute; a refused edit changes nothing; every stored geometry is valid; and every spatial query lists, by identifier, exactly the features whose interiors, boundaries and exteriors meet the query's as its DE-9IM pattern says.
+> For every list of edits that the store accepts, followed by the inverses that it gave, last first, the store is again what it was, in every layer, counter, column and attribute; a refused edit changes nothing; every stored geometry is valid; and every spatial query lists, by identifier, exactly the features whose interiors, boundaries and exteriors meet the query's as its DE-9IM pattern says. 
+>
+> What was answered by a run with `--store` is kept, whatever ends the program.
 
-The prover checks that the program does what its contracts say. That the contracts say the sentence above is for a person to check, and this page has all that this takes: the contracts that carry the sentence, and each definition that they cite, {count} of {all}, in {lines} lines. Definitions of `specs/` that are not here belong to the proofs, or to promises beside this one.
+The prover checks that the program does what its contracts say. That the contracts say the sentences above is for a person to check, and this page has all that this takes: the contracts that carry them, and each definition that they cite, {count} of {all}, in {lines} lines. Definitions of `specs/` that are not here belong to the proofs, or to promises beside these. Of the second sentence, contracts have the calls; that the program makes them in their order, and that the system does what they ask, is not proved ([PROVED.md](PROVED.md)).
 
 Read a definition as in a book of mathematics: `abbrev pub name : type`, then what the name stands for, by cases. `A → B` is a function, or *if A then B*; `A × B` is *A and B*; `(x : A) → B` is *for every x*; `(x : A) × B` is *there is an x*; `a ≡ b` is *a is b*; `λ x. e` is the function from x to e. A `record` is all of its fields together. ℕ are the natural numbers, ℤ the whole numbers; `x ∷ xs` is a list with its first member.
 """

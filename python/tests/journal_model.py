@@ -1,6 +1,6 @@
 """A small program, a disk that fails and forgets, and a plain model of what a journal has to keep.
 
-`Run` does a list of operations on one store's file, chosen by a seed, and looks after each of them
+`Run` does a list of operations on one store's file, chosen by dice, and looks after each of them
 whether all that was answered is there, and nothing else. The small program speaks as much of the
 console's language as that needs, in this process, so that thousands of lists take a minute.
 """
@@ -11,7 +11,6 @@ import contextlib
 import errno
 import json
 import os
-import random
 import stat
 import subprocess
 import warnings
@@ -311,8 +310,8 @@ class Plan:
 class Run:
     """A store's file and its session, and what must be there."""
 
-    def __init__(self, seed, folder, program="small"):
-        self.dice = random.Random(seed)
+    def __init__(self, dice, folder, program="small"):
+        self.dice = dice
         self.folder = str(folder)
         self.program = program
         self.path = os.path.join(self.folder, "town.sfs")
@@ -350,17 +349,21 @@ class Run:
                     file.write(self.dice.choice(WRONG_SIDECARS))
 
     def steps(self, count):
-        """Does so many operations."""
-        names = list(self.CHANCES)
+        """Does so many operations, drawn by their chances."""
+        self.do(self._drawn() for _ in range(count))
+
+    def _drawn(self):
+        if self.store is None and self.dice.random() < 0.6:
+            return "open"
+        [name] = self.dice.choices(list(self.CHANCES), list(self.CHANCES.values()))
+        return name
+
+    def do(self, names):
+        """Does operations in turn, and looks behind each of them."""
         with self.disk.watched(self.program == "small"), warnings.catch_warnings():
             warnings.simplefilter("ignore", RuntimeWarning)
             try:
-                for _ in range(count):
-                    if self.store is None and self.dice.random() < 0.6:
-                        self._note("open")
-                        self.open()
-                        continue
-                    [name] = self.dice.choices(names, list(self.CHANCES.values()))
+                for name in names:
                     self._note(name)
                     getattr(self, name)()
                     self._look()

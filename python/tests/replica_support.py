@@ -6,12 +6,13 @@ import itertools
 import os
 import pwd
 import re
+import subprocess
 import sys
 import textwrap
 import unittest
 from importlib.util import find_spec
 
-from support import PROGRAM, TestCase
+from support import FOLDER, PROGRAM, TestCase
 
 from sfstore.replica import Replica, owning, servers
 from sfstore.replica.links import Link, LogRefused
@@ -27,6 +28,18 @@ def missing():
         return "no user postgres, as whom root could run servers"
     return ""
 
+
+# A program before the real one that takes its time over a question.
+SLOW = """\
+    import ctypes, subprocess, sys, os, time
+    def follow(): ctypes.CDLL(None).prctl(1, 9)  # the program is killed with this one
+    program = subprocess.Popen([{program!r}, *sys.argv[1:]], stdin=subprocess.PIPE, bufsize=0, preexec_fn=follow)
+    for line in sys.stdin.buffer:
+        if line.startswith(b"match"): time.sleep({seconds})
+        program.stdin.write(line)
+    program.stdin.close()
+    sys.exit(program.wait())
+    """
 
 # A kill leaves what was written in the system's memory: what these tests try needs no sync.
 OPTIONS = ["fsync=off"]
@@ -72,8 +85,25 @@ class ReplicaCase(TestCase):
         """A program before the real one that goes wrong while a file is there, which is taken at once or left."""
         flag = self.folder / "flag"
         flag.touch()
-        text = textwrap.dedent(text).format(flag=str(flag), once=once, program=PROGRAM)
+        return self._before_program(text, flag=str(flag), once=once)
+
+    def slow_program(self, seconds):
+        """A program before the real one that takes some seconds for a question by `match`."""
+        return self._before_program(SLOW, seconds=seconds)
+
+    def _before_program(self, text, **words):
+        text = textwrap.dedent(text).format(program=PROGRAM, **words)
         return self.script(f"#!{sys.executable}\n{text}")
+
+    def mounted(self, size, name="disk"):
+        """A folder with a small disk of its own."""
+        disk = self.folder / name
+        disk.mkdir()
+        words = ["mount", "-t", "tmpfs", "-o", f"size={size}", "sfstore-test", disk]
+        if subprocess.run(words, capture_output=True).returncode:
+            self.skipTest("a small disk can't be mounted here")
+        self.addCleanup(subprocess.run, ["umount", "-l", disk], check=True)
+        return disk
 
     def replica(self, login, program=PROGRAM, **changed):
         """A replica of a login, which ends with the test."""
@@ -82,6 +112,16 @@ class ReplicaCase(TestCase):
         replica = Replica(folder, words.pop("log", self.dsn(login)), program=program, **words)
         self.addCleanup(replica.close)
         return replica
+
+    def session(self, login, lines, *words):
+        """What the command ``run`` says and answers to some lines."""
+        return subprocess.run(
+            [sys.executable, "-m", "sfstore.replica.command", "run", str(self.folder / login), self.dsn(login)]
+            + ["--program", PROGRAM, *words],
+            input=lines,
+            env={**os.environ, "PYTHONPATH": str(FOLDER)},
+            capture_output=True,
+        )
 
     def town(self, *logins, **changed):
         """Replicas of a store with a layer of points."""

@@ -14,7 +14,7 @@ from unittest import mock
 
 from support import FOLDER, PROGRAM
 from test_exchange import GRID, HAS_GDAL, KINDS, ExchangeCase, Source, bring_in, give_back
-from test_placing import at_call, fail
+from test_placing import at_call, fail, interrupt
 
 from sfstore import Store, sidecar
 from sfstore.exchange import publishing
@@ -411,6 +411,26 @@ class BreakingOff(SetCase):
             return bool(seen)
 
         self.each_call(broken_off)
+
+    def test_an_interrupt_at_each_call(self):
+        """While files change their place it comes too late: the new store is there, and its side-car with it."""
+        self.keep()
+        put = publishing._put
+        for number in range(200):
+            self.restore()
+            seen = []
+
+            def interrupted(*words):
+                with at_call(number, interrupt) as reached:
+                    put(*words)
+                seen.extend(reached)
+
+            with mock.patch.object(publishing, "_put", interrupted):
+                self.assertEqual(self.bring_in()[0], 0, number)
+            self.assertFalse(self.check(), number)
+            if not seen:
+                break
+        self.assertGreater(number, 3)
 
     def test_names_that_stand_in_the_way_are_not_touched(self):
         for name in ("town.sfs.draft", "town.sfs.new", "town.sfs.json.part"):

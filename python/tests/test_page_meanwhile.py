@@ -20,6 +20,12 @@ request.send(JSON.stringify({ page: "other", line, seen }));
 document.activeElement.dispatchEvent(new KeyboardEvent("keydown", { key: "Enter", bubbles: true }));
 return request.status;
 """
+# Notes what the page asks of the server from now on.
+NOTING = """
+const whole = window.fetch;
+window.asked = [];
+window.fetch = (path, words) => (window.asked.push(path), whole(path, words));
+"""
 KEPT = "return [Object.keys(JSON.parse(localStorage['sfstore-keys'])), document.cookie, location.href]"
 
 
@@ -111,13 +117,22 @@ class Meanwhile(PageCase):
         page.type("show streets")
         self.assertEqual(self.ann.feature("parcels", 2)["values"][1]["value"], "Ito")
 
-    def test_a_text_is_typed_while_its_feature_is_deleted(self):
+    def test_what_is_typed_while_its_feature_is_deleted_is_told(self):
         page = self.two()
+        page.script(NOTING)
+        geometry = "POLYGON ((0 0, 9 0, 9 9, 0 0))"
+        page.script("document.getElementById('wkt').value = arguments[0]", geometry)
         page.one("#value-owner").send_keys(page.keys.CONTROL + "a" + page.keys.NULL, "a long text")
         self.ann.line("delete parcels 2")
-        self.told(page, "Ann deleted parcels 2 meanwhile: look again.")
+        words = "Ann deleted parcels 2 meanwhile: look again."
+        self.told(page, words)
         self.assertEqual(page.text("#chosen-title"), "Nothing selected")
-        self.assertIn("set parcels 2 owner 'a long text'", [line for line, _ in page.log()])
+        for line in ("set parcels 2 owner 'a long text'", f"replace parcels 2 {geometry}"):
+            self.assertIn((line, words), page.log())
+        # Nothing of it is sent: the server has no such feature, and an undo of Ann's would bring another one.
+        self.ann.line("undo")
+        page.type("show streets")
+        self.assertEqual(page.script("return window.asked").count("line"), 1)
 
     def test_a_geometry_that_is_typed_is_given_up_when_it_changes(self):
         page = self.two()
@@ -166,7 +181,8 @@ class Meanwhile(PageCase):
         self.assertEqual([line for line, _ in page.log()], ["layers"])
         page.use("#save")
         page.sure()
-        page.logged("save", "town.sfs is saved. The history begins anew.")
+        # What all pages are told of a save comes before the answer or behind it.
+        page.until(lambda: ("save", "town.sfs is saved. The history begins anew.") in page.log())
 
     def test_a_deletion_is_of_what_was_seen_at_the_question(self):
         page = self.two()

@@ -55,6 +55,11 @@ def fail():
     raise OSError(28, "No space left on device")
 
 
+def interrupt():
+    """As a person does."""
+    signal.raise_signal(signal.SIGINT)
+
+
 def killed_at(number, work):
     """Whether a process of its own that does a work was ended at a call."""
     child = os.fork()
@@ -167,6 +172,27 @@ class Steps(PlacingCase):
             return bool(reached)
 
         self.each_call(broken_off)
+
+    def test_an_interrupt_at_each_call(self):
+        """It ends the work with the old set, or comes too late, and then all of the new one is there."""
+        for kind, (made, names) in KINDS.items():
+            place = made(str(self.folder))
+            old, new = self.sets(place, names)
+            ends = []
+            for number in range(1000):
+                self.afresh()
+                self.put("old", place, names[0])
+                with at_call(number, interrupt) as reached:
+                    try:
+                        self.put("new", place, names[1])
+                        ends.append(new)
+                    except KeyboardInterrupt:
+                        ends.append(old)
+                self.assertEqual(self.there(), ends[-1], (kind, number))
+                if not reached:
+                    break
+            self.assertIn(old, ends, kind)
+            self.assertGreater(ends.count(new), 3, kind)
 
     def test_a_body_that_raises_leaves_what_was_there(self):
         for made, names in KINDS.values():
@@ -288,6 +314,15 @@ class Rooms(PlacingCase):
         with placing.room_beside(path) as room:
             self.assertEqual(self.hidden(), [os.path.basename(room)])
         self.assertEqual(self.hidden(), [])
+
+    def test_a_room_has_a_name_that_nobody_can_take_before(self):
+        path, rooms = str(self.folder / "town.sfs"), set()
+        for _ in range(3):
+            with placing.room_beside(path) as room:
+                rooms.add(room)
+            # What a stranger puts there is neither entered nor taken away.
+            os.symlink("/etc", room)
+        self.assertEqual((len(rooms), len(self.hidden())), (3, 3))
 
     def test_an_interrupt_waits_for_nothing_and_breaks_nothing(self):
         with placing.uninterrupted():

@@ -262,22 +262,10 @@ class Writing(ReplicaCase):
         modes = {path.name: oct(path.stat().st_mode & 0o777) for path in folder.iterdir()}
         self.assertEqual(set(modes.values()), {"0o600"}, modes)
 
-    SLOW = """\
-        import ctypes, subprocess, sys, os, time
-        flag = {flag!r}
-        def follow(): ctypes.CDLL(None).prctl(1, 9)  # the program is killed with this one
-        program = subprocess.Popen([{program!r}, *sys.argv[1:]], stdin=subprocess.PIPE, bufsize=0, preexec_fn=follow)
-        for line in sys.stdin.buffer:
-            if {once} and line.startswith(b"match") and os.path.exists(flag): time.sleep(600)
-            program.stdin.write(line)
-        program.stdin.close()
-        sys.exit(program.wait())
-        """
-
     def test_a_question_that_takes_too_long_is_ended(self):
         [ann] = self.town("ann")
         ann.close()
-        ann = self.replica("ann", program=self.flagged(self.SLOW, True), question_seconds=0.5)
+        ann = self.replica("ann", program=self.slow_program(600), question_seconds=0.5)
         ann.run("add w POINT (7 3)")
         for count in range(1, 6):
             begun = time.monotonic()
@@ -286,6 +274,15 @@ class Writing(ReplicaCase):
             self.assertEqual((ann.run("show w"), ann.restarts), (["1 POINT (7 3)"], count))
         self.assert_told("a question took longer than 0.5 seconds: match w w")
         self.assertEqual(ann.run("add w POINT (1 1)"), "ok 2")
+
+    def test_how_long_a_question_may_take_by_its_option(self):
+        self.town("ann")[0].close()
+        said = self.session("ann", b"match w w\nshow w\n", "--program", str(self.slow_program(20)), "--seconds", "0.5")
+        self.assertEqual((said.stdout, said.returncode), (b"refused 103 TooLong\nrows 0\n", 0), said.stderr)
+        self.assertIn(b"a question took longer than 0.5 seconds: match w w", said.stderr)
+        for seconds in ("0", "-1", "nan", "1e300", "long"):
+            said = self.session("ann", b"", "--seconds", seconds)
+            self.assertEqual(said.returncode, 2, seconds)
 
     def test_one_process_has_a_folder(self):
         self.town("ann")
@@ -322,15 +319,6 @@ class Writing(ReplicaCase):
 
 
 class Sessions(ReplicaCase):
-    def session(self, login, lines, *words):
-        return subprocess.run(
-            [sys.executable, "-m", "sfstore.replica.command", "run", str(self.folder / login), self.dsn(login)]
-            + ["--program", PROGRAM, *words],
-            input=lines,
-            env={**os.environ, "PYTHONPATH": str(FOLDER)},
-            capture_output=True,
-        )
-
     def command(self, *words):
         said = subprocess.run(
             [sys.executable, "-m", "sfstore.replica.command", *words],
@@ -598,6 +586,19 @@ class Divergence(ReplicaCase):
         # The others are right, and go on.
         self.assertEqual(ann.run("add w POINT (1 1)"), "ok 2")
         self.assertEqual((ann.restarts, ben.restarts), (0, 0))
+
+    def test_the_trusted_login_by_its_option(self):
+        [ann] = self.town("ann")
+        ann.run("add w POINT (7 3)")
+        self.cut(ann)
+        words = ["--program", str(self.wrong_program(False))]
+        # Without a trusted one it goes on, and says so.
+        said = self.session("ben", b"show w\n", *words)
+        self.assertEqual((said.stdout, said.returncode), (b"rows 1\n1 POINT (7 4)\n", 0), said.stderr)
+        self.assertIn(b"it goes on, and a person has to look at the machines", said.stderr)
+        said = self.session("cleo", b"show w\n", *words, "--trust", "ann")
+        self.assertEqual((said.stdout, said.returncode), (b"", 5), said.stderr)
+        self.assertIn(b"carried out again it was the same", said.stderr)
 
     def lie(self, login, at, total="0" * 64):
         """Has a login put down a sum that no file has."""
@@ -1002,6 +1003,8 @@ class Servers(ReplicaCase):
             quiet = dsn + " options='-c synchronous_commit=local'"
             owning.add_login(quiet, "zoe", is_editor=False, is_replica=False)
             owning.create_database(quiet)
+            with self.assertRaisesRegex(LogRefused, "already exists"):
+                owning.set_up(quiet, 1)
         finally:
             self.end(stalled)
             self.pair.standby._reap()
@@ -1136,17 +1139,6 @@ class Servers(ReplicaCase):
             except NotAcknowledged as error:
                 self.assertRegex(str(error), "No space left on device|standbys")
                 return count, error.keys
-
-    def mounted(self, size):
-        disk = self.folder / "disk"
-        disk.mkdir()
-        mounted = subprocess.run(
-            ["mount", "-t", "tmpfs", "-o", f"size={size}", "sfstore-test", disk], capture_output=True
-        )
-        if mounted.returncode:
-            self.skipTest("a small disk can't be mounted here")
-        self.addCleanup(subprocess.run, ["umount", "-l", disk], check=True)
-        return disk
 
 
 @unittest.skipIf(missing(), missing())

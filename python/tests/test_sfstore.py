@@ -171,6 +171,52 @@ class Commands(TestCase):
         self.assertEqual(store.match("w", "T*F**FFF*", SQUARE), [1])
         self.assertEqual(store.match("w", "tt**tf012", SQUARE), [])
 
+    def test_features_by_their_identifiers(self):
+        store = self.store
+        store.add_layer("w")
+        store.add_column("w", "label", "text")
+        for place in range(1, 4):
+            store.add("w", f"POINT ({place} {place})")
+        store.set("w", 2, "label", "it's old")
+        first, second, third = store.show("w")
+        self.assertEqual(second, Feature(2, "POINT (2 2)", {"label": "it's old"}))
+        self.assertEqual(store.get("w", 2), [second])
+        self.assertEqual(store.get("w", 3, 1, 3), [third, first, third])
+        self.assertEqual(store.get("w", *[2] * 1000), [second] * 1000)
+        self.assert_refused(21, "NoFeature", store.get, "w", 1, 4)
+        self.assert_refused(21, "NoFeature", store.get, "w", 0)
+        self.assert_refused(18, "NoLayer", store.get, "v", 1)
+        self.assertEqual(store.run("get w 1"), ["1 POINT (1 1)"])
+        self.assert_refused(31, "BadCommand", store.run, "get w")
+        self.assert_refused(31, "BadCommand", store.run, "get w" + " 1" * 1001)
+
+    def test_features_by_a_value(self):
+        store = self.store
+        store.add_layer("w")
+        store.add_column("w", "depth", "int")
+        store.add_column("w", "label", "text")
+        for depth in (12, -12, 12, None):
+            feature = store.add("w", "POINT (1 1)")
+            if depth is not None:
+                store.set("w", feature, "depth", depth)
+        store.set("w", 4, "label", "it's old")
+        store.set("w", 1, "label", "")
+        self.assertEqual(store.find("w", "depth", 12), [1, 3])
+        self.assertEqual(store.find("w", "depth", -12), [2])
+        self.assertEqual(store.find("w", "depth", 0), [])
+        self.assertEqual(store.find("w", "depth"), [1, 2, 3])
+        self.assertEqual(store.find("w", "label", "it's old"), [4])
+        self.assertEqual(store.find("w", "label", ""), [1])
+        self.assertEqual(store.find("w", "label", value="it"), [])
+        self.assertEqual(store.find("w", "label"), [1, 4])
+        self.assert_refused(18, "NoLayer", store.find, "v", "depth")
+        self.assert_refused(22, "NoColumn", store.find, "w", "name", 1)
+        self.assert_refused(24, "WrongValue", store.find, "w", "depth", "12")
+        self.assert_refused(24, "WrongValue", store.find, "w", "label", "x" * 256)
+        self.assert_refused(31, "BadCommand", store.run, "find w depth x")
+        store.undo()
+        self.assertEqual(store.find("w", "label"), [4])
+
     def test_every_predicate(self):
         store = self.store
         store.add_layer("w")
@@ -320,6 +366,7 @@ class Unsayable(TestCase):
         self.assert_unsayable(self.store.relate, "w", 1, "POINT (1 1)\n")
         self.assert_unsayable(self.store.match, "w", "*********", "POINT (1 1)\n")
         self.assert_unsayable(self.store.query, "w", "within", "POINT (1 1)\n")
+        self.assert_unsayable(self.store.find, "w", "t", "x\nlayer drop w")
 
     def test_other_ends_of_lines_are_sent(self):
         for text in ("\r", "\x0b", "\x0c", "\x1c", "\x1d", "\x1e", "a\rundo", "\t", "\x00", "\x7f"):
