@@ -299,6 +299,44 @@ class Editor:
         """
         return [feature_of(row) for row in self._rows(f"show {spelling.name(layer)}")]
 
+    def get(self, layer: str, *feature_ids: int) -> list[Feature]:
+        """The features of these identifiers, one to 1,000 of them, in the order asked.
+
+        An identifier that is asked for again has its feature again. Where one is of no feature,
+        this is refused as 21 NoFeature. It costs what it gives, and not what the layer has.
+
+        >>> with Store() as store:
+        ...     store.add_layer("wells")
+        ...     store.add("wells", "POINT (3 4)")
+        ...     store.add("wells", "POINT (5 6)")
+        ...     store.get("wells", 2)
+        1
+        2
+        [Feature(id=2, wkt='POINT (5 6)', values={})]
+        """
+        rows = self._rows(f"get {spelling.name(layer)} {spelling.identifiers(feature_ids)}")
+        return [feature_of(row) for row in rows]
+
+    def find(self, layer: str, column: str, value: Value | None = None) -> list[int]:
+        """The features with a value in a column, or without ``value`` those with any there.
+
+        They are given by their identifiers, rising.
+
+        >>> with Store() as store:
+        ...     store.add_layer("wells")
+        ...     store.add_column("wells", "label", "text")
+        ...     store.set("wells", store.add("wells", "POINT (3 4)"), "label", "it's old")
+        ...     store.find("wells", "label", "it's old")
+        ...     store.find("wells", "label", "new")
+        ...     store.find("wells", "label")
+        [1]
+        []
+        [1]
+        """
+        wanted = "" if value is None else f" {spelling.value(value)}"
+        rows = self._rows(f"find {spelling.name(layer)} {spelling.name(column)}{wanted}")
+        return [int(row) for row in rows]
+
     def hex(self, layer: str, feature_id: int) -> str:
         """The geometry of a feature as well-known binary, in hexadecimal.
 

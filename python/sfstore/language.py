@@ -16,6 +16,7 @@ __all__ = [
     "EDITS",
     "GRID_MAX",
     "GRID_MIN",
+    "IDENTIFIERS_MAX",
     "IDENTIFIER_MAX",
     "INT_MAX",
     "INT_MIN",
@@ -59,6 +60,9 @@ EDITOR_MAX = 255
 
 IDENTIFIER_MAX = 4_294_967_295
 """The greatest identifier, place, part, ring or index."""
+
+IDENTIFIERS_MAX = 1_000
+"""How many identifiers `get` takes at once."""
 
 INT_MIN, INT_MAX = -(2**63), 2**63 - 1
 """From where to where the values of a column of whole numbers go."""
@@ -161,6 +165,12 @@ COMMANDS = [
     ),
     Command("unset LAYER ID COLUMN", "clears a value", "unset wells 1 label", "values"),
     Command("show LAYER", "lists the features of a layer with their values", "show wells"),
+    Command("get LAYER ID", "lists features by their numbers, one or up to 1,000, in this order", "get wells 1"),
+    Command(
+        "find LAYER COLUMN VALUE",
+        "lists the features with a value in a column; without VALUE those with any",
+        "find wells label 'old'",
+    ),
     Command("hex LAYER ID", "tells a geometry as well-known binary", "hex wells 1"),
     Command("box LAYER ID", "tells the corners of the least box of a feature", "box roads 1"),
     Command("simple LAYER ID", "tells whether a geometry passes no point twice", "simple roads 1"),

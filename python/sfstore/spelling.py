@@ -4,9 +4,10 @@ from __future__ import annotations
 
 import operator
 import re
+from collections.abc import Sequence
 from typing import Any, get_args
 
-from sfstore.language import EDITOR_MAX, IDENTIFIER_MAX, INT_MAX, INT_MIN, NAME, PATTERN
+from sfstore.language import EDITOR_MAX, IDENTIFIER_MAX, IDENTIFIERS_MAX, INT_MAX, INT_MIN, NAME, PATTERN
 from sfstore.results import Value
 
 __all__ = [
@@ -14,6 +15,7 @@ __all__ = [
     "encoded",
     "geometry",
     "identifier",
+    "identifiers",
     "integer",
     "name",
     "one_of",
@@ -74,6 +76,13 @@ def identifier(number: int) -> int:
     if not 0 <= wanted <= IDENTIFIER_MAX:
         raise ValueError(f"{wanted} is not from 0 to {IDENTIFIER_MAX}")
     return wanted
+
+
+def identifiers(numbers: Sequence[int]) -> str:
+    """The identifiers that a line may ask for at once."""
+    if not 1 <= len(numbers) <= IDENTIFIERS_MAX:
+        raise ValueError(f"{len(numbers)} identifiers, where 1 to {IDENTIFIERS_MAX} may stand")
+    return " ".join(str(identifier(number)) for number in numbers)
 
 
 def editor(number: int) -> int:
