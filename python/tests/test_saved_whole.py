@@ -15,8 +15,8 @@ import unittest
 from collections.abc import Iterator
 from pathlib import Path
 
+from store_support import FAULTS, SECONDS, DiskCase, Ended, Running, StoreCase, library, plain, ran
 from support import PROGRAM
-from test_store_kept import FAULTS, SECONDS, Ended, FullDisks, Running, StoreCase, library, plain, ran
 
 OLD = ["layer add old any"]
 NEW = ["layer add new any", "add new POINT (1 2)"]
@@ -194,13 +194,8 @@ class Refused(SaveCase):
         self.assertEqual(self.path.read_bytes(), old)
 
 
-class FullDisk(FullDisks):
+class FullDisk(DiskCase):
     """A disk on which there is no room for the new file."""
-
-    # Those of a kept store run in their own module.
-    test_a_journal_that_finds_no_room = None  # type: ignore[assignment]
-    test_line_by_line_until_there_is_no_room = None  # type: ignore[assignment]
-    test_a_save_that_finds_no_room_leaves_the_old_file = None  # type: ignore[assignment]
 
     def test_the_old_file_stands(self) -> None:
         self.mounted("256k")
