@@ -71,7 +71,7 @@ class Journaled:
 
     @property
     def closed(self) -> bool:
-        """Whether the program was ended, or has ended in a command."""
+        """Whether the store can't be used any more."""
         return self._in_doubt or self._program.closed
 
     @property
@@ -128,8 +128,8 @@ class Journaled:
 
     def _check_open(self) -> None:
         self._program.check_user()
-        if self._in_doubt:
-            # An interrupt came at the wrong moment: the journal decides.
+        if self.closed:
+            # Where an interrupt came at the wrong moment the program runs still: the journal decides.
             self.abort()
             raise RuntimeError("the store is closed")
 

@@ -81,8 +81,8 @@ class Program:
 
     @property
     def closed(self) -> bool:
-        """Whether it was closed, or has ended in a command."""
-        return self._closed or self._has_ended()
+        """Whether it was closed."""
+        return self._closed
 
     def exchange(self, lines: Sequence[bytes]) -> list[Answer | Refused]:
         """Sends lines, each with its line feed, and reads as many answers.
