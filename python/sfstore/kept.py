@@ -46,7 +46,7 @@ class Kept:
             for path in (self.path, self.journal, sidecar.path_of(self.path)):
                 files.remove_leftovers(path)
             # What a save that has failed has left of a new file takes room that the journal may need.
-            with contextlib.suppress(FileNotFoundError):
+            with contextlib.suppress(OSError):
                 os.unlink(journal.new_file_of(self.path))
             torn = journal.renew_old(self.path)
             self._seen = _state(self.path)

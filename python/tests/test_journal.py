@@ -724,20 +724,15 @@ class Failures(JournalCase):
         self.assertTrue(self.path.exists())
 
     def test_a_save_that_fails_leaves_the_store_usable(self):
-        """As far as the journal can be written anew: here a folder stands in the way of the new file alone."""
+        """As far as the journal can be written anew: here something stands in the way of the new file alone."""
         store = journaled(self.path)
         store.add("w", "POINT (1 1)")
         store.undo()
-        real = store._program._kept.prepare
-
-        def prepared():
-            (self.folder / ".town.sfs.sfstore-store").rmdir()
-            return real()
-
-        (self.folder / ".town.sfs.sfstore-store").mkdir()
-        with mock.patch.object(store._program._kept, "prepare", prepared):
-            with self.assertRaisesRegex(JournalError, "could not be saved: it can't be written.*all edits are in"):
-                store.save()
+        in_the_way = self.folder / ".town.sfs.sfstore-store"
+        in_the_way.mkdir()
+        with self.assertRaisesRegex(JournalError, "could not be saved: it can't be written.*all edits are in"):
+            store.save()
+        in_the_way.rmdir()
         self.assertEqual(store.unsaved, 4)
         store.redo()
         self.assertEqual(len(store.show("w")), 2)

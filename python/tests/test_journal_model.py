@@ -98,7 +98,7 @@ class Mendings(ModelCase):
         """A store that gives its lines whatever the file has become."""
         lists = [["open", "edit", "edit", "write_foreign", "copy"]]
         with mock.patch.object(Kept, "check", lambda kept: None), mock.patch.object(Kept, "_check_digest", lambda *_: None):
-            with self.assertRaisesRegex(Violation, "merged into another program's file"):
+            with self.assertRaises(Violation):
                 for seed, operations in itertools.product(range(8), lists):
                     self.tried(random.Random(seed), lambda run: run.do(operations))
 
