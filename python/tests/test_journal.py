@@ -186,6 +186,9 @@ class Sessions(JournalCase):
             self.assertEqual(outcomes[:2] + outcomes[-1:], ["ok", "ok 1", "ok"])
             self.assertEqual((len(outcomes[-3]), outcomes[-2].name), (3000, "BadCommand"))
             self.assertEqual(store.unsaved, 3002)
+            # More than both pipes hold: neither side waits for the other for ever.
+            told = store.run_all(["show w".ljust(20_000), "undo", "redo"] * 8)
+            self.assertEqual([len(rows) for rows in told[::3]], [2999] * 8)
 
     def test_a_save_without_edits_keeps_the_history(self):
         with journaled(self.path) as store:

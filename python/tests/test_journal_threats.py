@@ -192,6 +192,32 @@ class JournalThreats(TestCase):
                     store.copy(name)
         self.assertEqual(len(self.points()), 2)
 
+    def test_a_copy_is_made_of_the_very_file(self):
+        """Another file stands in the place of the store's while the second program runs, and no longer."""
+        aside, copy, other = (self.folder / name for name in ("aside", "copy.sfs", "other.sfs"))
+        with Store(load=self.path, save=other, program=PROGRAM) as store:
+            store.add("w", "POINT (9 9)")
+        real_lines, real_run = Kept.lines, subprocess.run
+
+        def lines(kept):
+            found = real_lines(kept)
+            os.rename(self.path, aside)
+            os.rename(other, self.path)
+            return found
+
+        def run(*arguments, **named):
+            os.rename(aside, self.path)
+            return real_run(*arguments, **named)
+
+        with self.opened() as store:
+            store.add("w", "POINT (1 1)")
+            with mock.patch.object(Kept, "lines", lines), mock.patch("sfstore.kept.subprocess.run", run):
+                with self.assertRaisesRegex(JournalError, "changed or taken away by another program"):
+                    store.copy(copy)
+            with contextlib.suppress(FileNotFoundError):
+                os.rename(aside, self.path)
+            self.assertFalse(copy.exists())
+
     def test_a_copy_that_fails_leaves_the_older_one(self):
         copy = self.folder / "copy.sfs"
         copy.write_text("yesterday")
