@@ -214,11 +214,15 @@ class Program:
 def started(words: list[str], errors: IO[bytes] | None = None) -> Program:
     """A program that has loaded its file. `ProgramEnded` where it could not."""
     program = Program(words, errors)
-    # It is answered when the file is loaded.
-    [answer] = program.exchange([_GREETING])
-    if not isinstance(answer, Refused):
+    try:
+        # It is answered when the file is loaded.
+        [answer] = program.exchange([_GREETING])
+        if not isinstance(answer, Refused):
+            raise RuntimeError(f"{words[0]} is another program than sfstore")
+    except BaseException:
+        # It would hold the lock of its store.
         program.abort()
-        raise RuntimeError(f"{words[0]} is another program than sfstore")
+        raise
     return program
 
 
