@@ -19,6 +19,7 @@ from sfstore import files, oldjournal
 from sfstore.results import JournalError
 
 __all__ = [
+    "LOCK_SECONDS",
     "JournalError",
     "Records",
     "bytes_of",

@@ -314,12 +314,12 @@ class Locks(JournalCase):
                 children.append(os.fork())
                 if children[0] == 0:
                     signal.pause()
+                self.addCleanup(os.waitpid, children[0], 0)
+                self.addCleanup(os.kill, children[0], signal.SIGKILL)
             real(path)
 
         with mock.patch("sfstore.files.remove_leftovers", removed):
             journaled(self.path).close()
-        os.kill(children[0], signal.SIGKILL)
-        os.waitpid(children[0], 0)
 
     def test_a_forked_process_does_not_keep_the_lock(self):
         store = journaled(self.path)
