@@ -168,6 +168,23 @@ class Sessions(JournalCase):
             store.editor(9).add("w", "POINT (3 3)")
         self.assertEqual(self.wkts(), ["POINT (1 1)", "POINT (2 2)", "POINT (3 3)"])
 
+    def test_a_new_store_without_edits_is_saved_too(self):
+        with journaled(self.path):
+            pass
+        self.assertTrue(self.path.exists())
+        with journaled(self.path) as store:
+            self.path.unlink()
+            with self.assertRaisesRegex(JournalError, "changed or taken away by another program"):
+                store.save()
+            store.close(save=False)
+
+    def test_what_a_save_has_left_of_a_file_is_taken_away(self):
+        left = [self.folder / f".town.sfs{name}" for name in (".sfstore-store", ".sfstore-0123456789ab")]
+        for path in left:
+            path.write_bytes(b"half a store")
+        journaled(self.path).close(save=False)
+        self.assertFalse(any(path.exists() for path in left))
+
     def test_a_line_save_is_refused_and_saves_nothing(self):
         with journaled(self.path) as store:
             store.add_layer("w", "point")

@@ -13,6 +13,7 @@ from unittest import mock
 from support import PROGRAM, TestCase
 
 from sfstore import JournalError, Store, files, sidecar
+from sfstore.journal import locked
 from sfstore.kept import Kept
 
 
@@ -141,6 +142,11 @@ class JournalThreats(TestCase):
         os.chmod(self.path, 0o644)
         with self.opened():
             self.assertEqual(self.mode(".lock"), 0o600)
+        # An import takes it by itself.
+        for mode, most in ((0o644, 0o600), (0o664, 0o660)):
+            os.chmod(self.path, mode)
+            with locked(str(self.path)):
+                self.assertEqual(self.mode(".lock"), most)
 
     def test_files_of_the_user_are_left_alone(self):
         precious = self.folder / "precious.txt"
