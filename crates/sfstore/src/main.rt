@@ -72,7 +72,15 @@ fn saved(
     match WholeFile::begin(rt, rt.alloc(), path.as_str()) {
         Ok(Some(file)) => saved_whole(rt, file, served),
         Ok(None) => saved_in_place(rt, path.as_str(), served),
-        Err(_) => Err(Ending::SaveOpen),
+        Err(fault) => Err(open_fault(&fault)),
+    }
+}
+
+/// Why a file to save to could not be begun.
+fn open_fault(fault: &io::Error) -> Ending {
+    match fault.kind() {
+        io::ErrorKind::OutOfMemory => Ending::Save(SaveFault::Memory),
+        _ => Ending::SaveOpen,
     }
 }
 
