@@ -7,7 +7,9 @@ bodies that are named take far more than that, and each contract lets them throu
 
 from __future__ import annotations
 
+import math
 import os
+import resource
 import subprocess
 import sys
 import tempfile
@@ -46,16 +48,21 @@ class Claim:
         return 10 * self.measured
 
 
-def run(lines: Sequence[str]) -> tuple[float, bytes]:
-    """The processor seconds of a run, and the last line that it has answered."""
+def run(lines: Sequence[str], most: float = SECONDS) -> tuple[float, bytes]:
+    """The processor seconds of a run, and the last line that it has answered; it is ended where it takes far more."""
+    limit = math.ceil(most) + 1
+
+    def limited() -> None:
+        resource.setrlimit(resource.RLIMIT_CPU, (limit, limit))
+
     with tempfile.TemporaryFile() as source, tempfile.TemporaryFile() as sink:
         source.write("".join(f"{line}\n" for line in lines).encode())
         source.seek(0)
-        child = subprocess.Popen([STORE], stdin=source, stdout=sink)
+        child = subprocess.Popen([STORE], stdin=source, stdout=sink, preexec_fn=limited)
         _, status, usage = os.wait4(child.pid, 0)
         child.returncode = os.waitstatus_to_exitcode(status)
         if child.returncode != 0:
-            raise AssertionError(f"the program ended with {child.returncode}")
+            raise AssertionError(f"ended with {child.returncode} after {usage.ru_utime:.1f} of {limit} processor seconds")
         sink.seek(max(0, sink.tell() - 200))
         return usage.ru_utime + usage.ru_stime, sink.read().splitlines()[-1]
 
@@ -71,7 +78,7 @@ def ratio(claim: Claim) -> float:
     known = known_seconds(tuple(claim.known))
     both = []
     for _ in range(RUNS):
-        seconds, last = run(claim.known + claim.asked)
+        seconds, last = run(claim.known + claim.asked, 2 * known * (1 + claim.most))
         if last != claim.last:
             raise AssertionError(f"{last!r} in the place of {claim.last!r}")
         both.append(seconds)
