@@ -297,7 +297,7 @@ class Speeds(unittest.TestCase):
         """Refuses walks for each of many squares within a town, or off its border and off a street."""
         given = [town(IN_TOWN, False), street(IN_TOWN)]
         asked = [f"query a {predicate} {each}" for predicate in ("within", "crosses", "touches") for each in given]
-        self.check(Claim(["layer add a polygon", *squares(IN_TOWN)], [*asked, "layers"], 3.0, b"a polygon"))
+        self.check(Claim(["layer add a polygon", *squares(IN_TOWN)], [*asked, "layers"], 9.0, b"a polygon"))
 
 
 if __name__ == "__main__":
