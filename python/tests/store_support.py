@@ -141,12 +141,13 @@ def head_of(file: bytes) -> bytes:
 
 def journal_of(file: bytes, texts: Iterable[str]) -> bytes:
     """The journal of these texts."""
-    found = head_of(file)
-    behind = hashlib.sha256(found).digest()
+    head = head_of(file)
+    found = [head]
+    behind = hashlib.sha256(head).digest()
     for text in texts:
         behind = hashlib.sha256(behind + text.encode()).digest()
-        found += behind[:8].hex().encode() + b" " + text.encode() + b"\n"
-    return found
+        found.append(behind[:8].hex().encode() + b" " + text.encode() + b"\n")
+    return b"".join(found)
 
 
 def journal_behind(lines: Sequence[str]) -> bytes:

@@ -40,6 +40,7 @@ RACES = 50
 
 
 class Sessions(StoreCase):
+    SECONDS = 600
     LINES: ClassVar[list[str]] = [*BEGINNING, "add a POINT (1 1)", "@1 add b POINT (2 2)", "set a 1 k 5", "undo", "show a", "nonsense", "", "layers"]
 
     def test_a_session_is_answered_and_saved_at_its_end(self) -> None:
