@@ -19,7 +19,7 @@ import warnings
 import zlib
 from unittest import mock
 
-from sfstore import JournalError, ProgramEnded, Refused, Store, files, journal, sidecar, storefile
+from sfstore import JournalError, ProgramEnded, Refused, Store, files, journal, oldjournal, sidecar, storefile
 
 # What stands in the folder beside the store, and is the user's.
 USERS = ["town.sfs.new", "town.sfs.part", "town.sfs.journal.new", "town.sfs.json.part", "notes.txt"]
@@ -482,7 +482,9 @@ class Run:
             self._drop()
             UNLINK(self.path)
             self.sidecar, self.mode, self.foreign = False, None, None
-            self.excuse = self.excuse or ("the file was taken away" if self.lines or self.maybe else "")
+            # A journal of version 1 misses its file even where it has no edits.
+            is_missed = self.lines or self.maybe or oldjournal.is_old(self._bytes("town.sfs.journal") or b"")
+            self.excuse = self.excuse or ("the file was taken away" if is_missed else "")
             self.saved = self.saved if self.excuse else None
 
     def remove_lock(self):
