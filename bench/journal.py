@@ -1,9 +1,11 @@
 #!/usr/bin/env python3
-"""Measures what a journal costs: edits a second without one, one by one, and in groups; openings and saves.
+"""Measures what a journal costs: edits a second without one and with one, one by one, and in groups; openings and saves.
 
     bench/journal.py PROGRAM [FOLDER]
 
 The store's file and its journal are made in FOLDER (else in one for temporary files): its disk is what is measured.
+A store without a journal and one with it do the same edits in turn, five times, so that other work on the machine
+slows both.
 """
 
 from __future__ import annotations
@@ -36,28 +38,37 @@ def seconds_of(store: Store, lines: list[str], group: int) -> float:
     return time.perf_counter() - begun
 
 
-def measure(name: str, store: Store, count: int, group: int) -> None:
-    """Prints a row, of the median of five runs."""
-    store.run("layer add w point")
+def measure(program: str, folder: str, count: int, group: int) -> str:
+    """Prints a row, of the medians of five runs each. The path of the store with a journal."""
+    path = f"{folder}/of_{group}.sfs"
     lines = edits(count)
-    times = sorted(seconds_of(store, lines, group) for _ in range(5))
-    print(f"| {name} | {count / times[2]:,.0f} | {times[2] / count * 1e6:.1f} |")
+    times: list[list[float]] = [[], []]
+    stores = [Store(program), Store(path, journal=True, program=program)]
+    for store in stores:
+        store.run("layer add w point")
+    for _ in range(5):
+        for store, taken in zip(stores, times):
+            taken.append(seconds_of(store, lines, group))
+    for store in stores:
+        store.close(save=False)
+    without, with_one = (sorted(taken)[2] for taken in times)
+    name = "one by one" if group == 1 else f"`run_all` of {group:,}"
+    print(
+        f"| {name} | {count / without:,.0f} | {count / with_one:,.0f} | {with_one / count * 1e6:.1f} "
+        f"| {with_one / without:.2f} |"
+    )
+    return path
 
 
 def main() -> None:
     program = os.path.abspath(sys.argv[1])
     with tempfile.TemporaryDirectory(dir=sys.argv[2] if len(sys.argv) > 2 else None) as folder:
-        print("| | Edits a second | µs for each edit |\n|---|---|---|")
-        for name, count, group in (("one by one", 20_000, 1), ("`run_all` of 10,000", 100_000, 10_000)):
-            with Store(program) as plain:
-                measure(f"without a journal, {name}", plain, count, group)
+        print("| | Without a journal, edits a second | With one | µs for each edit | Times as long |")
+        print("|---|---|---|---|---|")
         for count, group in ((1_000, 1), (5_000, 10), (20_000, 100), (100_000, 10_000)):
-            store = Store(f"{folder}/of_{group}.sfs", journal=True, program=program)
-            name = "one by one" if group == 1 else f"`run_all` of {group:,}"
-            measure(f"with a journal, {name}", store, count, group)
-            store.close(save=False)
+            path = measure(program, folder, count, group)
         begun = time.perf_counter()
-        store = Store(f"{folder}/of_10000.sfs", journal=True, program=program)
+        store = Store(path, journal=True, program=program)
         print(f"opening over {store.recovered.edits:,} edits: {time.perf_counter() - begun:.2f} s")
         begun = time.perf_counter()
         store.save()

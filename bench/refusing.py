@@ -123,8 +123,13 @@ class Trial:
 
     def lines(self, line: str) -> list[str]:
         """The lines of a run, with a line in the place of that for which memory is scarce."""
-        behind = [told for after in (*self.neutral, self.follower) for told in (after, *LOOKS)]
-        return [*self.before, *LOOKS, "scarce", line, "ample", *LOOKS, *behind]
+        behind = [told for after in self.neutral for told in (after, *LOOKS)]
+        return [*self.before, *LOOKS, "scarce", line, "ample", *LOOKS, *behind, self.follower, *self.last_looks()]
+
+    def last_looks(self) -> list[str]:
+        """The looks behind the last line, at the layer by the name that it has then."""
+        name = RENAMED if self.follower == RENAMING else "w"
+        return [re.sub(r"\bw\b", name, asked) for asked in LOOKS]
 
     def told(self, ended: Ended) -> Told:
         """What a run was told."""
@@ -234,7 +239,9 @@ MOVING = [
     "vertex insert w 31 0 0 3 70 70",
     "vertex remove w 31 0 0 2",
 ]
-NAMING = ["set w 2 depth 9", "unset w 1 depth", "column add w label text", "column drop w depth", "layer move w 0"]
+RENAMED = "u"
+RENAMING = f"layer rename w {RENAMED}"
+NAMING = ["set w 2 depth 9", "unset w 1 depth", "column add w label text", "column drop w depth", "layer move w 0", RENAMING]
 
 # None names the layer in an edit that is accepted.
 LEAVING = ("show w", "delete w 99", "add v POINT (1 1)")

@@ -3,6 +3,7 @@
 from __future__ import annotations
 
 import os
+import shutil
 import subprocess
 import sys
 import tempfile
@@ -34,6 +35,22 @@ class Examples(unittest.TestCase):
 
     def answers(self, lines, *words):
         return subprocess.run([PROGRAM, *words], input=lines, check=True, capture_output=True).stdout
+
+    def test_the_first_session_of_the_readme(self):
+        """The stored run of the program: README shows its lines and answers, and the program gives them."""
+        stored = TOP / "crates" / "sfstore"
+        lines, answers = (stored.joinpath(name).read_text() for name in ("stdin", "stdout"))
+        text = (TOP / "README.md").read_text().partition("## A first session")[2].split("```")[1]
+        shown = [row.partition("->") if "->" in row else ("", "", row) for row in text.splitlines()[1:]]
+        self.assertEqual([line.strip() for line, arrow, _ in shown if arrow], lines.splitlines())
+        self.assertEqual([answer.strip() for _, _, answer in shown], answers.splitlines())
+        shutil.copy(stored / "data" / "town.sfs", self.folder)
+        words = stored.joinpath("args").read_text().splitlines()
+        ended = subprocess.run([PROGRAM, *words], input=lines, cwd=self.folder, check=True, capture_output=True, text=True)
+        self.assertEqual(ended.stdout, answers)
+        streets = b"rows 2\n1 LINESTRING (0 0, 9 0)\n2 LINESTRING (9 0, 9 5)\n"
+        self.assertEqual(self.answers(b"show streets\nlayers\n", "--load", self.folder / "new.sfs"), streets + b"rows 2\nstreets linestring\nwells point\n")
+        self.assertEqual((self.folder / "town.sfs").read_bytes(), (stored / "data" / "town.sfs").read_bytes())
 
     def town(self):
         """The file of the town, as its lines make it."""

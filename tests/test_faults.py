@@ -116,17 +116,15 @@ class Failed(Preloaded):
             self.assertGreaterEqual(of_file, 2 if not others else len(self.file.read_bytes()) + 1)
             self.assertEqual(ends[of_file:], [(1, b"fault serve Read\n")])
 
-    def test_a_front_of_the_file_is_saved_before_a_failed_write(self) -> None:
+    def test_a_file_that_cannot_be_written_whole_is_not_there(self) -> None:
         whole = self.file.read_bytes()
         call = Call(STORE, ("--load", str(self.file)), saves=True)
         for counted in WRITES:
-            ends = self.runs(call, b"", counted, ONE_BYTE)
-            self.assertEqual(len(ends), len(whole))
-            for place, ended in enumerate(ends):
-                self.assertEqual((ended.status, ended.output, ended.saved), (4, b"fault save Write\n", whole[:place]))
-            for ended in self.runs(call, b"", counted, MANY_BYTES):
-                self.assertEqual((ended.status, ended.output), (4, b"fault save Write\n"))
-                self.assertTrue(whole.startswith(ended.saved))
+            for others, least in ((ONE_BYTE, len(whole)), (MANY_BYTES, 1)):
+                ends = self.runs(call, b"", counted, others)
+                self.assertGreaterEqual(len(ends), least)
+                for ended in ends:
+                    self.assertEqual((ended.status, ended.output, ended.saved), (4, b"fault save Write\n", b""))
 
     def test_a_picture_of_a_file_that_cannot_be_read_is_a_fault(self) -> None:
         for others in (MANY_BYTES, ONE_BYTE):

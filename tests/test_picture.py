@@ -164,6 +164,36 @@ class Pictures(unittest.TestCase):
         self.assertEqual(list(paths(picture(self.file, *words))), ["shapes-1", "shapes-2", "shapes-4", "shapes-6"])
         self.assertEqual(self.box(*words), ([9, 3, 22, 4], 440, 80))
 
+    def test_options_with_negative_numbers(self):
+        """No contract says what they are where a word begins as a negative number does: many options at once, in any
+        order, are those of the words."""
+        window, layers = ("--window", "-6", "-1", "16", "9"), ("--layer", "wells", "--layer", "shapes")
+        shown = ["shapes-1", "shapes-2", "shapes-4"]
+        for words in ((*layers, *window, "--width", "440"), ("--width", "440", *window, *layers), (*window, *layers, "--width=440")):
+            with self.subTest(words=words):
+                self.assertEqual(list(paths(picture(self.file, *words))), shown)
+                self.assertEqual(self.box(*words), ([-6, 9, 22, 10], 440, 200))
+        self.assertEqual(list(paths(picture(self.file, "--layer", "wells", *window, "--width", "440"))), [])
+        far = ("--layer", "wells", "--layer", "shapes", "--width", "22", "--window", "-8388608", "-8388608", "-1", "5")
+        self.assertEqual(list(paths(picture(self.file, *far))), ["shapes-2"])
+
+    def test_faults_beside_negative_numbers(self):
+        window = ("--width", "440", "--layer", "shapes", "--window", "-6", "-1", "16")
+        cases = (
+            ((*window, "-9"), b"fault words EmptyWindow\n"),
+            ((*window, "9", "--layer", "streets"), b"fault words NoLayer streets\n"),
+            (window, b"error: "),
+            ((*window, "x"), b"error: "),
+            ((*window, "9", "--width", "-1"), b"error: "),
+            (("--width", "-440", "--layer", "shapes", "--layer", "wells", *window[4:], "9"), b"error: "),
+            ((*window, "9", "-9"), b"error: "),
+        )
+        for words, front in cases:
+            with self.subTest(words=words):
+                ended = subprocess.run([PROGRAM, *words], input=self.file, capture_output=True)
+                self.assertEqual((ended.returncode, ended.stdout), (2, b""))
+                self.assertTrue(ended.stderr.startswith(front), ended.stderr)
+
     def test_a_window_with_nothing_in_it(self):
         self.assertEqual(paths(picture(self.file, "--window", "-9", "-9", "-8", "-8")), {})
 

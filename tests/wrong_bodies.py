@@ -97,7 +97,7 @@ def page() -> str:
 
 INTRODUCTION = """# Wrong bodies
 
-`must-fail/` of a crate has changes of code that the prover has to refuse: the gate tries each, and fails where one is proved. They show that a contract says what it is there to say. A crate has at most four, those that its users would notice first; `rt plant` tries others where a crate is worked on.
+`must-fail/` of a crate has changes of code that the prover has to refuse: the gate tries each, and fails where one is proved. They show that a contract says what it is there to say. A crate has at most four, those that its users would notice first; `bench/plants.py` tries others, and `rt plant` more where a crate is worked on.
 
 `tests/wrong_bodies.py --write` makes this page, and a test fails where it is out of date. Beside each wrong body stands the function that it changes, with the clauses of that function's contract.
 """

@@ -57,7 +57,6 @@ class Editor:
         ['1 POINT (3 4)']
         """
         [outcome] = self._program.exchange([self._address + spelling.encoded(line)])
-        self._program.commit()
         if isinstance(outcome, Refused):
             raise outcome
         return outcome
@@ -74,21 +73,20 @@ class Editor:
         a `ValueError` none was carried out. ``progress`` is called after each batch with the number
         of lines that are answered, and that of all lines.
 
-        With a journal the accepted edits are on the disk before the answers are given: all at once,
-        or before each call of ``progress``.
+        With a journal the accepted edits are on the disk before the answers are given, and before
+        each call of ``progress``; they are synced together, some thousands at a time.
 
         >>> with Store() as store:
         ...     store.run_all(["layer add wells point", "add wells POINT (3 4)", "redo"])
         ['ok', 'ok 1', Refused(30, 'NothingToRedo', 'redo')]
         """
         encoded = [self._address + spelling.encoded(line) for line in lines]
+        if progress is None:
+            return self._program.exchange(encoded)
         outcomes: list[Answer | Refused] = []
         for batch in batches(encoded):
             outcomes += self._program.exchange(batch)
-            if progress is not None:
-                self._program.commit()
-                progress(len(outcomes), len(encoded))
-        self._program.commit()
+            progress(len(outcomes), len(encoded))
         return outcomes
 
     def add_layer(self, name: str, kind: Kind = "any") -> None:

@@ -10,7 +10,7 @@ import re
 import secrets
 import stat
 from collections.abc import Iterator
-from typing import BinaryIO
+from typing import IO
 
 __all__ = [
     "digest",
@@ -37,7 +37,7 @@ def digest(path: str) -> str:
         return digest_of(file)
 
 
-def digest_of(file: BinaryIO) -> str:
+def digest_of(file: IO[bytes]) -> str:
     """The SHA-256 of an open file's bytes, which is then at its beginning again."""
     hashed = hashlib.sha256()
     file.seek(0)

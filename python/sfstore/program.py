@@ -2,31 +2,32 @@
 
 from __future__ import annotations
 
+import contextlib
 import os
+import select
 import subprocess  # nosec B404: the store's own program is started, without a shell.
 import threading
 import warnings
 import weakref
+from collections import deque
 from collections.abc import Iterable, Iterator, Sequence
-from typing import BinaryIO, Protocol, cast
+from typing import IO, Protocol, cast
 
 from sfstore.results import Answer, ProgramEnded, Refused
 
 __all__ = ["BATCH_BYTES", "Link", "Program", "batches", "is_edit", "started"]
 
-BATCH_BYTES = 4096
-"""The least room that a pipe has.
+BATCH_BYTES = 65_536
+"""How many bytes the program reads at once, and a pipe holds. A journal is synced once for them."""
 
-An empty one takes as many bytes at once, so that the module never waits for room while the program
-waits for its answers to be read. A longer line is sent alone: the program answers nothing before it
-has the whole line.
-"""
-
-# How much of the output is read ahead.
-_OUTPUT_BUFFER_BYTES = 65_536
+# How much of the output is read at once.
+_OUTPUT_BYTES = 65_536
 
 # No answer, and no row of one, begins so.
-_LAST_WORDS = (b"fault serve ", b"fault words ", b"fault load ", b"fault save ", b"error: ")
+_LAST_WORDS = ("fault serve ", "fault words ", "fault load ", "fault journal ", "fault save ", "error: ")
+
+# A line that every store refuses, whatever it has, and that changes nothing.
+_GREETING = b"?\n"
 
 
 class Link(Protocol):
@@ -34,9 +35,6 @@ class Link(Protocol):
 
     def exchange(self, lines: Sequence[bytes]) -> list[Answer | Refused]:
         """Sends lines, each with its line feed, and reads as many answers."""
-
-    def commit(self) -> None:
-        """Has all accepted edits where a crash does not reach them. Answers are given after it."""
 
     def close(self) -> None:
         """Saves the store, and ends the program."""
@@ -49,40 +47,57 @@ class Link(Protocol):
 
 
 class Program:
-    """A running program, the pipes to and from it, and who may use them."""
+    """A running program, the pipes to and from it, and who may use them.
 
-    def __init__(self, words: list[str], handed: Sequence[int] = ()) -> None:
+    What it says beside its answers goes where Python's does, or to the open file ``errors``.
+    """
+
+    def __init__(self, words: list[str], errors: IO[bytes] | None = None) -> None:
         self._thread = threading.current_thread()
         self._owner = os.getpid()
         self._closed = False
-        self._last_line = b""
+        self._last_line = ""
+        # What is to be sent, the lines that were read, and what was read of the next one.
+        self._unsent = memoryview(b"")
+        self._lines: deque[str] = deque()
+        self._rest = b""
         # In a session of its own no key of the terminal ends the program while it saves.
         self._process = subprocess.Popen(  # nosec B603: a list of words, of which some are paths.
             words,
-            bufsize=_OUTPUT_BUFFER_BYTES,
+            bufsize=0,
             stdin=subprocess.PIPE,
             stdout=subprocess.PIPE,
+            stderr=errors,
             start_new_session=True,
-            pass_fds=handed,
         )
-        self._input = cast(BinaryIO, self._process.stdin)
-        self._output = cast(BinaryIO, self._process.stdout)
+        self._input = cast("IO[bytes]", self._process.stdin)
+        self._output = cast("IO[bytes]", self._process.stdout)
         self._finalizer = weakref.finalize(self, _abandon, self._process, self._owner)
         _programs.add(self)
+        os.set_blocking(self._input.fileno(), False)
+        self._pipes = select.poll()
+        self._pipes.register(self._input, select.POLLOUT)
+        self._pipes.register(self._output, select.POLLIN)
+
+    @property
+    def closed(self) -> bool:
+        """Whether it was closed."""
+        return self._closed
 
     def exchange(self, lines: Sequence[bytes]) -> list[Answer | Refused]:
         """Sends lines, each with its line feed, and reads as many answers.
 
-        More than one line may be sent only where all together have `BATCH_BYTES` at most.
+        Answers are read while lines are sent: however many they are, neither side waits for the
+        other for ever.
         """
         self.check_user()
         if self._closed:
             raise RuntimeError("the store is closed")
         if self._has_ended():
             raise self._ending()
-        self._last_line = b""
+        self._last_line = ""
         try:
-            self._send(b"".join(lines))
+            self._unsent = memoryview(b"".join(lines))
             return [self._outcome(line) for line in lines]
         except (BrokenPipeError, EOFError):
             self._drain()
@@ -91,9 +106,6 @@ class Program:
             # An answer may be half read: whatever came next would be taken for another one.
             self._kill()
             raise
-
-    def commit(self) -> None:
-        """Nothing is kept elsewhere than in the program."""
 
     def close(self) -> None:
         """Ends the input, and waits for the program to save and to end."""
@@ -105,7 +117,7 @@ class Program:
         self._finalizer.detach()
         if not self._has_ended():
             self._input.close()
-            self._last_line = b""
+            self._last_line = ""
             self._drain()
         if self._process.returncode != 0:
             raise self._ending()
@@ -136,13 +148,7 @@ class Program:
 
     def _ending(self) -> ProgramEnded:
         """How the program ended."""
-        last_line = self._last_line.removesuffix(b"\n").decode("utf-8", "replace")
-        return ProgramEnded(self._process.returncode, last_line)
-
-    def _send(self, data: bytes) -> None:
-        rest = memoryview(data)
-        while rest:
-            rest = rest[os.write(self._input.fileno(), rest) :]
+        return ProgramEnded(self._process.returncode, self._last_line)
 
     def _outcome(self, line: bytes) -> Answer | Refused:
         """Reads the answer of a line."""
@@ -156,16 +162,41 @@ class Program:
 
     def _read_line(self) -> str:
         """Reads a line of an answer. `EOFError` where the program ends instead."""
-        line = self._output.readline()
-        self._last_line = line or self._last_line
-        if not line.endswith(b"\n") or line.startswith(_LAST_WORDS):
+        while not self._lines:
+            self._send()
+            self._take()
+        self._last_line = line = self._lines.popleft()
+        if line.startswith(_LAST_WORDS):
             raise EOFError
-        return line[:-1].decode("utf-8")
+        return line
+
+    def _send(self) -> None:
+        """Sends until all is sent, or something can be read."""
+        while self._unsent:
+            with contextlib.suppress(BlockingIOError):
+                self._unsent = self._unsent[os.write(self._input.fileno(), self._unsent) :]
+            if self._unsent and any(pipe == self._output.fileno() for pipe, _ in self._pipes.poll()):
+                return
+
+    def _take(self) -> None:
+        """Reads what there is of the output, and waits for some. `EOFError` at its end."""
+        block = os.read(self._output.fileno(), _OUTPUT_BYTES)
+        if not block:
+            raise EOFError
+        whole, feed, rest = block.rpartition(b"\n")
+        if not feed:
+            self._rest += rest
+            return
+        self._lines.extend((self._rest + whole).decode("utf-8").split("\n"))
+        self._rest = rest
 
     def _drain(self) -> None:
         """Reads what is left of the output, and waits for the end of the program."""
-        for line in self._output:
-            self._last_line = line
+        with contextlib.suppress(EOFError):
+            while True:
+                self._take()
+        for line in (*self._lines, self._rest.decode("utf-8", "replace")):
+            self._last_line = line or self._last_line
         self._release()
 
     def _kill(self) -> None:
@@ -180,17 +211,18 @@ class Program:
         self._output.close()
 
 
-def started(words: list[str], handed: Sequence[int] = ()) -> Program:
-    """A program that has loaded its file. `ProgramEnded` where it could not.
-
-    The open files that are ``handed`` to it have the same numbers there.
-    """
-    program = Program(words, handed)
-    # There is nothing to undo yet: the refusal shows that the file is loaded.
-    [answer] = program.exchange([b"undo\n"])
-    if not isinstance(answer, Refused):
+def started(words: list[str], errors: IO[bytes] | None = None) -> Program:
+    """A program that has loaded its file. `ProgramEnded` where it could not."""
+    program = Program(words, errors)
+    try:
+        # It is answered when the file is loaded.
+        [answer] = program.exchange([_GREETING])
+        if not isinstance(answer, Refused):
+            raise RuntimeError(f"{words[0]} is another program than sfstore")
+    except BaseException:
+        # It would hold the lock of its store.
         program.abort()
-        raise RuntimeError(f"{words[0]} is another program than sfstore")
+        raise
     return program
 
 
@@ -220,7 +252,7 @@ if hasattr(os, "register_at_fork"):
 
 
 def batches(lines: Iterable[bytes]) -> Iterator[list[bytes]]:
-    """The lines in their order, as many at a time as may be sent at once."""
+    """The lines in their order, as many at a time as the program reads at once."""
     batch: list[bytes] = []
     size = 0
     for line in lines:

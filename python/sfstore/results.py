@@ -13,6 +13,7 @@ __all__ = [
     "Column",
     "ColumnType",
     "Feature",
+    "JournalError",
     "Kind",
     "Layer",
     "PathName",
@@ -98,6 +99,15 @@ class ProgramEnded(Exception):
         if self.status < 0:
             return f"the program was killed by signal {-self.status}"
         return f"the program ended with status {self.status}: {self.last_line or 'no last line'}"
+
+
+class JournalError(Exception):
+    """The journal or its file can't be used, or an edit can't be written down.
+
+    The text says which place of which file is wrong, and why. Nothing was changed by an opening
+    that raises it. Where an edit raises it, the store is closed, the edits that were answered are
+    in the journal, and the last one may be or not: open the store anew.
+    """
 
 
 class Recovered(NamedTuple):

@@ -1,13 +1,14 @@
 """The small JSON file beside a store's file: its grid, reference system, and names in the source.
 
-It belongs to a store's file by its digest. A session with a journal keeps it so: before it puts
-a new file in the place of an old one, it writes the digests of both.
+It belongs to a store's file by its digest. A session with a journal keeps it so: before it has the
+program put a new file in the place of an old one, it writes the digests of both.
 """
 
 from __future__ import annotations
 
 import json
 import os
+from collections.abc import Callable
 from dataclasses import asdict, dataclass, field
 from typing import Any
 
@@ -132,18 +133,25 @@ def write(store: str, found: Sidecar, digests: list[str]) -> None:
             file.write("\n")
 
 
-def follow(store: str, old: str, new: str) -> None:
-    """Has the side-car belong to a new file too, where there is one that belongs to the old file."""
+def follow(store: str, old: str, next_digest: Callable[[], str]) -> str | None:
+    """Has the side-car belong to the next file too, where there is one that belongs to the old file.
+
+    The digest of the next file, which is asked for then alone; none where no side-car follows.
+    """
     try:
         settle(store)
         if not os.path.exists(path_of(store)):
-            return
+            return None
         found = _read(path_of(store))
     except (FileNotFoundError, SidecarError):
         # It is left as it is: whoever needs it is told what is wrong with it.
-        return
-    if old in found.digests and old != new:
+        return None
+    if old not in found.digests:
+        return None
+    new = next_digest()
+    if new != old:
         write(store, found, [old, new])
+    return new
 
 
 def _read(path: str) -> Sidecar:

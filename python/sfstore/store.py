@@ -77,11 +77,11 @@ class Store(Editor):
     where the program has ended. An exception from outside in the middle of a command, such as
     `KeyboardInterrupt`, kills the program.
 
-    ``Store(path, journal=True)`` holds the store of a file with a journal beside it: an accepted
-    edit is on the disk before it is answered, `save` and `close` put a new file in the place of the
-    old one, and the next opening has what a crash left unsaved, and can undo it. A new store begins
-    where the file is missing. `JournalError` where another session has the file, and where file and
-    journal do not fit. docs/JOURNAL.md of the project says what is promised.
+    ``Store(path, journal=True)`` has the program keep the store of a file with a journal beside it:
+    an accepted edit is on the disk before it is answered, `save` and `close` put a new file in the
+    place of the old one, and the next opening has what a crash left unsaved, and can undo it. A new
+    store begins where the file is missing. `JournalError` where another session has the file, and
+    where file and journal do not fit. docs/JOURNAL.md of the project says what is promised.
 
     Only the thread that made a store may use it: elsewhere, and in a forked process,
     its methods raise `RuntimeError`.
@@ -184,7 +184,8 @@ class Store(Editor):
         The history ends with it, as with each loading: what was done before can't be undone any
         more. Where all is saved already nothing is done. `JournalError` where the file can't be
         made, as on a full disk, and where another program has changed it since it was opened:
-        nothing is lost then, and the store can be used on.
+        nothing is lost then. The store can be used on, unless the program had to be started again
+        and could not be.
         `RuntimeError` without a journal: such a store is saved when it is closed.
 
         >>> import tempfile
@@ -202,7 +203,8 @@ class Store(Editor):
 
         The copy takes the place of a file that is there when it is whole, and not before.
         `JournalError` where it can't be made, where the path is one of the store's own files, and
-        where another program has changed the store's file. `RuntimeError` without a journal.
+        where another program has changed the store's file or its journal. `RuntimeError` without a
+        journal.
         """
         self._journaled().copy(os.fsdecode(path))
 
@@ -219,8 +221,8 @@ class Store(Editor):
         """The accepted edits that the file does not have, in their order, with their editors.
 
         A program that loads the file and is given them has the content and the history of the
-        store. `JournalError` where another program has changed the file since it was opened: the
-        lines do not go on from it. `RuntimeError` without a journal.
+        store. `JournalError` where another program has changed the file since it was opened, so
+        that the lines do not go on from it, or the journal. `RuntimeError` without a journal.
         """
         return self._journaled().unsaved_lines
 

@@ -13,12 +13,13 @@ import sys
 import tempfile
 import textwrap
 import unittest
+from collections.abc import Callable
 from pathlib import Path
 
 FOLDER = Path(__file__).resolve().parent.parent
 sys.path.insert(0, str(FOLDER))
 
-from sfstore import ProgramEnded, Refused  # noqa: E402
+from sfstore import ProgramEnded, Refused, Store  # noqa: E402
 
 PROGRAM = os.path.abspath(
     os.environ.get("SFSTORE") or FOLDER.parent / "crates" / "sfstore" / "out" / "sfstore"
@@ -45,9 +46,10 @@ say("refused 29 NothingToUndo\\n")
 """
 
 
-def child_of(store):
+def child_of(store: Store) -> int:
     """The identifier of the process of a store's program."""
-    return store._program._process.pid
+    found: int = store._program._process.pid  # type: ignore[attr-defined]
+    return found
 
 
 class TestCase(unittest.TestCase):
@@ -55,37 +57,37 @@ class TestCase(unittest.TestCase):
 
     SECONDS = 120
 
-    def setUp(self):
+    def setUp(self) -> None:
         folder = tempfile.TemporaryDirectory()
         self.addCleanup(folder.cleanup)
         self.folder = Path(folder.name)
         self.limit_time()
         self.addCleanup(signal.alarm, 0)
 
-    def limit_time(self):
-        def too_slow(*_):
+    def limit_time(self) -> None:
+        def too_slow(*_: object) -> None:
             raise TimeoutError("the test hangs")
 
         signal.signal(signal.SIGALRM, too_slow)
         signal.alarm(self.SECONDS)
 
-    def assert_refused(self, number, name, call, *arguments):
+    def assert_refused(self, number: int, name: str, call: Callable[..., object], *arguments: object) -> None:
         with self.assertRaises(Refused) as caught:
             call(*arguments)
         self.assertEqual((caught.exception.number, caught.exception.name), (number, name))
 
-    def assert_ended(self, status, last_line, call, *arguments):
+    def assert_ended(self, status: int | None, last_line: str, call: Callable[..., object], *arguments: object) -> None:
         with self.assertRaises(ProgramEnded) as caught:
             call(*arguments)
         self.assertEqual((caught.exception.status, caught.exception.last_line), (status, last_line))
 
-    def script(self, text):
+    def script(self, text: str) -> Path:
         """The path of a program in a folder of the test."""
         path = self.folder / "script"
         path.write_text(text, encoding="utf-8")
         path.chmod(0o700)
         return path
 
-    def program(self, body):
+    def program(self, body: str) -> Path:
         """A program that ends in its own way: `line()` reads a line, `say(text)` writes a text."""
         return self.script(f"#!{sys.executable}\n" + BEGINNING + textwrap.dedent(body))

@@ -1,94 +1,106 @@
-"""Tests of the journal against a plain model: lists of operations by a seed, with faults and ends at any call.
+"""Tests of stores with a journal against a plain model: lists of operations by a seed, with faults and ends at any call.
 
 Where hypothesis is there it makes lists too, and tells a list that breaks the model as short as it can be.
 """
 
 from __future__ import annotations
 
+import itertools
 import os
 import random
+import shutil
 import tempfile
+import time
 import unittest
 from importlib.util import find_spec
+from pathlib import Path
 from unittest import mock
 
 from support import PROGRAM, TestCase
 
 from journal_model import Run, Violation
+from store_support import FAULTS, MEMORY, library
 
-from sfstore.journal import Journal
+from sfstore.kept import Kept
 
-LISTS = int(os.environ.get("SFSTORE_LISTS", "2000"))
-MADE_LISTS = int(os.environ.get("SFSTORE_MADE_LISTS", "400"))
-
-
-def folder_of_lists():
-    """A folder in memory, where there is one: nothing here needs a disk."""
-    return tempfile.TemporaryDirectory(dir="/dev/shm" if os.access("/dev/shm", os.W_OK) else None)
+# Lists are done for so long, but at least the first ones; or as many as are asked for.
+SECONDS = 15
+LEAST = 20
+LISTS = int(os.environ.get("SFSTORE_LISTS", "0"))
+MADE_LISTS = int(os.environ.get("SFSTORE_MADE_LISTS", "15"))
 
 
-def broken(seeds, program="small", count=16):
-    """The seeds whose lists break the model, with what is wrong."""
-    found = {}
-    for seed in seeds:
-        with folder_of_lists() as folder:
-            run = Run(random.Random(seed), folder, program)
+def seeds():
+    """The seeds of the lists that are to be done."""
+    until = time.monotonic() + SECONDS
+    for seed in itertools.count():
+        if seed >= LISTS if LISTS else seed >= LEAST and time.monotonic() > until:
+            return
+        yield seed
+
+
+@unittest.skipIf(shutil.which("cc") is None, "cc is missing")
+class ModelCase(TestCase):
+    SECONDS = 1200
+
+    def setUp(self):
+        super().setUp()
+        self.library = library(Path(self.folder), FAULTS)
+
+    def tried(self, dice, does):
+        """Has a run do something. `Violation` with the operations that it did."""
+        # In memory, where that can be: nothing here needs a disk.
+        with tempfile.TemporaryDirectory(dir=MEMORY) as folder:
+            run = Run(dice, folder, PROGRAM, self.library)
             try:
-                run.steps(count)
+                does(run)
             except Violation as wrong:
-                found[seed] = f"{wrong} ({', '.join(run.told)})"
-    return found
+                raise Violation(f"{wrong} ({'; '.join(run.told)})") from wrong
 
 
-class Model(TestCase):
-    def test_thousands_of_lists(self):
-        self.assertEqual(broken(range(LISTS)), {})
-
-    def test_some_lists_over_the_real_program(self):
-        self.assertEqual(broken(range(60), PROGRAM), {})
-
-
-def try_made_lists(count):
-    """Has hypothesis make so many lists of operations, the same ones each time. `Violation` for the shortest found."""
-    from hypothesis import HealthCheck, given, settings, strategies
-
-    names = strategies.sampled_from(["open", "edit", *Run.CHANCES])
-    patient = settings(
-        max_examples=count,
-        deadline=None,
-        derandomize=True,
-        print_blob=False,
-        # A list is done in the time of some hundred files.
-        suppress_health_check=[HealthCheck.too_slow, HealthCheck.data_too_large],
-    )
-
-    @patient
-    @given(strategies.lists(names, max_size=24), strategies.randoms(use_true_random=False))
-    def tried(operations, dice):
-        with folder_of_lists() as folder:
-            run = Run(dice, folder)
-            try:
-                run.do(operations)
-            except Violation as wrong:
-                raise Violation(f"{wrong} ({', '.join(run.told)})") from wrong
-
-    tried()
+class Model(ModelCase):
+    def test_lists_by_a_seed(self):
+        for seed in seeds():
+            with self.subTest(seed=seed):
+                self.tried(random.Random(seed), lambda run: run.steps(16))
 
 
 @unittest.skipUnless(find_spec("hypothesis"), "no hypothesis (Debian's package python3-hypothesis)")
-class MadeLists(TestCase):
-    def test_lists_that_hypothesis_makes(self):
-        try_made_lists(MADE_LISTS)
+class MadeLists(ModelCase):
+    def made_lists(self, count):
+        """Has hypothesis make so many lists of operations, the same ones each time. `Violation` for the shortest found."""
+        from hypothesis import HealthCheck, Phase, given, settings, strategies
 
-    def test_what_is_wrong_is_told_by_a_short_list(self):
-        # A session that saves whatever the file has become, as if it had never looked.
-        with mock.patch.object(Journal, "_check", lambda journal, found: None):
-            with self.assertRaises(Violation) as caught:
-                try_made_lists(MADE_LISTS)
-        [told] = caught.exception.args
-        operations = told.rpartition("(")[2].rstrip(")").split(", ")
-        self.assertIn("write_foreign", " ".join(operations))
-        self.assertLessEqual(len(operations), 8, told)
+        names = strategies.sampled_from(["open", "edit", *Run.CHANCES])
+        patient = settings(
+            max_examples=count,
+            deadline=None,
+            derandomize=True,
+            print_blob=False,
+            database=None,
+            phases=(Phase.generate, Phase.shrink),
+            suppress_health_check=list(HealthCheck),
+        )
+
+        @patient
+        @given(strategies.lists(names, max_size=16), strategies.randoms(use_true_random=False))
+        def tried(operations, dice):
+            self.tried(dice, lambda run: run.do(operations))
+
+        tried()
+
+    def test_lists_that_hypothesis_makes(self):
+        self.made_lists(MADE_LISTS)
+
+
+class Mendings(ModelCase):
+    def test_a_session_that_never_looks_at_its_file_is_found(self):
+        """A store that gives its lines whatever the file has become."""
+        lists = [["open", "edit", "edit", "write_foreign", "copy"]]
+        with mock.patch.object(Kept, "check", lambda kept: None), mock.patch.object(Kept, "_check_digest", lambda *_: None):
+            with self.assertRaises(Violation):
+                for seed, operations in itertools.product(range(8), lists):
+                    self.tried(random.Random(seed), lambda run: run.do(operations))
 
 
 if __name__ == "__main__":

@@ -3,14 +3,18 @@
 from __future__ import annotations
 
 import contextlib
+import errno
 import os
 import stat
 import subprocess
 import unittest
+from unittest import mock
 
 from support import PROGRAM, TestCase
 
-from sfstore import JournalError, Refused, Store
+from sfstore import JournalError, Store, files, sidecar
+from sfstore.journal import locked
+from sfstore.kept import Kept
 
 
 class JournalThreats(TestCase):
@@ -63,20 +67,64 @@ class JournalThreats(TestCase):
         stale.add("w", "POINT (1 1)")
         os.unlink(f"{self.path}.lock")
         with self.opened() as store:
-            with self.assertRaises(JournalError):
+            with self.assertRaisesRegex(JournalError, "another file was put in its place or in that of the lock"):
                 stale.add("w", "POINT (2 2)")
+            with self.assertRaisesRegex(RuntimeError, "closed"):
+                stale.layers()
             stale.close(save=False)
             store.add("w", "POINT (3 3)")
-        self.assertEqual(self.points(), ["POINT (0 0)", "POINT (1 1)", "POINT (3 3)"])
+        self.assertEqual(self.points()[:2], ["POINT (0 0)", "POINT (1 1)"])
+        self.assertEqual(self.points()[-1], "POINT (3 3)")
+
+    def test_a_session_whose_lock_was_taken_away_ends(self):
+        store = self.opened()
+        store.add("w", "POINT (1 1)")
+        os.unlink(f"{self.path}.lock")
+        with self.assertRaisesRegex(JournalError, "lock was taken away while .* was open: the session has ended"):
+            store.add("w", "POINT (2 2)")
+        store.close()
+        with self.opened() as store:
+            self.assertIn(len(store.show("w")), (2, 3))
 
     def test_a_journal_that_is_taken_away_is_written_anew(self):
         store = self.opened()
         store.add("w", "POINT (1 1)")
         os.unlink(f"{self.path}.journal")
         store.add("w", "POINT (2 2)")
+        self.assertEqual(len(store.unsaved_lines), 2)
         store.close(save=False)
         with self.opened() as store:
             self.assertEqual(len(store.show("w")), 3)
+
+    def test_what_was_changed_back_is_no_change(self):
+        with self.opened() as store:
+            store.add("w", "POINT (1 1)")
+            data = self.path.read_bytes()
+            self.path.write_bytes(b"something else")
+            with self.assertRaisesRegex(JournalError, "changed or taken away by another program"):
+                store.save()
+            self.path.write_bytes(data)
+            os.chmod(self.path, 0o600)
+            self.assertEqual(store.unsaved_lines, ["add w POINT (1 1)"])
+            # The program looks by itself: the store goes on in any case, with all edits.
+            with contextlib.suppress(JournalError):
+                store.save()
+        self.assertEqual(self.points(), ["POINT (0 0)", "POINT (1 1)"])
+
+    def test_a_journal_that_another_program_changed_is_no_base_of_a_copy(self):
+        with self.opened() as store:
+            store.add("w", "POINT (1 1)")
+            journal = self.folder / "town.sfs.journal"
+            data = journal.read_bytes()
+            journal.write_bytes(data[: data.index(b"\n") + 1])
+            for call in (lambda: store.copy(self.folder / "copy.sfs"), lambda: store.unsaved_lines):
+                with self.assertRaisesRegex(JournalError, "was changed by another program"):
+                    call()
+            journal.write_bytes(data.replace(b"1 1", b"1 2"))
+            with self.assertRaisesRegex(JournalError, "at place [0-9]+ is damaged"):
+                store.copy(self.folder / "copy.sfs")
+            journal.write_bytes(data)
+        self.assertFalse((self.folder / "copy.sfs").exists())
 
     def test_nothing_gives_more_than_the_file(self):
         for mode in (0o600, 0o640, 0o644):
@@ -94,6 +142,11 @@ class JournalThreats(TestCase):
         os.chmod(self.path, 0o644)
         with self.opened():
             self.assertEqual(self.mode(".lock"), 0o600)
+        # An import takes it by itself.
+        for mode, most in ((0o644, 0o600), (0o664, 0o660)):
+            os.chmod(self.path, mode)
+            with locked(str(self.path)):
+                self.assertEqual(self.mode(".lock"), most)
 
     def test_files_of_the_user_are_left_alone(self):
         precious = self.folder / "precious.txt"
@@ -114,10 +167,17 @@ class JournalThreats(TestCase):
         os.rename(f"{self.path}.journal", other)
         before = other.read_bytes()
         os.symlink(other, f"{self.path}.journal")
-        with self.assertRaises(OSError), self.opened() as store:
-            store.add("w", "POINT (1 1)")
-            store.close(save=False)
+        with self.assertRaises(OSError):
+            self.opened()
         self.assertEqual(other.read_bytes(), before)
+
+    def test_a_lock_that_is_a_link_is_not_followed(self):
+        other = self.folder / "other"
+        os.unlink(f"{self.path}.lock")
+        os.symlink(other, f"{self.path}.lock")
+        with self.assertRaises(OSError):
+            self.opened()
+        self.assertFalse(other.exists())
 
     def test_a_side_car_that_is_none_stops_no_save(self):
         for content in ("[" * 100_000, '{"format": "sfstore side-car 1", "layers": ["x"]}', "5", ""):
@@ -131,10 +191,38 @@ class JournalThreats(TestCase):
     def test_a_copy_takes_the_place_of_none_of_the_stores_files(self):
         with self.opened() as store:
             store.add("w", "POINT (1 1)")
-            for name in ("", ".journal", ".lock"):
+            os.link(f"{self.path}.journal", self.folder / "journal")
+            for name in (self.path, *(f"{self.path}{end}" for end in (".journal", ".lock", ".json", ".json.next")),
+                         self.folder / "journal", self.folder / ".town.sfs.sfstore-journal"):
                 with self.assertRaisesRegex(JournalError, "no copy takes its place"):
-                    store.copy(f"{self.path}{name}")
+                    store.copy(name)
         self.assertEqual(len(self.points()), 2)
+
+    def test_a_copy_is_made_of_the_very_file(self):
+        """Another file stands in the place of the store's while the second program runs, and no longer."""
+        aside, copy, other = (self.folder / name for name in ("aside", "copy.sfs", "other.sfs"))
+        with Store(load=self.path, save=other, program=PROGRAM) as store:
+            store.add("w", "POINT (9 9)")
+        real_lines, real_run = Kept.lines, subprocess.run
+
+        def lines(kept):
+            found = real_lines(kept)
+            os.rename(self.path, aside)
+            os.rename(other, self.path)
+            return found
+
+        def run(*arguments, **named):
+            os.rename(aside, self.path)
+            return real_run(*arguments, **named)
+
+        with self.opened() as store:
+            store.add("w", "POINT (1 1)")
+            with mock.patch.object(Kept, "lines", lines), mock.patch("sfstore.kept.subprocess.run", run):
+                with self.assertRaisesRegex(JournalError, "changed or taken away by another program"):
+                    store.copy(copy)
+            with contextlib.suppress(FileNotFoundError):
+                os.rename(aside, self.path)
+            self.assertFalse(copy.exists())
 
     def test_a_copy_that_fails_leaves_the_older_one(self):
         copy = self.folder / "copy.sfs"
@@ -142,11 +230,47 @@ class JournalThreats(TestCase):
         with self.opened() as store:
             store.add("w", "POINT (1 1)")
             script = self.script("#!/bin/sh\ncat > /dev/null\necho 'fault save Write'\nexit 4\n")
-            with self.assertRaisesRegex(JournalError, "could not be saved"):
-                store._program._journal.copy(str(copy), str(script))
-            with contextlib.suppress(Refused):
-                store.undo()
+            with self.assertRaisesRegex(JournalError, "could not be saved: fault save Write"):
+                store._program._kept.copy(str(copy), str(script))
+            self.assertEqual(store.unsaved, 1)
+            store.undo()
         self.assertEqual(copy.read_text(), "yesterday")
+        self.assertEqual([name for name in os.listdir(self.folder) if name.startswith(".")], [])
+
+    def test_a_side_car_goes_with_its_file_and_no_other(self):
+        path = str(self.path)
+        sidecar.write(path, sidecar.Sidecar(("1", "2", "3"), None, []), [files.digest(path)])
+        with self.opened() as store:
+            store.add("w", "POINT (1 1)")
+            store.save()
+            self.assertEqual(sidecar.read(path).grid, ("1", "2", "3"))
+            store.add("w", "POINT (2 2)")
+            self.other_program_adds("POINT (9 9)")
+            with self.assertRaises(JournalError):
+                store.save()
+            store.close(save=False)
+        with self.assertRaisesRegex(sidecar.SidecarError, "belongs to another file"):
+            sidecar.read(path)
+
+    def test_a_side_car_follows_a_program_that_writes_another_format(self):
+        """The second program may be a newer one than the session's."""
+        path = str(self.path)
+        sidecar.write(path, sidecar.Sidecar(("1", "2", "3"), None, []), [files.digest(path)])
+        with self.opened() as store, mock.patch.object(Kept, "next_digest", lambda kept, program: "0" * 64):
+            store.add("w", "POINT (1 1)")
+            store.save()
+        self.assertEqual(sidecar.read(path).grid, ("1", "2", "3"))
+
+    def test_a_side_car_that_can_not_be_written_stops_a_save(self):
+        path = str(self.path)
+        sidecar.write(path, sidecar.Sidecar(("1", "2", "3"), None, []), [files.digest(path)])
+        with self.opened() as store:
+            store.add("w", "POINT (1 1)")
+            with mock.patch("os.replace", side_effect=OSError(errno.ENOSPC, "No space left on device")):
+                with self.assertRaisesRegex(JournalError, "could not be saved: its side-car: No space left"):
+                    store.save()
+            self.assertEqual(store.unsaved, 1)
+        self.assertEqual(sidecar.read(path).grid, ("1", "2", "3"))
 
 
 if __name__ == "__main__":

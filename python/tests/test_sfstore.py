@@ -808,7 +808,7 @@ class Programs(TestCase):
         store = Store()
         store.add_layer("w")
         self.assert_ended(-9, "", store.run_all, ["add w POINT (1 1)"] * 10_000, progress)
-        self.assertLess(calls[-1], 6_000)
+        self.assertLess(calls[-1], 10_000)
 
     def test_killed_while_it_answers(self):
         store = Store()

@@ -1,320 +1,46 @@
-"""Tests of `sfstore --store FILE`: what was answered is kept, through kills, cuts, flipped bits and full disks.
+"""Tests of `sfstore --store FILE`: sessions, options, journals cut, flipped and exchanged, locks and modes.
 
-What has to be there is told by the plain program, which keeps no journal.
+test_store_faults.py has kills, full disks and calls that fail. What has to be there is told by the plain program,
+which keeps no journal.
 """
 
 from __future__ import annotations
 
-import contextlib
-import hashlib
-import itertools
 import os
 import random
-import shutil
-import signal
 import stat
 import subprocess
-import sys
-import tempfile
-import time
 import unittest
-from collections.abc import Iterable, Iterator, Sequence
-from dataclasses import dataclass
-from functools import lru_cache
+from collections.abc import Sequence
 from pathlib import Path
-from typing import IO, ClassVar
-
-from support import FOLDER, PROGRAM, TestCase
-
-sys.path.insert(0, str(FOLDER.parent / "bench"))
-
-from growths import library  # noqa: E402
-
-SECONDS = 60
-# How many fronts are tried at most.
-TRIED = 200
-WARNING = b"warning: a record of the journal was not written to its end, and is dropped\n"
-# What the opening of a store is looked at by, and edits and moves that tell its history and its counters.
-DUMP = ["layers", "columns a", "columns b", "show a", "show b"]
-PROBE = [*DUMP, "undo", "@1 undo", "undo", "@1 redo", "add a POINT (99 99)", *DUMP]
-BEGINNING = ["layer add a point", "@1 layer add b any", "column add a k int", "@1 column add b t text"]
-
-
-@dataclass(frozen=True)
-class Ended:
-    """How a run ended: its status, what it wrote, and what it told on standard error."""
-
-    status: int
-    output: bytes
-    told: bytes
-
-    @property
-    def last(self) -> bytes:
-        """The last line of the output."""
-        return self.output.splitlines(keepends=True)[-1] if self.output else b""
-
-
-def sent(lines: Iterable[str]) -> bytes:
-    """The lines as a program reads them."""
-    return "".join(f"{line}\n" for line in lines).encode()
-
-
-def ran(words: Sequence[str], lines: Iterable[str] = (), variables: dict[str, str] | None = None, kept: Sequence[int] = ()) -> Ended:
-    """A run of the program over all lines at once."""
-    with_these = {**os.environ, **(variables or {})}
-    ended = subprocess.run(
-        [PROGRAM, *words], input=sent(lines), env=with_these, pass_fds=tuple(kept), capture_output=True, check=False, timeout=SECONDS
-    )
-    return Ended(ended.returncode, ended.stdout, ended.stderr)
-
-
-# What the plain program says and saves.
-
-
-def one_answer(line: str, given: Iterator[bytes]) -> bytes:
-    """The answer to a line, which may have rows; an empty line has none."""
-    if not line.strip():
-        return b""
-    first = next(given)
-    rows = int(first[5:]) if first.startswith(b"rows ") else 0
-    return b"".join([first, *itertools.islice(given, rows)])
-
-
-@lru_cache(maxsize=512)
-def plain_part(lines: tuple[str, ...], file: bytes | None) -> tuple[tuple[bytes, ...], bytes]:
-    """What the plain program answers to lines over a file's store, and what it saves."""
-    with tempfile.TemporaryDirectory() as name:
-        folder = Path(name)
-        words = ["--save", str(folder / "saved")]
-        if file is not None:
-            (folder / "loaded").write_bytes(file)
-            words += ["--load", str(folder / "loaded")]
-        ended = ran(words, lines)
-        if ended.status != 0:
-            raise AssertionError(f"the plain program ended with {ended.status}: {ended.last!r}")
-        given = iter(ended.output.splitlines(keepends=True))
-        return tuple(one_answer(line, given) for line in lines), (folder / "saved").read_bytes()
-
-
-@dataclass(frozen=True)
-class Plain:
-    """What the plain program answers to each line, the file of each `save`, and the file at the end."""
-
-    answers: list[bytes]
-    saves: list[bytes]
-    file: bytes
-
-    @property
-    def output(self) -> bytes:
-        """All answers."""
-        return b"".join(self.answers)
-
-
-def plain(lines: Sequence[str], file: bytes | None = None) -> Plain:
-    """Runs of the plain program: a `save` ends one, and the next one loads what it saved."""
-    answers: list[bytes] = []
-    saves: list[bytes] = []
-    rest = list(lines)
-    while "save" in rest:
-        place = rest.index("save")
-        given, file = plain_part(tuple(rest[:place]), file)
-        answers += [*given, b"ok\n"]
-        saves.append(file)
-        rest = rest[place + 1 :]
-    given, file = plain_part(tuple(rest), file)
-    return Plain([*answers, *given], saves, file)
-
-
-def is_kept(line: str, answer: bytes) -> bool:
-    """Whether a line with this answer belongs into the journal."""
-    return answer.startswith(b"ok") and line != "save"
-
-
-# The journal's bytes, by its format.
-
-
-def head_of(file: bytes) -> bytes:
-    """The head of the journal that goes on from a file; one that is not there has no bytes."""
-    return b"sfstore-journal 2 %d %s\n" % (len(file), hashlib.sha256(file).hexdigest().encode())
-
-
-def journal_of(file: bytes, texts: Iterable[str]) -> bytes:
-    """The journal of these texts."""
-    found = head_of(file)
-    behind = hashlib.sha256(found).digest()
-    for text in texts:
-        behind = hashlib.sha256(behind + text.encode()).digest()
-        found += behind[:8].hex().encode() + b" " + text.encode() + b"\n"
-    return found
-
-
-def journal_behind(lines: Sequence[str]) -> bytes:
-    """The journal behind all lines of a session that began with no file and did not save at its end."""
-    told = plain(lines)
-    begin = 0
-    if "save" in lines:
-        begin = len(lines) - list(reversed(lines)).index("save")
-    texts = [line for line, answer in zip(lines[begin:], told.answers[begin:]) if is_kept(line, answer)]
-    return journal_of(told.saves[-1] if told.saves else b"", texts)
-
-
-# Seeded lists of lines.
-
-
-def moved(dice: random.Random) -> str:
-    """A line of one of two editors: mostly an edit, sometimes one that is refused, a question or a blank."""
-    who = dice.choice(["", "@1 "])
-    place = f"{dice.randint(-50, 50)} {dice.randint(-50, 50)}"
-    edits = [f"add a POINT ({place})", f"add b LINESTRING (0 0, {place})", f"set a {dice.randint(1, 9)} k {dice.randint(-99, 99)}"]
-    edits += [f"set b {dice.randint(1, 5)} t 'it''s {dice.randint(0, 99)}'", f"delete a {dice.randint(1, 9)}"]
-    moves = ["undo", "undo", "redo", "layer move b 0"]
-    others = ["add a POINT", "layer add a any", "show a", "layers", "", "nonsense \u00e9", "find a k"]
-    return who + dice.choice(dice.choices([edits, moves, others], [12, 5, 3])[0])
-
-
-def session(dice: random.Random, count: int) -> list[str]:
-    """So many lines. A blank line is blank for both editors."""
-    lines = (moved(dice) for _ in range(count))
-    return ["" if line.strip() in ("", "@1") else line for line in lines]
-
-
-def pieces(dice: random.Random, lines: Sequence[str]) -> Iterator[list[str]]:
-    """The lines in pieces, each of which is sent at once."""
-    rest = list(lines)
-    while rest:
-        size = dice.choice([1, 1, 2, 5, 20])
-        yield rest[:size]
-        rest = rest[size:]
-
-
-class Running:
-    """A session under way. What it answers goes into a file, so that nothing of it is lost when it is killed."""
-
-    def __init__(self, path: Path, answers: Path) -> None:
-        self.answers = answers
-        with answers.open("wb") as output:
-            self.process = subprocess.Popen(
-                [PROGRAM, "--store", str(path)], stdin=subprocess.PIPE, stdout=output, stderr=subprocess.DEVNULL
-            )
-        assert self.process.stdin is not None
-        self.input: IO[bytes] = self.process.stdin
-
-    def send(self, lines: Sequence[str]) -> None:
-        """Sends lines; they are small against what a pipe holds."""
-        self.input.write(sent(lines))
-        self.input.flush()
-
-    def wait_for(self, size: int) -> None:
-        """Waits until so many bytes were answered."""
-        limit = time.monotonic() + SECONDS
-        while self.answers.stat().st_size < size:
-            if self.process.poll() is not None or time.monotonic() > limit:
-                raise AssertionError(f"no answer: {self.answers.read_bytes()[-200:]!r}")
-            time.sleep(0.0002)
-
-    def kill(self) -> bytes:
-        """Kills it with no warning, and gives all that it has answered."""
-        self.process.kill()
-        self.process.wait()
-        with contextlib.suppress(BrokenPipeError):
-            self.input.close()
-        return self.answers.read_bytes()
-
-    def end(self) -> int:
-        """Ends its input, and gives its status."""
-        self.input.close()
-        return self.process.wait(SECONDS)
-
-
-class StoreCase(TestCase):
-    """Tests over a file in a folder of its own."""
-
-    @property
-    def place(self) -> Path:
-        """Where the store's files are."""
-        return Path(self.folder)
-
-    @property
-    def path(self) -> Path:
-        return self.place / "town.sfs"
-
-    @property
-    def journal(self) -> Path:
-        return self.place / "town.sfs.journal"
-
-    @property
-    def lock(self) -> Path:
-        return self.place / "town.sfs.lock"
-
-    def beside(self, name: str) -> Path:
-        """A file that is made beside."""
-        return self.place / f".town.sfs.sfstore-{name}"
-
-    def stored(self, lines: Iterable[str] = (), *words: str) -> Ended:
-        """A run over the file."""
-        return ran(["--store", str(self.path), *words], lines)
-
-    def left(self, lines: Sequence[str]) -> None:
-        """Has a session do lines, and leave the edits in the journal."""
-        ended = self.stored(lines, "--keep")
-        self.assertEqual((ended.status, ended.told), (0, b""))
-
-    def all_there(self) -> dict[str, tuple[bytes, int, int]]:
-        """All files but the lock, with their bytes, modes and numbers. Links are not followed."""
-        found = {}
-        for place in sorted(Path(self.folder).iterdir()):
-            if place != self.lock:
-                known = place.lstat()
-                data = os.readlink(place).encode() if place.is_symlink() else place.read_bytes()
-                found[place.name] = data, known.st_mode, known.st_ino
-        return found
-
-    def assert_ends(self, ended: Ended, status: int, last: str) -> None:
-        """The run ended with a fault."""
-        self.assertEqual((ended.status, ended.last), (status, last.encode() + b"\n"), ended)
-
-    def assert_refused_untouched(self, status: int, last: str) -> None:
-        """The opening is refused, and nothing on the disk changes."""
-        before = self.all_there()
-        ended = self.stored(["layer add z any"])
-        self.assert_ends(ended, status, last)
-        self.assertEqual(ended.output.count(b"\n"), 1)
-        self.assertEqual(self.all_there(), before)
-
-    def records(self) -> int:
-        """How many records the journal has, a guess at what the next opening has."""
-        return self.journal.read_bytes().count(b"\n") - 1 if self.journal.exists() else 0
-
-    def counts(self, lines: Sequence[str], least: int, records: int) -> list[int]:
-        """The lengths of the fronts that have all that were answered; first those that have so many records."""
-        told = plain(lines).answers
-        found = []
-        since = 0
-        for count in range(len(lines) + 1):
-            if count > 0:
-                since = 0 if lines[count - 1] == "save" else since + is_kept(lines[count - 1], told[count - 1])
-            if count >= least:
-                found.append((since != records, count))
-        return [count for _, count in sorted(found)]
-
-    def agreed(self, history: Sequence[str], lines: Sequence[str], answered: bytes) -> list[str]:
-        """What the next opening has is what the plain program has behind a front of the lines that has all that were
-        answered; gives that front, with what was asked here."""
-        told = plain([*history, *lines]).answers[len(history) :]
-        self.assertTrue(b"".join(told).startswith(answered), (answered[-300:], lines[-5:]))
-        records = self.records()
-        ended = self.stored(PROBE, "--keep")
-        self.assertEqual(ended.status, 0, ended)
-        ends = list(itertools.accumulate((len(answer) for answer in told), initial=0))
-        least = next(count for count, end in enumerate(ends) if end >= len(answered))
-        for count in self.counts([*history, *lines], len(history) + least, records)[:TRIED]:
-            front = [*history, *lines][:count]
-            if b"".join(plain([*front, *PROBE]).answers[len(front) :]) == ended.output:
-                return [*front, *PROBE]
-        raise AssertionError(f"no front from {least} to {len(lines)} of {lines} gives {ended.output!r}")
+from typing import ClassVar
+
+from store_support import (
+    BEGINNING,
+    DUMP,
+    PROBE,
+    WARNING,
+    Ended,
+    Running,
+    StoreCase,
+    Town,
+    head_of,
+    journal_behind,
+    journal_of,
+    plain,
+    ran,
+    session,
+    side_by_side,
+)
+from support import PROGRAM
+
+# How many lines come behind 50,000 additions, and how often several sessions begin at once.
+MANY_LINES = 50_000
+RACES = 50
 
 
 class Sessions(StoreCase):
+    SECONDS = 600
     LINES: ClassVar[list[str]] = [*BEGINNING, "add a POINT (1 1)", "@1 add b POINT (2 2)", "set a 1 k 5", "undo", "show a", "nonsense", "", "layers"]
 
     def test_a_session_is_answered_and_saved_at_its_end(self) -> None:
@@ -400,15 +126,17 @@ class Sessions(StoreCase):
         subprocess.run(words, input=b"layer add w any\n", cwd=self.folder, capture_output=True, check=True)
         self.assertEqual(self.path.read_bytes(), plain(["layer add w any"]).file)
 
-    def test_ten_thousand_lines_at_once(self) -> None:
-        dice = random.Random(10_000)
-        lines = [*BEGINNING, *(f"add a POINT ({dice.randint(-999, 999)} {k})" for k in range(9_000)), *session(dice, 996)]
+    def test_a_hundred_thousand_lines(self) -> None:
+        """Edits, undos and refused lines of two editors: answers, journal, what the next opening has, and the file."""
+        dice = random.Random(100_000)
+        # A short layer b for lines of all kinds, and a long one a.
+        lines = [*BEGINNING, *(f"add a POINT ({dice.randint(-999, 999)} {k})" for k in range(50_000)), *session(dice, MANY_LINES)]
         lines = [line for line in lines if not line.startswith(("show", "@1 show", "find", "@1 find"))]
-        told = plain(lines)
-        ended = self.stored(lines, "--keep")
-        self.assertEqual(ended.status, 0)
-        self.assertEqual(ended.output, told.output)
+        self.assertGreater(len(lines), 0.97 * (50_000 + MANY_LINES))
+        told = plain([*lines, *PROBE])
+        self.assertEqual(self.stored(lines, "--keep").output, b"".join(told.answers[: len(lines)]))
         self.assertEqual(self.journal.read_bytes(), journal_behind(lines))
+        self.assertEqual(self.stored(PROBE, "--keep"), Ended(0, b"".join(told.answers[len(lines) :]), b""))
         self.assertEqual(self.stored().status, 0)
         self.assertEqual(self.path.read_bytes(), told.file)
 
@@ -444,78 +172,8 @@ class Options(StoreCase):
         self.assertEqual(os.listdir(self.folder), ["town.sfs"])
 
 
-class Kills(StoreCase):
-    """Kill -9 at 60 seeded moments, at 20 of them while a save is under way."""
-
-    def killed(self, history: Sequence[str], lines: Sequence[str], dice: random.Random) -> list[str]:
-        """A session that is killed while it has been sent all lines; the history behind the next opening."""
-        told = plain([*history, *lines]).answers[len(history) :]
-        running = Running(self.path, Path(self.folder) / "answers")
-        done = 0
-        for piece in pieces(dice, lines):
-            running.send(piece)
-            done += len(piece)
-            if dice.random() < 0.3 and done < len(lines):
-                running.wait_for(sum(map(len, told[:done])))
-        # All is waited for but the last lines, some of which may be under way.
-        running.wait_for(sum(map(len, told[: dice.randrange(len(lines))])))
-        time.sleep(dice.random() * 0.003)
-        return self.agreed(history, lines, running.kill())
-
-    def test_killed_while_it_edits(self) -> None:
-        for seed in range(8):
-            dice = random.Random(seed)
-            self.path.unlink(missing_ok=True)
-            self.journal.unlink(missing_ok=True)
-            history: list[str] = []
-            for place in range(5):
-                lines = [*([] if place else BEGINNING), *session(dice, dice.randrange(5, 60))]
-                if dice.random() < 0.5:
-                    lines.insert(dice.randrange(4, len(lines)), "save")
-                with self.subTest(seed=seed, place=place):
-                    history = self.killed(history, lines, dice)
-
-    def test_killed_while_it_saves(self) -> None:
-        dice = random.Random(20)
-        many = [*BEGINNING, *(f"add a POINT ({k} {k})" for k in range(3_000))]
-        self.left(many)
-        history = [*many]
-        for moment in range(20):
-            lines = [*session(dice, 5), "add a POINT (7 7)"]
-            size = sum(map(len, plain([*history, *lines]).answers[len(history) :]))
-            running = Running(self.path, Path(self.folder) / "answers")
-            running.send(lines)
-            running.wait_for(size)
-            running.send(["save", "undo", "add a POINT (8 8)"])
-            self.wait_for_a_save(running, size, ["store", "journal"][moment % 2])
-            time.sleep(dice.random() * 0.002)
-            with self.subTest(moment=moment):
-                history = self.agreed(history, [*lines, "save", "undo", "add a POINT (8 8)"], running.kill())
-            history = self.shortened(history)
-
-    def wait_for_a_save(self, running: Running, size: int, name: str) -> None:
-        """Waits until a save has begun that file beside, or is answered."""
-        while not self.beside(name).exists() and running.answers.stat().st_size == size:
-            self.assertIsNone(running.process.poll())
-
-    def shortened(self, history: list[str]) -> list[str]:
-        """The history without what changed nothing."""
-        answers = plain(history).answers
-        return [line for line, answer in zip(history, answers) if answer.startswith(b"ok")]
-
-    def test_killed_while_it_opens(self) -> None:
-        dice = random.Random(30)
-        lines = [*BEGINNING, *session(dice, 300)]
-        self.left(lines)
-        history = self.shortened(lines)
-        for _ in range(10):
-            running = Running(self.path, Path(self.folder) / "answers")
-            time.sleep(dice.random() * 0.02)
-            self.assertEqual(running.kill(), b"")
-            history = self.shortened(self.agreed(history, [], b""))
-
-
 class Cuts(StoreCase):
+    SECONDS = 600
     SAVED: ClassVar[list[str]] = ["layer add a point", "add a POINT (1 1)", "save"]
     LINES: ClassVar[list[str]] = ["@1 layer add b any", "add a POINT (2 2)", "undo", "@1 add b POINT (3 3)"]
 
@@ -532,43 +190,47 @@ class Cuts(StoreCase):
         lines = [*self.SAVED, *self.LINES[:records]]
         return b"".join(plain([*lines, *DUMP]).answers[len(lines) :])
 
-    def assert_has_front(self, data: bytes, places: Sequence[int], records: int, is_cut: bool) -> None:
-        """The opening gives so many records, tells whether one was cut, and leaves the journal without what was cut."""
-        ended = self.stored(DUMP, "--keep")
-        self.assertEqual(ended, Ended(0, self.expected(records), WARNING if is_cut else b""))
-        self.assertEqual(self.journal.read_bytes(), data[: places[records]])
+    def has_front(self, town: Town, data: bytes, places: Sequence[int], size: int) -> None:
+        """The opening over a front of the journal gives its whole records, tells whether one was cut, and drops that."""
+        records = sum(place <= size for place in places) - 1
+        ended = town.stored(DUMP, "--keep")
+        if ended != Ended(0, self.expected(records), b"" if size in places else WARNING):
+            raise AssertionError(ended)
+        if town.journal.read_bytes() != data[: places[records]]:
+            raise AssertionError("another journal is left than that of the whole records")
 
-    def test_cut_at_each_byte_behind_the_head(self) -> None:
+    def test_cut_at_each_byte(self) -> None:
         data, places = self.begun()
-        for size in range(places[0], len(data) + 1):
-            with self.subTest(size=size):
-                self.journal.write_bytes(data[:size])
-                records = sum(place <= size for place in places) - 1
-                self.assert_has_front(data, places, records, size not in places)
+        file = self.path.read_bytes()
 
-    def test_cut_within_the_head(self) -> None:
-        data, places = self.begun()
-        for size in range(places[0]):
-            with self.subTest(size=size):
-                self.journal.write_bytes(data[:size])
-                self.assert_refused_untouched(3, "fault journal OtherFile")
+        def cut(town: Town, size: int) -> int:
+            town.path.write_bytes(file)
+            town.journal.write_bytes(data[:size])
+            if size < places[0]:
+                town.refused_untouched(3, "fault journal OtherFile")
+            else:
+                self.has_front(town, data, places, size)
+            return 1
 
-    def test_a_bit_of_each_byte_flipped(self) -> None:
-        dice = random.Random(7)
+        self.assertEqual(side_by_side(cut, range(len(data) + 1)), len(data) + 1)
+
+    def test_each_bit_flipped(self) -> None:
         data, places = self.begun()
-        for place in range(len(data)):
-            bit = dice.randrange(8)
-            with self.subTest(place=place, bit=bit):
-                flipped = bytearray(data)
-                flipped[place] ^= 1 << bit
-                self.journal.write_bytes(flipped)
+        file = self.path.read_bytes()
+
+        def flipped(town: Town, place: int) -> int:
+            town.path.write_bytes(file)
+            begin = max((begin for begin in places if begin <= place), default=0)
+            for bit in range(8):
+                town.journal.write_bytes(data[:place] + bytes([data[place] ^ 1 << bit]) + data[place + 1 :])
                 if place == len(data) - 1:
-                    self.assert_has_front(data, places, len(places) - 2, True)
-                elif place < places[0]:
-                    self.assert_refused_untouched(3, "fault journal OtherFile")
+                    # Without its line feed the last record was not written to its end.
+                    self.has_front(town, data, places, places[-2] + 1)
                 else:
-                    begin = max(begin for begin in places if begin <= place)
-                    self.assert_refused_untouched(3, f"fault journal Damaged {begin}")
+                    town.refused_untouched(3, f"fault journal Damaged {begin}" if begin else "fault journal OtherFile")
+            return 8
+
+        self.assertEqual(side_by_side(flipped, range(len(data))), 8 * len(data))
 
     def test_records_that_are_missing_swapped_or_twice(self) -> None:
         data, places = self.begun()
@@ -601,6 +263,38 @@ class OtherFiles(StoreCase):
         self.left([*self.LINES, "save", "add w POINT (2 2)"])
         ran(["--load", str(self.path), "--save", str(self.path)], ["add w POINT (3 3)"])
         self.assert_refused_untouched(3, "fault journal OtherFile")
+
+    def test_a_file_exchanged_for_any_that_is_nearly_the_same(self) -> None:
+        """Each byte of the file in turn is another one, or is missing: no journal is taken beside such a file."""
+        self.left([*self.LINES, "save", "add w POINT (2 2)"])
+        file, journal = self.path.read_bytes(), self.journal.read_bytes()
+
+        def exchanged(town: Town, place: int) -> int:
+            town.journal.write_bytes(journal)
+            found = 0
+            for other in (file[:place] + bytes([file[place] ^ 1]) + file[place + 1 :], file[:place] + file[place + 1 :]):
+                town.path.write_bytes(other)
+                plain_end = ran(["--load", str(town.path)])
+                last = "fault journal OtherFile" if plain_end.status == 0 else plain_end.last.decode().rstrip("\n")
+                town.refused_untouched(3, last)
+                found += plain_end.status == 0
+            return found
+
+        loads = side_by_side(exchanged, range(len(file)))
+        # Some of these files load: their coordinates, counters or names are others.
+        self.assertGreater(loads, 5)
+
+    def test_journals_of_two_stores_exchanged(self) -> None:
+        """Where either has the other's journal each is refused, also where the two began with the same lines."""
+        towns = []
+        for name in ("one", "two"):
+            (self.place / name).mkdir()
+            towns.append(Town(self.place / name))
+            towns[-1].left([*self.LINES, f"add w POINT ({len(towns)} 2)", "save", "add w POINT (2 2)"])
+        journals = [town.journal.read_bytes() for town in towns]
+        for town, journal in zip(towns, reversed(journals)):
+            town.journal.write_bytes(journal)
+            town.refused_untouched(3, "fault journal OtherFile")
 
     def test_a_journal_without_edits_is_in_no_files_way(self) -> None:
         self.stored(self.LINES)
@@ -666,6 +360,27 @@ class Locks(StoreCase):
         self.assert_ends(self.stored(), 3, "fault load Taken")
         self.assertEqual(running.end(), 0)
         self.assertEqual(self.path.read_bytes(), plain(["layer add w any", "layer add u any", "layer add t any"]).file)
+
+    def test_of_several_that_begin_at_once_one_at_a_time_has_the_store(self) -> None:
+        """Each that got it has its point kept; each that did not is told so, and has changed nothing."""
+
+        def raced(town: Town, number: int) -> int:
+            town.left(["layer add a point"])
+            words = [PROGRAM, "--store", str(town.path), "--keep"]
+            begun = [subprocess.Popen(words, stdin=subprocess.PIPE, stdout=subprocess.PIPE) for _ in range(4)]
+            answers = [process.communicate(f"add a POINT ({place} {number})\n".encode())[0] for place, process in enumerate(begun)]
+            ended = [(process.returncode, answer) for process, answer in zip(begun, answers)]
+            kept = [place for place, (status, _) in enumerate(ended) if status == 0]
+            # They were served in an order that their identifiers tell.
+            kept.sort(key=lambda place: answers[place])
+            lines = [f"add a POINT ({place} {number})" for place in kept]
+            told = dict(zip(kept, plain(["layer add a point", *lines]).answers[1:]))
+            if not kept or ended != [(0, told[place]) if place in told else (3, b"fault load Taken\n") for place in range(4)]:
+                raise AssertionError(ended)
+            town.agreed(["layer add a point"], lines, b"".join(told.values()))
+            return len(begun) - len(kept)
+
+        self.assertGreater(side_by_side(raced, range(RACES)), 0)
 
     def test_the_end_of_a_process_frees_the_lock(self) -> None:
         self.running().kill()
@@ -744,218 +459,6 @@ class Modes(StoreCase):
                 self.assertEqual(precious.read_bytes(), b"precious")
                 self.assertFalse(self.path.exists())
                 path.unlink()
-
-
-class FullDisks(StoreCase):
-    """A small disk, where one can be mounted."""
-
-    def mounted(self, size: str) -> None:
-        """Has a disk of that size under the folder."""
-        disk = self.place
-        disk.mkdir()
-        words = ["mount", "-t", "tmpfs", "-o", f"size={size}", "sfstore-test", str(disk)]
-        if shutil.which("mount") is None or subprocess.run(words, capture_output=True, check=False).returncode:
-            self.skipTest("a small disk can't be mounted here")
-        self.addCleanup(self.unmount)
-
-    def unmount(self) -> None:
-        subprocess.run(["umount", str(self.place)], check=True)
-
-    @property
-    def place(self) -> Path:
-        return Path(self.folder) / "disk"
-
-    def grow(self) -> None:
-        subprocess.run(["mount", "-o", "remount,size=4m", str(self.place)], check=True)
-
-    def filled(self) -> Path:
-        """A file that takes all room that is left."""
-        filler = self.place / "filler"
-        with contextlib.suppress(OSError), filler.open("wb", buffering=0) as file:
-            while file.write(bytes(4096)):
-                pass
-        return filler
-
-    def assert_all_answered_is_there(self, lines: Sequence[str], output: bytes) -> None:
-        """After the disk has grown the store has a front of the lines with all that were answered."""
-        fault = b"fault serve Journal\n"
-        self.assertTrue(output.endswith(fault), output[-200:])
-        self.assertLess(output.count(b"\n"), len(lines))
-        self.grow()
-        self.agreed([], lines, output[: -len(fault)])
-
-    def test_a_journal_that_finds_no_room(self) -> None:
-        self.mounted("64k")
-        lines = [*BEGINNING, *(f"add a POINT ({k} {k})" for k in range(6_000))]
-        ended = self.stored(lines)
-        self.assertEqual(ended.status, 1)
-        self.assert_all_answered_is_there(lines, ended.output)
-
-    def test_line_by_line_until_there_is_no_room(self) -> None:
-        self.mounted("64k")
-        lines = [*BEGINNING, *(f"add a POINT ({k} {k})" for k in range(3_000))]
-        running = Running(self.path, Path(self.folder) / "answers")
-        size = 0
-        with contextlib.suppress(AssertionError, BrokenPipeError):
-            for line, answer in zip(lines, plain(lines).answers):
-                running.send([line])
-                size += len(answer)
-                running.wait_for(size)
-        self.assertEqual(running.process.wait(SECONDS), 1)
-        output = running.kill()
-        self.assertGreater(output.count(b"\n"), 1_000)
-        self.assert_all_answered_is_there(lines, output)
-
-    def test_a_save_that_finds_no_room_leaves_the_old_file(self) -> None:
-        self.mounted("256k")
-        history = [*BEGINNING, "save"]
-        self.left(history)
-        old = self.path.read_bytes()
-        lines = [f"add a POINT ({k} {k})" for k in range(300)]
-        lasts: list[list[str]] = [["save", "layers"], []]
-        for last in lasts:
-            told = plain([*history, *lines]).output[len(plain(history).output) :]
-            running = Running(self.path, Path(self.folder) / "answers")
-            running.send(lines)
-            running.wait_for(len(told))
-            filler = self.filled()
-            running.send(last)
-            self.assertEqual(running.end(), 4)
-            self.assertEqual(running.kill(), told + b"fault save Write\n")
-            self.assertEqual(self.path.read_bytes(), old)
-            filler.unlink()
-            history = self.agreed(history, lines, told)
-
-
-FAULTS = r"""
-#include <signal.h>
-#include <sys/stat.h>
-
-static long fails, sync_fails, kills, kills_behind;
-
-__attribute__((constructor)) static void begin(void) {
-    fails = number("FAILS");
-    sync_fails = number("SYNC_FAILS");
-    kills = number("KILLS");
-    kills_behind = number("KILLS_BEHIND");
-}
-
-static int is_now(long *left) {
-    return *left > 0 && --*left == 0 && met();
-}
-
-static int fails_now(void) {
-    if (is_now(&kills)) kill(getpid(), SIGKILL);
-    return is_now(&fails);
-}
-
-static long behind(long done) {
-    if (is_now(&kills_behind)) kill(getpid(), SIGKILL);
-    return done;
-}
-
-#define FAIL(code) do { errno = code; return -1; } while (0)
-
-int fsync(int file) {
-    if (fails_now()) FAIL(EIO);
-    return behind(syscall(SYS_fsync, file));
-}
-
-int fdatasync(int file) {
-    if (fails_now() || is_now(&sync_fails)) FAIL(EIO);
-    return behind(syscall(SYS_fdatasync, file));
-}
-
-int rename(const char *from, const char *to) {
-    if (fails_now()) FAIL(EIO);
-    return behind(syscall(SYS_rename, from, to));
-}
-
-int renameat(int one, const char *from, int other, const char *to) {
-    if (fails_now()) FAIL(EIO);
-    return behind(syscall(SYS_renameat, one, from, other, to));
-}
-
-/* Of a writing to a file that fails half of the bytes are written. */
-static ssize_t written(int file, const void *bytes, size_t count) {
-    struct stat known;
-    if (fstat(file, &known) || !S_ISREG(known.st_mode)) return syscall(SYS_write, file, bytes, count);
-    if (fails_now()) {
-        if (syscall(SYS_write, file, bytes, count / 2) < 0) return -1;
-        FAIL(ENOSPC);
-    }
-    return behind(syscall(SYS_write, file, bytes, count));
-}
-
-ssize_t write(int file, const void *bytes, size_t count) { return written(file, bytes, count); }
-ssize_t __write(int file, const void *bytes, size_t count) { return written(file, bytes, count); }
-"""
-
-
-@unittest.skipIf(shutil.which("cc") is None, "cc is missing")
-class FailingCalls(StoreCase):
-    """Each write, sync and rename fails in turn, or is the last thing that the process does."""
-
-    HISTORY: ClassVar[list[str]] = [*BEGINNING, "add a POINT (1 1)", "save", "add a POINT (2 2)"]
-    LINES: ClassVar[list[str]] = ["add a POINT (3 3)", "@1 add b POINT (4 4)", "undo", "save", "add a POINT (5 5)", "undo", "show a"]
-
-    def met(self, variable: str, number: int) -> Ended | None:
-        """A run in which that call is met; None where there are not so many."""
-        told = Path(self.folder) / "met"
-        with told.open("wb") as file:
-            variables = {variable: str(number), "LD_PRELOAD": str(self.library()), "MET": str(file.fileno())}
-            ended = ran(["--store", str(self.path)], self.LINES, variables, [file.fileno()])
-        return ended if told.stat().st_size else None
-
-    def library(self) -> Path:
-        path = Path(self.folder) / "before.so"
-        if not path.exists():
-            library(Path(self.folder), FAULTS)
-        return path
-
-    def begun(self) -> None:
-        """The store before each run."""
-        self.path.unlink(missing_ok=True)
-        self.journal.unlink(missing_ok=True)
-        for name in ("store", "journal"):
-            self.beside(name).unlink(missing_ok=True)
-        self.left(self.HISTORY)
-
-    def runs(self, variable: str) -> Iterator[tuple[int, Ended]]:
-        """The runs in which each call is met in turn."""
-        for number in itertools.count(1):
-            self.begun()
-            ended = self.met(variable, number)
-            if ended is None:
-                self.assertGreater(number, 20)
-                return
-            yield number, ended
-
-    def test_each_call_fails(self) -> None:
-        faults = (b"fault serve Journal\n", b"fault save Write\n", b"fault journal Write\n")
-        for number, ended in self.runs("FAILS"):
-            with self.subTest(call=number):
-                self.assertEqual(ended.status, {faults[0]: 1, faults[1]: 4, faults[2]: 3}.get(ended.last), ended)
-                self.agreed(self.HISTORY, [*self.LINES, "save"], ended.output[: -len(ended.last)])
-
-    def test_killed_before_each_call(self) -> None:
-        for number, ended in self.runs("KILLS"):
-            with self.subTest(call=number):
-                self.assertEqual(ended.status, -signal.SIGKILL)
-                self.agreed(self.HISTORY, [*self.LINES, "save"], ended.output)
-
-    def test_killed_behind_each_call(self) -> None:
-        for number, ended in self.runs("KILLS_BEHIND"):
-            with self.subTest(call=number):
-                self.assertEqual(ended.status, -signal.SIGKILL)
-                self.agreed(self.HISTORY, [*self.LINES, "save"], ended.output)
-
-    def test_nothing_is_answered_that_was_not_synced(self) -> None:
-        self.begun()
-        ended = self.met("SYNC_FAILS", 1)
-        self.assertIsNotNone(ended)
-        assert ended is not None
-        self.assertEqual((ended.status, ended.output), (1, b"fault serve Journal\n"))
 
 
 if __name__ == "__main__":

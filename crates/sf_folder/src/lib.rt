@@ -10,7 +10,9 @@ mod locking;
 mod names;
 mod places;
 mod saving;
+mod seen;
 mod store_folder;
+mod whole_file;
 
 pub use beside::Source;
 pub use choosing::{Chosen, choose};
@@ -20,4 +22,6 @@ pub use locking::{Lock, take_lock};
 pub use names::Name;
 pub use places::Places;
 pub use saving::save;
-pub use store_folder::StoreFolder;
+pub use seen::Seen;
+pub use store_folder::{Known, StoreFolder};
+pub use whole_file::WholeFile;

@@ -2,7 +2,8 @@
 
 use super::names::Name;
 use super::places::{Places, found, give};
-use std::fs::{File, Files, Metadata, OpenFile, OpenOptions, Permissions, TryLockError};
+use super::seen::is_same;
+use std::fs::{File, Files, OpenFile, OpenOptions, Permissions, TryLockError};
 use std::io;
 use std::io::ErrorKind;
 use std::os::unix::fs::{MetadataExt, OpenOptionsExt, PermissionsExt};
@@ -65,17 +66,12 @@ fn open_lock<R: Files<File = File>>(files: &R, path: &str) -> io::Result<File> {
 }
 
 /// Whether an open file is the one under a path, and no link leads to it.
-fn is_at<R: Files>(files: &R, file: &File, path: &str) -> io::Result<bool> {
+pub(crate) fn is_at<R: Files>(files: &R, file: &R::File, path: &str) -> io::Result<bool> {
     let open = file.metadata()?;
     match found(files.symlink_metadata(path))? {
         Some(there) => Ok(is_same(&open, &there)),
         None => Ok(false),
     }
-}
-
-/// Whether two files are one.
-fn is_same(one: &Metadata, other: &Metadata) -> bool {
-    one.dev() == other.dev() && one.ino() == other.ino()
 }
 
 /// Has only those open the lock who may write the store's file: others could keep all out. Who may not change it leaves it.

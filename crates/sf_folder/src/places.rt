@@ -73,7 +73,7 @@ impl Places {
 }
 
 /// A path with its links followed.
-fn resolved<R: Files>(files: &R, alloc: Global, path: &str) -> io::Result<String> {
+pub(crate) fn resolved<R: Files>(files: &R, alloc: Global, path: &str) -> io::Result<String> {
     match files.canonicalize(alloc, path) {
         Ok(found) => Ok(found.into_string()),
         Err(fault) if fault.kind() == ErrorKind::NotFound => to_come(files, alloc, path),
@@ -93,7 +93,7 @@ fn to_come<R: Files>(files: &R, alloc: Global, path: &str) -> io::Result<String>
 }
 
 /// The folder and the name of a file.
-fn parts_of(path: &str) -> io::Result<(&str, &str)> {
+pub(crate) fn parts_of(path: &str) -> io::Result<(&str, &str)> {
     let Some(name) = Path::new(path).file_name() else {
         return Err(io::Error::new(ErrorKind::InvalidInput, "the path ends with no name"));
     };
@@ -121,7 +121,7 @@ pub(crate) fn remove_leftover<R: Files>(files: &R, path: &str) -> io::Result<()>
     }
 }
 
-/// Makes an empty file under a name that nothing has, open for writing. It has the mode and the group of the file `like`;
+/// Makes an empty file under a name that nothing has, open for writing and reading. It has the mode and the group of the file `like`;
 /// where that isn't there, those of any new file. At no moment has it more rights than that file.
 pub(crate) fn made<R: Files>(files: &R, path: &str, like: &str) -> io::Result<R::File> {
     let Some(wanted) = found(files.metadata(like))? else {
@@ -132,9 +132,10 @@ pub(crate) fn made<R: Files>(files: &R, path: &str, like: &str) -> io::Result<R:
     Ok(file)
 }
 
-/// Makes an empty file under a name that nothing has, open for writing.
+/// Makes an empty file under a name that nothing has, open for writing, and for reading what was written.
 fn new_file<R: Files>(files: &R, path: &str, mode: u32) -> io::Result<R::File> {
     OpenOptions::new()
+        .read(true)
         .write(true)
         .create_new(true)
         .mode(mode)

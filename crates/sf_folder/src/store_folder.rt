@@ -1,18 +1,32 @@
 //! The folder of a store's file on a disk of the system: four files, each under its name.
 
 use super::folder::Folder;
+use super::locking::{Lock, is_at};
 use super::names::Name;
-use super::places::{Places, made, open_to_read, remove_leftover};
+use super::places::{Places, found, made, open_to_read, remove_leftover};
+use super::seen::Seen;
+use sf_journal::{FileSum, SumFault, sum_of};
 use std::alloc::Global;
-use std::fs::{Files, OpenFile, OpenOptions};
+use std::fs::{File, Files, OpenFile, OpenOptions};
 use std::io;
-use std::io::{ErrorKind, Read, Write};
+use std::io::{ErrorKind, Read, Seek, SeekFrom, Write};
+
+/// What is known of the store's file: no other program is to have changed it when another file takes its place.
+#[derive(Clone, Copy, Debug)]
+pub struct Known {
+    /// None where there is no file.
+    pub seen: Option<Seen>,
+    /// The sum of its bytes, or of no bytes.
+    pub sum: FileSum,
+}
 
 /// The folder of a store's file. What was begun stays open for writing, also under its next name.
 #[derive(Drop)]
 pub struct StoreFolder<'a, R: Files> {
     files: &'a R,
+    alloc: Global,
     places: Places,
+    known: Known,
     store: Option<R::File>,
     store_beside: Option<R::File>,
     journal: Option<R::File>,
@@ -20,11 +34,13 @@ pub struct StoreFolder<'a, R: Files> {
 }
 
 impl<'a, R: Files> StoreFolder<'a, R> {
-    /// The folder with these places. Nothing is done to it yet.
-    pub fn new(files: &'a R, places: Places) -> StoreFolder<'a, R> {
+    /// The folder with these places, and what is known of the store's file there. Nothing is done to it yet.
+    pub fn new(files: &'a R, alloc: Global, places: Places, known: Known) -> StoreFolder<'a, R> {
         StoreFolder {
             files,
+            alloc,
             places,
+            known,
             store: None,
             store_beside: None,
             journal: None,
@@ -37,13 +53,95 @@ impl<'a, R: Files> StoreFolder<'a, R> {
     /// # Errors
     ///
     /// Where it can't be read, where a link stands in its place, and where no memory is found.
-    pub fn read(&self, alloc: Global, name: Name) -> io::Result<Option<Vec<u8>>> {
+    pub fn read(&self, name: Name) -> io::Result<Option<Vec<u8>>> {
         let Some(mut file) = open_to_read(self.files, self.places.at(name))? else {
             return Ok(None);
         };
-        let mut bytes = Vec::new(alloc);
+        let mut bytes = Vec::new(self.alloc);
         file.read_to_end(&mut bytes)?;
         Ok(Some(bytes))
+    }
+
+    /// The store's file is the one that a save has just put there, with this sum.
+    pub fn has_saved(&mut self, sum: FileSum) {
+        self.known.sum = sum;
+    }
+
+    /// Whether the store's file is still the one that is known. Where that can't be told from outside, its bytes are summed.
+    ///
+    /// # Errors
+    ///
+    /// Where it can't be looked at or read, and where no memory is found.
+    pub fn has_known_store(&mut self) -> io::Result<bool> {
+        let path = self.places.at(Name::Store);
+        let Some(there) = found(self.files.metadata(path))? else {
+            return Ok(self.known.seen.is_none());
+        };
+        let seen = Some(Seen::of(&there));
+        if seen == self.known.seen {
+            return Ok(true);
+        }
+        if self.known.seen.is_none() || self.sum_at(Name::Store)? != Some(self.known.sum) {
+            return Ok(false);
+        }
+        self.known.seen = seen;
+        Ok(true)
+    }
+
+    /// The sum of a file; None where it isn't there.
+    fn sum_at(&self, name: Name) -> io::Result<Option<FileSum>> {
+        let Some(mut file) = open_to_read(self.files, self.places.at(name))? else {
+            return Ok(None);
+        };
+        match sum_of(self.alloc, &mut file) {
+            Ok(sum) => Ok(Some(sum)),
+            Err(SumFault::Memory) => Err(io::Error::from(ErrorKind::OutOfMemory)),
+            Err(SumFault::Read) => Err(io::Error::from(ErrorKind::Other)),
+        }
+    }
+
+    /// Has the journal that was synced under its name: where it was taken away, its bytes are written anew.
+    ///
+    /// # Errors
+    ///
+    /// Where another file stands in its place, and where it can't be looked at or written anew.
+    pub fn keep_journal(&mut self) -> io::Result<()> {
+        let path = self.places.at(Name::Journal);
+        let Some(file) = &self.journal else {
+            return Err(not_begun());
+        };
+        if is_at(self.files, file, path)? {
+            return Ok(());
+        }
+        if found(self.files.symlink_metadata(path))?.is_some() {
+            return Err(io::Error::new(
+                ErrorKind::ResourceBusy,
+                "another file stands in the place of the journal",
+            ));
+        }
+        self.write_journal_anew()
+    }
+
+    /// Writes the bytes of the journal that is open to a new one.
+    fn write_journal_anew(&mut self) -> io::Result<()> {
+        let Some(mut file) = self.take(Name::Journal) else {
+            return Err(not_begun());
+        };
+        file.seek(SeekFrom::Start(0))?;
+        let mut bytes = Vec::new(self.alloc);
+        file.read_to_end(&mut bytes)?;
+        self.begin(Name::JournalBeside)?;
+        self.write(Name::JournalBeside, bytes.as_slice())?;
+        self.sync(Name::JournalBeside)?;
+        self.rename(Name::JournalBeside, Name::Journal)?;
+        self.sync_folder()
+    }
+
+    /// What is known of the store's file that was just put there, so that it is told from another program's.
+    fn see_store(&mut self) -> io::Result<()> {
+        let there = self.files.metadata(self.places.at(Name::Store))?;
+        self.known.seen = Some(Seen::of(&there));
+        Ok(())
     }
 
     /// Has an open file, or none, stand for a name.
@@ -67,9 +165,29 @@ impl<'a, R: Files> StoreFolder<'a, R> {
     }
 }
 
+impl<'a, R: Files<File = File>> StoreFolder<'a, R> {
+    /// Whether the lock still stands under its name.
+    ///
+    /// # Errors
+    ///
+    /// Where it can't be looked at.
+    pub fn has_lock(&self, lock: &Lock) -> io::Result<bool> {
+        lock.stands(self.files, &self.places)
+    }
+}
+
 /// Nothing was begun under a name.
 fn not_begun() -> io::Error {
     io::Error::new(ErrorKind::NotFound, "nothing was begun under this name")
+}
+
+/// Another program has changed the store's file. Callers tell it from other faults by its kind, which no call of the system
+/// here gives.
+fn changed() -> io::Error {
+    io::Error::new(
+        ErrorKind::StaleNetworkFileHandle,
+        "another program has changed the store's file",
+    )
 }
 
 impl<'a, R: Files> Folder for StoreFolder<'a, R> {
@@ -103,9 +221,16 @@ impl<'a, R: Files> Folder for StoreFolder<'a, R> {
     }
 
     fn rename(&mut self, from: Name, to: Name) -> io::Result<()> {
+        // Another program may have written the store since it was loaded: nothing takes its place then.
+        if to == Name::Store && !self.has_known_store()? {
+            return Err(changed());
+        }
         self.files.rename(self.places.at(from), self.places.at(to))?;
         let file = self.take(from);
         self.keep(to, file);
+        if to == Name::Store {
+            return self.see_store();
+        }
         Ok(())
     }
 

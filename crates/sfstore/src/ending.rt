@@ -16,9 +16,13 @@ pub enum Ending {
     /// The file to load could not be opened.
     LoadOpen,
     Load(LoadFault),
+    /// Another program wrote to the store's file while it was loaded.
+    LoadChanged,
     /// The file to save to could not be opened or made.
     SaveOpen,
     Save(SaveFault),
+    /// Another program has changed the store's file since it was loaded or saved.
+    SaveChanged,
     /// A store that is kept is named beside a file to load or to save, or is not named where its end is.
     Options,
     /// Another session has the store.
@@ -72,8 +76,9 @@ impl Ending {
             Ending::Words(OptionsFault::Refused(error)) => {
                 if error.exit_code() == 0 { 0 } else { 2 }
             }
-            Ending::LoadOpen | Ending::Load(_) | Ending::Taken | Ending::Journal(_) => 3,
-            Ending::SaveOpen | Ending::Save(_) => 4,
+            Ending::LoadOpen | Ending::Load(_) | Ending::LoadChanged | Ending::Taken => 3,
+            Ending::Journal(_) => 3,
+            Ending::SaveOpen | Ending::Save(_) | Ending::SaveChanged => 4,
         }
     }
 }
@@ -91,9 +96,11 @@ impl fmt::Display for Ending {
             Ending::Load(LoadFault::BadFile { place, inner }) => {
                 writeln!(f, "fault load BadFile {place} {inner}")
             }
+            Ending::LoadChanged => writeln!(f, "fault load Changed"),
             Ending::SaveOpen => writeln!(f, "fault save Open"),
             Ending::Save(SaveFault::Memory) => writeln!(f, "fault save Memory"),
             Ending::Save(SaveFault::Write) => writeln!(f, "fault save Write"),
+            Ending::SaveChanged => writeln!(f, "fault save Changed"),
             Ending::Options => writeln!(
                 f,
                 "error: --store goes with neither --load nor --save, and --keep goes with --store"

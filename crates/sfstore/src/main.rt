@@ -7,6 +7,8 @@ mod ending;
 mod storing;
 
 use ending::Ending;
+use sf_file::SaveFault;
+use sf_folder::WholeFile;
 use sf_options::{Options, OptionsFault, options};
 use sf_run::{Served, run_from};
 use std::fs::File;
@@ -58,16 +60,51 @@ fn served(
     run_from(alloc, &mut file, &mut input, &mut output).map_err(Ending::from)
 }
 
-/// Saves what was served to a file, where one is named.
+/// Saves what was served to a file, where one is named. A regular file is the old one until the new one is on the disk.
 fn saved(
-    rt: &(impl Files + AllocGlobal),
+    rt: &(impl Files<File = File> + AllocGlobal),
     path: &Option<String>,
     served: &Served,
 ) -> Result<(), Ending> {
     let Some(path) = path else {
         return Ok(());
     };
-    let Ok(mut file) = fs::create(rt, path.as_str()) else {
+    match WholeFile::begin(rt, rt.alloc(), path.as_str()) {
+        Ok(Some(file)) => saved_whole(rt, file, served),
+        Ok(None) => saved_in_place(rt, path.as_str(), served),
+        Err(fault) => Err(open_fault(&fault)),
+    }
+}
+
+/// Why a file to save to could not be begun.
+fn open_fault(fault: &io::Error) -> Ending {
+    match fault.kind() {
+        io::ErrorKind::OutOfMemory => Ending::Save(SaveFault::Memory),
+        _ => Ending::SaveOpen,
+    }
+}
+
+/// Saves what was served to a file beside, which then takes its place.
+fn saved_whole(
+    rt: &(impl Files<File = File> + AllocGlobal),
+    file: WholeFile,
+    served: &Served,
+) -> Result<(), Ending> {
+    let mut file = file;
+    if let Err(fault) = served.save(rt.alloc(), file.file()) {
+        file.give_up(rt);
+        return Err(Ending::Save(fault));
+    }
+    file.finish(rt).map_err(|_| Ending::Save(SaveFault::Write))
+}
+
+/// Saves what was served to a pipe or a device.
+fn saved_in_place(
+    rt: &(impl Files + AllocGlobal),
+    path: &str,
+    served: &Served,
+) -> Result<(), Ending> {
+    let Ok(mut file) = fs::create(rt, path) else {
         return Err(Ending::SaveOpen);
     };
     served.save(rt.alloc(), &mut file).map_err(Ending::Save)

@@ -4,7 +4,8 @@ use super::ending::{Ending, JournalFault};
 use sf_console::Editor;
 use sf_file::{SaveFault, load};
 use sf_folder::{
-    Chosen, Folder, Name, Places, Source, StoreFolder, choose, renew, save, take_lock,
+    Chosen, Folder, Known, Lock, Name, Places, Seen, Source, StoreFolder, choose, renew, save,
+    take_lock,
 };
 use sf_journal::{FileSum, Sum, SumFault, head, sum_of};
 use sf_keeping::{Desk, Input, KeepFault, Pending, ReplayFault, Stop, replay, serve_kept};
@@ -12,7 +13,7 @@ use sf_layers::Store;
 use sf_lines::line_feed;
 use sf_streams::{WriteFault, flush, send};
 use std::alloc::Global;
-use std::fs::{File, Files};
+use std::fs::{File, Files, OpenFile};
 use std::io::{ErrorKind, Read, Seek, SeekFrom, Write};
 use std::{fs, io};
 
@@ -21,12 +22,21 @@ const HEAD_FRONT: &str = "sfstore-journal 2 ";
 
 /// The journal of a folder, and an output.
 #[derive(Drop)]
-struct StoreDesk<'a, R: Files, W: Write> {
+struct StoreDesk<'a, R: Files<File = File>, W: Write> {
     folder: StoreFolder<'a, R>,
+    // It is held until the run ends.
+    lock: Lock,
     output: W,
 }
 
-impl<'a, R: Files, W: Write> Desk for StoreDesk<'a, R, W> {
+impl<'a, R: Files<File = File>, W: Write> StoreDesk<'a, R, W> {
+    /// Whether what was synced is in the journal that the next session reads, and no other session can have begun.
+    fn keeps(&mut self) -> bool {
+        matches!(self.folder.has_lock(&self.lock), Ok(true)) && self.folder.keep_journal().is_ok()
+    }
+}
+
+impl<'a, R: Files<File = File>, W: Write> Desk for StoreDesk<'a, R, W> {
     fn append(&mut self, bytes: &[u8]) -> Result<(), sf_keeping::JournalFault> {
         self.folder
             .write(Name::Journal, bytes)
@@ -36,7 +46,12 @@ impl<'a, R: Files, W: Write> Desk for StoreDesk<'a, R, W> {
     fn sync(&mut self) -> Result<(), sf_keeping::JournalFault> {
         self.folder
             .sync(Name::Journal)
-            .map_err(|_| sf_keeping::JournalFault)
+            .map_err(|_| sf_keeping::JournalFault)?;
+        if self.keeps() {
+            Ok(())
+        } else {
+            Err(sf_keeping::JournalFault)
+        }
     }
 
     fn answer(&mut self, bytes: &[u8]) -> Result<(), WriteFault> {
@@ -78,27 +93,47 @@ fn sum_fault(fault: SumFault) -> Ending {
     }
 }
 
-/// Loads the store of a file with the file's sum; where it isn't there, a new store, and the sum of no bytes.
+/// A new store, and what is known of a file that isn't there.
+fn new_store(alloc: Global) -> Result<(Store, Known), Ending> {
+    let mut nothing: &[u8] = &[];
+    let sum = sum_of(alloc, &mut nothing).map_err(sum_fault)?;
+    Ok((Store::new(alloc), Known { seen: None, sum }))
+}
+
+/// What is seen of an open file.
+fn seen_of(file: &File) -> Result<Seen, Ending> {
+    match file.metadata() {
+        Ok(metadata) => Ok(Seen::of(&metadata)),
+        Err(_) => Err(Ending::LoadOpen),
+    }
+}
+
+/// Loads the store of a file, with what is known of the file; where it isn't there, a new store.
 fn load_store<R: Files<File = File>>(
     files: &R,
     alloc: Global,
     places: &Places,
-) -> Result<(Store, FileSum), Ending> {
+) -> Result<(Store, Known), Ending> {
     let mut file = match fs::open(files, places.at(Name::Store)) {
         Ok(file) => file,
-        Err(fault) if fault.kind() == ErrorKind::NotFound => {
-            let mut nothing: &[u8] = &[];
-            let sum = sum_of(alloc, &mut nothing).map_err(sum_fault)?;
-            return Ok((Store::new(alloc), sum));
-        }
+        Err(fault) if fault.kind() == ErrorKind::NotFound => return new_store(alloc),
         Err(_) => return Err(Ending::LoadOpen),
     };
+    let seen = seen_of(&file)?;
     let sum = sum_of(alloc, &mut file).map_err(sum_fault)?;
     if file.seek(SeekFrom::Start(0)).is_err() {
         return Err(Ending::LoadOpen);
     }
     let store = load(alloc, &mut file).map_err(Ending::Load)?;
-    Ok((store, sum))
+    // What was summed and what was loaded are one, if nobody wrote to the file meanwhile.
+    if seen_of(&file)? != seen {
+        return Err(Ending::LoadChanged);
+    }
+    let known = Known {
+        seen: Some(seen),
+        sum,
+    };
+    Ok((store, known))
 }
 
 /// The bytes behind a front of so many.
@@ -134,8 +169,8 @@ fn open<'a, R: Files>(
     file: &FileSum,
     folder: &mut StoreFolder<'a, R>,
 ) -> Result<Opened, Ending> {
-    let journal = read_journal(alloc, folder, Name::Journal)?;
-    let beside = read_journal(alloc, folder, Name::JournalBeside)?;
+    let journal = read_journal(folder, Name::Journal)?;
+    let beside = read_journal(folder, Name::JournalBeside)?;
     let chosen = chosen_of(alloc, file, &journal, &beside)?;
     let Ok(head) = head(alloc, file) else {
         return Err(Ending::Journal(JournalFault::Memory));
@@ -161,12 +196,11 @@ fn open<'a, R: Files>(
 
 /// The bytes of a journal, where it is there.
 fn read_journal<'a, R: Files>(
-    alloc: Global,
     folder: &StoreFolder<'a, R>,
     name: Name,
 ) -> Result<Option<Vec<u8>>, Ending> {
     folder
-        .read(alloc, name)
+        .read(name)
         .map_err(|fault| journal_fault(&fault, JournalFault::Read))
 }
 
@@ -223,17 +257,27 @@ fn replay_fault(fault: ReplayFault, head: usize) -> Ending {
 fn save_fault(fault: &io::Error) -> Ending {
     match fault.kind() {
         ErrorKind::OutOfMemory => Ending::Save(SaveFault::Memory),
+        ErrorKind::StaleNetworkFileHandle => Ending::SaveChanged,
         _ => Ending::Save(SaveFault::Write),
     }
 }
 
-/// Saves, and gives the sum behind the head of the new journal.
+/// Saves, and gives the sum behind the head of the new journal. Where another program has changed the store's file, nothing
+/// takes its place, and the journal has all edits.
 fn save_store<'a, R: Files>(
     alloc: Global,
     folder: &mut StoreFolder<'a, R>,
     editor: &Editor,
 ) -> Result<Sum, Ending> {
+    // It is looked at once more before the rename. So nothing is written beside for nothing.
+    if !folder
+        .has_known_store()
+        .map_err(|fault| save_fault(&fault))?
+    {
+        return Err(Ending::SaveChanged);
+    }
     let file = save(folder, alloc, &Saved(editor.store())).map_err(|fault| save_fault(&fault))?;
+    folder.has_saved(file);
     match head(alloc, &file) {
         Ok(head) => Ok(Sum::of_head(head.as_bytes())),
         Err(_) => Err(Ending::Save(SaveFault::Memory)),
@@ -246,7 +290,7 @@ fn serve_fault(fault: KeepFault) -> Ending {
 }
 
 /// Answers all lines of the input, with a save where one asks for it. The history ends with a save.
-fn serve_all<'a, R: Files, I: Read, W: Write>(
+fn serve_all<'a, R: Files<File = File>, I: Read, W: Write>(
     alloc: Global,
     opened: Opened,
     desk: &mut StoreDesk<'a, R, W>,
@@ -296,22 +340,25 @@ pub fn run_stored<R: Files<File = File> + Eprint, I: Read, W: Write + Drop>(
     let Ok(places) = Places::of(rt, alloc, path) else {
         return Err(Ending::LoadOpen);
     };
-    // It is held until the run ends.
-    let _lock = match take_lock(rt, &places) {
+    let lock = match take_lock(rt, &places) {
         Ok(Some(lock)) => lock,
         Ok(None) => return Err(Ending::Taken),
         Err(_) => return Err(Ending::LoadOpen),
     };
-    let (store, file) = load_store(rt, alloc, &places)?;
-    let mut folder = StoreFolder::new(rt, places);
-    let opened = open(alloc, store, &file, &mut folder)?;
+    let (store, known) = load_store(rt, alloc, &places)?;
+    let mut folder = StoreFolder::new(rt, alloc, places, known);
+    let opened = open(alloc, store, &known.sum, &mut folder)?;
     if opened.is_cut_short {
         // Where nothing can be told, the run goes on: what was dropped was never answered.
         let _ = rt.eprint(
             "warning: a record of the journal was not written to its end, and is dropped\n",
         );
     }
-    let mut desk = StoreDesk { folder, output };
+    let mut desk = StoreDesk {
+        folder,
+        lock,
+        output,
+    };
     let editor = serve_all(alloc, opened, &mut desk, reader)?;
     if !keep {
         save_store(alloc, &mut desk.folder, &editor)?;

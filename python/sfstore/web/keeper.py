@@ -202,10 +202,14 @@ class Keeper:
             raise ChangedMeanwhile(target, change)
 
     def _save(self, store: Store) -> None:
-        store.save()
-        self._steps = Steps()
-        self._version += 1
-        self._file += 1
+        try:
+            store.save()
+        finally:
+            # One that has failed may have come as far as the file.
+            if not store.unsaved:
+                self._steps = Steps()
+                self._version += 1
+                self._file += 1
 
     def _snapshot(self, store: Store) -> Snapshot:
         path = self._path if os.path.exists(self._path) else None

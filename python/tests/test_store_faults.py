@@ -1,0 +1,328 @@
+"""Tests of `sfstore --store FILE` through kills, full disks and calls that fail: what was answered is kept.
+
+After each, the next opening is compared with the plain program, to which some first lines were sent, all that were
+answered among them.
+"""
+
+from __future__ import annotations
+
+import contextlib
+import os
+import random
+import shutil
+import signal
+import subprocess
+import tempfile
+import time
+import unittest
+from collections.abc import Sequence
+from dataclasses import dataclass
+from pathlib import Path
+from typing import ClassVar
+
+from store_support import (
+    BEGINNING,
+    FAULTS,
+    MEMORY,
+    SECONDS,
+    DiskCase,
+    Ended,
+    Running,
+    StoreCase,
+    Town,
+    library,
+    pieces,
+    plain,
+    sent,
+    session,
+    shortened,
+    side_by_side,
+)
+from support import PROGRAM
+
+# Seeded moments of a kill: so many sessions are killed so often each in edits, and so many in openings and in saves.
+EDITING = (140, 5)
+OPENING = (10, 10)
+SAVING = (10, 4)
+# How many of the calls at which a session is killed are within its saves.
+WITHIN_SAVES = 200
+
+
+class Kills(StoreCase):
+    """Kill -9 at seeded moments of time."""
+
+    SECONDS = 600
+
+    def test_killed_while_it_edits(self) -> None:
+        def edited(town: Town, seed: int) -> int:
+            dice = random.Random(seed)
+            history: list[str] = []
+            for place in range(EDITING[1]):
+                lines = [*([] if place else BEGINNING), *session(dice, dice.randrange(5, 60))]
+                if dice.random() < 0.5:
+                    lines.insert(dice.randrange(4, len(lines)), "save")
+                history = killed(town, history, lines, dice)
+            return EDITING[1]
+
+        self.assertEqual(side_by_side(edited, range(EDITING[0])), EDITING[0] * EDITING[1])
+
+    def test_killed_while_it_opens(self) -> None:
+        def opened(town: Town, seed: int) -> int:
+            dice = random.Random(seed)
+            lines = [*BEGINNING, *session(dice, 300)]
+            town.left(lines)
+            history = shortened(lines)
+            for _ in range(OPENING[1]):
+                running = town.running()
+                time.sleep(dice.random() * 0.02)
+                answered = running.kill()
+                if answered:
+                    raise AssertionError(answered)
+                history = shortened(town.agreed(history, [], b""))
+            return OPENING[1]
+
+        self.assertEqual(side_by_side(opened, range(OPENING[0])), OPENING[0] * OPENING[1])
+
+    def test_killed_while_it_saves(self) -> None:
+        """Some time after a file of the save is seen; the kills at each call of a save are below."""
+        many = [*BEGINNING, *(f"add a POINT ({k} {k})" for k in range(3_000))]
+
+        def saved(town: Town, seed: int) -> int:
+            dice = random.Random(seed)
+            town.left(many)
+            history = [*many]
+            for moment in range(SAVING[1]):
+                lines = [*session(dice, 5), "add a POINT (7 7)"]
+                size = sum(map(len, plain([*history, *lines]).answers[len(history) :]))
+                running = town.running()
+                running.send(lines)
+                running.wait_for(size)
+                running.send(["save", "undo", "add a POINT (8 8)"])
+                wait_for_a_save(running, town.beside(["store", "journal"][moment % 2]), size)
+                time.sleep(dice.random() * 0.002)
+                history = town.agreed(history, [*lines, "save", "undo", "add a POINT (8 8)"], running.kill())
+                history = shortened(history)
+            return SAVING[1]
+
+        self.assertEqual(side_by_side(saved, range(SAVING[0])), SAVING[0] * SAVING[1])
+
+
+def killed(town: Town, history: Sequence[str], lines: Sequence[str], dice: random.Random) -> list[str]:
+    """A session that is killed while it has been sent all lines; the history behind the next opening."""
+    told = plain([*history, *lines]).answers[len(history) :]
+    running = town.running()
+    done = 0
+    for piece in pieces(dice, lines):
+        running.send(piece)
+        done += len(piece)
+        if dice.random() < 0.3 and done < len(lines):
+            running.wait_for(sum(map(len, told[:done])))
+    # All is waited for but the last lines, some of which may be under way.
+    running.wait_for(sum(map(len, told[: dice.randrange(len(lines))])))
+    time.sleep(dice.random() * 0.003)
+    return town.agreed(history, lines, running.kill())
+
+
+def wait_for_a_save(running: Running, beside: Path, size: int) -> None:
+    """Waits until a save has begun that file beside, or is answered."""
+    while not beside.exists() and running.answers.stat().st_size == size:
+        if running.process.poll() is not None:
+            raise AssertionError("the program has ended")
+
+
+class FullDisks(DiskCase):
+    """A disk on which no room is left."""
+
+    def assert_all_answered_is_there(self, lines: Sequence[str], output: bytes) -> None:
+        """After the disk has grown the store has a front of the lines with all that were answered."""
+        fault = b"fault serve Journal\n"
+        self.assertTrue(output.endswith(fault), output[-200:])
+        self.assertLess(output.count(b"\n"), len(lines))
+        self.grow()
+        self.town.agreed([], lines, output[: -len(fault)])
+
+    def test_a_journal_that_finds_no_room(self) -> None:
+        self.mounted("64k")
+        lines = [*BEGINNING, *(f"add a POINT ({k} {k})" for k in range(6_000))]
+        ended = self.stored(lines)
+        self.assertEqual(ended.status, 1)
+        self.assert_all_answered_is_there(lines, ended.output)
+
+    def test_line_by_line_until_there_is_no_room(self) -> None:
+        self.mounted("64k")
+        lines = [*BEGINNING, *(f"add a POINT ({k} {k})" for k in range(3_000))]
+        running = self.running()
+        size = 0
+        with contextlib.suppress(AssertionError, BrokenPipeError):
+            for line, answer in zip(lines, plain(lines).answers):
+                running.send([line])
+                size += len(answer)
+                running.wait_for(size)
+        self.assertEqual(running.process.wait(SECONDS), 1)
+        output = running.kill()
+        self.assertGreater(output.count(b"\n"), 1_000)
+        self.assert_all_answered_is_there(lines, output)
+
+    def test_a_save_that_finds_no_room_leaves_the_old_file(self) -> None:
+        self.mounted("256k")
+        history = [*BEGINNING, "save"]
+        self.left(history)
+        old = self.path.read_bytes()
+        lines = [f"add a POINT ({k} {k})" for k in range(300)]
+        lasts: list[list[str]] = [["save", "layers"], []]
+        for last in lasts:
+            told = plain([*history, *lines]).output[len(plain(history).output) :]
+            running = self.running()
+            running.send(lines)
+            running.wait_for(len(told))
+            filler = self.filled()
+            running.send(last)
+            self.assertEqual(running.end(), 4)
+            self.assertEqual(running.kill(), told + b"fault save Write\n")
+            self.assertEqual(self.path.read_bytes(), old)
+            filler.unlink()
+            history = self.town.agreed(history, lines, told)
+
+
+@dataclass(frozen=True)
+class Called:
+    """A call of a session that changes the disk: what it does, to which file, and whether a save is under way."""
+
+    call: str
+    name: str
+    is_within_save: bool
+
+
+def calls_of(text: str) -> list[Called]:
+    """The calls that a library has told. A save begins with the new store beside, and ends with the name of its
+    journal and the sync of the folder behind that."""
+    found: list[Called] = []
+    is_within = False
+    ends = 0
+    for line in text.splitlines():
+        call, _, name = line.partition(" ")
+        is_within = is_within or name == ".town.sfs.sfstore-store"
+        found.append(Called(call, name, is_within))
+        if is_within and (call, name) == ("rename", "town.sfs.journal"):
+            ends = 1
+        elif ends:
+            is_within, ends = False, 0
+    return found
+
+
+@unittest.skipIf(shutil.which("cc") is None, "cc is missing")
+class FailingCalls(StoreCase):
+    """Each write, sync and rename of a session fails in turn, or is the last thing that the process does."""
+
+    SECONDS = 600
+    HISTORY: ClassVar[list[str]] = [*BEGINNING, "add a POINT (1 1)", "save", "add a POINT (2 2)"]
+    LINES: ClassVar[list[str]] = ["add a POINT (3 3)", "@1 add b POINT (4 4)", "undo", "save", "add a POINT (5 5)", "undo", "show a"]
+    # A session of saves, one of them of nothing new.
+    SAVES: ClassVar[list[str]] = [
+        *("add a POINT (3 3)", "@1 add b POINT (4 4)", "save", "save", "undo", "delete a 1", "save", "layer drop b", "undo"),
+        *("save", "set a 3 k 7", "save", "@1 layer move b 0", "save", "redo", "column add a n int", "save"),
+        *("layer add c any", "save", "layer rename c d", "add d POINT (0 0)", "save", "add a POINT (6 6)", "show a"),
+    ]
+
+    def setUp(self) -> None:
+        super().setUp()
+        self.before = library(self.place, FAULTS)
+        town = Town(self.place)
+        town.left(self.HISTORY)
+        self.begun = town.path.read_bytes(), town.journal.read_bytes()
+
+    def met(self, town: Town, lines: Sequence[str], variables: dict[str, str]) -> Ended:
+        """A run over the store that each begins with, in which the library is told what to do."""
+        town.bare()
+        for path, data in zip((town.path, town.journal), self.begun):
+            path.write_bytes(data)
+        # Lines in a file are read at once, so that each run makes the same calls.
+        (town.place / "lines").write_bytes(sent(lines))
+        told = {**os.environ, **variables, "LD_PRELOAD": str(self.before)}
+        with (town.place / "lines").open("rb") as source, (town.place / "calls").open("wb") as calls:
+            told = {**told, "CALLS": str(calls.fileno())}
+            ended = subprocess.run(
+                [PROGRAM, "--store", str(town.path)],
+                stdin=source,
+                env=told,
+                pass_fds=[calls.fileno()],
+                capture_output=True,
+                check=False,
+                timeout=SECONDS,
+            )
+        return Ended(ended.returncode, ended.stdout, ended.stderr)
+
+    def calls(self, lines: Sequence[str]) -> list[Called]:
+        """The calls of a run in which nothing fails."""
+        with tempfile.TemporaryDirectory(dir=MEMORY) as name:
+            town = Town(Path(name) / "folder")
+            town.place.mkdir()
+            self.assertEqual(self.met(town, lines, {}).status, 0)
+            return calls_of((town.place / "calls").read_text())
+
+    def test_the_order_of_the_calls_of_a_save(self) -> None:
+        """File and journal are synced before either takes its name, the file first, and each name is synced."""
+        save = [call for call in self.calls(["save", "add a POINT (3 3)"]) if call.is_within_save]
+        found = [f"{call.call} {call.name}" for call in save]
+        store, journal = ".town.sfs.sfstore-store", ".town.sfs.sfstore-journal"
+        wanted = [f"write {store}", f"sync {store}", f"write {journal}", f"sync {journal}", "sync folder"]
+        wanted += ["rename town.sfs", "sync folder", "rename town.sfs.journal", "sync folder"]
+        # One save at the line, and one at the end.
+        self.assertEqual(found, wanted * 2)
+
+    def failed(self, variables: dict[str, str], counted: str, many: int) -> None:
+        """Runs in which each call of so many fails in turn: the fault is told, and the next opening is as it has to be."""
+        faults = {b"fault serve Journal\n": 1, b"fault save Write\n": 4, b"fault journal Write\n": 3}
+
+        def fails(town: Town, number: int) -> int:
+            ended = self.met(town, self.LINES, {**variables, counted: str(number)})
+            if ended.status != faults.get(ended.last):
+                raise AssertionError(ended)
+            town.agreed(self.HISTORY, [*self.LINES, "save"], ended.output[: -len(ended.last)])
+            return 1
+
+        self.assertEqual(side_by_side(fails, range(1, many + 1)), many)
+
+    def test_each_call_fails(self) -> None:
+        calls = self.calls(self.LINES)
+        self.assertGreater(len(calls), 20)
+        self.failed({}, "FAILS", len(calls))
+
+    def test_the_disk_is_full_from_each_call_on(self) -> None:
+        self.failed({"STAYS_FULL": "1"}, "FAILS", len(self.calls(self.LINES)))
+
+    def test_each_sync_fails(self) -> None:
+        syncs = [call for call in self.calls(self.LINES) if call.call == "sync"]
+        self.assertGreater(len(syncs), 10)
+        self.failed({}, "SYNC_FAILS", len(syncs))
+
+    def test_killed_at_each_call(self) -> None:
+        """Before each call, behind it, and when a writing is half done."""
+        calls = self.calls(self.SAVES)
+        moments = [(counted, number) for counted in ("KILLS", "KILLS_BEHIND", "KILLS_WITHIN") for number in range(1, len(calls) + 1)]
+        # A call is cut short where it is a writing.
+        moments = [one for one in moments if one[0] != "KILLS_WITHIN" or calls[one[1] - 1].call == "write"]
+
+        def dies(town: Town, moment: int) -> int:
+            counted, number = moments[moment]
+            ended = self.met(town, self.SAVES, {counted: str(number)})
+            if ended.status != -signal.SIGKILL:
+                raise AssertionError(ended)
+            town.agreed(self.HISTORY, [*self.SAVES, "save"], ended.output)
+            return calls[number - 1].is_within_save
+
+        self.assertGreaterEqual(side_by_side(dies, range(len(moments))), WITHIN_SAVES)
+
+    def test_nothing_is_answered_that_was_not_synced(self) -> None:
+        """The first sync of a session's edits fails: none of them is answered."""
+        opening = [(call.call, call.name) for call in self.calls([])]
+        calls = [(call.call, call.name) for call in self.calls(["add a POINT (3 3)", "save"])]
+        place = next(place for place, (one, other) in enumerate(zip(calls, opening)) if one != other)
+        self.assertEqual(calls[place : place + 2], [("write", "town.sfs.journal"), ("sync", "town.sfs.journal")])
+        syncs = sum(call == "sync" for call, _ in calls[:place])
+        ended = self.met(self.town, ["add a POINT (3 3)", "save"], {"SYNC_FAILS": str(syncs + 1)})
+        self.assertEqual((ended.status, ended.output), (1, b"fault serve Journal\n"))
+
+
+if __name__ == "__main__":
+    unittest.main()

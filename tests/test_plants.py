@@ -1,0 +1,67 @@
+"""Tests of bench/plants: each wrong body applies to the code as it stands, and names a test that is there."""
+
+from __future__ import annotations
+
+import sys
+import unittest
+from pathlib import Path
+
+TOP = Path(__file__).resolve().parent.parent
+sys.path.insert(0, str(TOP / "bench"))
+
+import plants  # noqa: E402
+
+STORED_RUN = "the stored run of "
+
+OUTPUT = """\
+rt: sf_query: trying its must-fail edits (3)
+rt: must-fail sf_query/sf_query-one.edit: refused, as it must be: src/queries.rt:1:1: error: no proof of `returns`
+rt: must-fail sf_query/sf_query-two.edit: NOT REFUSED: the crate is still proved with this edit (one that means ..)
+rt: must-fail sf_query/sf_query-three.edit: refused, as it must be (only because a proof file names what the edit took away, ..)
+rt: must-fail sf_query/sf_query-four.edit: BAD EDIT: the prover cannot read the edited text
+rt: must-fail sf_query/sf_query-five.edit: NOT TRIED: its check was killed
+"""
+
+
+def has_test(name: str, texts: list[str]) -> bool:
+    """Whether a test of that name is among the sources, or a program has such a stored run."""
+    if name.startswith(STORED_RUN):
+        return (TOP / "crates" / name[len(STORED_RUN) :] / "stdout").is_file()
+    return any(f" {name}(" in text for text in texts)
+
+
+class Plants(unittest.TestCase):
+    def setUp(self) -> None:
+        self.plants = plants.plants()
+
+    def test_each_applies_to_the_code(self) -> None:
+        self.assertGreater(len(self.plants), 100)
+        for plant in self.plants:
+            with self.subTest(plant.name):
+                self.assertTrue(plant.name.startswith(f"{plant.crate}-"))
+                before = (TOP / "crates" / plant.crate / plant.file).read_text(encoding="utf-8")
+                self.assertNotEqual(plants.planted(plant, before), before)
+
+    def test_each_says_what_is_expected(self) -> None:
+        files = [*(TOP / "tests").glob("*.py"), *(TOP / "python" / "tests").glob("*.py"), *TOP.glob("crates/sf_tests*/src/*.rt")]
+        texts = [path.read_text(encoding="utf-8") for path in files]
+        for plant in self.plants:
+            with self.subTest(plant.name):
+                self.assertRegex(plant.expected, f"^({plants.EXPECTED.pattern})$")
+                self.assertTrue(not plant.test or has_test(plant.test, texts), plant.test)
+
+    def test_no_other_file_is_among_them(self) -> None:
+        self.assertEqual(len(list(plants.PLANTS.iterdir())), len(self.plants))
+
+    def test_what_is_said_of_each_is_read(self) -> None:
+        wanted = {"one": "refused", "two": "proved", "three": "refused by names", "four": "bad", "five": "not tried"}
+        self.assertEqual(plants.verdicts(OUTPUT), {f"sf_query-{name}": found for name, found in wanted.items()})
+
+    def test_a_row_is_marked_where_something_else_came(self) -> None:
+        plant = next(plant for plant in self.plants if plant.expected.startswith("proved"))
+        marks = [plants.row(plant, found)[0] for found in ("proved", "refused", "bad", "")]
+        self.assertEqual(marks, [" ", "!", "!", " "])
+
+
+if __name__ == "__main__":
+    unittest.main()

@@ -1,0 +1,304 @@
+"""Speed that the pages claim and no contract states: processor time of the built program, beside work that is known.
+
+Each claim has lines of known work and lines that ask. What the asked ones take is told as so many times what the known
+ones take, so that a slow or a busy machine makes no difference, and may be ten times what it needs: what each test
+refuses takes far more than that, and the contracts let it through. With SPEEDS set each tells its figures.
+"""
+
+from __future__ import annotations
+
+import math
+import os
+import resource
+import subprocess
+import sys
+import tempfile
+import unittest
+from collections.abc import Sequence
+from dataclasses import dataclass
+from functools import lru_cache
+from pathlib import Path
+
+TOP = Path(__file__).resolve().parent.parent
+sys.path.insert(0, str(TOP / "bench"))
+
+from questions import ROUND, WINDOW, ring  # noqa: E402
+from towns import border, square, squares, street, town  # noqa: E402
+
+STORE = TOP / "crates" / "sfstore" / "out" / "sfstore"
+RUNS = 2
+# A processor's seconds for one run, where a claim does not hold.
+SECONDS = 300
+Places = Sequence[tuple[int, int]]
+
+
+@dataclass(frozen=True)
+class Claim:
+    """Lines of known work, lines that ask, how often the time of the former the latter take where the claim holds, the
+    last line of the answers, and how much more than that they may take."""
+
+    known: list[str]
+    asked: list[str]
+    needed: float
+    last: bytes
+    times: float = 10
+
+    @property
+    def most(self) -> float:
+        """How often the time of the known work the asked lines may take."""
+        return self.times * self.needed
+
+
+def run(lines: Sequence[str], most: float = SECONDS) -> tuple[float, bytes]:
+    """The processor seconds of a run, and the last line that it has answered; it is ended where it takes far more."""
+    limit = math.ceil(most) + 1
+
+    def limited() -> None:
+        resource.setrlimit(resource.RLIMIT_CPU, (limit, limit))
+
+    with tempfile.TemporaryFile() as source, tempfile.TemporaryFile() as sink:
+        source.write("".join(f"{line}\n" for line in lines).encode())
+        source.seek(0)
+        child = subprocess.Popen([STORE], stdin=source, stdout=sink, preexec_fn=limited)
+        _, status, usage = os.wait4(child.pid, 0)
+        child.returncode = os.waitstatus_to_exitcode(status)
+        if child.returncode != 0:
+            raise AssertionError(f"ended with {child.returncode} after {usage.ru_utime:.1f} of {limit} processor seconds")
+        sink.seek(max(0, sink.tell() - 200))
+        return usage.ru_utime + usage.ru_stime, sink.read().splitlines()[-1]
+
+
+@lru_cache(maxsize=2)
+def known_seconds(lines: tuple[str, ...]) -> float:
+    """The least processor seconds of some runs of known work."""
+    return min(run(lines)[0] for _ in range(RUNS))
+
+
+def ratio(claim: Claim) -> float:
+    """What the asked lines take beside the known ones: the least of some runs each."""
+    known = known_seconds(tuple(claim.known))
+    both = []
+    for _ in range(RUNS):
+        seconds, last = run(claim.known + claim.asked, 2 * known * (1 + claim.most))
+        if last != claim.last:
+            raise AssertionError(f"{last!r} in the place of {claim.last!r}")
+        both.append(seconds)
+    return (min(both) - known) / known
+
+
+# Points in rows, and windows with some of them.
+
+POINTS = 100_000
+ACROSS = 1_000
+SPACE = 4
+WINDOWS = 2_000
+
+
+def points() -> list[str]:
+    """A layer of points in rows."""
+    return ["layer add w point", *(f"add w POINT ({k % ACROSS * SPACE} {k // ACROSS * SPACE})" for k in range(POINTS))]
+
+
+def windows(layer: str, count: int) -> list[str]:
+    """Questions for what meets a window of 25 points, at places all over the layer."""
+    found = []
+    for number in range(count):
+        x, y = number * 7_919 % (ACROSS - 10) * SPACE, number * 104_729 % (POINTS // ACROSS - 10) * SPACE
+        box = f"{x} {y}, {x + 17} {y}, {x + 17} {y + 17}, {x} {y + 17}, {x} {y}"
+        found.append(f"query {layer} intersects POLYGON (({box}))")
+    return found
+
+
+# Edits that name the layer and move no box, and the name that the layer has behind them.
+NAMING = {
+    "layer rename w v": "v",
+    "layer move w 0": "w",
+    "column add w k int": "w",
+    "column drop w n": "w",
+    "set w 7 n 5": "w",
+    "unset w 6 n": "w",
+}
+
+
+def windows_behind(edit: str, count: int) -> list[str]:
+    """Windows behind an edit that names the layer, behind its undo and its redo."""
+    behind = windows(NAMING[edit], count)
+    return [edit, *behind, "undo", *windows("w", count), "redo", *behind]
+
+
+# Geometries of many edges.
+
+EDGES = 4_095
+
+
+def text(kind: str, *rings: Places) -> str:
+    """A geometry of a kind with rings, or with a line."""
+    parts = [", ".join(f"{x} {y}" for x, y in places) for places in rings]
+    return f"{kind} ({', '.join(f'({part})' for part in parts) if kind == 'POLYGON' else parts[0]})"
+
+
+def closed(places: Places) -> list[tuple[int, int]]:
+    """The corners of a ring, the first one again at the end."""
+    return [*places, places[0]]
+
+
+def low_zigzag() -> Places:
+    """The corners of a ring: a low zigzag from left to right, and two corners high above it."""
+    low = [(2 * k, k % 2) for k in range(EDGES - 2)]
+    return [*low, (low[-1][0], 100), (0, 100)]
+
+
+def vertex_moves(count: int) -> list[str]:
+    """Vertices of that zigzag moved up and down."""
+    vertices = [k * 1_597 % (EDGES - 4) + 1 for k in range(count)]
+    return [f"vertex move a 1 0 0 {vertex} {2 * vertex} {k % 50}" for k, vertex in enumerate(vertices)]
+
+
+def high_zigzag(corners: int, turned: bool) -> list[tuple[int, int]]:
+    """A line of so many corners, as high as it is wide; turned by a quarter it crosses all of the one that is not."""
+    top = 100 * corners
+    places = [(100 * k, k % 2 * top) for k in range(corners)]
+    return [(top - y, x + 7) for x, y in places] if turned else places
+
+
+TEETH = 1_000
+UPRIGHT, ACROSS_IT = high_zigzag(TEETH, False), high_zigzag(TEETH, True)
+# A ring and a line that cross themselves a million times.
+TANGLE = [*UPRIGHT, (100 * TEETH, -100), (200 * TEETH, -100), (200 * TEETH, 200 * TEETH), *ACROSS_IT]
+
+
+def areal(places: Places) -> list[tuple[int, int]]:
+    """A ring between such a line and a corner or two beside it."""
+    top = 100 * len(places)
+    return closed([*places, (top, -100), (0, -100)])
+
+
+def areal_across(places: Places) -> list[tuple[int, int]]:
+    """The same of a turned one."""
+    top = 100 * len(places)
+    return closed([*places, (top + 100, top), (top + 100, 0)])
+
+
+# Two squares that share an edge, left of all these, and a ring round all.
+PAIR = [closed([(x, 0), (x + 100, 0), (x + 100, 100), (x, 100)]) for x in (-300, -200)]
+AROUND = closed([(-400, -400), (400 * TEETH, -400), (400 * TEETH, 400 * TEETH), (-400, 400 * TEETH)])
+
+RINGS = 200
+RING_EDGES = 512
+
+
+def rings() -> list[str]:
+    """Rings beside one another, each of which crosses the border of a window."""
+    return ["layer add a polygon", *(f"add a {ring(RING_EDGES, k * 1000, 0, (400, 400))}" for k in range(RINGS))]
+
+
+# How many squares a town has inside, four in five, and how many are looked at on its border.
+IN_TOWN = 10_000
+
+
+def border_squares(kind: str) -> list[str]:
+    """Small squares on the border of a town; behind them the town itself, ten times, in another layer."""
+    lines = [square(x - 3, y - 4) for x, y in border(IN_TOWN, False)[::5]]
+    if kind == "multipolygon":
+        lines = [line.replace("POLYGON ((", "MULTIPOLYGON (((").replace("))", ")))") for line in lines]
+    return [f"layer add a {kind}", *lines, "layer add b polygon", *[f"add b {town(IN_TOWN, False)}"] * 10]
+
+
+class Speeds(unittest.TestCase):
+    def check(self, claim: Claim) -> None:
+        found = ratio(claim)
+        if os.environ.get("SPEEDS"):
+            print(f"{self.id().rpartition('.')[2]}: {found:.3f}, at most {claim.most:.2f}", file=sys.stderr)
+        self.assertLess(found, claim.most)
+
+    def test_windows_look_at_the_index(self) -> None:
+        """Refuses a pass over all features, a layer whose index is never used, a search that visits each node."""
+        self.check(Claim(points(), windows("w", WINDOWS) + ["layers"], 0.13, b"w point"))
+
+    def test_edits_that_move_no_box_keep_the_index(self) -> None:
+        """Refuses a `layer rename` that loses it, among others."""
+        known = [*points(), "column add w n int", "set w 6 n 1"]
+        for edit, name in NAMING.items():
+            with self.subTest(edit):
+                self.check(Claim(known, [*windows_behind(edit, 600), "layers"], 0.13, f"{name} point".encode()))
+
+    def test_a_box_that_moves_is_moved_in_the_index(self) -> None:
+        """Refuses an index that is lost at each move, and built anew by the same edit."""
+        moves = [f"vertex move w {k * 37 % POINTS + 1} 0 0 0 {k} {k}" for k in range(2_000)]
+        self.check(Claim(points(), [*moves, "layers"], 0.1, b"w point"))
+
+    def test_a_vertex_change_looks_at_its_new_edges(self) -> None:
+        """Refuses changes that find the whole geometry valid anew."""
+        whole = f"add a {text('POLYGON', closed(low_zigzag()))}"
+        self.check(Claim(["layer add a polygon", *[whole] * 100], [*vertex_moves(1_000), "box a 1"], 0.3, b"0 0 8184 100"))
+
+    def test_a_sweep_hands_out_what_changes(self) -> None:
+        """Refuses walks over all cells: a star's are thousands of times its edges."""
+        smooth, star = ring(EDGES, 0, 0, (500_000, 500_000)), ring(EDGES, 0, 0, (500_000, 250_000))
+        self.check(Claim(["layer add a polygon", *[f"add a {smooth}"] * 20], [*[f"add a {star}"] * 20], 2.6, b"ok 40", 5))
+
+    def test_walks_of_questions_end_early(self) -> None:
+        """Refuses a sink of questions that is never full: two lines cross a million times, and the first tells."""
+        lines = [f"add a {text('LINESTRING', UPRIGHT)}"] * 20
+        given = text("LINESTRING", ACROSS_IT)
+        asks = ["query a intersects", "query a disjoint", "query a touches", "match a T********", "query a within"]
+        self.check(Claim(["layer add a linestring", *lines], [f"{ask} {given}" for ask in asks], 20.0, b"rows 0"))
+
+    def test_walks_of_validity_end_early(self) -> None:
+        """Refuses a ring's walk that is never full: it crosses itself a million times, and the first tells."""
+        known = [f"add a {text('POLYGON', areal(UPRIGHT))}"] * 20
+        self.check(Claim(["layer add a polygon", *known], [f"add a {text('POLYGON', closed(TANGLE))}"] * 5, 1.0, b"refused 13 RingNotSimple"))
+
+    def test_walks_of_simplicity_end_early(self) -> None:
+        known = [f"add a {text('LINESTRING', TANGLE)}"] * 20
+        self.check(Claim(["layer add a linestring", *known], [f"simple a {k}" for k in range(1, 6)], 1.0, b"false"))
+
+    def test_walks_of_rings_end_early(self) -> None:
+        """Refuses walks of holes and of polygons that are never full: two small ones share an edge, far to the left of
+        two large ones that cross a million times."""
+        parts = [*PAIR, areal(UPRIGHT), areal_across(ACROSS_IT)]
+        known = [f"add a {text('POLYGON', part)}" for part in parts] * 10
+        rings = [", ".join(f"{x} {y}" for x, y in part) for part in parts]
+        asked = [f"add a MULTIPOLYGON ({', '.join(f'(({each}))' for each in rings)})", f"add a {text('POLYGON', AROUND, *parts)}"]
+        self.check(Claim(["layer add a any", *known], asked, 1.0, b"refused 14 RingsMeet"))
+
+    def test_areas_that_cross_are_not_walked_to_the_end(self) -> None:
+        """Refuses walks over a million crossings where two edges tell."""
+        upright, across = areal(UPRIGHT), areal_across(ACROSS_IT)
+        asked = [f"relate a 1 {text('POLYGON', across)}"] * 20
+        self.check(Claim(["layer add a polygon", *[f"add a {text('POLYGON', upright)}"] * 20], asked, 1.3, b"212101212"))
+
+    def test_boxes_that_are_apart_are_not_walked(self) -> None:
+        """Refuses walks over all edges where the boxes tell the matrix."""
+        apart = [f"relate a 1 POLYGON ((-9 -900, -2 -900, -2 -800, -9 -{k}, -9 -900))" for k in range(300, 800)]
+        known = [f"add a {text('POLYGON', areal(UPRIGHT))}"] * 20
+        self.check(Claim(["layer add a polygon", *known], apart, 0.25, b"FF2FF1212"))
+
+    def test_rings_across_a_window_are_told_without_a_walk(self) -> None:
+        """Refuses walks where two edges that cross tell, or a point of a ring within."""
+        predicates = ("overlaps", "within", "touches")
+        asked = {
+            "across": ([f"query a {predicate} {WINDOW}" for predicate in predicates] * 10, 0.35),
+            "within": ([f"query a {predicate} {ROUND}" for predicate in predicates] * 10, 0.2),
+            "matrices": ([f"relate a {k} {WINDOW}" for k in range(1, RINGS + 1)] * 5, 0.25),
+        }
+        for name, (lines, needed) in asked.items():
+            with self.subTest(name):
+                self.check(Claim(rings(), [*lines, "layers"], needed, b"a polygon"))
+
+    def test_a_large_geometry_is_prepared(self) -> None:
+        """Refuses walks over all edges of a town for each square on its border, where those nearby tell."""
+        for kind in ("polygon", "multipolygon"):
+            with self.subTest(kind):
+                asked = [f"query a {predicate} {town(IN_TOWN, False)}" for predicate in ("overlaps", "within", "intersects")]
+                self.check(Claim(border_squares(kind), [*asked, "layers"], 2.0, b"b polygon"))
+
+    def test_what_is_clear_of_a_large_geometry_is_told_by_a_point(self) -> None:
+        """Refuses walks for each of many squares within a town, or off its border and off a street."""
+        given = [town(IN_TOWN, False), street(IN_TOWN)]
+        asked = [f"query a {predicate} {each}" for predicate in ("within", "crosses", "touches") for each in given]
+        self.check(Claim(["layer add a polygon", *squares(IN_TOWN)], [*asked, "layers"], 9.0, b"a polygon"))
+
+
+if __name__ == "__main__":
+    unittest.main()
