@@ -482,8 +482,13 @@ class Run:
             self._drop()
             UNLINK(self.path)
             self.sidecar, self.mode, self.foreign = False, None, None
+            data = self._bytes("town.sfs.journal") or b""
+            is_old = oldjournal.is_old(data)
+            if not is_old and data.count(b"\n") == 1:
+                # A save came through whose answer did not: the file had all edits.
+                self.lines, self.maybe = [], []
             # A journal of version 1 misses its file even where it has no edits.
-            is_missed = self.lines or self.maybe or oldjournal.is_old(self._bytes("town.sfs.journal") or b"")
+            is_missed = self.lines or self.maybe or is_old
             self.excuse = self.excuse or ("the file was taken away" if is_missed else "")
             self.saved = self.saved if self.excuse else None
 
