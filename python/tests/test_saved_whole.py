@@ -185,6 +185,11 @@ class Refused(SaveCase):
         self.assert_old(self.save(NEW), "fault save Open", old)
         self.assertEqual(precious.read_bytes(), b"precious")
 
+    def test_a_pipe_beside_is_not_waited_for(self) -> None:
+        old = self.put_old()
+        os.mkfifo(self.beside_save)
+        self.assert_old(self.save(NEW), "fault save Open", old)
+
     def test_after_a_fault_of_serving_nothing_is_saved(self) -> None:
         old = self.put_old()
         with open("/dev/full", "wb") as full:
@@ -284,6 +289,15 @@ class Looks(StoreCase):
         self.lock.touch()
         running.send(["add a POINT (5 5)"])
         self.assert_ended(running, 1, "fault serve Journal")
+
+    def test_a_pipe_in_the_place_of_the_journal_is_not_waited_for(self) -> None:
+        self.left([*self.LINES, "save"])
+        for name, journal in (("journal", self.journal), ("beside", self.beside("journal"))):
+            journal.unlink(missing_ok=True)
+            os.mkfifo(journal)
+            with self.subTest(name):
+                self.assert_ends(self.stored(["layers"]), 3, "fault journal Read")
+            journal.unlink()
 
     def test_a_journal_that_was_taken_away_is_written_anew(self) -> None:
         running = self.begun()

@@ -170,13 +170,14 @@ pub(crate) fn give<R: Files>(
 ///
 /// # Errors
 ///
-/// Where it can't be opened, and where a link stands in its place.
+/// Where it can't be opened, and where a link, a pipe or anything else stands in its place.
 pub(crate) fn open_to_read<R: Files>(files: &R, path: &str) -> io::Result<Option<R::File>> {
     match found(files.symlink_metadata(path))? {
         None => Ok(None),
-        Some(metadata) if metadata.is_symlink() => Err(io::Error::new(
+        // A link would lead elsewhere, and who opens a pipe waits for whoever writes to it.
+        Some(metadata) if !metadata.is_file() => Err(io::Error::new(
             ErrorKind::InvalidInput,
-            "a link stands in the place of a file",
+            "something else stands in the place of a file",
         )),
         Some(_) => Ok(Some(OpenOptions::new().read(true).open(files, path)?)),
     }
