@@ -4,6 +4,7 @@ ghost use Rattle.std.specs.Prelude.{◌≡◌, ◌||◌, IfSome, is_some, nat_le
 ghost use Rattle.sf_geometry.specs.Size.{point_count};
 ghost use Rattle.sf_relate.specs.Matrices.{matrix_of};
 ghost use Rattle.sf_relate.specs.Patterns.{has_contact};
+ghost use Rattle.sf_contact.specs.Few.{few_points};
 
 use super::edges::edges_meet;
 use super::starts::has_start_in;
@@ -18,7 +19,7 @@ pub const FEW_POINTS: usize = 16;
 /// the other.
 pub fn contact_between(a: &Valid, b: &Valid) -> Option<bool>
     ensures told { IfSome result (λ answer. answer ≡ has_contact (matrix_of a.now b.now)) }
-    ensures few { is_some result ≡ (nat_le (point_count b.now) FEW_POINTS || nat_le (point_count a.now) FEW_POINTS) }
+    ensures few { is_some result ≡ (nat_le (point_count b.now) few_points || nat_le (point_count a.now) few_points) }
 {
     if b.geometry().point_count() <= FEW_POINTS {
         Some(have_contact(a, b))

@@ -50,6 +50,8 @@ Commands, one on a line:
   match LAYER PATTERN WKT         features whose matrix matches nine letters of TF*012
   query LAYER PREDICATE WKT       features that equal, intersect, touch .. the geometry: equals,
                                   disjoint, intersects, touches, within, contains, crosses, overlaps
+  join LAYER ASK LAYER [ID]       pairs of features of which a predicate or a pattern holds, or
+                                  those of the first layer beside the feature ID of the second
 
 A line may begin with the editor who gives it, from @1 to @255: @2 add wells POINT (3 4).";
 

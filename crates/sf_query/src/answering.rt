@@ -1,10 +1,15 @@
 //! Whether a geometry is as asked. What a point tells is not walked.
 
-ghost use Rattle.std.specs.Prelude.{◌≡◌, IfOk, IfSome, IsTrue};
+ghost use Rattle.std.specs.Prelude.{◌≡◌, IfOk, IfSome, IsFalse, IsTrue, is_some, true};
+ghost use Rattle.sf_grid.specs.Plane.{Coordinates, grid_point};
+ghost use Rattle.sf_geometry.specs.declared.geometry.Geometry.TheVariants.{Point};
 ghost use Rattle.sf_geometry.specs.Envelope.{envelope_of};
 ghost use Rattle.sf_rules.specs.Validity.{IsValid};
 ghost use Rattle.sf_relate.specs.Matrices.{matrix_of};
 ghost use Rattle.sf_relate.specs.Patterns.{matches};
+ghost use Rattle.sf_relate.specs.declared.place.Place.{Place as PlaceOf};
+ghost use Rattle.sf_relate.specs.Places.{IsPlaceOf};
+ghost use Rattle.sf_relate.specs.PointPredicates.{needs_matrix};
 ghost use Rattle.sf_relate.specs.Predicates.{holds};
 ghost use Rattle.sf_relate.specs.Told.{ShareNone};
 ghost use Rattle.sf_prepared.specs.Boxes.{AreEdgesOf};
@@ -208,11 +213,14 @@ fn are_known_apart(geometry: &Valid, given: &Valid) -> bool
     }
 }
 
-/// Whether the predicate holds, where a Point's place, or contact, tells it.
+/// Whether the predicate holds, where a Point's place, or contact, tells it; a Point's place always does where the predicate
+/// needs no more.
 fn told_by_points(predicate: Predicate, geometry: &Valid, given: &Valid) -> Option<bool>
-    ensures { IfSome result (λ answer. answer ≡ holds predicate
+    ensures told { IfSome result (λ answer. answer ≡ holds predicate
         (dim_of_geometry geometry.now) (dim_of_geometry given.now)
         (matrix_of geometry.now given.now)) }
+    ensures place { (p : Coordinates) (place : PlaceOf) → geometry.now ≡ Point p → IsPlaceOf given.now (grid_point p) place →
+        IsFalse (needs_matrix predicate place) → is_some result ≡ true }
 {
     match geometry.geometry() {
         Geometry::Point(point) => holds_of_point(predicate, locate(given, *point)),
