@@ -191,7 +191,7 @@ def _old_records(store: str) -> oldjournal.OldRecords | None:
     path, data = path_of(store), bytes_of(path_of(store))
     if data is None or not oldjournal.is_old(data):
         return None
-    if not oldjournal.goes_on(data, store):
+    if data.startswith(oldjournal.SECOND) and not oldjournal.goes_on(data, store):
         beside = bytes_of(new_journal_of(store))
         if beside is not None and oldjournal.goes_on(beside, store):
             path, data = new_journal_of(store), beside

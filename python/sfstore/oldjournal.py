@@ -22,10 +22,11 @@ from dataclasses import dataclass
 from sfstore import files
 from sfstore.results import JournalError
 
-__all__ = ["OldRecords", "goes_on", "is_old", "read"]
+__all__ = ["SECOND", "OldRecords", "goes_on", "is_old", "read"]
 
 _FIRST = b"sfstore-journal 1 "
-_SECOND = b"sfstore-journal 2 "
+SECOND = b"sfstore-journal 2 "
+"""How a journal of version 2 begins."""
 _NEW = "new"
 
 
@@ -59,7 +60,7 @@ class OldRecords:
 
 def is_old(data: bytes) -> bool:
     """Whether bytes begin as a journal of an older version does, with its whole head."""
-    return data.startswith((_FIRST, _SECOND)) and b"\n" in data
+    return data.startswith((_FIRST, SECOND)) and b"\n" in data
 
 
 def goes_on(data: bytes, store: str) -> bool:
@@ -70,7 +71,7 @@ def goes_on(data: bytes, store: str) -> bool:
             size = os.fstat(file.fileno()).st_size
     except FileNotFoundError:
         size, digest = 0, hashlib.sha256().hexdigest()
-    return data.startswith(_SECOND + b"%d %s\n" % (size, digest.encode("ascii")))
+    return data.startswith(SECOND + b"%d %s\n" % (size, digest.encode("ascii")))
 
 
 def read(data: bytes, path: str, store: str) -> OldRecords:
