@@ -75,6 +75,10 @@ class Learned(PageCase):
         for name in ("town.svg", "corner.svg"):
             self.assertEqual((DOCS / "learn" / name).read_text(), (self.room / "tour" / name).read_text(), name)
 
+    def test_the_readme(self):
+        self.compare("../README.md")
+        self.assertLessEqual(len((TOP / "README.md").read_text().splitlines()), 120)
+
     def test_the_map_of_the_tutorial_is_the_town_of_the_examples(self):
         made, brought_in = self.room / "made.sfs", self.room / "brought_in.sfs"
         lines = (TOP / "examples" / "town.txt").read_bytes()
