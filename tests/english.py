@@ -43,7 +43,6 @@ NOT_YET = {
     "docs/use/PICTURE.md",
     "docs/use/REPLICAS.md",
     "docs/use/PYTHON.md",
-    "docs/use/SPEED.md",
     "python/sfstore",
 }
 
