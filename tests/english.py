@@ -34,7 +34,6 @@ NOT_YET = {
     "docs/build/SWEEP.md",
     "docs/build/ADDING_A_COMMAND.md",
     "docs/trust/DEFINITIONS.md",
-    "docs/trust/PROVED.md",
     "docs/trust/THREATS.md",
     "docs/use/EXCHANGE.md",
     "docs/use/FORMAT.md",
