@@ -33,7 +33,6 @@ NOT_YET = {
     "docs/build/PROVING.md",
     "docs/build/SWEEP.md",
     "docs/build/ADDING_A_COMMAND.md",
-    "docs/trust/DEFINITIONS.md",
     "docs/trust/THREATS.md",
     "docs/use/EXCHANGE.md",
     "docs/use/FORMAT.md",
@@ -145,7 +144,7 @@ def faults_of(place: str, prose: Prose, words: list[tuple[str, str]]) -> list[st
     ]
     if place != str(WORDS.relative_to(TOP)):
         for word, better in words:
-            for hit in re.finditer(rf"[^\n]{{0,40}}\b{re.escape(word)}\b[^\n]{{0,20}}", prose.text, re.IGNORECASE):
+            for hit in re.finditer(rf"[^\n]{{0,40}}\b{re.escape(word)}\b[^\n]{{0,20}}", prose.text):
                 found.append(f"{place}: {word} ({better}): {hit[0].strip()}")
     return found
 
