@@ -12,5 +12,5 @@ def settle(words: list[str], path: Path, text: str) -> int:
         return 0
     is_same = path.is_file() and path.read_text(encoding="utf-8") == text
     if not is_same:
-        print(f"docs/{path.name} is out of date: call this with --write")
+        print(f"{path.name} is out of date: call this with --write")
     return 0 if is_same else 1

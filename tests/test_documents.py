@@ -9,12 +9,14 @@ from pathlib import Path
 
 sys.path.insert(0, str(Path(__file__).resolve().parent))
 
+import api  # noqa: E402
+import english  # noqa: E402
 import trust  # noqa: E402
 import wrong_bodies  # noqa: E402
 
 TOP = Path(__file__).resolve().parent.parent
 CRATES = TOP / "crates"
-PAGES = [*sorted(TOP.glob("*.md")), *sorted((TOP / "docs").glob("*.md"))]
+PAGES = [*sorted(TOP.glob("*.md")), *sorted((TOP / "docs").rglob("*.md"))]
 
 # What is named and made only by a build, or stands for a name.
 NOT_THERE = {"out/costs.md", "out/programs/sfstore", "crates/sfstore/out/sfstore", "crates/*/out/rlib", "crates/NAME"}
@@ -75,7 +77,7 @@ class Documents(unittest.TestCase):
                 self.assertEqual(named, version, page.name)
 
     def test_every_file_of_definitions_is_listed(self):
-        text = (TOP / "docs" / "DEFINITIONS.md").read_text()
+        text = (TOP / "docs" / "trust" / "DEFINITIONS.md").read_text()
         found = set()
         for section in re.split("^## ", text, flags=re.MULTILINE)[1:]:
             heading, *lines = section.splitlines()
@@ -86,11 +88,39 @@ class Documents(unittest.TestCase):
                 self.assertTrue(path.stem == "Lib" or (crate, path.stem) in found, path)
 
 
+class Index(unittest.TestCase):
+    """The way from the index to each page."""
+
+    def links(self, page):
+        found = re.findall(r"\]\(([^)\s#]+)[^)\s]*\)", page.read_text())
+        return {(page.parent / link).resolve() for link in found if not link.startswith("https:")}
+
+    def test_each_page_is_reached_in_two_steps(self):
+        first = self.links(TOP / "docs" / "README.md")
+        second = {page for one in first if one.suffix == ".md" for page in self.links(one)}
+        for page in PAGES:
+            self.assertIn(page.resolve(), first | second | {TOP / "docs" / "README.md"}, page.name)
+
+
+class English(unittest.TestCase):
+    """The rules of docs/build/WORDS.md, by tests/english.py."""
+
+    def test_sentences_and_words(self):
+        self.assertEqual(english.faults(), [])
+
+    def test_how_sentences_are_counted(self):
+        text = "One. Two words `of code.` here (so).\n\n    code.\n\n| a | b |\n\n- An item,\n  over two lines. *No*? 3 a.b .. c."
+        self.assertEqual(
+            english.prose_of(text).sentences,
+            ["One.", "Two words Code here (so).", "An item, over two lines.", "*No*?", "3 a.b .. c."],
+        )
+
+
 class Threats(unittest.TestCase):
     """The page on who may do what to whom."""
 
     def setUp(self):
-        self.text = (TOP / "docs" / "THREATS.md").read_text()
+        self.text = (TOP / "docs" / "trust" / "THREATS.md").read_text()
 
     def test_every_row_names_tests_that_are_there(self):
         rows = [line.split("|") for line in self.text.splitlines() if line.startswith("| ") and "Tests" not in line]
@@ -106,10 +136,13 @@ class Made(unittest.TestCase):
     """Pages that a script makes, and what it makes them from."""
 
     def test_the_page_on_trust_has_what_the_headline_cites(self):
-        self.assertEqual((TOP / "docs" / "TRUST.md").read_text(), trust.page(), "run tests/trust.py --write")
+        self.assertEqual((TOP / "docs" / "trust" / "TRUST.md").read_text(), trust.page(), "run tests/trust.py --write")
 
     def test_the_page_on_wrong_bodies_has_them_all(self):
-        self.assertEqual((TOP / "docs" / "WRONG_BODIES.md").read_text(), wrong_bodies.page(), "run tests/wrong_bodies.py --write")
+        self.assertEqual((TOP / "docs" / "trust" / "WRONG_BODIES.md").read_text(), wrong_bodies.page(), "run tests/wrong_bodies.py --write")
+
+    def test_the_page_on_the_module_has_its_docstrings(self):
+        self.assertEqual((TOP / "docs" / "use" / "PYTHON.md").read_text(), api.page(), "run tests/api.py --write")
 
     def test_a_crate_has_at_most_four_wrong_bodies(self):
         for crate in crates():

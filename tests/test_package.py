@@ -2,6 +2,7 @@
 
 from __future__ import annotations
 
+import gzip
 import hashlib
 import json
 import os
@@ -14,7 +15,10 @@ import unittest
 from importlib.util import find_spec
 from pathlib import Path
 
-TOP = Path(__file__).resolve().parent.parent
+sys.path.insert(0, str(Path(__file__).resolve().parent))
+
+from shown import TOP, Shown  # noqa: E402
+
 
 # Stands in for `rt` where programs are built: gives those of the checkout, and another one in the place of one of them.
 STAND_IN = """\
@@ -116,6 +120,32 @@ class Package(unittest.TestCase):
             self.assertEqual(self.answers(b"show a\n", "--load", store), b"rows 1\n7 POINT (14 17)\n")
             self.assertEqual(self.command("sfstore-export", store, back).returncode, 0)
             self.assertTrue(back.exists())
+
+    @unittest.skipUnless(find_spec("osgeo"), "no GDAL for Python (python3-gdal)")
+    def test_the_tutorial_with_the_package_alone(self):
+        environment = {
+            **os.environ,
+            "LINES": "50",
+            "PATH": f"{self.program.parent}{os.pathsep}{os.environ['PATH']}",
+            "PYTHONPATH": str(self.root / "usr/lib/python3/dist-packages"),
+        }
+        page = (self.documents / "docs/learn/TUTORIAL.md").read_text()
+        with tempfile.TemporaryDirectory() as folder:
+            room = Path(folder) / "room"
+            room.mkdir()
+            environment["HOME"] = folder
+            for shown, here in Shown(room, environment, f"{self.documents}/").compare(page):
+                self.assertEqual(shown, here)
+
+    def test_each_program_has_a_man_page(self):
+        programs = {path.name for path in (self.root / "usr/bin").iterdir()}
+        pages = {path.name for path in (self.root / "usr/share/man/man1").iterdir()}
+        self.assertEqual(pages, {f"{name}.1.gz" for name in programs})
+        for name in programs:
+            page = gzip.decompress((self.root / f"usr/share/man/man1/{name}.1.gz").read_bytes()).decode()
+            self.assertIn(f".SH NAME\n{name} ", page)
+            for path in re.findall(r"/usr/share/doc/sfstore/([\w/.]+\.(?:md|txt))", page):
+                self.assertTrue((self.documents / path).is_file(), path)
 
     def test_built_tells_what_the_package_is(self):
         commit = subprocess.run(["git", "rev-parse", "HEAD"], cwd=TOP, check=True, capture_output=True, text=True)

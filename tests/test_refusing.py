@@ -1,4 +1,23 @@
-"""What only the library tells: each growth within a line refused in turn, and readers that never end."""
+"""What only the library says: each growth within a line refused in turn, and readers that never end.
+
+Each growth of one line of the program `sf_refusing` is refused, alone and with all behind it to the end of the line.
+Before and behind it, where memory is ample, the program asks what only the library says.
+
+- The lines are additions, deletions, replacements and changed vertices that move the boxes of a layer of up to 31
+  features, each done, undone and redone.
+- A line that was refused has left rows, columns, depths and index as they were.
+- A line that was accepted stands. If its index was given up, queries find what the rows have, and search exactly the
+  features whose boxes meet the given geometry's, or all if no contact is asked for. A look, a refused edit and an edit
+  of another layer leave the layer without an index. The next edit, undo or redo that names it builds the index anew,
+  with exactly the boxes of the features.
+- A growth refused alone never leaves a layer without: the line that loses the index builds it anew itself.
+- A tree of 30 boxes from which some are removed one after another is gone or whole after a growth that was refused,
+  and one built anew has the boxes left.
+- A column of 30 values is dropped, taken back and dropped again: an undo refused leaves rows, columns and depths, and
+  the next one gives the rows from before.
+
+Memory is scarce in one line of a run alone.
+"""
 
 from __future__ import annotations
 

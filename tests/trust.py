@@ -1,7 +1,7 @@
 #!/usr/bin/env python3
-"""Follows what the headline's contracts cite, and writes docs/TRUST.md.
+"""Follows what the headline's contracts cite, and writes docs/trust/TRUST.md.
 
-    tests/trust.py            compares docs/TRUST.md with what it has to be; status 1 where they differ
+    tests/trust.py            compares docs/trust/TRUST.md with what it has to be; status 1 where they differ
     tests/trust.py --write    writes it
     tests/trust.py --list     prints which files of specs/ the headline cites, and which it does not
 
@@ -21,7 +21,7 @@ from made_pages import settle
 
 TOP = Path(__file__).resolve().parent.parent
 CRATES = TOP / "crates"
-PAGE = TOP / "docs" / "TRUST.md"
+PAGE = TOP / "docs" / "trust" / "TRUST.md"
 
 # The contracts that carry the headline: a file of code, and the functions in it; none: all of them.
 HEADLINE: list[tuple[str, list[str]]] = [
@@ -214,10 +214,10 @@ def closure(files: dict[str, Source]) -> set[Name]:
 
 
 def sources_of(crates: Iterable[str]) -> dict[str, list[str]]:
-    """For each file of specs/ what it defines after a public standard, as docs/DEFINITIONS.md says."""
+    """For each file of specs/ what it defines after a public standard, as docs/trust/DEFINITIONS.md says."""
     found: dict[str, list[str]] = {}
     crate = ""
-    for line in (TOP / "docs" / "DEFINITIONS.md").read_text(encoding="utf-8").split("\n"):
+    for line in (TOP / "docs" / "trust" / "DEFINITIONS.md").read_text(encoding="utf-8").split("\n"):
         heading = re.match(r"## .*`(\w+)/specs`", line)
         if heading:
             crate = heading[1]
@@ -304,7 +304,7 @@ def computing(files: dict[str, Source], cited: set[Name]) -> str:
 
 
 def page() -> str:
-    """The text of docs/TRUST.md."""
+    """The text of docs/trust/TRUST.md."""
     files = specs()
     cited = cases_of(files, closure(files))
     known = [name for name in cited if name.file in files]

@@ -1,7 +1,7 @@
 #!/usr/bin/env python3
-"""Writes docs/WRONG_BODIES.md: which clause each wrong body of `must-fail/` stands for.
+"""Writes docs/trust/WRONG_BODIES.md: which clause each wrong body of `must-fail/` stands for.
 
-    tests/wrong_bodies.py            compares docs/WRONG_BODIES.md with what it has to be; status 1 where they differ
+    tests/wrong_bodies.py            compares docs/trust/WRONG_BODIES.md with what it has to be; status 1 where they differ
     tests/wrong_bodies.py --write    writes it
 
 A wrong body stands for the contract of the function that it changes; where that has none, for those of the trait that
@@ -19,7 +19,7 @@ from made_pages import settle
 
 TOP = Path(__file__).resolve().parent.parent
 CRATES = TOP / "crates"
-PAGE = TOP / "docs" / "WRONG_BODIES.md"
+PAGE = TOP / "docs" / "trust" / "WRONG_BODIES.md"
 
 FUNCTION = re.compile(r"^( *)(?:pub(?:\(crate\))? )?(?:const )?fn (\w+)", re.MULTILINE)
 CONSTANT = re.compile(r"^ *(?:pub(?:\(crate\))? )?const (\w+)", re.MULTILINE)

@@ -7,8 +7,8 @@
     1
 
 `Store` and its companions need POSIX and nothing beside the standard library. What the commands
-mean, and why they are refused, is in docs/CONSOLE.md of the project; docs/JOURNAL.md says what
-``Store(path, journal=True)`` promises, and docs/EXCHANGE.md how maps come in and go out by
+mean, and why they are refused, is in docs/use/CONSOLE.md of the project; docs/use/JOURNAL.md says what
+``Store(path, journal=True)`` promises, and docs/use/EXCHANGE.md how maps come in and go out by
 `sfstore.exchange`, which needs GDAL/OGR.
 """
 

@@ -334,12 +334,10 @@ def main(words: list[str] | None = None) -> int:
         description="Opens a store's file at a terminal; a new one where the file is missing. "
         "Every accepted edit is in a journal beside it before it is answered.",
         epilog="Status 0: the session ended; 2: wrong words, or no terminal; 3: the store can't be "
-        "opened.",
+        "opened. More: man sfstore-console, docs/learn/TUTORIAL.md",
     )
     parser.add_argument("file", help="the store's file")
-    parser.add_argument(
-        "--program", default="sfstore", help="the program sfstore (looked for on the PATH)"
-    )
+    parser.add_argument("--program", default="sfstore", help="the program sfstore")
     asked = parser.parse_args(words)
     if not (sys.stdin.isatty() and sys.stdout.isatty()):
         print(

@@ -1,7 +1,7 @@
 """The journal of a store's file, as it is read, and the lock of the file.
 
 The program ``sfstore --store FILE`` keeps the journal, and holds the lock while it runs: nothing here
-writes a record. docs/FORMAT.md of the project says what stands in a journal.
+writes a record. docs/use/FORMAT.md of the project says what stands in a journal.
 """
 
 from __future__ import annotations

@@ -1,6 +1,6 @@
 """The console's language in one table: its commands, what each touches, its words and its limits.
 
-docs/CONSOLE.md of the project says what they mean. What other parts of the project know of the
+docs/use/CONSOLE.md of the project says what they mean. What other parts of the project know of the
 language is made from here, or compared with it by a test.
 """
 

@@ -38,7 +38,7 @@ REFUSALS = {
     10: Words("a line has fewer than two points", "Repeated points count once: add another one."),
     11: Words("a ring is not closed", "Write its first point again as its last one."),
     12: Words("a ring has too few points", "It has at least three, and its first one again."),
-    13: Words("a ring meets itself", "Move or take out a vertex so that edges do not cross."),
+    13: Words("a ring meets itself", "Move or remove a vertex so that edges do not cross."),
     14: Words("two rings run along each other", "They may touch in points: move one of them."),
     15: Words("a hole reaches out of its shell", "Make it smaller, or the shell larger."),
     16: Words("two holes overlap", "Make one hole of them."),
@@ -91,4 +91,4 @@ BAD_FIELDS = {
 
 def words_of(number: int) -> Words:
     """The words of a refusal, of one without any too."""
-    return REFUSALS.get(number, Words("it was refused", "docs/CONSOLE.md has the reasons."))
+    return REFUSALS.get(number, Words("it was refused", "docs/use/CONSOLE.md has the reasons."))

@@ -58,7 +58,7 @@ class Refused(Exception):
     """
 
     number: int
-    """The number of the refusal. docs/CONSOLE.md has them all."""
+    """The number of the refusal. docs/use/CONSOLE.md has them all."""
     name: str
     """Its name, which belongs to the number."""
     line: str

@@ -11,7 +11,7 @@ A `Store` starts the program and speaks to it through pipes, a line for each com
     1
     [Feature(id=1, wkt='POINT (3 4)', values={'label': 'the old one'})]
 
-What the commands mean, and why they are refused, is in docs/CONSOLE.md of the project.
+What the commands mean, and why they are refused, is in docs/use/CONSOLE.md of the project.
 The module needs POSIX and nothing beside the standard library.
 """
 
@@ -81,7 +81,7 @@ class Store(Editor):
     an accepted edit is on the disk before it is answered, `save` and `close` put a new file in the
     place of the old one, and the next opening has what a crash left unsaved, and can undo it. A new
     store begins where the file is missing. `JournalError` where another session has the file, and
-    where file and journal do not fit. docs/JOURNAL.md of the project says what is promised.
+    where file and journal do not fit. docs/use/JOURNAL.md of the project says what is promised.
 
     Only the thread that made a store may use it: elsewhere, and in a forked process,
     its methods raise `RuntimeError`.

@@ -1,4 +1,4 @@
-"""The file of a store, as docs/FORMAT.md of the project has it: read, and written as version 2.
+"""The file of a store, as docs/use/FORMAT.md of the project has it: read, and written as version 2.
 
 What is written here is for the program to load: it decides whether it is a file of a store.
 """

@@ -12,7 +12,7 @@ from sfstore.replica import lines as replica_lines
 from sfstore.replica import session
 
 TOP = FOLDER.parent
-CONSOLE = (TOP / "docs" / "CONSOLE.md").read_text(encoding="utf-8")
+CONSOLE = (TOP / "docs" / "use" / "CONSOLE.md").read_text(encoding="utf-8")
 
 
 class Language(TestCase):

@@ -632,7 +632,7 @@ class Files(TestCase):
             store.set("wells", 1, "depth", -7)
             store.set("wells", 1, "label", "old")
             self.assertFalse(path.exists())
-        # The bytes are those of docs/FORMAT.md.
+        # The bytes are those of docs/use/FORMAT.md.
         self.assertEqual(
             path.read_bytes(),
             bytes.fromhex(

@@ -1,5 +1,5 @@
 """Maps of other formats to stores and back, by GDAL/OGR.
 
 `sfstore.exchange.importing` is the command ``sfstore-import``, `sfstore.exchange.exporting` is
-``sfstore-export``. docs/EXCHANGE.md of the project has a day with both.
+``sfstore-export``. docs/use/EXCHANGE.md of the project has a day with both.
 """

@@ -199,31 +199,24 @@ def _sidecar(wishes: Wishes) -> Sidecar:
 def _parser() -> argparse.ArgumentParser:
     parser = argparse.ArgumentParser(
         prog="sfstore-export",
-        description="Gives a store's file back as a map: a GeoPackage (.gpkg), tables of PostGIS "
-        "(PG:dbname=..), one layer as a .geojson, .fgb or .shp, or a folder of these (--format).",
-        epilog=f"Status 0: it was written; 2: wrong words; {outcome.EPILOG}",
+        usage="%(prog)s FILE TARGET [OPTION]..",
+        description="Gives the store's FILE back as a map: a .gpkg, tables of PostGIS (PG:dbname=..), one layer "
+        "as a .geojson, .fgb or .shp, or a folder of these.",
+        epilog=f"Status 0: it was written; 2: wrong words; {outcome.EPILOG} "
+        "More: man sfstore-export, docs/use/EXCHANGE.md",
     )
-    parser.add_argument("file", help="the store's file")
-    parser.add_argument("target", help="a file, a folder, or a database PG:..")
-    parser.add_argument("--format", choices=list(FORMATS), help="for a folder, or another ending")
+    parser.add_argument("file", help=argparse.SUPPRESS)
+    parser.add_argument("target", help=argparse.SUPPRESS)
     parser.add_argument(
-        "--layer", action="append", default=[], metavar="NAME", help="a layer of the store; repeated"
+        "--format", choices=list(FORMATS), metavar="FORMAT", help=f"for a folder: {', '.join(FORMATS)}"
     )
+    parser.add_argument("--layer", action="append", default=[], metavar="NAME", help="a layer of the store; repeated")
     parser.add_argument(
-        "--grid",
-        nargs=3,
-        metavar=("OX", "OY", "STEP"),
-        help="origin and step of the grid, of a store that was not imported",
+        "--grid", nargs=3, metavar=("OX", "OY", "STEP"), help="the grid of a store that was not imported"
     )
     parser.add_argument("--crs", help="its reference system, such as EPSG:25832")
-    parser.add_argument(
-        "--overwrite",
-        action="store_true",
-        help="replace files of the names that are written; a folder with anything else is refused",
-    )
-    parser.add_argument(
-        "--program", default="sfstore", help="the program sfstore (looked for on the PATH)"
-    )
+    parser.add_argument("--overwrite", action="store_true", help="replace files of the names that are written")
+    parser.add_argument("--program", default="sfstore", help="the program sfstore")
     return parser
 
 

@@ -173,58 +173,35 @@ def parser() -> argparse.ArgumentParser:
     """The words of the command."""
     wanted = argparse.ArgumentParser(
         prog="sfstore-import",
-        description="Makes a store's file of a map: of a GeoPackage, a GeoJSON, a FlatGeobuf, a "
-        "Shapefile, or a PostGIS database (PG:dbname=..).",
-        epilog="Status 0: all fitted; 1: the file was written, but something was left out, as "
-        f"told; 2: wrong words; {outcome.EPILOG}",
+        usage="%(prog)s SOURCE FILE --grid OX OY STEP, or %(prog)s --suggest SOURCE",
+        description="Makes the store's FILE of SOURCE: a GeoPackage, GeoJSON, FlatGeobuf, Shapefile, or PG:dbname=..",
+        epilog="Status 0: all was taken; 1: written, but something was left out; 2: wrong words; "
+        f"{outcome.EPILOG} More: man sfstore-import, docs/use/EXCHANGE.md",
     )
-    wanted.add_argument("source", help="what OGR opens")
-    wanted.add_argument("file", nargs="?", help="the store's file to be made")
+    wanted.add_argument("source", help=argparse.SUPPRESS)
+    wanted.add_argument("file", nargs="?", help=argparse.SUPPRESS)
     wanted.add_argument(
-        "--grid",
-        nargs=3,
-        metavar=("OX", "OY", "STEP"),
-        help="origin and step of the grid, as decimals in the units of the source",
+        "--grid", nargs=3, metavar=("OX", "OY", "STEP"), help="origin and step, in units of the source"
     )
-    wanted.add_argument(
-        "--suggest", action="store_true", help="look at the source and propose a grid"
-    )
-    wanted.add_argument(
-        "--round", action="store_true", help="move coordinates to the nearest step, and tell how far"
-    )
+    wanted.add_argument("--suggest", action="store_true", help="look at the source and propose a grid")
+    wanted.add_argument("--round", action="store_true", help="move coordinates to the nearest step")
     wanted.add_argument("--drop-zm", action="store_true", help="drop Z and M")
+    wanted.add_argument("--as-text", action="store_true", help="keep columns of other types as texts")
     wanted.add_argument(
-        "--as-text", action="store_true", help="keep columns of other types as texts"
+        "--layer", action="append", default=[], metavar="NAME", help="a layer of the source; repeated, in drawing order"
     )
-    wanted.add_argument(
-        "--layer",
-        action="append",
-        default=[],
-        metavar="NAME",
-        help="a layer of the source; repeated in drawing order (all, if none is named)",
-    )
-    wanted.add_argument(
-        "--any-format",
-        action="store_true",
-        help="read whatever OGR opens, also formats that lead to other files or into the network",
-    )
+    wanted.add_argument("--any-format", action="store_true", help="read whatever OGR opens")
     wanted.add_argument(
         "--search-seconds",
         type=float,
         default=_SEARCH_SECONDS,
         metavar="N",
-        help="look for the places of all faults together for N seconds at most (%(default)g)",
+        help="search for the places of faults so long (%(default)g)",
     )
     wanted.add_argument("--report", metavar="FILE", help="write all that did not fit as text")
-    wanted.add_argument(
-        "--faulty", metavar="FILE", help="write the features that did not fit, .geojson or .gpkg"
-    )
-    wanted.add_argument(
-        "--overwrite", action="store_true", help="replace the files that are there, reports too"
-    )
-    wanted.add_argument(
-        "--program", default="sfstore", help="the program sfstore (looked for on the PATH)"
-    )
+    wanted.add_argument("--faulty", metavar="FILE", help="write what did not fit, .geojson or .gpkg")
+    wanted.add_argument("--overwrite", action="store_true", help="replace files, reports too")
+    wanted.add_argument("--program", default="sfstore", help="the program sfstore")
     return wanted
 
 

@@ -15,7 +15,7 @@ __all__ = ["EPILOG", "ended"]
 
 _NOTHING, _UNEXPECTED = 3, 4
 
-EPILOG = "3: nothing was written, as told; 4: something unexpected: please tell its makers."
+EPILOG = "3: nothing was written; 4: something unexpected."
 
 
 def ended(name: str, work: Callable[[], int]) -> int:

@@ -5,7 +5,7 @@
     ...     replica.run("add wells POINT (3 4)")
     'ok 1'
 
-docs/REPLICAS.md of the project says what is promised, and by whom. It needs psycopg2.
+docs/use/REPLICAS.md of the project says what is promised, and by whom. It needs psycopg2.
 """
 
 from sfstore.replica.links import LogRefused

@@ -25,9 +25,8 @@ __all__ = ["main"]
 _PROGRESS_SECONDS = 1.0
 
 _DESCRIPTION = (
-    "A store on several machines: the lines that edit it stand in one log, which PostgreSQL keeps, "
-    "and each replica carries them out. docs/REPLICAS.md says what is promised. LOG are PostgreSQL's "
-    "words of connection, such as 'host=alpha,beta dbname=town'; passwords belong into ~/.pgpass."
+    "A store on several machines: one log of lines in PostgreSQL, which each replica carries out. LOG is how "
+    "PostgreSQL connects, as 'host=alpha,beta dbname=town'. Passwords belong in ~/.pgpass."
 )
 
 
@@ -66,17 +65,16 @@ def _parser() -> argparse.ArgumentParser:
     parser = argparse.ArgumentParser(
         prog="sfstore-replica",
         description=_DESCRIPTION,
+        usage="%(prog)s COMMAND .., or %(prog)s COMMAND --help",
         epilog="Status 0: done; 1: not all that was asked for holds; 2: wrong words; 3: the log or the folder can't be "
-        "used; 4: lines are not acknowledged; 5: the replica stopped, and a person has to look.",
+        "used; 4: lines are not acknowledged; 5: the replica stopped. More: man sfstore-replica, docs/use/REPLICAS.md",
     )
-    commands = parser.add_subparsers(required=True, metavar="COMMAND")
-    _add_run(commands.add_parser("run", help="follows the log, and answers lines of the console's language"))
+    commands = parser.add_subparsers(required=True, metavar="COMMAND", title="commands", prog="sfstore-replica")
+    _add_run(commands.add_parser("run", help="follow the log, and answer lines of the console"))
     _add_owning(commands)
-    demo = commands.add_parser(
-        "demo", help="starts two servers and three replicas here, kills, and prints what held"
-    )
-    demo.add_argument("--kills", type=int, default=3, help="how often the primary is killed; 3 if not given")
-    demo.add_argument("--seed", type=int, default=1, help="of the moments of the kills; 1 if not given")
+    demo = commands.add_parser("demo", help="show it on this machine")
+    demo.add_argument("--kills", type=int, default=3, help="how often the primary is killed (3)")
+    demo.add_argument("--seed", type=int, default=1, help="the seed of the moments of the kills (1)")
     _add_program(demo)
     demo.set_defaults(carry_out=_demo)
     return parser
@@ -84,27 +82,26 @@ def _parser() -> argparse.ArgumentParser:
 
 def _add_run(run: argparse.ArgumentParser) -> None:
     run.description = (
-        "Follows the log in a folder of its own. Lines come from standard input, and are answered on "
-        "standard output as the console answers them: questions by the store here, edits by way of the log, when "
-        "they are on the standbys and carried out here."
+        "Follows the log in a folder of its own, and answers lines of standard input as the console does. An edit is "
+        "answered when the standbys have it and it is carried out here. More: docs/use/REPLICAS.md"
     )
-    run.add_argument("folder", help="the replica's folder; made where it is missing")
+    run.add_argument("folder", help="the replica's folder; made if it is missing")
     run.add_argument("log", metavar="LOG")
-    run.add_argument("--editor", metavar="LOG", help="the login by which lines are put down, where it is another one")
-    run.add_argument("--from", dest="begin_from", metavar="FILE", help="the file of another replica to begin from")
+    run.add_argument("--editor", metavar="LOG", help="the login that writes lines, if it is another one")
+    run.add_argument("--from", dest="begin_from", metavar="FILE", help="another replica's file to begin from")
     run.add_argument(
-        "--trust", metavar="LOGIN", help="whose files are the right ones: stop where the file here differs again"
+        "--trust", metavar="LOGIN", help="whose files are right: stop if the one here differs again"
     )
     run.add_argument(
         "--listen",
         action="store_true",
-        help="answer all programs of this user that come to the socket in the folder, in the place of standard input",
+        help="answer at the socket in the folder, in place of standard input",
     )
     run.add_argument(
-        "--seconds", type=_seconds, default=10.0, help="how long a question may take; 10 if not given"
+        "--seconds", type=_seconds, default=10.0, help="how long a question may take (10)"
     )
     run.add_argument(
-        "--patience", type=float, default=60.0, help="for how many seconds a line is tried; 60 if not given"
+        "--patience", type=float, default=60.0, help="for how many seconds a line is tried (60)"
     )
     _add_program(run)
     run.set_defaults(carry_out=_run)
@@ -112,25 +109,25 @@ def _add_run(run: argparse.ArgumentParser) -> None:
 
 def _add_owning(commands: argparse._SubParsersAction[argparse.ArgumentParser]) -> None:
     """The commands of who owns the log."""
-    set_up = commands.add_parser("setup", help="makes the log in a database, as a superuser")
-    set_up.add_argument("--create", action="store_true", help="make the database, where it is missing")
+    set_up = commands.add_parser("setup", help="make the log in a database, as a superuser")
+    set_up.add_argument("--create", action="store_true", help="make the database, if it is missing")
     set_up.add_argument(
-        "--standbys", type=int, default=1, metavar="N", help="N standbys have a line before it is given out; 1"
+        "--standbys", type=int, default=1, metavar="N", help="N standbys have a line before it is given out (1)"
     )
     set_up.set_defaults(carry_out=_set_up)
-    login = commands.add_parser("login", help="lets a login follow the log; it is made where it is missing")
-    login.add_argument("--editor", action="store_true", help="it puts lines down, with a number of its own")
-    login.add_argument("--replica", action="store_true", help="it puts down the sums of its files")
+    login = commands.add_parser("login", help="let a login follow the log; it is made if it is missing")
+    login.add_argument("--editor", action="store_true", help="it writes lines, with a number of its own")
+    login.add_argument("--replica", action="store_true", help="it records the sums of its files")
     login.set_defaults(carry_out=_login)
-    cut = commands.add_parser("cut", help="has all replicas save; nobody can undo what stands before")
+    cut = commands.add_parser("cut", help="have all replicas save; nobody can undo across it")
     cut.add_argument("--alike", type=int, default=0, metavar="N", help="wait until N replicas have the same file")
-    cut.add_argument("--seconds", type=float, default=60.0, help="how long; 60 if not given")
+    cut.add_argument("--seconds", type=float, default=60.0, help="how long (60)")
     cut.set_defaults(carry_out=_cut)
-    drop = commands.add_parser("drop", help="drops all up to a cut of which replicas have the same file")
-    drop.add_argument("--alike", type=int, required=True, metavar="N", help="how many replicas have to have it")
-    drop.add_argument("--older", default="1 hour", metavar="AGE", help="the least age of the cut; 1 hour")
+    drop = commands.add_parser("drop", help="drop all up to a cut that replicas agree on")
+    drop.add_argument("--alike", type=int, required=True, metavar="N", help="how many replicas must have it")
+    drop.add_argument("--older", default="1 hour", metavar="AGE", help="the least age of the cut (1 hour)")
     drop.set_defaults(carry_out=_drop)
-    state = commands.add_parser("state", help="prints how the log, its standbys and its cuts are")
+    state = commands.add_parser("state", help="print how the log, its standbys and its cuts are")
     state.set_defaults(carry_out=_state)
     for command in (set_up, login, cut, drop, state):
         command.add_argument("log", metavar="LOG")
@@ -139,7 +136,7 @@ def _add_owning(commands: argparse._SubParsersAction[argparse.ArgumentParser]) -
 
 
 def _add_program(parser: argparse.ArgumentParser) -> None:
-    parser.add_argument("--program", default="sfstore", help="the program sfstore (looked for on the PATH)")
+    parser.add_argument("--program", default="sfstore", help="the program sfstore")
 
 
 def _run(asked: argparse.Namespace) -> int:

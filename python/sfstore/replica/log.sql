@@ -1,5 +1,5 @@
 -- The log of one store: one list of the lines that edit it, in one order. A superuser runs this once in a database of
--- its own, in one transaction; docs/REPLICAS.md of the project says what it promises.
+-- its own, in one transaction; docs/use/REPLICAS.md of the project says what it promises.
 --
 -- sfstore_reader follows the log, sfstore_editor also appends lines, sfstore_replica also puts down the sums of its
 -- files. sfstore_owner cuts the log and drops what stands before a cut. Logins are made members of these.

@@ -52,29 +52,20 @@ def main(words: list[str] | None = None) -> int:
 def _parser() -> argparse.ArgumentParser:
     parser = argparse.ArgumentParser(
         prog="sfstore-web",
-        description="Serves a store's file as a page with a map, for the browsers of this machine; "
-        "a new store where the file is missing. Every accepted edit is in a journal beside it before "
-        f"it is answered. It reads lines from its standard input: {_TYPED}",
-        epilog="Status 0: it was ended; 2: wrong words; 3: the store can't be opened.",
+        usage="%(prog)s FILE [OPTION]..",
+        description="Serves a store's file as a map to the browsers of this machine. Every accepted edit is in a "
+        f"journal before it is answered. It reads lines from its standard input: {_TYPED}",
+        epilog="Status 0: it was ended; 2: wrong words; 3: the store can't be opened. "
+        "More: man sfstore-web, docs/use/PAGE.md",
     )
-    parser.add_argument("file", help="the store's file")
+    parser.add_argument("file", help=argparse.SUPPRESS)
+    parser.add_argument("--port", type=_port, default=0, help="the port; a free one if it is not given")
     parser.add_argument(
-        "--port", type=_port, default=0, help="the port; a free one if it is not given"
-    )
-    parser.add_argument(
-        "--link",
-        action="append",
-        default=[],
-        metavar="NAME",
-        help="print a link for a person of this name too, as `link NAME` does; may be given again",
+        "--link", action="append", default=[], metavar="NAME", help="print a link for a person of this name; repeated"
     )
     parser.add_argument("--no-browser", action="store_true", help="only print the address")
-    parser.add_argument(
-        "--seconds", type=_seconds, default=10.0, help="how long a question may take; 10 if not given"
-    )
-    parser.add_argument(
-        "--program", default="sfstore", help="the program sfstore (looked for on the PATH)"
-    )
+    parser.add_argument("--seconds", type=_seconds, default=10.0, help="how long a question may take (10)")
+    parser.add_argument("--program", default="sfstore", help="the program sfstore")
     return parser
 
 
