@@ -1,4 +1,4 @@
--- Worked rows: the check value that is published for CRC-64/XZ, and the journal of docs/FORMAT.md, computed.
+-- Worked rows: the check value that is published for CRC-64/XZ, and the journal of docs/use/FORMAT.md, computed.
 use Rattle.std.specs.Prelude.{◌≡◌, ℕ, List, [], ◌∷◌, ◌++◌, codes, refl}
 use Rattle.hex.specs.Hex.{encode_with}
 use Rattle.sf_journal.specs.Crc.{behind_bit, behind_bits, crc, crc_on}

@@ -58,7 +58,7 @@ impl Prepared {
         Ok(Prepared { edges, boxes })
     }
 
-    /// The matrix of a geometry with the one that was prepared, where the edges nearby tell it: where the box of
+    /// The matrix of a geometry with the one that was prepared, where the edges nearby show it: where the box of
     /// the geometry lies on one side of each edge, its place does; else a walk over the edges of an area that can
     /// be on a point of the geometry or above one. None where that is not quicker than a walk over all of them,
     /// and where no memory is found; never where the boxes of all edges are off the box of the geometry, and there are

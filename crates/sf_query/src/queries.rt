@@ -140,7 +140,7 @@ fn found_among(
 }
 
 /// What is made of the given geometry where so many features are asked about it; else None, and where no memory is found. Of a
-/// small one its own edges tell contact as soon.
+/// small one its own edges show contact as soon.
 fn prepared_for(alloc: Global, ask: &Ask, given: &Valid, features: usize) -> Option<Prepared>
     ensures { IfSome result (AreEdgesOf given.now) }
 {

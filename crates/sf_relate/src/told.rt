@@ -1,4 +1,4 @@
-//! Matrices that kinds and ends tell, with no walk and no memory: of geometries that share no point, and of one
+//! Matrices that follow from kinds and ends, with no walk and no memory: of geometries that share no point, and of one
 //! in the interior of an area.
 
 ghost use Rattle.std.specs.Prelude.{◌≡◌, ◌∷◌, [], IfSome, IsTrue, MatchOption, if◌then◌else◌, is_some, not};
