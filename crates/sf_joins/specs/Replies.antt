@@ -1,3 +1,4 @@
+-- Internal: who wants to trust the program need not read this file.
 -- What the calls of joins answer: as it is computed, and over all points of the plane.
 use Rattle.std.specs.Prelude.{◌≡◌, ℕ, Bool, Option, None, Some, Result, Ok, Err}
 use Rattle.sf_features.specs.Features.{FeatureContent}

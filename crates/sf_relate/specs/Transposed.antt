@@ -1,3 +1,4 @@
+-- Internal: who wants to trust the program need not read this file.
 -- Matrices and patterns of two geometries the other way round.
 use Rattle.std.specs.Prelude.{List, [], ◌∷◌}
 
