@@ -107,7 +107,7 @@ Underway-line start now sum old lines waiting mid line answer own new next u kep
     grown w = record { sum = sum_behind w.sum own; records = w.records ++ records w.sum own; answers = w.answers ++ answer }
 
 -- what stands once the records of some texts are kept, and so much was put out
-abbrev stands : List ℕ → List (List ℕ) → List ℕ → Standing
+abbrev stands : ℕ → List (List ℕ) → List ℕ → Standing
 stands sum texts answered = record { kept = records sum texts; waiting = []; answered = answered; broken = false }
 
 -- after one more call
