@@ -24,22 +24,24 @@ class Meeting:
             os.mkfifo(folder / name)
 
     @contextlib.contextmanager
-    def at(self, number: int, happen: Callable[[], object]) -> Iterator[None]:
-        """Has it done at the call of this number, counted from 1, of the programs that run in the body."""
+    def at(self, number: int, happen: Callable[[], object], is_again: bool = False) -> Iterator[None]:
+        """Has it done at the call of this number, counted from 1, of the programs that run in the body; or from there on."""
         come, gone = (os.open(self.folder / name, os.O_RDWR) for name in ("come", "gone"))
         errors: list[BaseException] = []
 
         def wait() -> None:
-            if os.read(come, 1) == b"c":
+            while os.read(come, 1) == b"c":
                 try:
                     happen()
                 except BaseException as error:
                     errors.append(error)
+                if is_again:
+                    self._count(1)
                 os.write(gone, b"g")
 
         someone = threading.Thread(target=wait)
         someone.start()
-        (self.folder / "left").write_text(f"{number:08}")
+        self._count(number)
         try:
             yield
         finally:
@@ -50,6 +52,10 @@ class Meeting:
                 os.close(file)
         for error in errors:
             raise error
+
+    def _count(self, number: int) -> None:
+        """Someone comes at the call of this number from now on."""
+        (self.folder / "left").write_text(f"{number:08}")
 
 
 class Disk:

@@ -77,16 +77,16 @@ class Others(Folder):
             (self.saved, self.lines), self.maybe = before, []
 
     @contextlib.contextmanager
-    def _met(self, happen, most, is_harmless=False):
-        """Somebody does something at one of the first calls of the program."""
+    def _met(self, happen, most, is_harmless=False, is_again=False):
+        """Somebody does something at one of the first calls of the program, or at each from there on."""
 
         def come():
-            self.told.append("met")
             self.has_met = not is_harmless
             happen()
 
+        self.told.append("meeting")
         try:
-            with self.meeting.at(self.dice.randint(1, most), come):
+            with self.meeting.at(self.dice.randint(1, most), come, is_again):
                 yield
         finally:
             self.has_met = False
@@ -95,10 +95,10 @@ class Others(Folder):
         """Somebody comes in the middle of the program's calls: puts something where it makes a file, or looks."""
         what = self._something()
         if self.dice.random() < 0.5:
-            with self._met(self.litter, 20):
+            with self._met(self.litter, 20, is_again=True):
                 what()
         else:
-            with self._met(self._look_at_rights, 20, is_harmless=True):
+            with self._met(self._look_at_rights, 1, is_harmless=True, is_again=True):
                 what()
 
     def meet_at_the_lock(self):
