@@ -320,26 +320,26 @@ class Run(Others):
             faults = {kind: str(self.dice.randint(1, 24))}
             if kind == "FAILS" and self.dice.random() < 0.5:
                 faults["STAYS_FULL"] = "1"
-            self._do_faulty(faults, self.dice.randint(1, 4))
+            self._do_faulty(faults, [self._something] * self.dice.randint(1, 4))
             if self.dice.random() < 0.3:
                 self._lose()
 
-    def _do_faulty(self, faults, count):
-        """Opens a session whose program meets a fault, and does so many operations, or as many as it lives for."""
+    def _do_faulty(self, faults, choices):
+        """Opens a session whose program meets a fault, and does the operations that are chosen, as long as it lives."""
         self.told.append(f"{faults}")
         self.is_faulty = True
         with mock.patch.dict(os.environ, faults):
             self.open()
-            for _ in range(count):
+            for choice in choices:
                 if self.store is not None:
-                    self._something()()
+                    choice()()
                     self._look()
         self._drop()
 
     def doubt(self):
         """A sync fails in a session; the next one goes on from what is read, and then the power is lost."""
         if self.store is None:
-            self._do_faulty({"SYNC_FAILS": str(self.dice.randint(4, 8))}, 4)
+            self._do_faulty({"SYNC_FAILS": str(self.dice.randint(4, 8))}, [lambda: self.edit] * 4)
             self.open()
             self.edit()
             self.lose_power()

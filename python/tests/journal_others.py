@@ -284,7 +284,7 @@ class Others(Folder):
         lines = [line for line in (self._new_line() for _ in range(self.dice.randint(0, 4))) if line != "save"]
         lines.append("show w")
         words, is_new = self.dice.choice([[], ["--keep"]]), not os.path.exists(self.path)
-        if self.dice.random() < 0.6:
+        if self.dice.random() < 0.4:
             self._answered(lines, self._ran_alone(lines, words), words)
             if not is_new:
                 self._look_at_modes()
@@ -344,7 +344,7 @@ class Others(Folder):
             wrote.append(self.foreign)
 
         # Often between the sum of the file and its loading.
-        with self._met(happen, self.dice.choice([3, 20])):
+        with self._met(happen, self.dice.choice([3, 3, 3, 20])):
             ended = self._ran_alone(lines, words)
         if not wrote:
             self._answered(lines, ended, words)

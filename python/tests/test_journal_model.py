@@ -3,8 +3,8 @@
 Faults, other programs and the loss of power come between operations, at calls of the module and at calls of the program.
 Where hypothesis is there it makes lists too, and tells a list that breaks the model as short as it can be.
 
-Each promise of docs/JOURNAL.md about locks, modes, links, other programs and failing syncs was taken out of the program
-once, or of the module, and the lists found it: most within 100 of them, all within 400 (SFSTORE_LISTS=400).
+What the program does about locks, modes, links, leftovers, other programs and failing syncs was taken out of it, one thing
+at a time (25 of them), and of the module (4). The lists found each: most within 100 lists, all within 400 (SFSTORE_LISTS).
 """
 
 from __future__ import annotations
