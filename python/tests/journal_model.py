@@ -2,177 +2,38 @@
 
 `Run` does a list of operations on one store's file, chosen by dice, and looks after each of them whether all that was
 answered is there, and nothing else. Faults come at any call of the module, which go through here, and at any writing,
-sync or rename of the program, by a library that stands before the C library's calls.
+sync or rename of the program, by a library that stands before the C library's calls. There somebody else may also come
+in between: who writes the store's file, or takes lock or journal away, or puts a link where the program makes a file.
+What was not synced may be lost with the power.
 """
 
 from __future__ import annotations
 
 import contextlib
 import errno
-import io
 import os
 import pkgutil
 import signal
-import stat
-import struct
 import warnings
-import zlib
 from unittest import mock
 
-from sfstore import JournalError, ProgramEnded, Refused, Store, files, journal, sidecar, storefile
-from store_support import second_journal_of
+from journal_folder import OWN, UNLINK
+from journal_others import Others, Plan
+from journal_plain import Console, Violation, after, file_of, points_of
 
-# What stands in the folder beside the store, and is the user's.
-USERS = ["town.sfs.new", "town.sfs.part", "town.sfs.journal.new", "town.sfs.json.part", "notes.txt"]
-OWN = ["town.sfs", "town.sfs.journal", "town.sfs.lock", "town.sfs.json", "copy.sfs"]
-WRONG_SIDECARS = ["[" * 100_000, '{"format": NaN}', "", '{"format": "sfstore side-car 1", "grid": "abc", "crs": "x"}']
+from sfstore import JournalError, ProgramEnded, Store, journal
 
 # The calls at which something may happen: of the system, and of the program.
 CALLS = ["os.open", "os.fsync", "os.replace", "os.unlink", "sfstore.kept._state", "sfstore.kept.subprocess.run"]
 CALLS += ["sfstore.journaled.started", "sfstore.program.Program.exchange"]
-
-# What the model does itself is no call of the package.
-UNLINK, REPLACE = os.unlink, os.replace
 
 
 class Crash(BaseException):
     """The process ends here: nothing behind it is done."""
 
 
-class Violation(AssertionError):
-    """What has to be there is not, or something else is."""
-
-
-class Console:
-    """One layer of points, and its history."""
-
-    def __init__(self, points=None):
-        self.points = points
-        self.done, self.undone = [], []
-
-    def accepts(self, line):
-        """Carries out a line. Whether it is an edit that is accepted."""
-        words = line.split()
-        if words == ["undo"]:
-            return self._move(self.done, self.undone)
-        if words == ["redo"]:
-            return self._move(self.undone, self.done)
-        if line == "layer add w point" and self.points is None:
-            return self._become([])
-        if words[:2] == ["add", "w"] and self.points is not None:
-            return self._become([*self.points, line[6:]])
-        if words[:2] == ["replace", "w"] and self.points is not None and int(words[2]) <= len(self.points):
-            changed = list(self.points)
-            changed[int(words[2]) - 1] = " ".join(words[3:])
-            return self._become(changed)
-        return False
-
-    def _become(self, points):
-        self.done.append(self.points)
-        self.undone.clear()
-        self.points = points
-        return True
-
-    def _move(self, source, target):
-        if not source:
-            return False
-        target.append(self.points)
-        self.points = source.pop()
-        return True
-
-
-def after(points, lines):
-    """The points after some lines, of a store that has begun with these."""
-    console = Console(points)
-    for line in lines:
-        console.accepts(line)
-    return console.points
-
-
-def file_of(points):
-    """The bytes of a file with some points, as the program writes them."""
-    made = io.BytesIO()
-    features = []
-    for at, point in enumerate(points or [], 1):
-        x, y = map(float, point[7:-1].split())
-        features.append(storefile.FileFeature(at, struct.pack("<BIdd", 1, 1, x, y), {}))
-    layers = [] if points is None else [storefile.FileLayer("w", 1, len(features) + 1, 1, [], features)]
-    storefile.write(made, layers)
-    return made.getvalue()
-
-
-def points_of(data):
-    """The points of a file's bytes; none where there is no layer, or no file."""
-    layers = storefile.read(data) if data is not None else []
-    if not layers:
-        return None
-    places = (struct.unpack("<BIdd", feature.geometry)[2:] for feature in layers[0].features)
-    return [f"POINT ({x:.0f} {y:.0f})" for x, y in places]
-
-
-def old_journal(base, lines):
-    """A journal of version 1, as the module wrote it."""
-    data = b"sfstore-journal 1 %s\n" % base.encode()
-    chain = zlib.crc32(data)
-    for line in lines:
-        chain = zlib.crc32(line, chain)
-        data += b"%08x %s" % (chain, line)
-    return data
-
-
-class Plan:
-    """What happens at which call: a fault, the end of the process, or another program's writing."""
-
-    def __init__(self, at, happen, is_behind=False):
-        self._left = at
-        self.happen = happen
-        self.is_behind = is_behind
-        self.has_happened = False
-
-    def is_now(self):
-        """Whether the call is the one of the plan."""
-        self._left -= 1
-        is_now = self._left < 0 and not self.has_happened
-        self.has_happened |= is_now
-        return is_now
-
-
-class Run:
+class Run(Others):
     """A store's file and its session, and what must be there."""
-
-    def __init__(self, dice, folder, program, library):
-        self.dice = dice
-        self.folder = str(folder)
-        self.program = program
-        self.library = library
-        self.path = os.path.join(self.folder, "town.sfs")
-        self.store = None
-        # What the file has; the edits behind it that were answered; those that may be there or not.
-        self.saved, self.lines, self.maybe = None, [], []
-        # Why the next opening may be refused; the file of another program; whether the program meets a fault.
-        self.excuse, self.foreign, self.is_faulty = "", None, False
-        self.copied = {None}
-        self.number = 0
-        self.plan, self.has_happened = None, False
-        self.told = []
-        self._put_down_files()
-
-    def _put_down_files(self):
-        """The user's own files, a store's file of some mode, and a side-car, a wrong one or none."""
-        self.users = {name: f"precious: {name}".encode() for name in USERS}
-        for name, data in self.users.items():
-            self._write(name, data)
-        self.mode, self.sidecar = None, False
-        if self.dice.random() < 0.6:
-            self.saved = ["POINT (0 0)"]
-            self._write("town.sfs", file_of(self.saved))
-            self.mode = self.dice.choice([0o600, 0o640, 0o644, 0o660, 0o664])
-            os.chmod(self.path, self.mode)
-            if self.dice.random() < 0.5:
-                sidecar.write(self.path, sidecar.Sidecar(("0", "0", "1"), None, []), [files.digest(self.path)])
-                self.sidecar = True
-            elif self.dice.random() < 0.3:
-                self._write("town.sfs.json", self.dice.choice(WRONG_SIDECARS).encode())
 
     def steps(self, count):
         """Does so many operations, drawn by their chances."""
@@ -191,6 +52,7 @@ class Run:
             for call in CALLS:
                 patches.enter_context(self._watched(call))
             patches.enter_context(mock.patch("sfstore.journal.LOCK_SECONDS", 0.2))
+            patches.enter_context(mock.patch.dict(os.environ, self._variables()))
             try:
                 for name in names:
                     self.told.append(name)
@@ -214,6 +76,8 @@ class Run:
             if is_now and not plan.is_behind:
                 plan.happen()
             done = real(*arguments, **named)
+            if call == "os.fsync":
+                self.disk.keep(f"/proc/self/fd/{arguments[0]}")
             if is_now and plan.is_behind:
                 plan.happen()
             return done
@@ -221,9 +85,11 @@ class Run:
         return mock.patch(call, watched)
 
     CHANCES = {
-        "edit": 12, "batch": 4, "save": 6, "close": 2, "leave": 3, "kill": 3, "crash": 7, "fault": 5,
-        "open_faulty": 4, "write_foreign": 2, "write_foreign_meanwhile": 3, "remove_file": 1, "remove_lock": 2,
-        "remove_journal": 1, "cut": 2, "change": 1, "age": 3, "copy": 2, "copy_onto_own": 1, "second": 1,
+        "edit": 12, "batch": 4, "save": 6, "close": 2, "leave": 3, "kill": 3, "crash": 7, "fault": 5, "interrupt": 2,
+        "alone": 3, "open_faulty": 4, "doubt": 2, "lose_power": 2, "write_foreign": 2, "write_foreign_meanwhile": 4,
+        "meet": 4, "meet_in_an_edit": 2, "meet_at_the_lock": 1, "remove_file": 1, "remove_lock": 2, "remove_journal": 2,
+        "exchange_journal": 2, "put_link": 2, "litter": 3, "cut": 2, "change": 1, "age": 3, "copy": 2,
+        "copy_onto_own": 1, "second": 1,
     }  # fmt: skip
 
     # What is done in a session.
@@ -263,14 +129,17 @@ class Run:
 
     def _called(self, call):
         """What a call of the package gives, or what it raises. The plan is over behind it."""
-        self.has_happened = False
+        self.has_happened, failed = False, self._failures()
         try:
-            return call(), None
+            done = call()
         except (JournalError, ProgramEnded, RuntimeError, OSError, KeyboardInterrupt) as error:
             return None, error
         finally:
             plan, self.plan = self.plan, None
-            self.has_happened = plan is not None and plan.has_happened
+            self.has_happened = self.has_met or plan is not None and plan.has_happened
+        if self._failures() != failed:
+            raise Violation("a call of the program failed, and what it was made for is told as done")
+        return done, None
 
     def _allowed(self, call):
         """Does something that may fail where a fault was planned, or the file is another program's."""
@@ -300,7 +169,11 @@ class Run:
         allowed = [after(self.saved, self.lines + self.maybe[:count]) for count in range(len(self.maybe) + 1)]
         if found not in allowed:
             raise Violation(f"{found} is there, and not one of {allowed}")
-        self.saved, self.lines, self.maybe = points_of(self._bytes("town.sfs")), self.store.unsaved_lines, []
+        self.saved, self.maybe = points_of(self._bytes("town.sfs")), []
+        try:
+            self.lines = self.store.unsaved_lines
+        except JournalError as error:
+            raise Violation(f"the session and its journal have not the same edits: {error}") from error
         if after(self.saved, self.lines) != found or len(self.lines) != self.store.unsaved:
             raise Violation("file and journal do not make what is there")
 
@@ -378,6 +251,10 @@ class Run:
         self.told.append(chosen.__name__)
         return chosen
 
+    def _moment(self):
+        """How many calls of the module go well. An edit has one, a save with a side-car some twenty."""
+        return self.dice.choice([self.dice.randint(0, 4), self.dice.randint(0, 16)])
+
     def _planned(self, plan, what):
         """Does something under a plan."""
         self.plan = plan
@@ -386,19 +263,23 @@ class Run:
         finally:
             self.plan = None
 
-    def crash(self):
-        """The end of the process at some call. The program is killed, or meets the end of its input."""
+    def crash(self, is_of_power=False):
+        """The end of the process at some call, or of the machine. The program is killed, or meets the end of its input."""
         what, found = self._something(), []
 
         def happen():
             if self.store is not None:
                 self._end_program()
+            self._look_at_rights()
+            if is_of_power or self.dice.random() < 0.4:
+                self._lose()
             found.append(self._all())
             raise Crash
 
         before = self.lines + self.maybe
         with contextlib.suppress(Crash):
-            self._planned(Plan(self.dice.randint(0, 16), happen, self.dice.random() < 0.5), what)
+            at = self.dice.randint(0, 6) if is_of_power else self._moment()
+            self._planned(Plan(at, happen, self.dice.random() < 0.5), what)
         if found:
             self.maybe = (before + self.maybe)[len(self.lines) :] if before[: len(self.lines)] == self.lines else self.maybe
             self._drop()
@@ -416,161 +297,66 @@ class Run:
         """A call that fails, or an interrupt at one."""
         what = self._something()
         error = self.dice.choice([OSError(errno.EIO, "Input/output error"), KeyboardInterrupt()])
+        is_behind = isinstance(error, KeyboardInterrupt) and self.dice.random() < 0.5
 
         def happen():
             raise error
 
-        self._planned(Plan(self.dice.randint(0, 16), happen), what)
+        self._planned(Plan(self._moment(), happen, is_behind), what)
+
+    def interrupt(self):
+        """Ctrl-C before an edit is sent, or right behind its answer."""
+        if self.store is not None:
+
+            def happen():
+                raise KeyboardInterrupt
+
+            self._planned(Plan(0, happen, self.dice.random() < 0.7), self.edit)
 
     def open_faulty(self):
         """A session whose program meets a fault at some call: it fails once or from there on, or is killed at it."""
         if self.store is None:
             kind = self.dice.choice(["FAILS", "FAILS", "SYNC_FAILS", "KILLS", "KILLS_BEHIND"])
-            faults = {kind: str(self.dice.randint(1, 24)), "LD_PRELOAD": str(self.library)}
+            faults = {kind: str(self.dice.randint(1, 24))}
             if kind == "FAILS" and self.dice.random() < 0.5:
                 faults["STAYS_FULL"] = "1"
-            self.told.append(f"{faults}")
-            self.is_faulty = True
-            with mock.patch.dict(os.environ, faults):
-                self.open()
-                for _ in range(self.dice.randint(1, 4)):
-                    if self.store is not None:
-                        self._something()()
-                        self._look()
-            self._drop()
+            self._do_faulty(faults, [self._something] * self.dice.randint(1, 4))
+            if self.dice.random() < 0.3:
+                self._lose()
 
-    # What others do to the files.
-
-    def write_foreign(self):
-        """Another program writes the file: over it, or by a rename."""
-        self.number += 1
-        data = file_of([f"POINT ({self.number} 9)"])
-        mode = os.stat(self.path).st_mode if os.path.exists(self.path) else None
-        name = "town.sfs" if mode is None or self.dice.random() < 0.5 else "town.sfs.foreign"
-        self._write(name, data)
-        if name != "town.sfs":
-            os.chmod(f"{self.path}.foreign", stat.S_IMODE(mode))
-            REPLACE(f"{self.path}.foreign", self.path)
-        self.mode = None if mode is None else self.mode
-        self.foreign, self.sidecar = data, False
-        if self.lines or self.maybe:
-            self.excuse = self.excuse or "another program wrote the file"
-
-    def write_foreign_meanwhile(self):
-        """Another program writes the file in the middle of a save, a copy or an opening."""
-        what = self.open if self.store is None else self.dice.choice([self.save, self.copy, self.close])
-        self.told.append(what.__name__)
-        wrote = []
-
-        def happen():
-            self.write_foreign()
-            wrote.append(self.foreign)
-
-        before = self.saved, self.lines
-        self._planned(Plan(self.dice.randint(0, 14), happen, self.dice.random() < 0.5), what)
-        if not wrote:
-            return
-        if self._bytes("town.sfs") != wrote[0]:
-            raise Violation("a save took the place of what another program wrote meanwhile")
-        self._drop()
-        if self.foreign is not None or what != self.open:
-            # It came before or behind the save; where edits are left they go on from a file that is no more.
-            self.foreign, self.excuse = wrote[0], "another program wrote the file meanwhile"
-            (self.saved, self.lines), self.maybe = before, []
-
-    def remove_file(self):
-        if os.path.exists(self.path):
-            self._drop()
-            UNLINK(self.path)
-            self.sidecar, self.mode, self.foreign = False, None, None
-            data = self._bytes("town.sfs.journal") or b""
-            is_first = data.startswith(b"sfstore-journal 1 ")
-            if not is_first and data.count(b"\n") == 1:
-                # A save came through whose answer did not: the file had all edits.
-                self.lines, self.maybe = [], []
-            # A journal of version 1 misses its file even where it has no edits.
-            is_missed = self.lines or self.maybe or is_first
-            self.excuse = self.excuse or ("the file was taken away" if is_missed else "")
-            self.saved = self.saved if self.excuse else None
-
-    def remove_lock(self):
-        """The lock is taken away; a second session begins, and the first one goes on."""
-        if not os.path.exists(self.path + ".lock"):
-            return
-        UNLINK(self.path + ".lock")
-        if self.store is None or self.excuse or self.foreign is not None:
-            self._drop()
-            return
-        stale, self.store = self.store, None
-        lines = ["layer add w point", f"add w POINT ({self.number} 4)"]
-        if self.dice.random() < 0.5:
+    def _do_faulty(self, faults, choices):
+        """Opens a session whose program meets a fault, and does the operations that are chosen, as long as it lives."""
+        self.told.append(f"{faults}")
+        self.is_faulty = True
+        with mock.patch.dict(os.environ, faults):
             self.open()
-        else:
-            # What is not answered may be there or not, where the new session reads the journal behind it.
-            self.maybe = [line for line in lines if after(self.saved, self.lines) is not None or line == lines[0]][-1:]
-        for line in lines:
-            with contextlib.suppress(JournalError, RuntimeError, Refused):
-                if str(stale.run(line)).startswith("ok"):
-                    raise Violation("a session without its lock answered an edit")
-        with contextlib.suppress(JournalError, RuntimeError):
-            stale.save()
-        stale.close(save=False)
-
-    def remove_journal(self):
-        """The journal is taken away: while a session lives it is written anew; else the edits are given up."""
-        if os.path.exists(self.path + ".journal"):
-            UNLINK(self.path + ".journal")
-            if self.store is not None:
-                self._do_lines(["layer add w point", f"add w POINT ({self.number} 3)"])
-                if self.lines:
-                    return
-            self._drop()
-            self._give_up_journal()
-
-    def _give_up_journal(self):
-        self.lines, self.maybe, self.excuse, self.foreign = [], [], "", None
-        self.saved = points_of(self._bytes("town.sfs"))
-
-    def cut(self):
-        """The journal ends at some place before its end."""
-        data = self._closed_journal()
-        if data:
-            self._damage(data[: self.dice.randrange(len(data))])
-
-    def change(self):
-        """A byte of the journal is another one."""
-        data = bytearray(self._closed_journal())
-        if data:
-            data[self.dice.randrange(len(data))] ^= 1 << self.dice.randrange(8)
-            self._damage(bytes(data))
-
-    def _damage(self, data):
-        self._write("town.sfs.journal", data)
-        self.lines, self.maybe = [], self.lines + self.maybe
-        self.excuse = self.excuse or "the journal was damaged"
-
-    def age(self):
-        """The journal is one of an older version that says the same."""
-        data = self._closed_journal()
-        if data and not self.excuse and self.foreign is None and data.startswith(journal.head_of(self.path)):
-            lines = journal.read_records(data, "x").lines
-            if self.dice.randrange(2):
-                texts = [line[:-1].decode() for line in lines]
-                self._write("town.sfs.journal", second_journal_of(self._bytes("town.sfs") or b"", texts))
-                return
-            base = files.digest(self.path) if os.path.exists(self.path) else "new"
-            self._write("town.sfs.journal", old_journal(base, lines))
-
-    def _closed_journal(self):
-        """The bytes of the journal, when no session is open."""
+            for choice in choices:
+                if self.store is not None:
+                    choice()()
+                    self._look()
         self._drop()
-        return self._bytes("town.sfs.journal") or b""
+
+    def doubt(self):
+        """A sync fails in a session; the next one goes on from what is read, and then the power is lost."""
+        if self.store is None:
+            self._do_faulty({"SYNC_FAILS": str(self.dice.randint(4, 8))}, [lambda: self.edit] * 4)
+            self.open()
+            self.edit()
+            self.lose_power()
+
+    def lose_power(self):
+        """The machine stops: what was not synced is there or not."""
+        if self.store is not None:
+            self.store._program._program._process.kill()
+            self._drop()
+        self._lose()
 
     # Openings, and what has to be there.
 
     def open(self):
         if self.store is not None:
             return
+        self._take_link_away()
         before, left = self._all(), None
         with self._unwatched(), contextlib.suppress(JournalError):
             left = journal.edits_left(self.path)
@@ -589,7 +375,6 @@ class Run:
                 return
         self._take_over()
         self.excuse = ""
-        self._look_at_modes()
 
     def _refused(self, error, before):
         if not (self.excuse or self.is_faulty or self.has_happened):
@@ -619,78 +404,3 @@ class Run:
         with contextlib.suppress(FileNotFoundError):
             UNLINK(self.path + ".journal")
         self._give_up_journal()
-
-    def _look_at_modes(self):
-        if not os.path.exists(self.path):
-            return
-        mode = stat.S_IMODE(os.stat(self.path).st_mode)
-        if self.mode is not None and mode != self.mode:
-            raise Violation(f"the file's mode is {mode:o}, and was {self.mode:o}")
-        self.mode = mode
-        writers = 0o600 | mode & 0o222 | (mode & 0o222) << 1
-        for name, most in (("journal", mode), ("lock", writers)):
-            is_now = stat.S_IMODE(os.stat(f"{self.path}.{name}").st_mode)
-            if is_now != most:
-                raise Violation(f"the {name}'s mode is {is_now:o} beside {mode:o}")
-
-    def _look(self):
-        """What has to hold after each operation."""
-        for name, data in self.users.items():
-            if self._bytes(name) != data:
-                raise Violation(f"the user's {name} is gone or changed")
-        if self._bytes("copy.sfs") not in self.copied:
-            raise Violation("the copy that was there is gone")
-        if self.foreign is not None and self._bytes("town.sfs") != self.foreign:
-            raise Violation("what another program wrote is gone")
-        if self.store is not None and self.foreign is None and self._content() != after(self.saved, self.lines + self.maybe):
-            raise Violation(f"the session has {self._content()}")
-        if self.sidecar and self.foreign is None and os.path.exists(self.path):
-            sidecar.read(self.path)
-        if self.foreign is not None and os.path.exists(self.path + ".json"):
-            with contextlib.suppress(sidecar.SidecarError):
-                sidecar.read(self.path)
-                raise Violation("the side-car was taken for that of another program's file")
-        others = set(os.listdir(self.folder)) - set(USERS) - set(OWN)
-        if any(not name.startswith(".") for name in others):
-            raise Violation(f"{others} were left")
-
-    def _content(self):
-        try:
-            rows = self.store.run("show w")
-        except Refused:
-            return None
-        except (JournalError, ProgramEnded):
-            if not self.is_faulty:
-                raise
-            self._drop()
-            return after(self.saved, self.lines + self.maybe)
-        return [row.partition(" ")[2] for row in rows]
-
-    def _bytes(self, name):
-        try:
-            with open(os.path.join(self.folder, name), "rb") as file:
-                return file.read()
-        except FileNotFoundError:
-            return None
-
-    def _write(self, name, data):
-        with open(os.path.join(self.folder, name), "wb") as file:
-            file.write(data)
-
-    def _all(self):
-        """The names of all files with their bytes and modes."""
-        names = os.listdir(self.folder)
-        return {name: (self._bytes(name), os.stat(os.path.join(self.folder, name)).st_mode) for name in names}
-
-    def _become(self, found):
-        """Has the folder have just these files."""
-        for name in os.listdir(self.folder):
-            if name not in found:
-                UNLINK(os.path.join(self.folder, name))
-        for name, (data, mode) in found.items():
-            path = os.path.join(self.folder, name)
-            if self._bytes(name) != data:
-                with contextlib.suppress(FileNotFoundError):
-                    UNLINK(path)
-                self._write(name, data)
-                os.chmod(path, stat.S_IMODE(mode))

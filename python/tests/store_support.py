@@ -463,8 +463,9 @@ FAULTS = r"""
 #include <sys/stat.h>
 
 /* Which call fails, with a full disk from then on, which sync fails, and before, behind or within which call the process
-   is killed: each counted from 1. */
+   is killed: each counted from 1. Where it is put down that it came to that, and what was synced; who is waited for. */
 static long fails, stays_full, sync_fails, kills, kills_behind, kills_within, calls;
+static const char *failed, *synced, *meeting;
 static int is_full;
 
 __attribute__((constructor)) static void begin(void) {
@@ -475,10 +476,61 @@ __attribute__((constructor)) static void begin(void) {
     kills_behind = number("KILLS_BEHIND");
     kills_within = number("KILLS_WITHIN");
     calls = number("CALLS");
+    failed = getenv("FAILED");
+    synced = getenv("SYNCED");
+    meeting = getenv("MEETING");
+}
+
+/* Puts a line behind those of a file. */
+static void put_down(const char *path, const char *line) {
+    int file = path ? syscall(SYS_open, path, O_WRONLY | O_CREAT | O_APPEND, 0600) : -1;
+    if (file < 0) return;
+    syscall(SYS_write, file, line, strlen(line));
+    syscall(SYS_close, file);
 }
 
 static int is_now(long *left) {
-    return *left > 0 && --*left == 0 && met();
+    if (*left <= 0 || --*left > 0) return 0;
+    put_down(failed, "x\n");
+    return met();
+}
+
+/* What came of a sync: the number of the file, and how long it is. */
+static void put_down_sync(const char *word, int file) {
+    char line[64];
+    struct stat known;
+    if (!synced || fstat(file, &known) || !S_ISREG(known.st_mode)) return;
+    snprintf(line, sizeof line, "%s %lu %ld\n", word, (unsigned long)known.st_ino, (long)known.st_size);
+    put_down(synced, line);
+}
+
+/* Counts a number in a file down, and tells whether this is the call that it means. */
+static int is_counted(void) {
+    char path[4200], text[9] = "";
+    snprintf(path, sizeof path, "%s/left", meeting);
+    int file = syscall(SYS_open, path, O_RDWR);
+    if (file < 0) return 0;
+    syscall(SYS_pread64, file, text, 8, 0L);
+    long left = atol(text);
+    snprintf(text, sizeof text, "%08ld", left > 0 ? left - 1 : 0);
+    syscall(SYS_pwrite64, file, text, 8, 0L);
+    syscall(SYS_close, file);
+    return left == 1;
+}
+
+/* Waits for someone, if this is the call. */
+static void meet(void) {
+    char path[4200], byte;
+    int known = errno;
+    if (meeting && is_counted()) {
+        snprintf(path, sizeof path, "%s/come", meeting);
+        put_down(path, "c");
+        snprintf(path, sizeof path, "%s/gone", meeting);
+        int file = syscall(SYS_open, path, O_RDONLY);
+        syscall(SYS_read, file, &byte, 1);
+        syscall(SYS_close, file);
+    }
+    errno = known;
 }
 
 static void die(void) { syscall(SYS_kill, getpid(), SIGKILL); }
@@ -499,6 +551,8 @@ static void tell_file(const char *call, int file) {
     tell(call, path);
 }
 
+#define FAIL(code) do { errno = code; return -1; } while (0)
+
 static int fails_now(void) {
     if (is_now(&kills)) die();
     return is_now(&fails);
@@ -506,21 +560,39 @@ static int fails_now(void) {
 
 static long behind(long done) {
     if (is_now(&kills_behind) || is_now(&kills_within)) die();
+    meet();
     return done;
 }
 
-#define FAIL(code) do { errno = code; return -1; } while (0)
-
-int fsync(int file) {
+static int synced_file(int file, long call) {
     tell_file("sync", file);
-    if (fails_now() || is_now(&sync_fails)) FAIL(EIO);
-    return behind(syscall(SYS_fsync, file));
+    if (fails_now() || is_now(&sync_fails)) {
+        put_down_sync("failed", file);
+        FAIL(EIO);
+    }
+    long done = syscall(call, file);
+    if (!done) put_down_sync("synced", file);
+    return behind(done);
 }
 
-int fdatasync(int file) {
-    tell_file("sync", file);
-    if (fails_now() || is_now(&sync_fails)) FAIL(EIO);
-    return behind(syscall(SYS_fdatasync, file));
+int fsync(int file) { return synced_file(file, SYS_fsync); }
+int fdatasync(int file) { return synced_file(file, SYS_fdatasync); }
+
+/* At these someone may come, and nothing fails. */
+int fchmod(int file, mode_t mode) { meet(); return syscall(SYS_fchmod, file, mode); }
+int flock(int file, int operation) { meet(); return syscall(SYS_flock, file, operation); }
+
+off64_t lseek64(int file, off64_t place, int from) {
+    if (from == SEEK_SET) meet();
+    return syscall(SYS_lseek, file, place, from);
+}
+
+off_t lseek(int file, off_t place, int from) { return lseek64(file, place, from); }
+
+int unlink(const char *path) {
+    long done = syscall(SYS_unlink, path);
+    meet();
+    return done;
 }
 
 int rename(const char *from, const char *to) {

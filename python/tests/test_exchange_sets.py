@@ -13,10 +13,12 @@ from pathlib import Path
 from unittest import mock
 
 from support import FOLDER, PROGRAM
+
+from journal_plain import old_journal
 from test_exchange import GRID, HAS_GDAL, KINDS, ExchangeCase, Source, bring_in, give_back
 from test_placing import at_call, fail, interrupt
 
-from sfstore import Store, sidecar
+from sfstore import Store, files, sidecar
 from sfstore.exchange import publishing
 
 if HAS_GDAL:
@@ -372,23 +374,30 @@ class BreakingOff(SetCase):
                 break
         self.assertEqual(ends, {True, False})
 
-    def test_a_kill_at_each_call(self):
+    def killed(self, number):
+        """Whether an import in a process of its own was ended at a call."""
         put = publishing._put
+        child = os.fork()
+        if child == 0:
 
-        def broken_off(number):
-            child = os.fork()
-            if child == 0:
+            def killed(*words):
+                with at_call(number, lambda: os._exit(9)):
+                    put(*words)
 
-                def killed(*words):
-                    with at_call(number, lambda: os._exit(9)):
-                        put(*words)
+            with mock.patch.object(publishing, "_put", killed):
+                self.bring_in()
+            os._exit(0)
+        return os.waitstatus_to_exitcode(os.waitpid(child, 0)[1]) == 9
 
-                with mock.patch.object(publishing, "_put", killed):
-                    self.bring_in()
-                os._exit(0)
-            return os.waitstatus_to_exitcode(os.waitpid(child, 0)[1]) == 9
+    def test_a_kill_at_each_call(self):
+        self.each_call(self.killed)
 
-        self.each_call(broken_off)
+    def test_a_kill_at_each_call_beside_a_journal_of_version_1(self):
+        """Its edits are saved. Beside the new file it would be refused, as that of another one."""
+        saved = b"#saved %s\n" % files.digest(str(self.store)).encode()
+        data = old_journal("0" * 64, [b"add wells POINT (1 1)\n", saved])
+        Path(f"{self.store}.journal").write_bytes(data)
+        self.each_call(self.killed)
 
     def test_a_full_disk_at_each_call(self):
         put = publishing._put

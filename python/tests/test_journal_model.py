@@ -1,10 +1,15 @@
 """Tests of stores with a journal against a plain model: lists of operations by a seed, with faults and ends at any call.
 
+Faults, other programs and the loss of power come between operations, at calls of the module and at calls of the program.
 Where hypothesis is there it makes lists too, and tells a list that breaks the model as short as it can be.
+
+What the program does about locks, modes, links, leftovers, other programs and failing syncs was taken out of it, one thing
+at a time (25 of them), and of the module (4). The lists found each: most within 100 lists, all within 400 (SFSTORE_LISTS).
 """
 
 from __future__ import annotations
 
+import contextlib
 import itertools
 import os
 import random
@@ -18,10 +23,14 @@ from unittest import mock
 
 from support import PROGRAM, TestCase
 
-from journal_model import Run, Violation
+from journal_model import Run
+from journal_plain import Violation
 from store_support import FAULTS, MEMORY, library
 
+from sfstore import files
+from sfstore.journaled import Journaled
 from sfstore.kept import Kept
+from sfstore.program import is_edit
 
 # Lists are done for so long, but at least the first ones; or as many as are asked for.
 SECONDS = 15
@@ -94,13 +103,39 @@ class MadeLists(ModelCase):
 
 
 class Mendings(ModelCase):
+    """What would be found if it were as it is not."""
+
+    def found(self, operations, seeds):
+        with self.assertRaises(Violation):
+            for seed in range(seeds):
+                self.tried(random.Random(seed), lambda run: run.do(operations))
+
     def test_a_session_that_never_looks_at_its_file_is_found(self):
         """A store that gives its lines whatever the file has become."""
-        lists = [["open", "edit", "edit", "write_foreign", "copy"]]
         with mock.patch.object(Kept, "check", lambda kept: None), mock.patch.object(Kept, "_check_digest", lambda *_: None):
-            with self.assertRaises(Violation):
-                for seed, operations in itertools.product(range(8), lists):
-                    self.tried(random.Random(seed), lambda run: run.do(operations))
+            self.found(["open", "edit", "edit", "write_foreign", "copy"], 8)
+
+    def test_a_session_that_goes_on_after_an_interrupt_is_found(self):
+        """How many edits the journal has is not known then."""
+
+        def exchange(journaled, lines):
+            outcomes = journaled._program.exchange(lines)
+            journaled._kept.unsaved += sum(map(is_edit, outcomes))
+            return outcomes
+
+        with mock.patch.object(Journaled, "exchange", exchange):
+            self.found(["open", "edit", "interrupt", "interrupt"], 20)
+
+    def test_a_journal_of_version_1_that_is_written_over_in_its_place_is_found(self):
+        """The power may be lost before its bytes are on the disk."""
+
+        @contextlib.contextmanager
+        def in_its_place(path, like=None):
+            yield path
+            files.sync(path)
+
+        with mock.patch.object(files, "whole_file", in_its_place):
+            self.found(["open", "edit", "leave", "age", "age"], 40)
 
 
 if __name__ == "__main__":

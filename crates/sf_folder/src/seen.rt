@@ -28,6 +28,14 @@ impl Seen {
             changed: (metadata.ctime(), metadata.ctime_nsec()),
         }
     }
+
+    /// Whether nothing was written to the file between two looks. A rename in between counts as none.
+    pub(crate) fn has_bytes_of(&self, later: &Seen) -> bool {
+        self.device == later.device
+            && self.inode == later.inode
+            && self.length == later.length
+            && self.modified == later.modified
+    }
 }
 
 /// Whether two files are one.

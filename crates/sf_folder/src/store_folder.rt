@@ -137,10 +137,40 @@ impl<'a, R: Files> StoreFolder<'a, R> {
         self.sync_folder()
     }
 
-    /// What is known of the store's file that was just put there, so that it is distinguished from another program's.
-    fn see_store(&mut self) -> io::Result<()> {
-        let there = self.files.metadata(self.places.at(Name::Store))?;
-        self.known.seen = Some(Seen::of(&there));
+    /// What is seen of the file that stands for a name, of the open file and not by its name.
+    fn seen(&self, name: Name) -> io::Result<Seen> {
+        let file = match name {
+            Name::Store => &self.store,
+            Name::StoreBeside => &self.store_beside,
+            Name::Journal => &self.journal,
+            Name::JournalBeside => &self.journal_beside,
+        };
+        match file {
+            Some(file) => Ok(Seen::of(&file.metadata()?)),
+            None => Err(not_begun()),
+        }
+    }
+
+    /// Puts a file in the place of the store's, where that is the one that is known. From then on the new one is: it is seen
+    /// as the open file, so that what another program puts there right behind is not taken for it.
+    ///
+    /// # Errors
+    ///
+    /// Where another program has changed the store's file, or writes to the new one at once, and where a call fails.
+    fn replace_store(&mut self, from: Name) -> io::Result<()> {
+        if !self.has_known_store()? {
+            return Err(changed());
+        }
+        let written = self.seen(from)?;
+        self.files
+            .rename(self.places.at(from), self.places.at(Name::Store))?;
+        let there = self.seen(from)?;
+        let file = self.take(from);
+        self.keep(Name::Store, file);
+        if !written.has_bytes_of(&there) {
+            return Err(changed());
+        }
+        self.known.seen = Some(there);
         Ok(())
     }
 
@@ -221,16 +251,12 @@ impl<'a, R: Files> Folder for StoreFolder<'a, R> {
     }
 
     fn rename(&mut self, from: Name, to: Name) -> io::Result<()> {
-        // Another program may have written the store since it was loaded: nothing takes its place then.
-        if to == Name::Store && !self.has_known_store()? {
-            return Err(changed());
+        if to == Name::Store {
+            return self.replace_store(from);
         }
         self.files.rename(self.places.at(from), self.places.at(to))?;
         let file = self.take(from);
         self.keep(to, file);
-        if to == Name::Store {
-            return self.see_store();
-        }
         Ok(())
     }
 
