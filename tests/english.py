@@ -24,24 +24,7 @@ MEAN, LONGEST = 20, 40
 OF_CODE = {"TRUST.md", "WRONG_BODIES.md"}
 
 # Pages that nobody has gone through yet.
-NOT_YET = {
-    "CONTRIBUTING.md",
-    "docs/MAP.md",
-    "docs/build/CELLS.md",
-    "docs/build/COSTS.md",
-    "docs/build/PROVING.md",
-    "docs/build/SWEEP.md",
-    "docs/build/ADDING_A_COMMAND.md",
-    "docs/trust/THREATS.md",
-    "docs/use/EXCHANGE.md",
-    "docs/use/FORMAT.md",
-    "docs/use/JOURNAL.md",
-    "docs/use/PAGE.md",
-    "docs/use/PICTURE.md",
-    "docs/use/REPLICAS.md",
-    "docs/use/PYTHON.md",
-    "python/sfstore",
-}
+NOT_YET: set[str] = set()
 
 FENCED = re.compile(r"^ *```.*?^ *```[^\n]*$", re.MULTILINE | re.DOTALL)
 CODE = re.compile(r"``[^\n]+?``|`[^`\n]+`")
@@ -143,7 +126,8 @@ def faults_of(place: str, prose: Prose, words: list[tuple[str, str]]) -> list[st
     ]
     if place != str(WORDS.relative_to(TOP)):
         for word, better in words:
-            for hit in re.finditer(rf"[^\n]{{0,40}}\b{re.escape(word)}\b[^\n]{{0,20}}", prose.text):
+            # In brackets by itself it is the name of a file.
+            for hit in re.finditer(rf"[^\n]{{0,40}}(?<!\()\b{re.escape(word)}\b[^\n]{{0,20}}", prose.text):
                 found.append(f"{place}: {word} ({better}): {hit[0].strip()}")
     return found
 
