@@ -23,9 +23,6 @@ MEAN, LONGEST = 20, 40
 # Pages that scripts make of contracts and definitions: their text is code.
 OF_CODE = {"TRUST.md", "WRONG_BODIES.md"}
 
-# Pages that nobody has gone through yet.
-NOT_YET: set[str] = set()
-
 FENCED = re.compile(r"^ *```.*?^ *```[^\n]*$", re.MULTILINE | re.DOTALL)
 CODE = re.compile(r"``[^\n]+?``|`[^`\n]+`")
 LINK = re.compile(r"!?\[([^\]]*)\]\([^)]*\)")
@@ -139,12 +136,10 @@ def faults() -> list[str]:
     for path in pages():
         prose = prose_of(path.read_text(encoding="utf-8"))
         place = str(path.relative_to(TOP))
-        if place in NOT_YET:
-            continue
         found += faults_of(place, prose, words)
         if prose.mean() > MEAN:
             found.append(f"{place}: {prose.mean():.1f} words in a sentence on the mean")
-    for place, text in docstrings() if "python/sfstore" not in NOT_YET else []:
+    for place, text in docstrings():
         found += faults_of(place, prose_of(text), words)
     return found
 

@@ -2,9 +2,9 @@
 
 They are read once: `sfstore.journal.renew_old` writes them anew. The head is ``sfstore-journal 1
 DIGEST``, where ``DIGEST`` is the SHA-256 of the file that the edits begin from, or ``new`` where there
-is none. A record is the CRC-32 of all lines up to it (the head, then the lines of the records, each
-with its line feed), eight digits in hexadecimal, a blank, the line as the program took it, and a line
-feed. A line ``#saved DIGEST``, which is no command, says that the edits before it are in a file of
+is none. A record is eight hexadecimal digits, a blank, the line as the program took it, and a line feed.
+The digits are the CRC-32 of all lines up to it: the head, then the lines of the records, each with its
+line feed. A line ``#saved DIGEST``, which is no command, says that the edits before it are in a file of
 that digest, which was about to take the file's place.
 """
 
