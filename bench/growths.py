@@ -136,6 +136,8 @@ relate a 4 LINESTRING (-5 5, 15 5)
 match a T*F**F*** POLYGON ((0 0, 9 0, 9 9, 0 9, 0 0))
 query a intersects POLYGON ((4 4, 7 4, 7 7, 4 4))
 query a disjoint MULTIPOINT (0 0, 7 7)
+join a intersects a
+join a T******** a 4
 """.splitlines()
 
 HALF = ["undo"] * (len(EDITS) // 2)

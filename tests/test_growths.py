@@ -36,6 +36,7 @@ simple
 relate
 match
 query
+join
 undo
 redo
 """.splitlines()
@@ -179,6 +180,8 @@ show w
 query m intersects POLYGON ((0 0, 3 0, 3 3, 0 3, 0 0))
 delete m 7
 query m disjoint POINT (2 2)
+join m intersects m
+join m T******** m 1
 undo
 add m POINT (9 9)
 query m intersects POINT (9 9)

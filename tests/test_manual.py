@@ -74,7 +74,7 @@ class Manual(unittest.TestCase):
             self.assertEqual(shown, set(re.findall(r"^ +(?:-h, )?(--[a-z-]+)", said, re.MULTILINE)), name)
 
     def test_help_fits_a_screen_and_names_the_page(self):
-        for name in entries():
+        for name in ("sfstore", *entries()):
             lines = help_of(name).splitlines()
             self.assertLessEqual(len(lines), SCREEN[1], name)
             self.assertIn(f"man {name}", " ".join(lines).replace("- ", "-").replace("  ", " "))

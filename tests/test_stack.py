@@ -69,6 +69,8 @@ SESSION = [
     f"relate a 1 {GEOMETRIES[2]}",
     f"query a intersects {GEOMETRIES[0]}",
     f"match a ****1**** {GEOMETRIES[5]}",
+    "join a intersects a",
+    "join a T******** a 2",
     "vertex remove a 1 0 0 7",
     *["undo"] * 9,
     *["redo"] * 9,

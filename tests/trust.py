@@ -76,7 +76,7 @@ COMPUTES = "-- Computes"
 INTERNAL = "-- Internal"
 
 WORD = re.compile(r"[^\W\d_][\w'\-+]*|◌?[^\w\s◌(){}\[\],;]+◌?")
-DECLARED = re.compile(r"(?:abbrev |pub |record |data )+([^\s:({]+)")
+DECLARED = re.compile(r"(?:abbrev |unfoldable |pub |record |data )+([^\s:({]+)")
 USE = re.compile(r"^ *(?:pub )?(?:ghost )?use Rattle\.([\w.]+)\.\{([^}]*)\}", re.MULTILINE)
 FUNCTION = re.compile(r"(?:^ *///[^\n]*\n)*^ *pub fn (\w+).*?^ *\{", re.MULTILINE | re.DOTALL)
 TRAIT = re.compile(r"(?:^///[^\n]*\n)*^pub trait (\w+).*?^\}", re.MULTILINE | re.DOTALL)
@@ -335,7 +335,7 @@ INTRODUCTION = """# What has to be read to trust the program
 
 The prover checks that the program does what its contracts say. That the contracts say the sentences above is for a person to check, and this page has all that this takes: the contracts that carry them, and each definition that they cite, {count} of {all}, in {lines} lines. Definitions of `specs/` that are not here belong to the proofs, or to promises beside these. Of the second sentence, contracts have the calls; that the program makes them in their order, and that the system does what they ask, is not proved ([PROVED.md](PROVED.md)).
 
-Read a definition as in a book of mathematics: `abbrev pub name : type`, then what the name stands for, by cases. `A → B` is a function, or *if A then B*; `A × B` is *A and B*; `(x : A) → B` is *for every x*; `(x : A) × B` is *there is an x*; `a ≡ b` is *a is b*; `λ x. e` is the function from x to e. A `record` is all of its fields together. ℕ are the natural numbers, ℤ the whole numbers; `x ∷ xs` is a list with its first member.
+Read a definition as in a book of mathematics: `abbrev pub name : type` or `unfoldable pub name : type`, then what the name stands for, by cases. `A → B` is a function, or *if A then B*; `A × B` is *A and B*; `(x : A) → B` is *for every x*; `(x : A) × B` is *there is an x*; `a ≡ b` is *a is b*; `λ x. e` is the function from x to e. A `record` is all of its fields together. ℕ are the natural numbers, ℤ the whole numbers; `x ∷ xs` is a list with its first member.
 """
 
 

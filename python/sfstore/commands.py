@@ -32,6 +32,7 @@ _WORDS = {
     "KIND": KINDS,
     "TYPE": COLUMN_TYPES,
     "PREDICATE": PREDICATES,
+    "ASK": PREDICATES,
     "WKT": [f"{kind.upper()} (" for kind in KINDS[1:]],
 }
 

@@ -2,7 +2,7 @@
 
 from __future__ import annotations
 
-from collections.abc import Callable, Iterable
+from collections.abc import Callable, Iterable, Iterator
 from typing import cast
 
 from sfstore import spelling
@@ -11,6 +11,12 @@ from sfstore.results import Answer, Column, ColumnType, Feature, Kind, Layer, Pr
 from sfstore.rows import feature_of
 
 __all__ = ["Editor"]
+
+
+def _pair_of(row: str) -> tuple[int, int]:
+    """The pair of identifiers of a row."""
+    first, second = row.split(" ")
+    return int(first), int(second)
 
 
 class Editor:
@@ -408,6 +414,44 @@ class Editor:
         """
         rows = self._rows(f"query {spelling.name(layer)} {spelling.one_of(Predicate, predicate)} {spelling.geometry(wkt)}")
         return [int(row) for row in rows]
+
+    def join(self, layer: str, ask: str, other: str) -> Iterator[tuple[int, int]]:
+        """The pairs of features of two layers, or of one with itself, that are as asked.
+
+        ``ask`` is a predicate, or a pattern of nine letters of ``TF*012``; the feature of the first layer is
+        the first geometry. The pairs of identifiers rise by the first, and then by the second.
+
+        >>> with Store() as store:
+        ...     store.add_layer("wells")
+        ...     store.add_layer("parcels")
+        ...     store.add("wells", "POINT (3 4)")
+        ...     store.add("wells", "POINT (30 40)")
+        ...     store.add("parcels", "POLYGON ((0 0, 9 0, 9 9, 0 9, 0 0))")
+        ...     list(store.join("wells", "within", "parcels"))
+        1
+        2
+        1
+        [(1, 1)]
+        """
+        rows = self._rows(f"join {spelling.name(layer)} {spelling.ask(ask)} {spelling.name(other)}")
+        return map(_pair_of, rows)
+
+    def join_one(self, layer: str, ask: str, other: str, feature_id: int) -> list[int]:
+        """The features of a layer that are as asked with one feature of another, or with another one of theirs.
+
+        They are given by their identifiers, rising.
+
+        >>> with Store() as store:
+        ...     store.add_layer("parcels")
+        ...     store.add("parcels", "POLYGON ((0 0, 9 0, 9 9, 0 9, 0 0))")
+        ...     store.add("parcels", "POLYGON ((9 0, 20 0, 20 9, 9 9, 9 0))")
+        ...     store.join_one("parcels", "touches", "parcels", 2)
+        1
+        2
+        [1]
+        """
+        words = f"{spelling.name(layer)} {spelling.ask(ask)} {spelling.name(other)} {spelling.identifier(feature_id)}"
+        return [int(row) for row in self._rows(f"join {words}")]
 
     def undo(self) -> None:
         """Takes back the last edit that is not undone yet, if it is this editor's.

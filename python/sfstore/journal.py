@@ -40,10 +40,20 @@ __all__ = [
 LOCK_SECONDS = 2.0
 """How long a session waits for the lock: a program that saves may outlive the process that began it."""
 
-_TITLE = b"sfstore-journal 2 "
-# How many digits of its sum stand before a text, and how many bytes they and the blank have.
-_DIGITS = 16
-_MARK = _DIGITS + 1
+_TITLE = b"sfstore-journal 3 "
+# How many bytes stand before a text: the digits of its sum and a blank.
+_MARK = 17
+
+
+def _row(bits: int) -> int:
+    """What eight bits make of a register that has nothing above them."""
+    for _ in range(8):
+        bits = bits >> 1 ^ 0xC96C5795D7870F42 * (bits & 1)
+    return bits
+
+
+_ROWS = [_row(bits) for bits in range(256)]
+_ONES = 2**64 - 1
 
 
 @dataclass(frozen=True)
@@ -107,9 +117,9 @@ def read_records(data: bytes, path: str) -> Records:
     at = data.index(b"\n") + 1
     head = data[:at]
     lines: list[bytes] = []
-    total = hashlib.sha256(head).digest()
+    total = _crc(head)
     while (feed := data.find(b"\n", at)) >= 0:
-        total = hashlib.sha256(total + data[at + _MARK : feed]).digest()
+        total = _crc(data[at + _MARK : feed + 1], total)
         if data[at : at + _MARK] != _mark(total):
             raise JournalError(f"{path}: the record at place {at} is damaged")
         lines.append(data[at + _MARK : feed + 1])
@@ -143,9 +153,9 @@ def edits_left(store: str) -> int:
     file, else one beside that does, which a save has left.
     """
     path, data = path_of(store), bytes_of(path_of(store))
-    if data is not None and oldjournal.is_old(data):
-        old = oldjournal.read(data, path)
-        return 0 if old.are_in(oldjournal.base_of(store)) else len(old.edits)
+    old = _old_records(store)
+    if old is not None:
+        return 0 if old.are_saved else len(old.edits)
     head = head_of(store)
     if data is None or not data.startswith(head):
         beside = bytes_of(new_journal_of(store))
@@ -155,23 +165,37 @@ def edits_left(store: str) -> int:
 
 
 def renew_old(store: str) -> int:
-    """Writes a journal of version 1 anew as one of version 2, where one stands there. It needs the lock.
+    """Writes a journal of an older version anew as one of today's, where one stands there. It needs the lock.
 
     Tells how many bytes of an edit are dropped that was not written to its end, nor answered. A crash
     leaves the one or the other. `JournalError` where it is damaged, and where it goes on from another
     file than the one that is there; it is then as it was.
     """
     path = path_of(store)
-    data = bytes_of(path)
-    if data is None or not oldjournal.is_old(data):
+    old = _old_records(store)
+    if old is None:
         return 0
-    old = oldjournal.read(data, path)
-    edits = old.edits_over(oldjournal.base_of(store))
+    edits = old.edits_over_file
     if edits is None:
         raise other_file(store, path)
     with files.whole_file(path, store) as beside, open(beside, "wb") as new:
         new.write(_journal(head_of(store), edits))
     return len(old.torn)
+
+
+def _old_records(store: str) -> oldjournal.OldRecords | None:
+    """What the journal of a store has, where it is one of an older version. `JournalError` for a damaged one.
+
+    A save of version 2 that was ended has left the one that counts beside.
+    """
+    path, data = path_of(store), bytes_of(path_of(store))
+    if data is None or not oldjournal.is_old(data):
+        return None
+    if data.startswith(oldjournal.SECOND) and not oldjournal.goes_on(data, store):
+        beside = bytes_of(new_journal_of(store))
+        if beside is not None and oldjournal.goes_on(beside, store):
+            path, data = new_journal_of(store), beside
+    return oldjournal.read(data, path, store)
 
 
 def locked(path: str) -> FileIO:
@@ -214,20 +238,28 @@ def _head(size: int, digest: str) -> bytes:
     return _TITLE + b"%d %s\n" % (size, digest.encode("ascii"))
 
 
-def _mark(total: bytes) -> bytes:
+def _crc(data: bytes, known: int = 0) -> int:
+    """The CRC-64 of bytes that follow others, whose CRC-64 is known (CRC-64/XZ)."""
+    register, rows = known ^ _ONES, _ROWS
+    for byte in data:
+        register = rows[register & 255 ^ byte] ^ register >> 8
+    return register ^ _ONES
+
+
+def _mark(total: int) -> bytes:
     """What stands before a text of this sum."""
-    return total.hex()[:_DIGITS].encode("ascii") + b" "
+    return b"%016x " % total
 
 
 def _journal(head: bytes, lines: Iterable[bytes]) -> bytes:
     """A journal of these lines, each with its line feed."""
     written = bytearray(head)
-    total = hashlib.sha256(head).digest()
+    total = _crc(head)
     for line in lines:
         # The program drops a carriage return right before the line feed.
-        text = line[:-1].removesuffix(b"\r")
-        total = hashlib.sha256(total + text).digest()
-        written += _mark(total) + text + b"\n"
+        text = line[:-1].removesuffix(b"\r") + b"\n"
+        total = _crc(text, total)
+        written += _mark(total) + text
     return bytes(written)
 
 

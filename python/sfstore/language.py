@@ -189,6 +189,11 @@ COMMANDS = [
         "lists the features of which a predicate holds with a geometry",
         "query parcels contains POINT (5 5)",
     ),
+    Command(
+        "join LAYER ASK LAYER",
+        "lists the pairs of features of two layers that are so; with an ID behind them those beside one feature",
+        "join wells within parcels",
+    ),
     Command("undo", "takes the last edit back", "undo", "history"),
     Command("redo", "redoes what was undone", "redo", "history"),
 ]

@@ -7,7 +7,7 @@ import re
 from collections.abc import Sequence
 from typing import Any, get_args
 
-from sfstore.language import EDITOR_MAX, IDENTIFIER_MAX, IDENTIFIERS_MAX, INT_MAX, INT_MIN, NAME, PATTERN
+from sfstore.language import EDITOR_MAX, IDENTIFIER_MAX, IDENTIFIERS_MAX, INT_MAX, INT_MIN, NAME, PATTERN, PREDICATES
 from sfstore.results import Value
 
 __all__ = [
@@ -49,6 +49,11 @@ def pattern(text: str) -> str:
     if not PATTERN.fullmatch(text):
         raise ValueError(f"{text!r} is no pattern: nine letters of TF*012")
     return text
+
+
+def ask(text: str) -> str:
+    """What a join asks: a predicate, or a pattern."""
+    return text if text in PREDICATES else pattern(text)
 
 
 def one_of(words: Any, word: str) -> str:

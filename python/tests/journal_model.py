@@ -19,7 +19,8 @@ import warnings
 import zlib
 from unittest import mock
 
-from sfstore import JournalError, ProgramEnded, Refused, Store, files, journal, oldjournal, sidecar, storefile
+from sfstore import JournalError, ProgramEnded, Refused, Store, files, journal, sidecar, storefile
+from store_support import second_journal_of
 
 # What stands in the folder beside the store, and is the user's.
 USERS = ["town.sfs.new", "town.sfs.part", "town.sfs.journal.new", "town.sfs.json.part", "notes.txt"]
@@ -483,12 +484,12 @@ class Run:
             UNLINK(self.path)
             self.sidecar, self.mode, self.foreign = False, None, None
             data = self._bytes("town.sfs.journal") or b""
-            is_old = oldjournal.is_old(data)
-            if not is_old and data.count(b"\n") == 1:
+            is_first = data.startswith(b"sfstore-journal 1 ")
+            if not is_first and data.count(b"\n") == 1:
                 # A save came through whose answer did not: the file had all edits.
                 self.lines, self.maybe = [], []
             # A journal of version 1 misses its file even where it has no edits.
-            is_missed = self.lines or self.maybe or is_old
+            is_missed = self.lines or self.maybe or is_first
             self.excuse = self.excuse or ("the file was taken away" if is_missed else "")
             self.saved = self.saved if self.excuse else None
 
@@ -549,11 +550,16 @@ class Run:
         self.excuse = self.excuse or "the journal was damaged"
 
     def age(self):
-        """The journal is one of version 1 that says the same."""
+        """The journal is one of an older version that says the same."""
         data = self._closed_journal()
         if data and not self.excuse and self.foreign is None and data.startswith(journal.head_of(self.path)):
+            lines = journal.read_records(data, "x").lines
+            if self.dice.randrange(2):
+                texts = [line[:-1].decode() for line in lines]
+                self._write("town.sfs.journal", second_journal_of(self._bytes("town.sfs") or b"", texts))
+                return
             base = files.digest(self.path) if os.path.exists(self.path) else "new"
-            self._write("town.sfs.journal", old_journal(base, journal.read_records(data, "x").lines))
+            self._write("town.sfs.journal", old_journal(base, lines))
 
     def _closed_journal(self):
         """The bytes of the journal, when no session is open."""

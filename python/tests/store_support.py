@@ -136,12 +136,33 @@ def is_kept(line: str, answer: bytes) -> bool:
 
 def head_of(file: bytes) -> bytes:
     """The head of the journal that goes on from a file; one that is not there has no bytes."""
-    return b"sfstore-journal 2 %d %s\n" % (len(file), hashlib.sha256(file).hexdigest().encode())
+    return b"sfstore-journal 3 %d %s\n" % (len(file), hashlib.sha256(file).hexdigest().encode())
+
+
+def crc_of(data: bytes, known: int = 0) -> int:
+    """The CRC-64 of bytes that follow others, whose CRC-64 is known: bit by bit, as ECMA-182 has it, turned round."""
+    register = ~known
+    for byte in data:
+        register ^= byte
+        for _ in range(8):
+            register = (register & 2**64 - 1) >> 1 ^ (0xC96C5795D7870F42 if register & 1 else 0)
+    return ~register & 2**64 - 1
 
 
 def journal_of(file: bytes, texts: Iterable[str]) -> bytes:
     """The journal of these texts."""
     head = head_of(file)
+    found = [head]
+    behind = crc_of(head)
+    for text in texts:
+        behind = crc_of(text.encode() + b"\n", behind)
+        found.append(b"%016x %s\n" % (behind, text.encode()))
+    return b"".join(found)
+
+
+def second_journal_of(file: bytes, texts: Iterable[str]) -> bytes:
+    """The journal of these texts as version 2 had it."""
+    head = head_of(file).replace(b" 3 ", b" 2 ", 1)
     found = [head]
     behind = hashlib.sha256(head).digest()
     for text in texts:

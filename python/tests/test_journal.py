@@ -25,10 +25,10 @@ from unittest import mock
 
 from support import FOLDER, PROGRAM, TestCase
 
-from sfstore import JournalError, ProgramEnded, Recovered, Refused, Store, files, sidecar
+from sfstore import JournalError, ProgramEnded, Recovered, Refused, Store, files, oldjournal, sidecar
 from sfstore.journal import edits_left, read_records
 from sfstore.kept import Kept
-from store_support import head_of, journal_of
+from store_support import head_of, journal_of, second_journal_of
 
 POINT = "add w POINT ({} {})"
 
@@ -480,20 +480,21 @@ def old_journal(base, lines):
     return data
 
 
-class Conversion(JournalCase):
-    """A journal of version 1 is written anew, once; what it refused is refused."""
+class OldCase(JournalCase):
+    """A journal of an older version is written anew, once; what it refused is refused."""
 
-    LINES = ["layer add w point", POINT.format(1, 1), "@7 " + POINT.format(2, 2), "@7 undo \r", "@7 redo"]
+    LINES = ["layer add w point", POINT.format(1, 1), "@7 " + POINT.format(2, 2), "@7 undo", "@7 redo"]
 
-    def begun(self, lines=LINES, saved=False):
-        """A journal of version 1, over a file or over none."""
+    def begun(self, lines=None, saved=False):
+        """A journal of the version, over a file or over none."""
         if saved:
             with Store(PROGRAM, save=self.path) as plain:
                 plain.add_layer("w", "point")
-        self.journal.write_bytes(old_journal(self.base(), lines))
+        self.journal.write_bytes(self.old(self.LINES if lines is None else lines))
 
-    def base(self):
-        return files.digest(self.path) if self.path.exists() else "new"
+    def old(self, lines):
+        """The bytes of a journal of the version that goes on from the file that is there."""
+        raise NotImplementedError
 
     def refused(self, words):
         before = sorted(os.listdir(self.folder)), self.journal.read_bytes()
@@ -502,6 +503,10 @@ class Conversion(JournalCase):
         names = sorted(name for name in os.listdir(self.folder) if not name.endswith(".lock"))
         self.assertEqual((names, self.journal.read_bytes()), before)
         (self.folder / "town.sfs.lock").unlink()
+
+
+class OldConversions:
+    """What holds of each older version."""
 
     def test_its_edits_are_there_with_their_history(self):
         self.begun()
@@ -534,13 +539,6 @@ class Conversion(JournalCase):
         self.assertEqual(store.recovered, Recovered(5, 8))
         store.close(save=False)
 
-    def test_a_save_that_was_under_way(self):
-        # Before the file took its place all edits count, behind it none does.
-        self.begun([*self.LINES[1:3], f"#saved {'0' * 64}"], saved=True)
-        self.assertEqual(len(self.wkts()), 2)
-        self.journal.write_bytes(old_journal("0" * 64, [*self.LINES[1:3], f"#saved {self.base()}"]))
-        self.assertEqual((edits_left(str(self.path)), self.wkts()), (0, []))
-
     def test_what_is_damaged_is_refused(self):
         self.begun()
         data = self.journal.read_bytes()
@@ -558,7 +556,9 @@ class Conversion(JournalCase):
             plain.add_layer("other")
         self.refused("is not the file that .* goes on from")
         # Without edits nothing is lost.
-        self.journal.write_bytes(old_journal("0" * 64, []))
+        self.begun([])
+        with Store(PROGRAM, save=self.path) as plain:
+            plain.add_layer("third")
         journaled(self.path).close(save=False)
         self.assertEqual(self.journal.read_bytes(), head_of(self.path.read_bytes()))
 
@@ -577,7 +577,7 @@ class Conversion(JournalCase):
                 _, status = os.waitpid(child, 0)
                 data = self.journal.read_bytes()
                 texts = [line.removesuffix("\r") for line in self.LINES]
-                self.assertIn(data, (old_journal("new", self.LINES), journal_of(b"", texts)), (call, skipped))
+                self.assertIn(data, (self.old(self.LINES), journal_of(b"", texts)), (call, skipped))
                 if os.waitstatus_to_exitcode(status) == 0:
                     break
             self.assertEqual(os.waitstatus_to_exitcode(status), 0)
@@ -601,6 +601,61 @@ class Conversion(JournalCase):
             with mock.patch("os.replace", lambda *paths: calls.append("replace")):
                 Kept(str(self.path)).prepare()
         self.assertEqual(calls, ["sync", "replace", "sync"])
+
+
+class FirstVersion(OldConversions, OldCase):
+    LINES = ["layer add w point", POINT.format(1, 1), "@7 " + POINT.format(2, 2), "@7 undo \r", "@7 redo"]
+
+    def old(self, lines):
+        return old_journal(self.base(), lines)
+
+    def base(self):
+        return files.digest(self.path) if self.path.exists() else "new"
+
+    def test_a_save_that_was_under_way(self):
+        # Before the file took its place all edits count, behind it none does.
+        self.begun([*self.LINES[1:3], f"#saved {'0' * 64}"], saved=True)
+        self.assertEqual(len(self.wkts()), 2)
+        self.journal.write_bytes(old_journal("0" * 64, [*self.LINES[1:3], f"#saved {self.base()}"]))
+        self.assertEqual((edits_left(str(self.path)), self.wkts()), (0, []))
+
+
+class SecondVersion(OldConversions, OldCase):
+    def old(self, lines):
+        return second_journal_of(self.path.read_bytes() if self.path.exists() else b"", lines)
+
+    def test_a_save_that_was_ended_between_its_renames(self):
+        """The file has taken its place, and the journal that goes on from it is beside."""
+        self.begun()
+        beside = self.folder / ".town.sfs.sfstore-journal"
+        beside.write_bytes(second_journal_of(b"another file", []))
+        self.assertEqual(edits_left(str(self.path)), 5)
+        with Store(PROGRAM, save=self.path) as plain:
+            plain.run_all(["layer add w point", POINT.format(1, 1)])
+        with self.assertRaisesRegex(JournalError, "is not the file that .* goes on from"):
+            journaled(self.path)
+        beside.write_bytes(self.old([]))
+        self.assertEqual((edits_left(str(self.path)), self.wkts()), (0, ["POINT (1 1)"]))
+        self.assertFalse(beside.exists())
+
+    def test_without_edits_a_missing_file_is_no_loss(self):
+        self.begun([], saved=True)
+        self.path.unlink()
+        journaled(self.path).close(save=False)
+        self.assertEqual(self.journal.read_bytes(), head_of(b""))
+
+    def test_every_flipped_bit_and_every_cut_is_found(self):
+        path, data = str(self.path), self.old(self.LINES[:3])
+        at = data.index(b"\n") + 1
+        for place, bit in itertools.product(range(at, len(data) - 1), range(8)):
+            flipped = bytearray(data)
+            flipped[place] ^= 1 << bit
+            with self.assertRaisesRegex(JournalError, "at place [0-9]+ is damaged"):
+                oldjournal.read(bytes(flipped), "x", path)
+        for cut in range(at, len(data)):
+            records = oldjournal.read(data[:cut], "x", path)
+            self.assertEqual(b"".join(records.edits), b"".join(line[17:] for line in data[at:cut].splitlines(True) if line.endswith(b"\n")))
+            self.assertEqual(len(records.torn), cut - data[:cut].rindex(b"\n") - 1)
 
 
 @contextlib.contextmanager

@@ -29,6 +29,7 @@ from store_support import (
     journal_of,
     plain,
     ran,
+    second_journal_of,
     session,
     side_by_side,
 )
@@ -308,9 +309,11 @@ class OtherFiles(StoreCase):
         self.path.unlink()
         self.assert_refused_untouched(3, "fault journal OtherFile")
 
-    def test_the_journal_of_the_python_module(self) -> None:
-        self.journal.write_bytes(b"sfstore-journal 1 new\n")
-        self.assert_refused_untouched(3, "fault journal OtherFile")
+    def test_journals_of_older_versions(self) -> None:
+        """The Python module writes them anew; the program alone takes none."""
+        for data in (b"sfstore-journal 1 new\n", second_journal_of(b"", []), second_journal_of(b"", self.LINES)):
+            self.journal.write_bytes(data)
+            self.assert_refused_untouched(3, "fault journal OtherFile")
 
     def test_a_file_that_is_no_store(self) -> None:
         self.path.write_bytes(b"no store")

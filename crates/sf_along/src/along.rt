@@ -16,7 +16,7 @@ use std::alloc::{AllocError, Global};
 ///
 /// # Errors
 ///
-/// Want of memory alone.
+/// Out of memory alone.
 pub fn run_along(alloc: Global, a: &Geometry, b: &Geometry) -> Result<bool, AllocError>
     ensures { IfOk result (λ told. IsTrue told ↔ RunAlong a.now b.now) }
 {

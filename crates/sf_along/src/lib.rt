@@ -1,4 +1,4 @@
-//! Whether an edge of one geometry runs along an edge of another, told by sorting the edges that are near
+//! Whether an edge of one geometry runs along an edge of another, found by sorting the edges that are near
 //! the other geometry, with no sweep.
 #![tactic(auto)]
 

@@ -1,4 +1,4 @@
-//! Runs are left out along whose lines the other geometry has no run, as far as a table of marks tells it.
+//! Runs are left out along whose lines the other geometry has no run, as far as a table of marks shows it.
 
 ghost use Rattle.std.specs.Prelude.{◌≡◌, IfOk};
 ghost use Rattle.std.specs.List.{filter};

@@ -23,7 +23,7 @@ pub(crate) const PLACES: usize = 1 << 15;
 /// An edge from its earlier end to its later, by x and then y, of the first of two geometries or of the second.
 ///
 /// Its slope and its height are those of its line, rounded down. Equal fractions are rounded to equal numbers, so edges
-/// of one line have the same two. Edges of two lines hardly ever have, and `goes_with` tells them apart.
+/// of one line have the same two. Edges of two lines hardly ever have, and `goes_with` distinguishes them.
 #[derive(Clone, Copy)]
 pub(crate) struct Run {
     slope: i64,

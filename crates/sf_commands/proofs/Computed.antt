@@ -1,13 +1,15 @@
 -- Commands of lines, computed from the definitions alone.
 use Rattle.std.proofs.Common.{◌≡◌, pos, negsuc, Ok, Err, None, Some, [], ◌∷◌, codes, refl}
-use Rattle.sf_refusals.specs.declared.refusal.Refusal.TheVariants.{Syntax, OffGrid, OutOfRange, BadCommand}
+use Rattle.sf_refusals.specs.declared.refusal.Refusal.TheVariants.{Syntax, OffGrid, OutOfRange, BadCommand, BadPattern}
 use Rattle.sf_geometry.specs.declared.geometry.Geometry.TheVariants as geometries
 use Rattle.sf_geometry.specs.declared.kind.Kind.TheVariants as kinds
+use Rattle.sf_relate.specs.declared.letter.Letter.TheVariants.{Any, Empty, Filled}
+use Rattle.sf_relate.specs.declared.predicate.Predicate.TheVariants as predicates
 use Rattle.sf_layers.specs.declared.layer_kind.LayerKind.TheVariants.{Only}
 use Rattle.sf_features.specs.declared.attr_value.AttrValue.TheVariants as values
 use Rattle.sf_features.specs.declared.column_type.ColumnType.TheVariants as types
 use Rattle.sf_steps.specs.declared.edit.Edit.TheVariants as edits
-use Rattle.sf_commands.specs.declared.command.Command.TheVariants.{Edit, Undo, Redo, Layers, Columns, Show, Get, Find, Hex, Simple, Extent}
+use Rattle.sf_commands.specs.declared.command.Command.TheVariants.{Edit, Undo, Redo, Layers, Columns, Show, Get, Find, Hex, Simple, Extent, JoinMatching, JoinNamed}
 use Rattle.sf_commands.specs.Commands.{command_of}
 
 layer_added : command_of (codes "layer add wells multipolygon") ≡ Ok (0, Edit (edits.AddLayer (codes "wells") (Only kinds.MultiPolygon)))
@@ -87,6 +89,16 @@ values_sought = (refl, refl, refl)
 
 values_not_sought : (command_of (codes "find") ≡ Err BadCommand) × (command_of (codes "find wells") ≡ Err BadCommand) × (command_of (codes "find wells label old") ≡ Err BadCommand) × (command_of (codes "find wells depth 1 2") ≡ Err BadCommand)
 values_not_sought = (refl, refl, refl, refl)
+
+pairs_asked : (command_of (codes "join wells within parcels") ≡ Ok (0, JoinNamed (codes "wells") predicates.Within (codes "parcels") None))
+    × (command_of (codes "@2 join wells overlaps wells 7 ") ≡ Ok (2, JoinNamed (codes "wells") predicates.Overlaps (codes "wells") (Some 7)))
+    × (command_of (codes "join wells T*F**F*** parcels 12") ≡ Ok (0, JoinMatching (codes "wells") (Filled ∷ Any ∷ Empty ∷ Any ∷ Any ∷ Empty ∷ Any ∷ Any ∷ Any ∷ []) (codes "parcels") (Some 12)))
+pairs_asked = (refl, refl, refl)
+
+-- a wrong number of words and a wrong identifier come before a wrong pattern
+pairs_not_asked : (command_of (codes "join") ≡ Err BadCommand) × (command_of (codes "join wells within") ≡ Err BadCommand) × (command_of (codes "join wells near parcels x") ≡ Err BadCommand)
+    × (command_of (codes "join wells near parcels 1 2") ≡ Err BadCommand) × (command_of (codes "join wells near parcels 4294967296") ≡ Err BadCommand) × (command_of (codes "join wells near parcels") ≡ Err BadPattern) × (command_of (codes "join wells T*T parcels 1") ≡ Err BadPattern)
+pairs_not_asked = (refl, refl, refl, refl, refl, refl, refl)
 
 geometries_asked : (command_of (codes "hex wells 7") ≡ Ok (0, Hex (codes "wells") 7)) × (command_of (codes "box wells 7") ≡ Ok (0, Extent (codes "wells") 7))
     × (command_of (codes "simple wells 7") ≡ Ok (0, Simple (codes "wells") 7))

@@ -16,6 +16,7 @@ use Rattle.sf_rules.specs.Faults.{refusal_of as refusal_of_fault}
 use Rattle.sf_rules.specs.Validity.{IsFirstFault, IsVerdict}
 use Rattle.sf_rules.specs.Verdicts.{first_fault}
 use Rattle.sf_rules.proofs.FirstLaws.{first_fault-over_plane}
+use Rattle.sf_relate.specs.declared.predicate.Predicate.{Predicate}
 use Rattle.sf_relate.specs.Patterns.{pattern_of}
 use Rattle.sf_lines.specs.Lines.{line_max}
 use Rattle.sf_wkt.specs.declared.fault.WktFault.{WktFault}
@@ -37,7 +38,7 @@ use Rattle.sf_commands.specs.declared.verb.Action.{Action}
 use Rattle.sf_commands.specs.declared.verb.Action.TheVariants as actions
 use Rattle.sf_commands.specs.Words.{words, skip_blanks, skip_word, trimmed_end}
 use Rattle.sf_commands.specs.Values.{point_by, point_of, value_of}
-use Rattle.sf_commands.specs.Commands.{action_of, add_arguments, add_column, add_layer, addhex_arguments, addressed, addressed_command, after_two_words, alone, behind_at, by_editor, by_verb, by_words, by_digits, by_first_word, bytes_command, column_arguments, column_command, column_type_of, delete_arguments, drop_column, drop_layer, editor_of, faultless, feature_arguments, feature_command, feature_named, find_arguments, get_arguments, given, hex_command, id_of, ids_of, insert_vertex, layer_arguments, layer_command, layer_kind_of, made, match_arguments, move_layer, move_vertex, of_layer, of_text, predicate_of, query_arguments, relate_arguments, remove_vertex, rename_layer, replace_arguments, set_arguments, sought_of, unset_arguments, valid_of, verb_of, vertex_arguments, vertex_command, vertex_place, with_geometry, with_id}
+use Rattle.sf_commands.specs.Commands.{action_of, add_arguments, add_column, add_layer, addhex_arguments, addressed, addressed_command, after_two_words, alone, behind_at, by_editor, by_verb, by_words, by_digits, by_first_word, bytes_command, column_arguments, column_command, column_type_of, delete_arguments, drop_column, drop_layer, editor_of, faultless, feature_arguments, feature_command, feature_named, find_arguments, get_arguments, join_arguments, join_by, beside_of, given, hex_command, id_of, ids_of, insert_vertex, layer_arguments, layer_command, layer_kind_of, made, match_arguments, move_layer, move_vertex, of_layer, of_text, predicate_of, query_arguments, relate_arguments, remove_vertex, rename_layer, replace_arguments, set_arguments, sought_of, unset_arguments, valid_of, verb_of, vertex_arguments, vertex_command, vertex_place, with_geometry, with_id}
 use Rattle.sf_commands.specs.Laws.{GivenGeometriesAreJudgedOverThePlane, HasFaultyGiven, HasJudgedGiven, HasValidGiven, SpellsValid, given_text}
 
 -- what is said of what was made of a text behind the verb
@@ -316,6 +317,21 @@ find_judged t [] text = bad t
 find_judged t (layer ∷ []) text = bad t
 find_judged t (layer ∷ column ∷ value) text = made_judged t (sought_of value text) _ (sought_other value text) (λ sought. tt)
 
+beside_other : (words : List (List ℕ)) → IfErr (beside_of words) IsOther
+beside_other [] = tt
+beside_other (id ∷ []) = given_other (id_of id) _ (λ id. tt)
+beside_other (id ∷ (word ∷ more)) = refl
+
+join_by_judged : (t first ask : List ℕ) (predicate : Option Predicate) (second : List ℕ) (beside : Option ℕ) → Judged t (join_by first ask predicate second beside)
+join_by_judged t first ask (Some predicate) second beside = tt
+join_by_judged t first ask None second beside = made_judged t (ok_or (pattern_of ask) BadPattern) _ (spelled_other (pattern_of ask) BadPattern refl) (λ letters. tt)
+
+join_judged : (t : List ℕ) (arguments : List (List ℕ)) → Judged t (join_arguments arguments)
+join_judged t [] = bad t
+join_judged t (first ∷ []) = bad t
+join_judged t (first ∷ ask ∷ []) = bad t
+join_judged t (first ∷ ask ∷ second ∷ beside) = made_judged t (beside_of beside) _ (beside_other beside) (λ beside. join_by_judged t first ask (predicate_of ask) second beside)
+
 after_two_words_judged : (t : List ℕ) (make : List ℕ → List ℕ → List ℕ → Result Command Refusal) (arguments : List (List ℕ)) → ((layer word : List ℕ) → Judged t (make layer word t))
     → Judged t (after_two_words make arguments t)
 after_two_words_judged t make (layer ∷ word ∷ first ∷ more) judged = judged layer word
@@ -370,6 +386,7 @@ by_verb_judged (Some verbs.Simple) rest = feature_judged (behind rest) Simple (w
 by_verb_judged (Some verbs.Relate) rest = relate_judged (behind rest) (words rest)
 by_verb_judged (Some verbs.Match) rest = match_judged (behind rest) (words rest)
 by_verb_judged (Some verbs.Query) rest = query_judged (behind rest) (words rest)
+by_verb_judged (Some verbs.Join) rest = join_judged (behind rest) (words rest)
 by_verb_judged None rest = bad (behind rest)
 
 by_words_judged : (all : List (List ℕ)) (rest : List ℕ) → Judged (behind rest) (by_words all rest)

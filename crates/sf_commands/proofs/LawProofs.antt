@@ -10,6 +10,7 @@ use Rattle.sf_grid.specs.Plane.{Coordinates, IsOnGrid}
 use Rattle.sf_geometry.specs.declared.geometry.Geometry.{Geometry}
 use Rattle.sf_geometry.specs.Parts.{LiesOnGrid, points_of}
 use Rattle.sf_geometry.specs.Size.{IsSized}
+use Rattle.sf_relate.specs.declared.predicate.Predicate.{Predicate}
 use Rattle.sf_relate.specs.Patterns.{pattern_of}
 use Rattle.sf_lines.specs.Lines.{line_max}
 use Rattle.sf_wkt.specs.declared.fault.WktFault.{WktFault}
@@ -30,7 +31,7 @@ use Rattle.sf_commands.specs.declared.verb.Action.{Action}
 use Rattle.sf_commands.specs.declared.verb.Action.TheVariants as actions
 use Rattle.sf_commands.specs.Words.{words, skip_blanks, skip_word, trimmed_end}
 use Rattle.sf_commands.specs.Values.{point_by, point_of, value_of}
-use Rattle.sf_commands.specs.Commands.{action_of, add_arguments, add_column, add_layer, addhex_arguments, addressed, addressed_command, after_two_words, alone, by_editor, by_verb, by_words, bytes_command, column_arguments, column_command, column_type_of, command_of, delete_arguments, drop_column, drop_layer, feature_arguments, feature_command, feature_named, find_arguments, get_arguments, given, hex_command, id_of, ids_of, insert_vertex, layer_arguments, layer_command, layer_kind_of, made, match_arguments, move_layer, move_vertex, of_layer, of_text, predicate_of, query_arguments, relate_arguments, remove_vertex, rename_layer, replace_arguments, set_arguments, sought_of, unset_arguments, valid_of, verb_of, vertex_arguments, vertex_command, vertex_place, with_geometry}
+use Rattle.sf_commands.specs.Commands.{action_of, add_arguments, add_column, add_layer, addhex_arguments, addressed, addressed_command, after_two_words, alone, by_editor, by_verb, by_words, bytes_command, column_arguments, column_command, column_type_of, command_of, delete_arguments, drop_column, drop_layer, feature_arguments, feature_command, feature_named, find_arguments, get_arguments, join_arguments, join_by, beside_of, given, hex_command, id_of, ids_of, insert_vertex, layer_arguments, layer_command, layer_kind_of, made, match_arguments, move_layer, move_vertex, of_layer, of_text, predicate_of, query_arguments, relate_arguments, remove_vertex, rename_layer, replace_arguments, set_arguments, sought_of, unset_arguments, valid_of, verb_of, vertex_arguments, vertex_command, vertex_place, with_geometry}
 use Rattle.sf_commands.specs.Laws.{CommandsBringGridPoints}
 use Rattle.sf_commands.proofs.PointLemmas.{spelled_on_grid}
 
@@ -194,6 +195,16 @@ find_brings [] text = tt
 find_brings (layer ∷ []) text = tt
 find_brings (layer ∷ column ∷ value) text = made_brings (sought_of value text) _ (λ sought. tt)
 
+join_by_brings : (first ask : List ℕ) (predicate : Option Predicate) (second : List ℕ) (beside : Option ℕ) → Brings (join_by first ask predicate second beside)
+join_by_brings first ask (Some predicate) second beside = tt
+join_by_brings first ask None second beside = made_brings (ok_or (pattern_of ask) BadPattern) _ (λ letters. tt)
+
+join_brings : (arguments : List (List ℕ)) → Brings (join_arguments arguments)
+join_brings [] = tt
+join_brings (first ∷ []) = tt
+join_brings (first ∷ ask ∷ []) = tt
+join_brings (first ∷ ask ∷ second ∷ beside) = made_brings (beside_of beside) _ (λ beside. join_by_brings first ask (predicate_of ask) second beside)
+
 -- of questions with a geometry of their own
 with_geometry_brings : {X : Type 0} (command : List ℕ → X → Geometry → Command) (layer : List ℕ) (spelled : Result X Refusal) (geometry : Result Geometry Refusal)
     → ((x : X) (given : Geometry) → BringsOnGrid (command layer x given)) → Brings (with_geometry command layer spelled geometry)
@@ -249,6 +260,7 @@ by_verb_brings (Some verbs.Simple) rest = feature_brings Simple (words rest) (λ
 by_verb_brings (Some verbs.Relate) rest = relate_brings (words rest) (skip_blanks (skip_word (skip_word rest)))
 by_verb_brings (Some verbs.Match) rest = match_brings (words rest) (skip_blanks (skip_word (skip_word rest)))
 by_verb_brings (Some verbs.Query) rest = query_brings (words rest) (skip_blanks (skip_word (skip_word rest)))
+by_verb_brings (Some verbs.Join) rest = join_brings (words rest)
 by_verb_brings None rest = tt
 
 by_words_brings : (all : List (List ℕ)) (rest : List ℕ) → Brings (by_words all rest)

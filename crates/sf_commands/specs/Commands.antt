@@ -15,6 +15,7 @@ use Rattle.sf_rules.specs.Faults.{refusal_of as refusal_of_fault}
 use Rattle.sf_rules.specs.Verdicts.{first_fault}
 use Rattle.sf_relate.specs.declared.predicate.Predicate.{Predicate}
 use Rattle.sf_relate.specs.declared.predicate.Predicate.TheVariants as predicates
+use Rattle.sf_relate.specs.declared.letter.Letter.{Letter}
 use Rattle.sf_relate.specs.Patterns.{pattern_of}
 use Rattle.sf_lines.specs.Lines.{line_max}
 use Rattle.sf_wkt.specs.declared.fault.WktFault.{WktFault}
@@ -35,7 +36,7 @@ use Rattle.sf_commands.specs.declared.verb.Verb.TheVariants as verbs
 use Rattle.sf_commands.specs.declared.verb.Action.{Action}
 use Rattle.sf_commands.specs.declared.verb.Action.TheVariants as actions
 use Rattle.sf_commands.specs.declared.command.Command.{Command}
-use Rattle.sf_commands.specs.declared.command.Command.TheVariants.{Edit, Undo, Redo, Layers, Columns, Show, Get, Find, Hex, Simple, Extent, Relate, Match, Query}
+use Rattle.sf_commands.specs.declared.command.Command.TheVariants.{Edit, Undo, Redo, Layers, Columns, Show, Get, Find, Hex, Simple, Extent, Relate, Match, Query, JoinMatching, JoinNamed}
 use Rattle.sf_commands.specs.declared.vertex_place.VertexPlace.{VertexPlace}
 use Rattle.sf_commands.specs.Words.{words, skip_blanks, skip_word, trimmed_end}
 use Rattle.sf_commands.specs.Values.{point_of, value_of}
@@ -44,7 +45,7 @@ use Rattle.sf_commands.specs.Values.{point_of, value_of}
 abbrev pub asking_verbs : List (List ℕ × Verb)
 asking_verbs = (codes "layers", verbs.Layers) ∷ (codes "columns", verbs.Columns) ∷ (codes "show", verbs.Show)
     ∷ (codes "get", verbs.Get) ∷ (codes "find", verbs.Find) ∷ (codes "hex", verbs.Hex) ∷ (codes "box", verbs.Box) ∷ (codes "simple", verbs.Simple)
-    ∷ (codes "relate", verbs.Relate) ∷ (codes "match", verbs.Match) ∷ (codes "query", verbs.Query) ∷ []
+    ∷ (codes "relate", verbs.Relate) ∷ (codes "match", verbs.Match) ∷ (codes "query", verbs.Query) ∷ (codes "join", verbs.Join) ∷ []
 
 -- the asking verb that a word spells
 abbrev pub asking_verb_of : List ℕ → Option Verb
@@ -315,6 +316,33 @@ abbrev pub query_arguments : List (List ℕ) → List ℕ → Result Command Ref
 query_arguments arguments text =
     after_two_words (λ layer predicate text. with_geometry Query layer (ok_or (predicate_of predicate) BadCommand) (valid_of (read text))) arguments text
 
+-- the identifier behind the second layer of a join, where there is a word for one
+abbrev pub beside_of : List (List ℕ) → Result (Option ℕ) Refusal
+beside_of [] = Ok None
+beside_of (id ∷ []) = given (id_of id) (λ id. Ok (Some id))
+beside_of arguments = Err BadCommand
+
+-- `join` by a predicate
+abbrev pub join_named : List ℕ → Predicate → List ℕ → Option ℕ → Result Command Refusal
+join_named first predicate second beside = Ok (JoinNamed first predicate second beside)
+
+-- `join` by a pattern, if it could be read
+abbrev pub join_matching : List ℕ → Result (List Letter) Refusal → List ℕ → Option ℕ → Result Command Refusal
+join_matching first pattern second beside = made pattern (λ letters. Ok (JoinMatching first letters second beside))
+
+-- a word that names no predicate is taken as a pattern
+abbrev pub join_by : List ℕ → List ℕ → Option Predicate → List ℕ → Option ℕ → Result Command Refusal
+join_by first ask (Some predicate) second beside = join_named first predicate second beside
+join_by first ask None second beside = join_matching first (ok_or (pattern_of ask) BadPattern) second beside
+
+abbrev pub join_asked : List ℕ → List ℕ → List ℕ → Option ℕ → Result Command Refusal
+join_asked first ask second beside = join_by first ask (predicate_of ask) second beside
+
+-- the command of the words after `join`: a layer, what is asked, another layer, and an identifier where one is given
+abbrev pub join_arguments : List (List ℕ) → Result Command Refusal
+join_arguments (first ∷ ask ∷ second ∷ beside) = made (beside_of beside) (λ beside. join_asked first ask second beside)
+join_arguments arguments = Err BadCommand
+
 -- a command with a layer's name alone after its verb
 abbrev pub of_layer : (List ℕ → Command) → List (List ℕ) → Result Command Refusal
 of_layer command (layer ∷ []) = Ok (command layer)
@@ -349,6 +377,7 @@ by_verb (Some verbs.Simple) rest = feature_arguments Simple (words rest)
 by_verb (Some verbs.Relate) rest = relate_arguments (words rest) (skip_blanks (skip_word (skip_word rest)))
 by_verb (Some verbs.Match) rest = match_arguments (words rest) (skip_blanks (skip_word (skip_word rest)))
 by_verb (Some verbs.Query) rest = query_arguments (words rest) (skip_blanks (skip_word (skip_word rest)))
+by_verb (Some verbs.Join) rest = join_arguments (words rest)
 by_verb None rest = Err BadCommand
 
 -- the command of the words of a line, and the line after the first of them

@@ -6,6 +6,7 @@ mod column_commands;
 mod command;
 mod feature_commands;
 mod identifiers;
+mod join_commands;
 pub mod laws;
 mod layer_commands;
 mod lookup_commands;

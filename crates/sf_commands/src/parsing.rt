@@ -11,6 +11,7 @@ use super::feature_commands::{
     add_arguments, addhex_arguments, box_arguments, delete_arguments, hex_arguments,
     replace_arguments, set_arguments, show_arguments, simple_arguments, unset_arguments,
 };
+use super::join_commands::join_arguments;
 use super::layer_commands::{layer_arguments, layers_arguments};
 use super::lookup_commands::{find_arguments, get_arguments};
 use super::query_commands::{match_arguments, query_arguments, relate_arguments};
@@ -75,6 +76,7 @@ fn arguments_of(alloc: Global, verb: Option<Verb>, words: Words<'_>) -> Result<C
         Some(Verb::Relate) => relate_arguments(alloc, words),
         Some(Verb::Match) => match_arguments(alloc, words),
         Some(Verb::Query) => query_arguments(alloc, words),
+        Some(Verb::Join) => join_arguments(alloc, words),
         None => Err(Refusal::BadCommand),
     }
 }

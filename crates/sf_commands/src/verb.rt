@@ -26,6 +26,7 @@ pub(crate) enum Verb {
     Relate,
     Match,
     Query,
+    Join,
 }
 
 /// What is done with a layer, a column or a vertex.
@@ -96,6 +97,8 @@ fn asking_verb_of(word: &str) -> Option<Verb>
         Some(Verb::Match)
     } else if word == "query" {
         Some(Verb::Query)
+    } else if word == "join" {
+        Some(Verb::Join)
     } else {
         None
     }

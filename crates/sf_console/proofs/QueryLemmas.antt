@@ -32,7 +32,7 @@ related-told (Some layer) id given matrix is = by (feature_of layer id) is
     by (Some feature) h = ap (λ entries. line (matrix_text entries)) h.0
 
 -- one refusal of a query, told as that of the store
-refused-as : (refusal other : QueryRefusal) (r : Result Reply Refusal) → IsErrAnd r (λ e. e ≡ refusal_of refusal) → refusal ≡ other → reply_text r ≡ refusal_line (refusal_of other)
+pub refused-as : (refusal other : QueryRefusal) (r : Result Reply Refusal) → IsErrAnd r (λ e. e ≡ refusal_of refusal) → refusal ≡ other → reply_text r ≡ refusal_line (refusal_of other)
 refused-as refusal other r is same = refused_text r (refusal_of refusal) is ∙ ap (λ x. refusal_line (refusal_of x)) same
 
 pub related-refused : (o : Option LayerContent) (id : ℕ) (given : Geometry) (refusal : QueryRefusal) (r : Result Reply Refusal) → IsRelated o id given (Err refusal)

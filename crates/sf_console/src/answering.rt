@@ -7,6 +7,7 @@ ghost use Rattle.sf_console.specs.Readings.{Asked, reading, text_reading};
 ghost use Rattle.sf_console.specs.Session.{IsAnswered, IsLastAnswered};
 
 use super::finding::{column_of, ids_with, may_be_sought};
+use super::joining::joined;
 use super::reply::{Reply, hex_line};
 use super::rows::{column_rows, feature_rows, id_rows, layer_rows, rows_under};
 use sf_commands::{Command, Identifiers, is_blank_text, parse};
@@ -106,6 +107,14 @@ pub fn execute(
         Command::Query(layer, predicate, given) => {
             let ask = Ask::Named(predicate);
             features(alloc, editor.store(), &layer, &ask, &given)
+        }
+        Command::JoinMatching(first, pattern, second, id) => {
+            let ask = Ask::Matching(pattern);
+            joined(alloc, editor.store(), &first, &ask, &second, id)
+        }
+        Command::JoinNamed(first, predicate, second, id) => {
+            let ask = Ask::Named(predicate);
+            joined(alloc, editor.store(), &first, &ask, &second, id)
         }
     }
 }

@@ -3,7 +3,7 @@ ghost use Rattle.std.specs.Prelude.{◌≡◌, ◌++◌, ◌⊎◌, decimal, fla
 ghost use Rattle.std.specs.List.{prefix_len};
 ghost use Rattle.sf_commands.specs.Commands.{each};
 ghost use Rattle.sf_commands.specs.Values.{is_plain, quoted};
-ghost use Rattle.sf_console.specs.Answers.{column_rows as column_rows_of, column_type_word as column_type_word_of, feature_row, feature_rows as feature_rows_of, layer_kind_word as layer_kind_word_of, layer_row, line, row_under, rows, shown_value};
+ghost use Rattle.sf_console.specs.Answers.{column_rows as column_rows_of, column_type_word as column_type_word_of, feature_row, feature_rows as feature_rows_of, layer_kind_word as layer_kind_word_of, layer_row, line, pair_row, row_under, rows, shown_value};
 
 use sf_geometry::Kind;
 use sf_layers::{AttrValue, Column, ColumnType, Feature, Layer, LayerKind, Store};
@@ -127,6 +127,26 @@ pub(crate) fn id_rows(alloc: Global, ids: &[u32]) -> Result<String, AllocError>
         writeln!(text, "{id}")?;
     }
     Ok(text)
+}
+
+/// A row for each pair of identifiers, in their order.
+pub(crate) fn pair_rows(alloc: Global, pairs: &[(u32, u32)]) -> Result<String, AllocError>
+    ensures { IfOk result (λ text. string_bytes text ≡ rows (map pair_row pairs.now)) }
+{
+    let mut text = String::new(alloc);
+    writeln!(text, "rows {}", pairs.len())?;
+    for pair in pairs {
+        push_pair(&mut text, *pair)?;
+    }
+    Ok(text)
+}
+
+/// The row of a pair, with its line feed.
+fn push_pair(text: &mut String, pair: (u32, u32)) -> Result<(), AllocError>
+    ensures { OnOk result (string_bytes text.new ≡ string_bytes text.old ++ line (pair_row pair)) }
+{
+    let (first, second) = pair;
+    writeln!(text, "{first} {second}")
 }
 
 /// The values of a feature in the columns of its layer, in their order.

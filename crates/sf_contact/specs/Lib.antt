@@ -1,3 +1,4 @@
 pub mod Absence
 pub mod EdgeContact
+pub mod Few
 pub mod Pairs

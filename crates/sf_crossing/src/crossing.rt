@@ -20,7 +20,7 @@ use std::alloc::{AllocError, Global};
 ///
 /// # Errors
 ///
-/// Want of memory alone.
+/// Out of memory alone.
 pub fn have_crossing(
     alloc: Global,
     a: &Geometry,

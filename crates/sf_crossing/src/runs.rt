@@ -24,7 +24,7 @@ const LOOKS_FOR_EACH: usize = 4;
 ///
 /// # Errors
 ///
-/// Want of memory alone.
+/// Out of memory alone.
 pub(crate) fn find_crossing(
     alloc: Global,
     first: &[Edge],

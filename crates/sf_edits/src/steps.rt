@@ -46,7 +46,7 @@ pub fn apply(alloc: Global, store: &mut Store, edit: Edit) -> Result<Inverse, (E
 ///
 /// # Errors
 ///
-/// Where no memory is found, the inverse is given back and nothing is changed. What only takes out
+/// Where no memory is found, the inverse is given back and nothing is changed. What only removes
 /// or exchanges is never refused so.
 pub fn revert(alloc: Global, store: &mut Store, inverse: Inverse) -> Result<Reverted, Inverse>
     requires { Fits store.old inverse }

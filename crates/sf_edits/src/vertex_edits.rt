@@ -176,7 +176,7 @@ pub(crate) fn remove_vertex(
     Err((edit, refusal))
 }
 
-/// Puts a vertex that was taken out back.
+/// Puts a vertex that was removed back.
 pub(crate) fn undo_remove_vertex(
     alloc: Global,
     store: &mut Store,

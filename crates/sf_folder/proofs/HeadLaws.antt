@@ -53,18 +53,18 @@ HasNoFeed-encode_with table (b ∷ bytes) unfed =
 
 -- a head without its line feed
 abbrev title_of : List ℕ → List ℕ
-title_of file = codes "sfstore-journal 2 " ++ (decimal (length file) ++ (codes " " ++ encode_lower (sha256 file)))
+title_of file = codes "sfstore-journal 3 " ++ (decimal (length file) ++ (codes " " ++ encode_lower (sha256 file)))
 
 HasNoFeed-title : (file : List ℕ) → HasNoFeed (title_of file)
 HasNoFeed-title file =
-    HasNoFeed-append (codes "sfstore-journal 2 ") (decimal (length file) ++ (codes " " ++ encode_lower (sha256 file))) refl
+    HasNoFeed-append (codes "sfstore-journal 3 ") (decimal (length file) ++ (codes " " ++ encode_lower (sha256 file))) refl
     (HasNoFeed-append (decimal (length file)) (codes " " ++ encode_lower (sha256 file)) (HasNoFeed-decimal (length file))
     (HasNoFeed-append (codes " ") (encode_lower (sha256 file)) refl (HasNoFeed-encode_with lower_digits (sha256 file) refl)))
 
 head-title : (file : List ℕ) → head_of file ≡ title_of file ++ 10 ∷ []
 head-title file =
-    sym (append_assoc (codes "sfstore-journal 2 ") (decimal (length file) ++ (codes " " ++ encode_lower (sha256 file))) (10 ∷ [])
-    ∙ ap (λ l. codes "sfstore-journal 2 " ++ l) (append_assoc (decimal (length file)) (codes " " ++ encode_lower (sha256 file)) (10 ∷ [])
+    sym (append_assoc (codes "sfstore-journal 3 ") (decimal (length file) ++ (codes " " ++ encode_lower (sha256 file))) (10 ∷ [])
+    ∙ ap (λ l. codes "sfstore-journal 3 " ++ l) (append_assoc (decimal (length file)) (codes " " ++ encode_lower (sha256 file)) (10 ∷ [])
     ∙ ap (λ l. decimal (length file) ++ l) (append_assoc (codes " ") (encode_lower (sha256 file)) (10 ∷ []))))
 
 -- what stands before the first line feed

@@ -41,7 +41,7 @@ lines-unfed (b ∷ bytes) = at (lines_of bytes) (lines-unfed bytes) (b == 10) re
     at lines all true is = (refl, all)
     at lines all false is = onto lines all is
 
-unfed-texts : (sum : List ℕ) (lines : List Line) (texts : List (List ℕ)) (ending : Ending) → AllByRecursion (λ line. HasNoFeed line.bytes) lines → AreIn sum lines texts ending
+unfed-texts : (sum : ℕ) (lines : List Line) (texts : List (List ℕ)) (ending : Ending) → AllByRecursion (λ line. HasNoFeed line.bytes) lines → AreIn sum lines texts ending
     → AllByRecursion HasNoFeed texts
 unfed-texts sum lines [] ending all h = tt
 unfed-texts sum [] (text ∷ texts) ending all h = absurd h

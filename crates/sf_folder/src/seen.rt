@@ -1,4 +1,4 @@
-//! What is seen of a file from outside, to tell whether it is still the one that was looked at.
+//! What is seen of a file from outside, to know whether it is still the one that was looked at.
 
 use std::fs::Metadata;
 use std::os::unix::fs::MetadataExt;

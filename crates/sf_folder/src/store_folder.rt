@@ -67,7 +67,7 @@ impl<'a, R: Files> StoreFolder<'a, R> {
         self.known.sum = sum;
     }
 
-    /// Whether the store's file is still the one that is known. Where that can't be told from outside, its bytes are summed.
+    /// Whether the store's file is still the one that is known. Where that can't be known from outside, its bytes are summed.
     ///
     /// # Errors
     ///
@@ -137,7 +137,7 @@ impl<'a, R: Files> StoreFolder<'a, R> {
         self.sync_folder()
     }
 
-    /// What is known of the store's file that was just put there, so that it is told from another program's.
+    /// What is known of the store's file that was just put there, so that it is distinguished from another program's.
     fn see_store(&mut self) -> io::Result<()> {
         let there = self.files.metadata(self.places.at(Name::Store))?;
         self.known.seen = Some(Seen::of(&there));
@@ -181,7 +181,7 @@ fn not_begun() -> io::Error {
     io::Error::new(ErrorKind::NotFound, "nothing was begun under this name")
 }
 
-/// Another program has changed the store's file. Callers tell it from other faults by its kind, which no call of the system
+/// Another program has changed the store's file. Callers distinguish it from other faults by its kind, which no call of the system
 /// here gives.
 fn changed() -> io::Error {
     io::Error::new(

@@ -31,7 +31,7 @@ pub fn files_are_well_formed()
     ensures { FilesAreWellFormed }
 {}
 
-/// A file that is refused for a fault of shape has at the place that is told a geometry of which that is the first
+/// A file that is refused for a fault of shape has at the place that is reported a geometry of which that is the first
 /// fault over all points of the plane.
 pub fn files_are_judged_over_the_plane()
     ensures { FilesAreJudgedOverThePlane }

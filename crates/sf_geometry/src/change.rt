@@ -18,7 +18,7 @@ pub(crate) enum Change {
     Insert(GridPoint),
     /// The vertex there is moved to the point.
     Move(GridPoint),
-    /// The vertex there is taken out.
+    /// The vertex there is removed.
     Remove,
 }
 

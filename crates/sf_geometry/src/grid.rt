@@ -9,7 +9,7 @@ use super::sequence::Sequence;
 use sf_grid::GridPoint;
 
 impl Geometry {
-    /// Tells a proof that each point is on the grid. It reads the points and does nothing with
+    /// Shows a proof that each point is on the grid. It reads the points and does nothing with
     /// them, so a compiler may leave it out.
     pub fn lies_on_grid(&self)
         ensures { LiesOnGrid self.now }

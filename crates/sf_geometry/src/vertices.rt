@@ -116,7 +116,7 @@ impl Geometry {
         Ok(old)
     }
 
-    /// A copy of the geometry with the vertex at an index taken out.
+    /// A copy of the geometry with the vertex at an index removed.
     ///
     /// # Errors
     ///
@@ -150,7 +150,7 @@ impl Geometry {
         Ok(without)
     }
 
-    /// How many vertices of a part and ring could be taken out: none of a Point, which stays one
+    /// How many vertices of a part and ring could be removed: none of a Point, which stays one
     /// point.
     fn removable_count(&self, part: u32, ring: u32) -> usize
         ensures { result ≡ removable_count_of self.now part ring }

@@ -1,6 +1,7 @@
 -- What has no line feed: digits, marks, and records but for their ends.
-use Rattle.std.proofs.Common.{◌≡◌, ℕ, zero, suc, ◌/◌, ◌%◌, Bool, true, false, ◌==◌, ◌||◌, List, [], ◌∷◌, take, slice_index, refl}
+use Rattle.std.proofs.Common.{◌≡◌, ℕ, zero, suc, ◌/◌, ◌%◌, Bool, true, false, ◌==◌, ◌||◌, List, [], ◌∷◌, slice_index, refl}
 use Rattle.std.specs.List.{list_any}
+use Rattle.std.specs.Int.{w64, to_be_bytes}
 use Rattle.hex.specs.Hex.{encode_with, lower_digits}
 use Rattle.sf_lines.specs.Lines.{HasNoFeed}
 use Rattle.sf_lines.proofs.LineLemmas.{HasNoFeed-append}
@@ -35,7 +36,8 @@ HasNoFeed-encode_with table (b ∷ bytes) unfed =
     (digit table (b / 16) unfed) (digit table (b % 16) unfed) (HasNoFeed-encode_with table bytes unfed)
 
 -- the record of a text has none but at its end
-pub HasNoFeed-line : (sum text : List ℕ) → HasNoFeed text → HasNoFeed (line_of sum text)
+pub HasNoFeed-line : (sum : ℕ) (text : List ℕ) → HasNoFeed text → HasNoFeed (line_of sum text)
 HasNoFeed-line sum text unfed =
     HasNoFeed-append (mark_of (sum_with sum text)) text
-    (HasNoFeed-append (encode_with lower_digits (take 8 (sum_with sum text))) (32 ∷ []) (HasNoFeed-encode_with lower_digits (take 8 (sum_with sum text)) refl) refl) unfed
+    (HasNoFeed-append (encode_with lower_digits (to_be_bytes w64 (sum_with sum text))) (32 ∷ [])
+    (HasNoFeed-encode_with lower_digits (to_be_bytes w64 (sum_with sum text)) refl) refl) unfed

@@ -11,13 +11,13 @@ use Rattle.sf_journal.specs.Fronts.{ReadsFront, FrontLaw}
 use Rattle.sf_journal.proofs.FeedLaws.{HasNoFeed-line}
 
 -- the lines of a record and of what follows it
-pub lines_of-record : (sum text rest : List ℕ) → HasNoFeed text
+pub lines_of-record : (sum : ℕ) (text rest : List ℕ) → HasNoFeed text
     → lines_of (record_of sum text ++ rest) ≡ record { bytes = line_of sum text; ended = true } ∷ lines_of rest
 lines_of-record sum text rest unfed =
     lines_of-append (line_of sum text) rest ∙ ap (λ l. l ++ lines_of rest) (lines_of-fed (line_of sum text) (HasNoFeed-line sum text unfed))
 
 -- records in front of others are read
-pub Reads-records : (sum : List ℕ) (texts : List (List ℕ)) (bytes : List ℕ) (more : List (List ℕ)) (ending : Ending)
+pub Reads-records : (sum : ℕ) (texts : List (List ℕ)) (bytes : List ℕ) (more : List (List ℕ)) (ending : Ending)
     → AllByRecursion HasNoFeed texts → Reads (sum_behind sum texts) bytes more ending → Reads sum (records sum texts ++ bytes) (texts ++ more) ending
 Reads-records sum [] bytes more ending unfed reads = reads
 Reads-records sum (text ∷ texts) bytes more ending unfed reads =
@@ -72,7 +72,7 @@ unfed-within (l ∷ line) (y ∷ front) x e unfed is =
     at_byte later false h u t = subst (λ c. (c || list_any (λ c. c == 10) front) ≡ false) (sym h ∙ ap (λ c. c == 10) (head_eq is)) (later u t)
 
 -- bytes without a line feed were cut short, or there are none
-unfed-reads : (sum : List ℕ) (texts : List (List ℕ)) (front : List ℕ) → HasNoFeed front → ReadsFront sum texts front
+unfed-reads : (sum : ℕ) (texts : List (List ℕ)) (front : List ℕ) → HasNoFeed front → ReadsFront sum texts front
 unfed-reads sum texts [] unfed = record { first = []; later = texts; parts = refl; ending = Whole; reads = refl; undamaged = λ h. cc }
 unfed-reads sum texts (x ∷ xs) unfed = record {
   first = [];
@@ -84,7 +84,7 @@ unfed-reads sum texts (x ∷ xs) unfed = record {
 }
 
 -- a front of records reads as a front of their texts
-front-reads : (sum : List ℕ) (texts : List (List ℕ)) (front rest : List ℕ)
+front-reads : (sum : ℕ) (texts : List (List ℕ)) (front rest : List ℕ)
     → AllByRecursion HasNoFeed texts → front ++ rest ≡ records sum texts → ReadsFront sum texts front
 front-reads sum [] [] rest unfed is = unfed-reads sum [] [] refl
 front-reads sum [] (x ∷ xs) rest unfed is = absurd (no_front is)
@@ -109,7 +109,7 @@ front-reads sum (text ∷ texts) front rest unfed is =
         }
 
 -- the records of two lists
-pub records-append : (sum : List ℕ) (texts more : List (List ℕ)) → records sum (texts ++ more) ≡ records sum texts ++ records (sum_behind sum texts) more
+pub records-append : (sum : ℕ) (texts more : List (List ℕ)) → records sum (texts ++ more) ≡ records sum texts ++ records (sum_behind sum texts) more
 records-append sum [] more = refl
 records-append sum (text ∷ texts) more =
     ap (λ l. record_of sum text ++ l) (records-append (sum_with sum text) texts more)

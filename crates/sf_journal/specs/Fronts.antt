@@ -11,7 +11,7 @@ abbrev pub IsFrontOf : List ℕ → List ℕ → Type 0
 IsFrontOf front bytes = (rest : List ℕ) × (bytes ≡ front ++ rest)
 
 -- the bytes read as a front of these texts, and are not damaged
-pub record ReadsFront (sum : List ℕ) (texts : List (List ℕ)) (bytes : List ℕ) : Type 0 where
+pub record ReadsFront (sum : ℕ) (texts : List (List ℕ)) (bytes : List ℕ) : Type 0 where
   pub first : List (List ℕ)
   pub later : List (List ℕ)
   pub parts : texts ≡ first ++ later
@@ -23,6 +23,6 @@ pub record ReadsFront (sum : List ℕ) (texts : List (List ℕ)) (bytes : List �
 -- a front of the others
 abbrev pub FrontLaw : Type 0
 FrontLaw =
-    (sum : List ℕ) (texts more : List (List ℕ)) (bytes : List ℕ) → AllByRecursion HasNoFeed (texts ++ more)
+    (sum : ℕ) (texts more : List (List ℕ)) (bytes : List ℕ) → AllByRecursion HasNoFeed (texts ++ more)
     → IsFrontOf (records sum texts) bytes → IsFrontOf bytes (records sum (texts ++ more))
     → (first : List (List ℕ)) × (later : List (List ℕ)) × (ending : Ending) × (more ≡ first ++ later) × Reads sum bytes (texts ++ first) ending × (ending ≢ Damaged)

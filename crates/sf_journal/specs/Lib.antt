@@ -1,3 +1,4 @@
+pub mod Crc
 pub mod Records
 pub mod Readings
 pub mod Fronts

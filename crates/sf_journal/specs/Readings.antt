@@ -11,7 +11,7 @@ pub data Ending : Type 0 where
   Damaged : Ending
 
 -- these texts stand in the lines behind a sum, and then the lines end so
-abbrev pub AreIn : List ℕ → List Line → List (List ℕ) → Ending → Type 0
+abbrev pub AreIn : ℕ → List Line → List (List ℕ) → Ending → Type 0
 AreIn sum [] [] ending = ending ≡ Whole
 AreIn sum [] (text ∷ texts) ending = ⊥
 AreIn sum (line ∷ lines) [] ending =
@@ -21,5 +21,5 @@ AreIn sum (line ∷ lines) (text ∷ texts) ending =
     (line.ended ≡ true) × (line.bytes ≡ line_of sum text) × AreIn (sum_with sum text) lines texts ending
 
 -- these texts stand in the bytes behind a sum, and then the bytes end so
-abbrev pub Reads : List ℕ → List ℕ → List (List ℕ) → Ending → Type 0
+abbrev pub Reads : ℕ → List ℕ → List (List ℕ) → Ending → Type 0
 Reads sum bytes texts ending = AreIn sum (lines_of bytes) texts ending

@@ -16,5 +16,5 @@ pub fn head(alloc: Global, file: &FileSum) -> Result<String, AllocError>
     ensures { IfOk result (λ head. string_bytes head ≡ head_with file.now.size file.now.digest) }
 {
     let digest = hex::encode(alloc, file.digest.as_slice())?;
-    format!(in alloc; "sfstore-journal 2 {} {}\n", file.size, digest)
+    format!(in alloc; "sfstore-journal 3 {} {}\n", file.size, digest)
 }

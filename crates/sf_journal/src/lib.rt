@@ -1,6 +1,7 @@
 //! The journal of a store as bytes: a head that names the file which it goes on from, and a record for each edit since.
 #![tactic(auto)]
 
+mod crc;
 mod file_sums;
 mod heads;
 pub mod laws;

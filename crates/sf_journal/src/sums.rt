@@ -1,9 +1,9 @@
 //! The sums of a journal: each is of the one before it and of a text, so of all texts up to there.
 ghost use Rattle.std.specs.Prelude.{◌≡◌, ℕ, List, MatchOption};
-ghost use Rattle.sha2.specs.Sha256.{sha256};
+ghost use Rattle.sf_journal.specs.Crc.{crc};
 ghost use Rattle.sf_journal.specs.Records.{sum_with, mark_of, line_of};
 
-use sha2::{Digest, Sha256};
+use super::crc::{crc_behind_line, crc_of};
 use std::marker::Model;
 
 /// How many bytes of a record stand before its text: 16 digits and a blank.
@@ -12,44 +12,36 @@ pub const MARK_LEN: usize = 17;
 /// How many digits of the sum a record has.
 const DIGITS_LEN: usize = 16;
 
-/// How many bytes these digits are.
-const SHOWN_LEN: usize = 8;
-
-/// The sum behind the head of a journal, or behind a record of it: a SHA-256. Contracts see its 32 bytes.
+/// The sum behind the head of a journal, or behind a record of it: a CRC-64. Contracts see the number.
 #[derive(Clone, Copy)]
 pub struct Sum {
-    bytes: [u8; 32],
+    crc: u64,
 }
 
 impl Model for Sum {
-    ghost use Rattle.std.specs.Prelude.{ℕ, List};
+    ghost use Rattle.std.specs.Prelude.{ℕ};
 
-    ghost Value = { List ℕ };
+    ghost Value = { ℕ };
 
-    ghost view = { λ a. a.bytes };
+    ghost view = { λ a. a.crc };
 
-    ghost inverse = { λ bytes. record { bytes = bytes } };
+    ghost inverse = { λ crc. record { crc = crc } };
 }
 
 impl Sum {
     /// The sum behind the head of a journal.
     pub fn of_head(head: &[u8]) -> Sum
-        ensures { result ≡ sha256 head.now }
+        ensures { result ≡ crc head.now }
     {
-        Sum {
-            bytes: Sha256::digest(head),
-        }
+        Sum { crc: crc_of(head) }
     }
 
     /// The sum behind a text that follows this one.
     pub fn with(self, text: &[u8]) -> Sum
         ensures { result ≡ sum_with self text.now }
     {
-        let mut hasher = Sha256::new();
-        hasher.update(&self.bytes);
-        hasher.update(text);
         Sum {
-            bytes: hasher.finalize(),
+            crc: crc_behind_line(self.crc, text),
         }
     }
 
@@ -58,7 +50,7 @@ impl Sum {
         ensures { result ≡ mark_of self }
     {
         let mut mark = [b' '; MARK_LEN];
-        hex::encode_to_slice(&self.bytes[..SHOWN_LEN], &mut mark[..DIGITS_LEN]).unwrap();
+        hex::encode_to_slice(&self.crc.to_be_bytes(), &mut mark[..DIGITS_LEN]).unwrap();
         mark
     }
 

@@ -37,7 +37,7 @@ front_of_snoc (x ∷ before) a after (y ∷ calls) c is =
     tail_eq h = cc
 
 -- one moment more
-pub moments-snoc : (sum : List ℕ) (old : Machine) (lines : List Line) (last : Machine) (calls : List Call) (call : Call)
+pub moments-snoc : (sum : ℕ) (old : Machine) (lines : List Line) (last : Machine) (calls : List Call) (call : Call)
     → AtEachMoment sum old lines last calls → IsCovered sum old lines last (after_calls nothing_yet (calls ++ call ∷ []))
     → AtEachMoment sum old lines last (calls ++ call ∷ [])
 moments-snoc sum old lines last calls call moments covered before [] is =
@@ -46,12 +46,12 @@ moments-snoc sum old lines last calls call moments covered before (a ∷ after) 
     let found = front_of_snoc before a after calls call is in moments before found.0 found.1
 
 -- a front of records is one of more records
-IsFrontOf-records : (bytes sum : List ℕ) (texts more : List (List ℕ)) → IsFrontOf bytes (records sum texts) → IsFrontOf bytes (records sum (texts ++ more))
+IsFrontOf-records : (bytes : List ℕ) (sum : ℕ) (texts more : List (List ℕ)) → IsFrontOf bytes (records sum texts) → IsFrontOf bytes (records sum (texts ++ more))
 IsFrontOf-records bytes sum texts more front =
     IsFrontOf-trans bytes (records sum texts) (records sum (texts ++ more)) front (records (sum_behind sum texts) more, records-append sum texts more)
 
 -- with more lines it stays so
-pub covered-more : (sum : List ℕ) (old : Machine) (lines : List Line) (last : Machine) (standing : Standing) (more : List Line) (output : List ℕ) (texts : List (List ℕ)) (new : Machine)
+pub covered-more : (sum : ℕ) (old : Machine) (lines : List Line) (last : Machine) (standing : Standing) (more : List Line) (output : List ℕ) (texts : List (List ℕ)) (new : Machine)
     → IsCovered sum old lines last standing → Keeps last more output texts new → IsCovered sum old (lines ++ more) new standing
 covered-more sum old lines last standing more output texts new c keeps =
     record {
@@ -71,7 +71,7 @@ covered-more sum old lines last standing more output texts new c keeps =
           (IsFrontOf-records (standing.kept ++ standing.waiting) sum (c.texts ++ c.later_texts) texts c.journal);
     }
 
-pub moments-more : (sum : List ℕ) (old : Machine) (lines : List Line) (last : Machine) (calls : List Call) (more : List Line) (output : List ℕ) (texts : List (List ℕ)) (new : Machine)
+pub moments-more : (sum : ℕ) (old : Machine) (lines : List Line) (last : Machine) (calls : List Call) (more : List Line) (output : List ℕ) (texts : List (List ℕ)) (new : Machine)
     → AtEachMoment sum old lines last calls → Keeps last more output texts new → AtEachMoment sum old (lines ++ more) new calls
 moments-more sum old lines last calls more output texts new moments keeps before after is =
     covered-more sum old lines last (after_calls nothing_yet before) more output texts new (moments before after is) keeps

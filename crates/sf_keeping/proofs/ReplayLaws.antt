@@ -21,7 +21,7 @@ use Rattle.sf_keeping.specs.declared.replaying.Replayed.{Replayed}
 use Rattle.sf_keeping.proofs.Underways.{sum_behind-append}
 
 -- the records before the rest were done again
-pub record ReplaysSo (first_sum bytes rest : List ℕ) (old : Machine) (sum : List ℕ) (new : Machine) : Type 0 where
+pub record ReplaysSo (first_sum : ℕ) (bytes rest : List ℕ) (old : Machine) (sum : ℕ) (new : Machine) : Type 0 where
   pub texts : List (List ℕ)
   pub parts : bytes ≡ records first_sum texts ++ rest
   pub leads : Leads old texts new
@@ -29,7 +29,7 @@ pub record ReplaysSo (first_sum bytes rest : List ℕ) (old : Machine) (sum : Li
   pub unfed : AllByRecursion HasNoFeed texts
 
 -- none yet
-pub Replays-start : (sum bytes : List ℕ) (old : Machine) → ReplaysSo sum bytes bytes old sum old
+pub Replays-start : (sum : ℕ) (bytes : List ℕ) (old : Machine) → ReplaysSo sum bytes bytes old sum old
 Replays-start sum bytes old = record { texts = []; parts = refl; leads = refl; behind = refl; unfed = tt }
 
 -- what ends bytes without a feed has none
@@ -51,11 +51,11 @@ all_more [] text all unfed = (unfed, tt)
 all_more (t ∷ texts) text all unfed = (all.0, all_more texts text all.1 unfed)
 
 -- the records of some texts and of one more
-records_more : (sum : List ℕ) (texts : List (List ℕ)) (text : List ℕ) → records sum (texts ++ text ∷ []) ≡ records sum texts ++ record_of (sum_behind sum texts) text
+records_more : (sum : ℕ) (texts : List (List ℕ)) (text : List ℕ) → records sum (texts ++ text ∷ []) ≡ records sum texts ++ record_of (sum_behind sum texts) text
 records_more sum texts text = records-append sum texts (text ∷ []) ∙ ap (λ l. records sum texts ++ l) (append-nil (record_of (sum_behind sum texts) text))
 
 -- the bytes, with the record that stands at their rest
-pub parts_more : (first_sum bytes rest : List ℕ) (old : Machine) (sum : List ℕ) (mid : Machine) (end : ℕ) (text : List ℕ)
+pub parts_more : (first_sum : ℕ) (bytes rest : List ℕ) (old : Machine) (sum : ℕ) (mid : Machine) (end : ℕ) (text : List ℕ)
     → (r : ReplaysSo first_sum bytes rest old sum mid) → IsFirstFeed rest end → take end rest ≡ line_of sum text
     → bytes ≡ records first_sum (r.texts ++ text ∷ []) ++ drop (end + 1) rest
 parts_more first_sum bytes rest old sum mid end text r feed is =
@@ -64,7 +64,7 @@ parts_more first_sum bytes rest old sum mid end text r feed is =
     ∙ ap (λ l. l ++ drop (end + 1) rest) (sym (records_more first_sum r.texts text))
 
 -- one record more was done again
-pub Replays-step : (first_sum bytes rest left : List ℕ) (old : Machine) (sum next : List ℕ) (mid new : Machine) (end : ℕ) (text : List ℕ)
+pub Replays-step : (first_sum : ℕ) (bytes rest left : List ℕ) (old : Machine) (sum next : ℕ) (mid new : Machine) (end : ℕ) (text : List ℕ)
     → ReplaysSo first_sum bytes rest old sum mid → IsFirstFeed rest end → take end rest ≡ line_of sum text
     → changed mid (text_reading text) ≡ Some new → next ≡ sum_with sum text → left ≡ drop (end + 1) rest
     → ReplaysSo first_sum bytes left old next new
@@ -78,14 +78,14 @@ Replays-step first_sum bytes rest left old sum next mid new end text r feed is d
     }
 
 -- where the rest begins
-pub place_of : (first_sum bytes rest : List ℕ) (old : Machine) (sum : List ℕ) (new : Machine) → (r : ReplaysSo first_sum bytes rest old sum new)
+pub place_of : (first_sum : ℕ) (bytes rest : List ℕ) (old : Machine) (sum : ℕ) (new : Machine) → (r : ReplaysSo first_sum bytes rest old sum new)
     → length bytes - length rest ≡ length (records first_sum r.texts)
 place_of first_sum bytes rest old sum new r =
     let both : length bytes ≡ length (records first_sum r.texts) + length rest = ap length r.parts ∙ length-append (records first_sum r.texts) rest in
     omega (arith, both)
 
 -- what stands at the rest is no record
-pub Reads-damaged : (first_sum bytes rest : List ℕ) (old : Machine) (sum : List ℕ) (new : Machine) (end : ℕ)
+pub Reads-damaged : (first_sum : ℕ) (bytes rest : List ℕ) (old : Machine) (sum : ℕ) (new : Machine) (end : ℕ)
     → (r : ReplaysSo first_sum bytes rest old sum new) → IsFirstFeed rest end → ((text : List ℕ) → take end rest ≡ line_of sum text → ⊥)
     → Reads first_sum bytes r.texts Damaged
 Reads-damaged first_sum bytes rest old sum new end r feed none =
@@ -102,12 +102,12 @@ some_byte [] = false
 some_byte (b ∷ bytes) = true
 
 -- the rest has no feed
-at_end : (sum rest : List ℕ) → HasNoFeed rest → Reads sum rest [] (ending_of (some_byte rest))
+at_end : (sum : ℕ) (rest : List ℕ) → HasNoFeed rest → Reads sum rest [] (ending_of (some_byte rest))
 at_end sum [] unfed = refl
 at_end sum (b ∷ bytes) unfed = subst (λ l. AreIn sum l [] CutShort) (sym (lines_of-unfed b bytes unfed)) (inl (refl, refl))
 
 -- all records were done again
-pub Replays-end : (first_sum bytes rest : List ℕ) (old : Machine) (sum : List ℕ) (new : Machine) (done : Replayed)
+pub Replays-end : (first_sum : ℕ) (bytes rest : List ℕ) (old : Machine) (sum : ℕ) (new : Machine) (done : Replayed)
     → ReplaysSo first_sum bytes rest old sum new → HasNoFeed rest → done.sum ≡ sum → done.whole ≡ length bytes - length rest → done.is_cut_short ≡ some_byte rest
     → IsReplayed first_sum bytes old done new
 Replays-end first_sum bytes rest old sum new done r unfed same whole cut =
@@ -124,7 +124,7 @@ Replays-end first_sum bytes rest old sum new done r unfed same whole cut =
     }
 
 -- it failed at the text of the record that stands at the rest
-pub FailsAt-text : (first_sum bytes rest : List ℕ) (old : Machine) (sum : List ℕ) (mid : Machine) (end : ℕ) (text : List ℕ) (fault : ReplayFault)
+pub FailsAt-text : (first_sum : ℕ) (bytes rest : List ℕ) (old : Machine) (sum : ℕ) (mid : Machine) (end : ℕ) (text : List ℕ) (fault : ReplayFault)
     → ReplaysSo first_sum bytes rest old sum mid → IsFirstFeed rest end → take end rest ≡ line_of sum text
     → (fault ≡ Memory) ⊎ (fault ≡ NotAccepted (length bytes - length rest)) → FailsAt first_sum bytes old fault
 FailsAt-text first_sum bytes rest old sum mid end text fault r feed is (inl memory) = subst (FailsAt first_sum bytes old) (sym memory) tt
@@ -133,7 +133,7 @@ FailsAt-text first_sum bytes rest old sum mid end text fault r feed is (inr plac
     (r.texts, text, drop (end + 1) rest, mid, parts_more first_sum bytes rest old sum mid end text r feed is, r.leads, place_of first_sum bytes rest old sum mid r)
 
 -- the rest is no longer than the whole
-pub rest_fits : (first_sum bytes rest : List ℕ) (old : Machine) (sum : List ℕ) (new : Machine) → ReplaysSo first_sum bytes rest old sum new → length rest ≤ length bytes
+pub rest_fits : (first_sum : ℕ) (bytes rest : List ℕ) (old : Machine) (sum : ℕ) (new : Machine) → ReplaysSo first_sum bytes rest old sum new → length rest ≤ length bytes
 rest_fits first_sum bytes rest old sum new r =
     let both : length bytes ≡ length (records first_sum r.texts) + length rest = ap length r.parts ∙ length-append (records first_sum r.texts) rest in
     omega (arith, both)

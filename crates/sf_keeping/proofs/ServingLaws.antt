@@ -23,7 +23,7 @@ use Rattle.sf_keeping.proofs.TakingLaws.{AskForNone-append}
 use Rattle.sf_keeping.proofs.Underways.{Underway-start}
 
 -- nothing was read
-pub KeepsOn-start : (unread : Option (List ℕ)) (calls : Option (List Call)) (sum : List ℕ) (old : Machine) (input next : Ahead)
+pub KeepsOn-start : (unread : Option (List ℕ)) (calls : Option (List Call)) (sum : ℕ) (old : Machine) (input next : Ahead)
     → next ≡ with_new_line input → Consumes unread unread [] → KeepsOn unread unread input.rest calls calls sum old next (nothing_waits sum) old
 KeepsOn-start unread calls sum old input next is consumed =
     record {
@@ -44,7 +44,7 @@ two_lines : (xs ys : List ℕ) → IsWhole xs → lines_of (xs ++ ys) ≡ lines_
 two_lines xs ys whole = lines_of-whole xs ys whole
 
 -- the lines were carried out that end in what was read
-pub KeepsOn-lines : (unread left : Option (List ℕ)) (ahead : List ℕ) (start c1 c2 : Option (List Call)) (sum : List ℕ) (old mid new : Machine) (input next : Ahead) (was waits : Waiting)
+pub KeepsOn-lines : (unread left : Option (List ℕ)) (ahead : List ℕ) (start c1 c2 : Option (List Call)) (sum : ℕ) (old mid new : Machine) (input next : Ahead) (was waits : Waiting)
     → (p : KeepsOn unread left ahead start c1 sum old input was mid) → TakesLines p.after input.rest c1 c2 was mid next waits new
     → KeepsOn unread left ahead start c2 sum old next waits new
 KeepsOn-lines unread left ahead start c1 c2 sum old mid new input next was waits p t =
@@ -66,7 +66,7 @@ KeepsOn-lines unread left ahead start c1 c2 sum old mid new input next was waits
     regroup xs ys zs ws = simp append_assoc
 
 -- what waited was kept
-pub KeepsOn-kept : (unread left : Option (List ℕ)) (ahead : List ℕ) (start c1 c2 : Option (List Call)) (sum : List ℕ) (old new : Machine) (input : Ahead) (was waits : Waiting)
+pub KeepsOn-kept : (unread left : Option (List ℕ)) (ahead : List ℕ) (start c1 c2 : Option (List Call)) (sum : ℕ) (old new : Machine) (input : Ahead) (was waits : Waiting)
     → KeepsOn unread left ahead start c1 sum old input was new → Stays c1 c2 was waits → KeepsOn unread left ahead start c2 sum old input waits new
 KeepsOn-kept unread left ahead start c1 c2 sum old new input was waits p stays =
     record {
@@ -83,7 +83,7 @@ KeepsOn-kept unread left ahead start c1 c2 sum old new input was waits p stays =
     }
 
 -- more was read
-pub KeepsOn-filled : (unread left more : Option (List ℕ)) (ahead : List ℕ) (start c : Option (List Call)) (sum : List ℕ) (old new : Machine) (input next : Ahead) (waits : Waiting)
+pub KeepsOn-filled : (unread left more : Option (List ℕ)) (ahead : List ℕ) (start c : Option (List Call)) (sum : ℕ) (old new : Machine) (input next : Ahead) (waits : Waiting)
     → KeepsOn unread left ahead start c sum old input waits new → input.rest ≡ [] → Consumes left more next.rest → next.begun ≡ input.begun
     → KeepsOn unread more ahead start c sum old next waits new
 KeepsOn-filled unread left more ahead start c sum old new input next waits p empty consumes same =
@@ -101,7 +101,7 @@ KeepsOn-filled unread left more ahead start c sum old new input next waits p emp
     }
 
 -- it ended behind some first lines
-pub EndsKept-at : (unread left : Option (List ℕ)) (ahead : List ℕ) (start c1 c2 : Option (List Call)) (sum : List ℕ) (old mid new : Machine) (input : Ahead) (was : Waiting) (more : List Line)
+pub EndsKept-at : (unread left : Option (List ℕ)) (ahead : List ℕ) (start c1 c2 : Option (List Call)) (sum : ℕ) (old mid new : Machine) (input : Ahead) (was : Waiting) (more : List Line)
     → (p : KeepsOn unread left ahead start c1 sum old input was mid) → lines_of (p.after ++ input.rest) ≡ more → AskForNone more → BreaksWithin c1 c2 was mid more new
     → EndsKept unread left ahead start c2 sum old new
 EndsKept-at unread left ahead start c1 c2 sum old mid new input was more p rest none breaks =
@@ -124,7 +124,7 @@ EndsKept-at unread left ahead start c1 c2 sum old mid new input was more p rest 
     front_none (x ∷ xs) ys all = (all.0, front_none xs ys all.1)
 
 -- it ended before a line more
-pub EndsKept-before : (unread left : Option (List ℕ)) (ahead : List ℕ) (start c1 c2 : Option (List Call)) (sum : List ℕ) (old new : Machine) (input : Ahead) (was : Waiting)
+pub EndsKept-before : (unread left : Option (List ℕ)) (ahead : List ℕ) (start c1 c2 : Option (List Call)) (sum : ℕ) (old new : Machine) (input : Ahead) (was : Waiting)
     → KeepsOn unread left ahead start c1 sum old input was new → Breaks c1 c2 was → EndsKept unread left ahead start c2 sum old new
 EndsKept-before unread left ahead start c1 c2 sum old new input was p breaks =
     let b = breaks start sum old (lines_of p.finished) new p.underway in
@@ -141,7 +141,7 @@ EndsKept-before unread left ahead start c1 c2 sum old new input was p breaks =
     }
 
 -- it ended as no more could be read
-pub EndsKept-unread : (unread left more : Option (List ℕ)) (ahead : List ℕ) (start c : Option (List Call)) (sum : List ℕ) (old new : Machine) (input : Ahead) (waits : Waiting)
+pub EndsKept-unread : (unread left more : Option (List ℕ)) (ahead : List ℕ) (start c : Option (List Call)) (sum : ℕ) (old new : Machine) (input : Ahead) (waits : Waiting)
     → KeepsOn unread left ahead start c sum old input waits new → Keeps left more → EndsKept unread more ahead start c sum old new
 EndsKept-unread unread left more ahead start c sum old new input waits p keeps =
     record {
@@ -157,7 +157,7 @@ EndsKept-unread unread left more ahead start c sum old new input waits p keeps =
     }
 
 -- it ended within the lines that end in what was read
-pub EndsKept-within : (unread left : Option (List ℕ)) (ahead : List ℕ) (start c1 c2 : Option (List Call)) (sum : List ℕ) (old mid new : Machine) (input : Ahead) (was : Waiting)
+pub EndsKept-within : (unread left : Option (List ℕ)) (ahead : List ℕ) (start c1 c2 : Option (List Call)) (sum : ℕ) (old mid new : Machine) (input : Ahead) (was : Waiting)
     → (p : KeepsOn unread left ahead start c1 sum old input was mid) → BreaksLines p.after input.rest c1 c2 was mid new → EndsKept unread left ahead start c2 sum old new
 EndsKept-within unread left ahead start c1 c2 sum old mid new input was p breaks =
     let b = breaks start sum old (lines_of p.finished) p.underway in
@@ -176,7 +176,7 @@ EndsKept-within unread left ahead start c1 c2 sum old mid new input was p breaks
     }
 
 -- records of no bytes are of no text
-no_texts : (sum : List ℕ) (texts : List (List ℕ)) → [] ≡ records sum texts → texts ≡ []
+no_texts : (sum : ℕ) (texts : List (List ℕ)) → [] ≡ records sum texts → texts ≡ []
 no_texts sum [] none = refl
 no_texts sum (text ∷ texts) none = absurd (some (line_of sum text) (records (sum_with sum text) texts) none)
   where
@@ -185,7 +185,7 @@ no_texts sum (text ∷ texts) none = absurd (some (line_of sum text) (records (s
     some (x ∷ xs) ys h = cc
 
 -- where nothing waits, all of it stands
-pub record Stands (start now : Option (List Call)) (sum : List ℕ) (old : Machine) (lines : List Line) (behind : List ℕ) (new : Machine) : Type 0 where
+pub record Stands (start now : Option (List Call)) (sum : ℕ) (old : Machine) (lines : List Line) (behind : ℕ) (new : Machine) : Type 0 where
   pub output : List ℕ
   pub texts : List (List ℕ)
   pub ran : KeepsLinesOf old lines output texts new
@@ -195,7 +195,7 @@ pub record Stands (start now : Option (List Call)) (sum : List ℕ) (old : Machi
   pub standing : after_calls nothing_yet calls ≡ record { kept = records sum texts; waiting = []; answered = output; broken = false }
   pub behind_all : behind ≡ sum_behind sum texts
 
-pub Underway-whole : (start now : Option (List Call)) (sum : List ℕ) (old : Machine) (lines : List Line) (waits : Waiting) (new : Machine)
+pub Underway-whole : (start now : Option (List Call)) (sum : ℕ) (old : Machine) (lines : List Line) (waits : Waiting) (new : Machine)
     → IsUnderway start now sum old lines waits new → waits ≡ nothing_waits waits.sum → Stands start now sum old lines waits.sum new
 Underway-whole start now sum old lines waits new u none =
     let no_later : u.later ≡ [] = no_texts (sum_behind sum u.texts) u.later (ap (λ w. w.records) (sym none ∙ u.waits)) in
@@ -215,14 +215,14 @@ Underway-whole start now sum old lines waits new u none =
     }
 
 -- the lines before one that asks for a save
-save_whole : (unread left : Option (List ℕ)) (ahead : List ℕ) (start c1 c2 : Option (List Call)) (sum : List ℕ) (old mid new : Machine) (input next : Ahead) (was waits : Waiting)
+save_whole : (unread left : Option (List ℕ)) (ahead : List ℕ) (start c1 c2 : Option (List Call)) (sum : ℕ) (old mid new : Machine) (input next : Ahead) (was waits : Waiting)
     → (p : KeepsOn unread left ahead start c1 sum old input was mid) → (t : TakesSave p.after input.rest c1 c2 was mid next waits new)
     → IsUnderway start c2 sum old (lines_of (p.finished ++ t.finished)) waits new
 save_whole unread left ahead start c1 c2 sum old mid new input next was waits p t =
     subst (λ l. IsUnderway start c2 sum old l waits new) (sym (two_lines p.finished t.finished p.whole)) (t.goes_on start sum old (lines_of p.finished) p.underway)
 
 -- a save is asked for
-pub ServesKept-save : (unread left : Option (List ℕ)) (ahead : List ℕ) (start c1 c2 c3 : Option (List Call)) (sum : List ℕ) (old mid new : Machine) (input next : Ahead) (was waits kept : Waiting)
+pub ServesKept-save : (unread left : Option (List ℕ)) (ahead : List ℕ) (start c1 c2 c3 : Option (List Call)) (sum : ℕ) (old mid new : Machine) (input next : Ahead) (was waits kept : Waiting)
     → (p : KeepsOn unread left ahead start c1 sum old input was mid) → TakesSave p.after input.rest c1 c2 was mid next waits new
     → Stays c2 c3 waits kept → kept ≡ nothing_waits waits.sum
     → ServesKept Save unread left ahead next.rest start c3 sum kept.sum old new
@@ -263,7 +263,7 @@ ServesKept-save unread left ahead start c1 c2 c3 sum old mid new input next was 
     not_ended h = cc
 
 -- what waited before it could not be kept
-pub ServesKept-save-broken : (unread left : Option (List ℕ)) (ahead : List ℕ) (start c1 c2 c3 : Option (List Call)) (sum : List ℕ) (old mid new : Machine) (input next : Ahead) (was waits : Waiting)
+pub ServesKept-save-broken : (unread left : Option (List ℕ)) (ahead : List ℕ) (start c1 c2 c3 : Option (List Call)) (sum : ℕ) (old mid new : Machine) (input next : Ahead) (was waits : Waiting)
     → (p : KeepsOn unread left ahead start c1 sum old input was mid) → TakesSave p.after input.rest c1 c2 was mid next waits new
     → Breaks c2 c3 waits → EndsKept unread left ahead start c3 sum old new
 ServesKept-save-broken unread left ahead start c1 c2 c3 sum old mid new input next was waits p t breaks =
@@ -288,7 +288,7 @@ ServesKept-save-broken unread left ahead start c1 c2 c3 sum old mid new input ne
     regroup xs ys zs ws = simp append_assoc
 
 -- the input ended
-pub ServesKept-finish : (unread left : Option (List ℕ)) (ahead : List ℕ) (start c1 c2 : Option (List Call)) (sum : List ℕ) (old mid new : Machine) (input : Ahead) (was waits : Waiting) (stop : Stop)
+pub ServesKept-finish : (unread left : Option (List ℕ)) (ahead : List ℕ) (start c1 c2 : Option (List Call)) (sum : ℕ) (old mid new : Machine) (input : Ahead) (was waits : Waiting) (stop : Stop)
     → (p : KeepsOn unread left ahead start c1 sum old input was mid) → input.rest ≡ [] → IsAtEnd left → Finishes stop p.after c1 c2 was mid waits new
     → ServesKept stop unread left ahead input.rest start c2 sum waits.sum old new
 ServesKept-finish unread left ahead start c1 c2 sum old mid new input was waits End p empty at_end (none, nothing, goes) =

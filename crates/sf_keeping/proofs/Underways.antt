@@ -16,7 +16,7 @@ use Rattle.sf_keeping.proofs.KeptLaws.{Keeps-append, Keeps-one}
 use Rattle.sf_keeping.proofs.MomentLaws.{after_calls-append, moments-snoc, moments-more}
 
 -- the sum behind two lists of texts
-pub sum_behind-append : (sum : List ℕ) (texts more : List (List ℕ)) → sum_behind sum (texts ++ more) ≡ sum_behind (sum_behind sum texts) more
+pub sum_behind-append : (sum : ℕ) (texts more : List (List ℕ)) → sum_behind sum (texts ++ more) ≡ sum_behind (sum_behind sum texts) more
 sum_behind-append sum [] more = refl
 sum_behind-append sum (text ∷ texts) more = sum_behind-append (sum_with sum text) texts more
 
@@ -26,7 +26,7 @@ whole bytes = ([], sym (append-nil bytes))
 
 -- where two runs stand: the journal has what was kept of the first and a front of what was of the second, and no more was put
 -- out than the first gave
-covered-between : (sum : List ℕ) (old mid last : Machine) (done since : List Line) (output answers : List ℕ) (texts later : List (List ℕ)) (lines : List Line) (answered waiting : List ℕ) (broken : Bool)
+covered-between : (sum : ℕ) (old mid last : Machine) (done since : List Line) (output answers : List ℕ) (texts later : List (List ℕ)) (lines : List Line) (answered waiting : List ℕ) (broken : Bool)
     → lines ≡ done ++ since → Keeps old done output texts mid → Keeps mid since answers later last → IsFrontOf answered output → IsFrontOf waiting (records (sum_behind sum texts) later)
     → IsCovered sum old lines last (record { kept = records sum texts; waiting = waiting; answered = answered; broken = broken })
 covered-between sum old mid last done since output answers texts later lines answered waiting broken parts did does has (rest, front) =
@@ -47,7 +47,7 @@ covered-between sum old mid last done since output answers texts later lines ans
     }
 
 -- before the first line
-pub Underway-start : (known : Option (List Call)) (sum : List ℕ) (old : Machine) → IsUnderway known known sum old [] (nothing_waits sum) old
+pub Underway-start : (known : Option (List Call)) (sum : ℕ) (old : Machine) → IsUnderway known known sum old [] (nothing_waits sum) old
 Underway-start known sum old =
     record {
       calls = [];
@@ -75,7 +75,7 @@ Underway-start known sum old =
         none h = cc
 
 -- a line more was carried out, whose text and answer wait
-pub Underway-line : (start now : Option (List Call)) (sum : List ℕ) (old : Machine) (lines : List Line) (waiting : Waiting) (mid : Machine) (line : Line) (answer : List ℕ) (own : List (List ℕ)) (new : Machine) (next : Waiting)
+pub Underway-line : (start now : Option (List Call)) (sum : ℕ) (old : Machine) (lines : List Line) (waiting : Waiting) (mid : Machine) (line : Line) (answer : List ℕ) (own : List (List ℕ)) (new : Machine) (next : Waiting)
     → IsUnderway start now sum old lines waiting mid → IsKept mid line answer own new
     → next ≡ record { sum = sum_behind waiting.sum own; records = waiting.records ++ records waiting.sum own; answers = waiting.answers ++ answer }
     → IsUnderway start now sum old (lines ++ line ∷ []) next new
@@ -115,23 +115,23 @@ standing-snoc : (calls : List Call) (standing : Standing) (call : Call) → afte
 standing-snoc calls standing call is = after_calls-append nothing_yet calls (call ∷ []) ∙ ap (λ s. after_call s call) is
 
 -- a moment more, of which it is known what stands then
-moment : (sum : List ℕ) (old last : Machine) (lines : List Line) (calls : List Call) (call : Call) (standing : Standing)
+moment : (sum : ℕ) (old last : Machine) (lines : List Line) (calls : List Call) (call : Call) (standing : Standing)
     → after_calls nothing_yet calls ≡ standing → AtEachMoment sum old lines last calls → IsCovered sum old lines last (after_call standing call)
     → AtEachMoment sum old lines last (calls ++ call ∷ [])
 moment sum old last lines calls call standing is moments covered =
     moments-snoc sum old lines last calls call moments (subst (IsCovered sum old lines last) (sym (standing-snoc calls standing call is)) covered)
 
 -- what the calls of a part lead to: it is covered at each moment, and so much is kept and put out
-record Led (sum : List ℕ) (old : Machine) (lines : List Line) (last : Machine) (calls : List Call) (standing : Standing) : Type 0 where
+record Led (sum : ℕ) (old : Machine) (lines : List Line) (last : Machine) (calls : List Call) (standing : Standing) : Type 0 where
   moments : AtEachMoment sum old lines last calls
   stands : after_calls nothing_yet calls ≡ standing
 
 -- no call more
-led-none : (sum : List ℕ) (old : Machine) (lines : List Line) (last : Machine) (calls : List Call) (standing : Standing) → Led sum old lines last calls standing → Led sum old lines last (calls ++ []) standing
+led-none : (sum : ℕ) (old : Machine) (lines : List Line) (last : Machine) (calls : List Call) (standing : Standing) → Led sum old lines last calls standing → Led sum old lines last (calls ++ []) standing
 led-none sum old lines last calls standing led = subst (λ c. Led sum old lines last c standing) (sym (append-nil calls)) led
 
 -- records are kept
-led-keeping : (sum : List ℕ) (old mid last : Machine) (done since : List Line) (output answers : List ℕ) (texts later : List (List ℕ)) (lines : List Line) (calls : List Call) (bytes : List ℕ)
+led-keeping : (sum : ℕ) (old mid last : Machine) (done since : List Line) (output answers : List ℕ) (texts later : List (List ℕ)) (lines : List Line) (calls : List Call) (bytes : List ℕ)
     → lines ≡ done ++ since → Keeps old done output texts mid → Keeps mid since answers later last → bytes ≡ records (sum_behind sum texts) later
     → Led sum old lines last calls (stands sum texts output) → Led sum old lines last (calls ++ keeping_calls bytes) (stands sum (texts ++ later) output)
 led-keeping sum old mid last done since output answers texts later lines calls [] parts did does is led =
@@ -156,7 +156,7 @@ led-keeping sum old mid last done since output answers texts later lines calls (
     (record { moments = second; stands = standing-snoc (calls ++ appends ∷ []) waits Syncs stood ∙ synced })
 
 -- answers are put out, once all is kept
-led-answering : (sum : List ℕ) (old last : Machine) (lines : List Line) (output answers : List ℕ) (texts : List (List ℕ)) (calls : List Call) (bytes : List ℕ)
+led-answering : (sum : ℕ) (old last : Machine) (lines : List Line) (output answers : List ℕ) (texts : List (List ℕ)) (calls : List Call) (bytes : List ℕ)
     → Keeps old lines (output ++ answers) texts last → bytes ≡ answers
     → Led sum old lines last calls (stands sum texts output) → Led sum old lines last (calls ++ answering_calls bytes) (stands sum texts (output ++ answers))
 led-answering sum old last lines output answers texts calls [] did is led =
@@ -172,7 +172,7 @@ led-answering sum old last lines output answers texts calls (b ∷ bytes) did is
     }
 
 -- what waited is kept and put out
-committed : (start now : Option (List Call)) (sum : List ℕ) (old : Machine) (lines : List Line) (waiting : Waiting) (new : Machine)
+committed : (start now : Option (List Call)) (sum : ℕ) (old : Machine) (lines : List Line) (waiting : Waiting) (new : Machine)
     → (u : IsUnderway start now sum old lines waiting new)
     → Led sum old lines new (u.calls ++ committing_calls waiting) (stands sum (u.texts ++ u.later) (u.output ++ u.answers))
 committed start now sum old lines waiting new u =
@@ -182,7 +182,7 @@ committed start now sum old lines waiting new u =
     subst (λ c. Led sum old lines new c (stands sum (u.texts ++ u.later) (u.output ++ u.answers))) (append_assoc u.calls (keeping_calls waiting.records) (answering_calls waiting.answers))
     (led-answering sum old new lines u.output u.answers (u.texts ++ u.later) (u.calls ++ keeping_calls waiting.records) waiting.answers ran (ap (λ w. w.answers) u.waits) kept)
 
-pub Underway-commit : (start now next : Option (List Call)) (sum : List ℕ) (old : Machine) (lines : List Line) (waiting : Waiting) (new : Machine)
+pub Underway-commit : (start now next : Option (List Call)) (sum : ℕ) (old : Machine) (lines : List Line) (waiting : Waiting) (new : Machine)
     → IsUnderway start now sum old lines waiting new → Makes now next (committing_calls waiting) → IsUnderway start next sum old lines (nothing_waits waiting.sum) new
 Underway-commit start now next sum old lines waiting new u makes =
     let led = committed start now sum old lines waiting new u in
@@ -205,7 +205,7 @@ Underway-commit start now next sum old lines waiting new u makes =
     }
 
 -- it broke off as what waited was to be kept and put out
-pub Underway-broken : (start now next : Option (List Call)) (sum : List ℕ) (old : Machine) (lines : List Line) (waiting : Waiting) (new : Machine) (calls : List Call)
+pub Underway-broken : (start now next : Option (List Call)) (sum : ℕ) (old : Machine) (lines : List Line) (waiting : Waiting) (new : Machine) (calls : List Call)
     → IsUnderway start now sum old lines waiting new → Makes now next calls → IsBrokenOff waiting calls → BrokeOff start next sum old lines new
 Underway-broken start now next sum old lines waiting new calls u makes broken =
     record {
@@ -227,14 +227,14 @@ Underway-broken start now next sum old lines waiting new calls u makes broken =
     at (inr is) = subst (λ c. AtEachMoment sum old lines new (u.calls ++ c)) (sym is) ((committed start now sum old lines waiting new u).moments)
 
 -- an answer more waits, of a line that changed nothing
-pub Underway-told : (start now : Option (List Call)) (sum : List ℕ) (old : Machine) (lines : List Line) (waiting : Waiting) (mid : Machine) (line : Line) (answer : List ℕ)
+pub Underway-told : (start now : Option (List Call)) (sum : ℕ) (old : Machine) (lines : List Line) (waiting : Waiting) (mid : Machine) (line : Line) (answer : List ℕ)
     → IsUnderway start now sum old lines waiting mid → IsKept mid line answer [] mid → IsUnderway start now sum old (lines ++ line ∷ []) (with_answer waiting answer) mid
 Underway-told start now sum old lines waiting mid line answer u kept =
     Underway-line start now sum old lines waiting mid line answer [] mid (with_answer waiting answer) u kept
     (ap (λ r. record { sum = waiting.sum; records = r; answers = waiting.answers ++ answer }) (sym (append-nil waiting.records)))
 
 -- a text and an answer more wait, of a line that was accepted
-pub Underway-changed : (start now : Option (List Call)) (sum : List ℕ) (old : Machine) (lines : List Line) (waiting : Waiting) (mid : Machine) (line : Line) (answer text : List ℕ) (new : Machine)
+pub Underway-changed : (start now : Option (List Call)) (sum : ℕ) (old : Machine) (lines : List Line) (waiting : Waiting) (mid : Machine) (line : Line) (answer text : List ℕ) (new : Machine)
     → IsUnderway start now sum old lines waiting mid → IsKept mid line answer (text ∷ []) new
     → IsUnderway start now sum old (lines ++ line ∷ []) (with_answer (with_text waiting text) answer) new
 Underway-changed start now sum old lines waiting mid line answer text new u kept =
@@ -242,7 +242,7 @@ Underway-changed start now sum old lines waiting mid line answer text new u kept
     (ap (λ r. record { sum = sum_with waiting.sum text; records = waiting.records ++ r; answers = waiting.answers ++ answer }) (sym (append-nil (record_of waiting.sum text))))
 
 -- what broke off did so too with lines more that were carried out
-pub BrokeOff-more : (start now : Option (List Call)) (sum : List ℕ) (old : Machine) (lines : List Line) (mid : Machine) (more : List Line) (output : List ℕ) (texts : List (List ℕ)) (new : Machine)
+pub BrokeOff-more : (start now : Option (List Call)) (sum : ℕ) (old : Machine) (lines : List Line) (mid : Machine) (more : List Line) (output : List ℕ) (texts : List (List ℕ)) (new : Machine)
     → BrokeOff start now sum old lines mid → Keeps mid more output texts new → BrokeOff start now sum old (lines ++ more) new
 BrokeOff-more start now sum old lines mid more output texts new b keeps =
     record { calls = b.calls; makes = b.makes; moments = moments-more sum old lines mid b.calls more output texts new b.moments keeps }
@@ -269,7 +269,7 @@ GoesOnBy-behind before now was mid waits machine line answer stays told is start
     GoesOnBy-told now mid waits machine line answer told is start sum first lines (stays start sum first lines machine u)
 
 -- it is put out at once, where nothing waits
-pub GoesOnBy-answered : (before now after : Option (List Call)) (was mid : Waiting) (machine : Machine) (line : Line) (answer : List ℕ) (sum' : List ℕ)
+pub GoesOnBy-answered : (before now after : Option (List Call)) (was mid : Waiting) (machine : Machine) (line : Line) (answer : List ℕ) (sum' : ℕ)
     → Stays before now was mid → mid ≡ nothing_waits sum' → IsTold machine line answer → answer ≢ [] → Makes now after (Answers answer ∷ [])
     → GoesOnBy before after was machine (line ∷ []) mid machine
 GoesOnBy-answered before now after was mid machine line answer sum' stays none told some makes start sum first lines u =
@@ -285,7 +285,7 @@ BreaksWithin-before before now was old more breaks start sum first lines u =
     ([], more, refl, subst (λ l. BrokeOff start now sum first l old) (sym (append-nil lines)) (breaks start sum first lines old u))
 
 -- it broke off within the answer
-pub BreaksWithin-answered : (before now after : Option (List Call)) (was mid : Waiting) (machine : Machine) (line : Line) (answer : List ℕ) (sum' : List ℕ)
+pub BreaksWithin-answered : (before now after : Option (List Call)) (was mid : Waiting) (machine : Machine) (line : Line) (answer : List ℕ) (sum' : ℕ)
     → Stays before now was mid → mid ≡ nothing_waits sum' → IsTold machine line answer → answer ≢ [] → Makes now after (Answers answer ∷ [])
     → BreaksWithin before after was machine (line ∷ []) machine
 BreaksWithin-answered before now after was mid machine line answer sum' stays none told some makes start sum first lines u =

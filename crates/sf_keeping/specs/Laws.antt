@@ -16,7 +16,7 @@ pub record IsLeft (standing : Standing) (bytes : List ℕ) : Type 0 where
   pub has_no_more : IsFrontOf bytes (standing.kept ++ standing.waiting)
 
 -- the bytes read as texts that lead to the machine after some first lines, among them all whose answers were put out
-pub record IsRecovered (sum : List ℕ) (old : Machine) (lines : List Line) (answered bytes : List ℕ) : Type 0 where
+pub record IsRecovered (sum : ℕ) (old : Machine) (lines : List Line) (answered bytes : List ℕ) : Type 0 where
   pub first : List Line
   pub later : List Line
   pub parts : lines ≡ first ++ later
@@ -34,5 +34,5 @@ pub record IsRecovered (sum : List ℕ) (old : Machine) (lines : List Line) (ans
 -- leads to the machine after some first lines, which have all that was answered
 abbrev pub RecoveryLaw : Type 0
 RecoveryLaw =
-    (sum : List ℕ) (old : Machine) (lines : List Line) (last : Machine) (standing : Standing) (bytes : List ℕ)
+    (sum : ℕ) (old : Machine) (lines : List Line) (last : Machine) (standing : Standing) (bytes : List ℕ)
     → IsCovered sum old lines last standing → IsLeft standing bytes → IsRecovered sum old lines standing.answered bytes

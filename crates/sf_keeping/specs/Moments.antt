@@ -9,7 +9,7 @@ use Rattle.sf_keeping.specs.Kept.{Keeps}
 
 -- What was put out answers no more than some first lines, and the records of all that was accepted of these are kept,
 -- whatever comes; the journal has nothing but records of what was accepted. The lines lead to the last machine.
-pub record IsCovered (sum : List ℕ) (old : Machine) (lines : List Line) (last : Machine) (standing : Standing) : Type 0 where
+pub record IsCovered (sum : ℕ) (old : Machine) (lines : List Line) (last : Machine) (standing : Standing) : Type 0 where
   pub first : List Line
   pub later : List Line
   pub parts : lines ≡ first ++ later
@@ -25,6 +25,6 @@ pub record IsCovered (sum : List ℕ) (old : Machine) (lines : List Line) (last 
   pub journal : IsFrontOf (standing.kept ++ standing.waiting) (records sum (texts ++ later_texts))
 
 -- it is so after each of the calls, from the first on
-abbrev pub AtEachMoment : List ℕ → Machine → List Line → Machine → List Call → Type 0
+abbrev pub AtEachMoment : ℕ → Machine → List Line → Machine → List Call → Type 0
 AtEachMoment sum old lines last calls =
     (before after : List Call) → calls ≡ before ++ after → IsCovered sum old lines last (after_calls nothing_yet before)

@@ -14,7 +14,7 @@ abbrev pub ending_of : Bool → Ending
 ending_of cut_short = if cut_short then CutShort else Whole
 
 -- the texts that stand in the bytes were done again, one after another
-pub record IsReplayed (sum bytes : List ℕ) (old : Machine) (done : Replayed) (new : Machine) : Type 0 where
+pub record IsReplayed (sum : ℕ) (bytes : List ℕ) (old : Machine) (done : Replayed) (new : Machine) : Type 0 where
   pub texts : List (List ℕ)
   pub reads : Reads sum bytes texts (ending_of done.is_cut_short)
   pub leads : Leads old texts new
@@ -24,7 +24,7 @@ pub record IsReplayed (sum bytes : List ℕ) (old : Machine) (done : Replayed) (
   pub whole : done.whole ≡ length (records sum texts)
 
 -- it failed at a record: one that is no record behind those before it, or whose text was not accepted
-abbrev pub FailsAt : List ℕ → List ℕ → Machine → ReplayFault → Type 0
+abbrev pub FailsAt : ℕ → List ℕ → Machine → ReplayFault → Type 0
 FailsAt sum bytes old Memory = Unit {0}
 FailsAt sum bytes old (Damaged place) =
     (texts : List (List ℕ)) × (machine : Machine) × Reads sum bytes texts IsDamaged × Leads old texts machine × (place ≡ length (records sum texts))

@@ -25,7 +25,7 @@ Reaches End bytes lines left unread = (lines ≡ lines_of bytes) × (left ≡ []
 
 -- The lines were read and carried out; what was accepted of them is in the journal and on the disk, all answers were put out,
 -- and nothing else; at each moment what was put out was kept.
-pub record ServesKept (stop : Stop) (unread left : Option (List ℕ)) (ahead rest : List ℕ) (start now : Option (List Call)) (sum behind : List ℕ) (old new : Machine) : Type 0 where
+pub record ServesKept (stop : Stop) (unread left : Option (List ℕ)) (ahead rest : List ℕ) (start now : Option (List Call)) (sum behind : ℕ) (old new : Machine) : Type 0 where
   pub taken : List ℕ
   pub consumed : Consumes unread left taken
   pub lines : List Line
@@ -42,7 +42,7 @@ pub record ServesKept (stop : Stop) (unread left : Option (List ℕ)) (ahead res
 
 -- Some first lines of what was read were carried out, and then the input, the journal or the output broke off: at each moment
 -- what was put out was kept.
-pub record EndsKept (unread left : Option (List ℕ)) (ahead : List ℕ) (start now : Option (List Call)) (sum : List ℕ) (old new : Machine) : Type 0 where
+pub record EndsKept (unread left : Option (List ℕ)) (ahead : List ℕ) (start now : Option (List Call)) (sum : ℕ) (old new : Machine) : Type 0 where
   pub taken : List ℕ
   pub consumed : Consumes unread left taken
   pub lines : List Line

@@ -17,7 +17,7 @@ use Rattle.sf_keeping.specs.Saves.{is_save, AskForNone}
 use Rattle.sf_keeping.specs.Moments.{AtEachMoment}
 
 -- The lines were carried out. Of the first of them, all is in the journal and put out; of those since, all waits.
-pub record IsUnderway (start now : Option (List Call)) (sum : List ℕ) (old : Machine) (lines : List Line) (waiting : Waiting) (new : Machine) : Type 0 where
+pub record IsUnderway (start now : Option (List Call)) (sum : ℕ) (old : Machine) (lines : List Line) (waiting : Waiting) (new : Machine) : Type 0 where
   pub calls : List Call
   pub makes : Makes start now calls
   pub moments : AtEachMoment sum old lines new calls
@@ -35,7 +35,7 @@ pub record IsUnderway (start now : Option (List Call)) (sum : List ℕ) (old : M
   pub waits : waiting ≡ record { sum = sum_behind (sum_behind sum texts) later; records = records (sum_behind sum texts) later; answers = answers }
 
 -- the lines were carried out, and then the journal or the output broke off
-pub record BrokeOff (start now : Option (List Call)) (sum : List ℕ) (old : Machine) (lines : List Line) (new : Machine) : Type 0 where
+pub record BrokeOff (start now : Option (List Call)) (sum : ℕ) (old : Machine) (lines : List Line) (new : Machine) : Type 0 where
   pub calls : List Call
   pub makes : Makes start now calls
   pub moments : AtEachMoment sum old lines new calls
@@ -43,25 +43,25 @@ pub record BrokeOff (start now : Option (List Call)) (sum : List ℕ) (old : Mac
 -- a session goes on: its lines are the same, and other calls were made
 abbrev pub Stays : Option (List Call) → Option (List Call) → Waiting → Waiting → Type 0
 Stays before now was waits =
-    (start : Option (List Call)) (sum : List ℕ) (first : Machine) (lines : List Line) (machine : Machine)
+    (start : Option (List Call)) (sum : ℕ) (first : Machine) (lines : List Line) (machine : Machine)
     → IsUnderway start before sum first lines was machine → IsUnderway start now sum first lines waits machine
 
 -- it broke off without a line more
 abbrev pub Breaks : Option (List Call) → Option (List Call) → Waiting → Type 0
 Breaks before now was =
-    (start : Option (List Call)) (sum : List ℕ) (first : Machine) (lines : List Line) (machine : Machine)
+    (start : Option (List Call)) (sum : ℕ) (first : Machine) (lines : List Line) (machine : Machine)
     → IsUnderway start before sum first lines was machine → BrokeOff start now sum first lines machine
 
 -- a session goes on by some lines
 abbrev pub GoesOnBy : Option (List Call) → Option (List Call) → Waiting → Machine → List Line → Waiting → Machine → Type 0
 GoesOnBy before now was old more waits new =
-    (start : Option (List Call)) (sum : List ℕ) (first : Machine) (lines : List Line)
+    (start : Option (List Call)) (sum : ℕ) (first : Machine) (lines : List Line)
     → IsUnderway start before sum first lines was old → IsUnderway start now sum first (lines ++ more) waits new
 
 -- it broke off behind some of these lines
 abbrev pub BreaksWithin : Option (List Call) → Option (List Call) → Waiting → Machine → List Line → Machine → Type 0
 BreaksWithin before now was old more new =
-    (start : Option (List Call)) (sum : List ℕ) (first : Machine) (lines : List Line)
+    (start : Option (List Call)) (sum : ℕ) (first : Machine) (lines : List Line)
     → IsUnderway start before sum first lines was old
     → (done : List Line) × (left : List Line) × (more ≡ done ++ left) × BrokeOff start now sum first (lines ++ done) new
 
@@ -100,7 +100,7 @@ pub record TakesSave (before rest : List ℕ) (now_calls then_calls : Option (Li
   pub goes_on : GoesOnBy now_calls then_calls was old (lines_of finished) waits new
 
 -- the journal or the output broke off behind some of the lines with which the bytes begin
-pub record BrokeOffIn (bytes : List ℕ) (start now : Option (List Call)) (sum : List ℕ) (first : Machine) (lines : List Line) (new : Machine) : Type 0 where
+pub record BrokeOffIn (bytes : List ℕ) (start now : Option (List Call)) (sum : ℕ) (first : Machine) (lines : List Line) (new : Machine) : Type 0 where
   pub done : List Line
   pub parts : (more : List ℕ) → (others : List Line) × (lines_of (bytes ++ more) ≡ done ++ others)
   pub ask_for_none : AskForNone done
@@ -109,11 +109,11 @@ pub record BrokeOffIn (bytes : List ℕ) (start now : Option (List Call)) (sum :
 -- so it did within what was read
 abbrev pub BreaksLines : List ℕ → List ℕ → Option (List Call) → Option (List Call) → Waiting → Machine → Machine → Type 0
 BreaksLines before rest now_calls then_calls was old new =
-    (start : Option (List Call)) (sum : List ℕ) (first : Machine) (lines : List Line)
+    (start : Option (List Call)) (sum : ℕ) (first : Machine) (lines : List Line)
     → IsUnderway start now_calls sum first lines was old → BrokeOffIn (before ++ rest) start then_calls sum first lines new
 
 -- So much was read; its whole lines were carried out, none of which asks for a save.
-pub record KeepsOn (unread left : Option (List ℕ)) (ahead : List ℕ) (start now : Option (List Call)) (sum : List ℕ) (old : Machine) (input : Ahead) (waits : Waiting) (new : Machine) : Type 0 where
+pub record KeepsOn (unread left : Option (List ℕ)) (ahead : List ℕ) (start now : Option (List Call)) (sum : ℕ) (old : Machine) (input : Ahead) (waits : Waiting) (new : Machine) : Type 0 where
   pub taken : List ℕ
   pub consumed : Consumes unread left taken
   pub finished : List ℕ

@@ -7,12 +7,12 @@ use Rattle.sf_keeping.specs.Desks.Call.{Appends, Fails, Syncs, Answers}
 
 -- the sum behind the records so far, the records that are not in the journal yet, and the answers that were not put out
 pub record Waiting : Type 0 where
-  pub sum : List ℕ
+  pub sum : ℕ
   pub records : List ℕ
   pub answers : List ℕ
 
 -- nothing waits
-abbrev pub nothing_waits : List ℕ → Waiting
+abbrev pub nothing_waits : ℕ → Waiting
 nothing_waits sum = record { sum = sum; records = []; answers = [] }
 
 -- a text more is to be kept

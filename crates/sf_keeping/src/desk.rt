@@ -56,7 +56,7 @@ impl From<JournalFault> for KeepFault {
     }
 }
 
-/// A journal, and an output. Contracts see the calls in their order, where they are told, as those of `Write` see the
+/// A journal, and an output. Contracts see the calls in their order, where they are known, as those of `Write` see the
 /// bytes that a writer has.
 pub trait Desk {
     ghost use Rattle.std.specs.Prelude.{List, Option, None};

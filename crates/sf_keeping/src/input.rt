@@ -42,7 +42,7 @@ impl Input {
         })
     }
 
-    /// Goes to the end of the line, where it ends in what was read; else past all of that. Tells whether it ends.
+    /// Goes to the end of the line, where it ends in what was read; else past all of that. Says whether it ends.
     pub(crate) fn end_line(&mut self) -> bool
         ensures ends { result ≡ true → EndsLine self.old self.new }
         ensures goes_on { result ≡ false → GoesOn self.old self.new }
@@ -76,7 +76,7 @@ impl Input {
         self.line.clear();
     }
 
-    /// Reads once. Tells whether a byte came; where none did, the reader is at its end.
+    /// Reads once. Says whether a byte came; where none did, the reader is at its end.
     pub(crate) fn fill<R: Read>(&mut self, reader: &mut R) -> Result<bool, ReadFault>
         ensures consumed { OnOk result (Consumes (R.remaining reader.old) (R.remaining reader.new) self.new.rest) }
         ensures begun { self.new.begun ≡ self.old.begun }

@@ -158,7 +158,7 @@ fn keep_line<D: Desk>(
     }
 }
 
-/// Carries out the lines that end in what was read, up to one that asks for a save. Tells whether one does.
+/// Carries out the lines that end in what was read, up to one that asks for a save. Says whether one does.
 fn take_lines<D: Desk>(
     alloc: Global,
     editor: &mut Editor,
@@ -203,7 +203,7 @@ fn keep_last<D: Desk>(
     pending.commit(desk)
 }
 
-/// Tells that a line is too long, and keeps what waits.
+/// Reports that a line is too long, and keeps what waits.
 fn refuse_last<D: Desk>(pending: &mut Pending, desk: &mut D) -> Result<(), KeepFault>
     ensures nothing { OnOk result (pending.new ≡ nothing_waits pending.new.sum) }
     ensures ok { OnOk result ((machine : Machine) (line : Line) → IsTold machine line (refusal_line Refusal.LineTooLong) →
@@ -215,7 +215,7 @@ fn refuse_last<D: Desk>(pending: &mut Pending, desk: &mut D) -> Result<(), KeepF
     pending.commit(desk)
 }
 
-/// Carries out the last line, which had no line feed, where there is one, and keeps what waits. Tells whether it asks for a
+/// Carries out the last line, which had no line feed, where there is one, and keeps what waits. Says whether it asks for a
 /// save.
 fn finish<D: Desk>(
     alloc: Global,

@@ -1,4 +1,4 @@
-//! The index of a layer's features by their boxes. It is lost for want of memory, and never in the way of a
+//! The index of a layer's features by their boxes. It is lost where memory runs out, and never in the way of a
 //! change: what is lost is built anew.
 ghost use Rattle.std.specs.Prelude.{◌≡◌, None, Some, IfOk, IfSome, IsSomeAnd, OnOk, nat_eq};
 ghost use Rattle.std.specs.List.Sorted.{IsStrictlySortedBy};

@@ -30,7 +30,7 @@ use std::marker::Model;
 /// A layer of features by identifier, with its columns in order and the counters of its identifiers
 /// and column numbers.
 ///
-/// It keeps an index of its features' boxes. Want of memory loses the index and refuses no change;
+/// It keeps an index of its features' boxes. Where memory runs out the index is lost, and no change is refused;
 /// `reindex` builds it anew. Contracts see a layer as its content, to which the index adds nothing.
 #[derive(Drop)]
 #[derive_where(Debug)]
@@ -122,7 +122,7 @@ impl Layer {
         self.features.len()
     }
 
-    /// Tells a proof that there is at most one feature for each of the 2^32 identifiers. It does
+    /// Shows a proof that there is at most one feature for each of the 2^32 identifiers. It does
     /// nothing, so a compiler may leave it out.
     pub fn has_few_features(&self)
         ensures { length self.now.features ≤ 2 ^ 32 }
@@ -165,7 +165,7 @@ impl Layer {
         self.columns.place(name)
     }
 
-    /// The index of the features' boxes by identifier, or None where it was lost for want of memory.
+    /// The index of the features' boxes by identifier, or None where it was lost as memory ran out.
     pub fn index(&self) -> Option<&RTree>
         ensures { IfSome result (λ index. index.now ≡ boxes_of self.now.features) }
     {

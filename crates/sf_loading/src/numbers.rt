@@ -10,7 +10,7 @@ use sf_format::Defect;
 use sf_streams::Window;
 use std::io::Read;
 
-/// Makes so many bytes stand ahead, or tells that the file ends before them.
+/// Makes so many bytes stand ahead, or reports that the file ends before them.
 pub(crate) fn require<R: Read>(
     window: &mut Window,
     reader: &mut R,

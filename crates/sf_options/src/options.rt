@@ -13,45 +13,19 @@ use std::alloc::{AllocError, Global};
 const ABOUT: &str =
     "A store of vector map features in named layers, where every edit can be undone exactly.\nReads a line of a command at a time from standard input, and answers each on standard output.";
 
-/// An example, and the commands.
+/// An example, and the commands by their words.
 const EXAMPLE_AND_COMMANDS: &str = "Examples:
   sfstore --load parcels.sfs --save parcels.sfs < edits
   sfstore --store parcels.sfs < edits
 
 Commands, one on a line:
-  layer add NAME KIND             a layer more: of any kind, or of point, linestring, polygon,
-                                  multipoint, multilinestring or multipolygon alone
-  layer drop NAME                 the layer with its features
-  layer rename OLD NEW            another name
-  layer move NAME PLACE           another place in the drawing order, from 0 on
-  layers                          names and kinds, in drawing order
-  column add LAYER NAME TYPE      a column of int or text more
-  column drop LAYER NAME          the column with its values
-  columns LAYER                   names and types, in order
-  add LAYER WKT                   a feature of well-known text more
-  addhex LAYER HEX                a feature of well-known binary more
-  delete LAYER ID                 the feature
-  replace LAYER ID WKT            another geometry
-  vertex insert LAYER ID PART RING INDEX X Y
-  vertex move LAYER ID PART RING INDEX X Y
-  vertex remove LAYER ID PART RING INDEX
-  set LAYER ID COLUMN VALUE       a number, or a text in single quotes
-  unset LAYER ID COLUMN           no value
-  undo                            the last edit taken back
-  redo                            the last edit taken back done again
-  save                            with --store: the store's file has all from here on
-  show LAYER                      features with their values
-  get LAYER ID [ID ..]            these features of it, 1,000 at most, in this order
-  find LAYER COLUMN [VALUE]       features with this value in the column, or with any
-  hex LAYER ID                    the geometry in well-known binary
-  box LAYER ID                    the least box round the geometry
-  simple LAYER ID                 whether the geometry is simple
-  relate LAYER ID WKT             the DE-9IM matrix of feature and geometry
-  match LAYER PATTERN WKT         features whose matrix matches nine letters of TF*012
-  query LAYER PREDICATE WKT       features that equal, intersect, touch .. the geometry: equals,
-                                  disjoint, intersects, touches, within, contains, crosses, overlaps
+  layer add|drop|rename|move   column add|drop   layers   columns
+  add   addhex   delete   replace   vertex insert|move|remove   set   unset
+  undo   redo   save
+  show   get   find   hex   box   simple   relate   match   query   join
 
-A line may begin with the editor who gives it, from @1 to @255: @2 add wells POINT (3 4).";
+A line may begin with the editor who gives it, from @1 to @255: @2 undo.
+`man sfstore`, and docs/use/CONSOLE.md, have the commands with their answers.";
 
 /// The command with its texts for the user, which change nothing of what it takes.
 fn described<'a>(command: Command<'a>) -> Command<'a>

@@ -87,7 +87,7 @@ fn find_alike<I: SpatialIndex, J: SpatialIndex>(
     Ok(true)
 }
 
-/// Whether a tree of the boxes finds what a list does, also as they are taken out.
+/// Whether a tree of the boxes finds what a list does, also as they are removed.
 fn is_like_list(alloc: Global, tree: RTree, boxes: &[(u32, Extent)]) -> io::Result<bool>
     requires rising { IsStrictlySortedBy nat_cmp (keys_of boxes.now) }
     requires boxes { tree ≡ boxes.now }

@@ -131,7 +131,7 @@ pub(crate) fn remove(alloc: Global, row: &str) -> io::Result<String> {
     changed(alloc, answer.as_str(), &geometry)
 }
 
-/// What a geometry that has a size answers where a vertex is taken out.
+/// What a geometry that has a size answers where a vertex is removed.
 fn removed(alloc: Global, geometry: &mut Geometry, place: &Place) -> io::Result<String> {
     if geometry.check_size().is_err() {
         return Err(unreadable());

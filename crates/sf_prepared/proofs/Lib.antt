@@ -1,5 +1,6 @@
 pub mod AboveLaws
 pub mod BesideLaws
+pub mod FirstVertexLaws
 pub mod NearLaws
 pub mod NearbyLaws
 pub mod OverLaws

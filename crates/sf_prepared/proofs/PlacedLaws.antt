@@ -279,3 +279,35 @@ place-by-parity b pairs p odd place v s are off counted is =
   where
     r : HasRings b
     r = has-rings b v s
+
+-- a point that no edge of an area has is not in its boundary
+pub never-boundary : (b : Geometry) (p : Coordinates) (place : Place) → IsValid b → shape_of b ≡ Areas → list_any (λ e. on_edge e (grid_point p)) (edges_of b) ≡ false →
+    IsPlaceOf b (grid_point p) place → place ≡ Boundary → ⊥
+never-boundary b p place v s off at is = both_ways (in_boundary b (grid_point p)) free (at.boundary ∙ ap (is_place Boundary) is)
+  where
+    r : HasRings b
+    r = has-rings b v s
+
+    never : (odd : Bool) → is_place Boundary (area_place false odd) ≡ false
+    never true = refl
+    never false = refl
+
+    free : in_boundary b (grid_point p) ≡ false
+    free =
+        (tests_tell_places b (grid_point p) v (record { positive = lit< tt })).boundary
+        ∙ ap (is_place Boundary)
+        (r.places (grid_point p)
+        ∙ ap (λ es. edges_place es (grid_point p)) (sym r.edges)
+        ∙ ap (λ t. area_place t (parity (edges_of b) (grid_point p))) off)
+        ∙ never (parity (edges_of b) (grid_point p))
+
+-- nor is the place by the edges above
+pub parity-off-boundary : (odd : Bool) (place : Place) → place ≡ area_place false odd → place ≡ Boundary → ⊥
+parity-off-boundary true place is at = inside (sym is ∙ at)
+  where
+    inside : Interior ≡ Boundary → ⊥
+    inside e = cc
+parity-off-boundary false place is at = outside (sym is ∙ at)
+  where
+    outside : Exterior ≡ Boundary → ⊥
+    outside e = cc

@@ -1,5 +1,5 @@
 -- Numbered boxes of edges: they rise by number, and where none meets a box no edge has a point of it.
-use Rattle.std.proofs.Common.{◌≡◌, ℕ, ◌+◌, ◌<◌, ◌≤◌, arith, refl, ap, sym, ◌∙◌, Bool, true, false, not, List, [], ◌∷◌, ◌++◌, length, map}
+use Rattle.std.proofs.Common.{◌≡◌, ℕ, ◌+◌, ◌<◌, ◌≤◌, arith, refl, ap, sym, ◌∙◌, Bool, true, false, ◌||◌, not, List, [], ◌∷◌, ◌++◌, length, map}
 use Rattle.std.specs.Cmp.{nat_cmp_is}
 use Rattle.std.specs.declared.cmp.Ordering.TheVariants.{Less}
 use Rattle.std.specs.List.{AllByRecursion, flat_map, list_any}
@@ -24,7 +24,7 @@ use Rattle.sf_rtree.specs.Indexes.{Boxes}
 use Rattle.sf_validity.specs.Beside.{box_of_extent}
 use Rattle.sf_relate.proofs.CommonBoxLaws.{has-ends}
 use Rattle.sf_crossing.specs.Meeting.{extent_of_edge}
-use Rattle.sf_prepared.specs.Boxes.{AreBoxesOf, boxes_from}
+use Rattle.sf_prepared.specs.Boxes.{AreBoxesOf, boxes_from, is_box_met}
 use Rattle.sf_prepared.specs.Places.{AreClear}
 
 -- ---- the numbers rise
@@ -57,6 +57,14 @@ none-near extent n [] h = tt
 none-near extent n (pair ∷ pairs) h =
     let parts = or_parts (extents_meet (extent_of_edge pair) extent) (list_any (λ entry. extents_meet entry.1 extent) (boxes_from (n + 1) pairs)) h in
     (off-box extent pair parts.0, none-near extent (n + 1) pairs parts.1)
+
+met-from : (extent : Extent) (n : ℕ) (pairs : List (Coordinates × Coordinates)) → list_any (λ entry. extents_meet entry.1 extent) (boxes_from n pairs) ≡ is_box_met extent pairs
+met-from extent n [] = refl
+met-from extent n (pair ∷ pairs) = ap (λ met. extents_meet (extent_of_edge pair) extent || met) (met-from extent (n + 1) pairs)
+
+-- a box of the tree is met where one of an edge is
+pub met-by-boxes : (pairs : List (Coordinates × Coordinates)) (boxes : Boxes) (extent : Extent) → AreBoxesOf pairs boxes → list_any (λ entry. extents_meet entry.1 extent) boxes ≡ is_box_met extent pairs
+met-by-boxes pairs boxes extent are = ap (λ bs. list_any (λ entry. extents_meet entry.1 extent) bs) are.same ∙ met-from extent 0 pairs
 
 pub none-said : (met : Bool) → not met ≡ true → met ≡ false
 none-said true h = absurd (both_ways false refl h)

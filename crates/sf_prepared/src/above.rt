@@ -80,7 +80,7 @@ fn is_to_the_right(a: GridPoint, b: GridPoint, point: GridPoint) -> bool
     }
 }
 
-/// Tells a proof that the ends of each edge are on the grid. It reads them and does nothing with them, so a
+/// Shows a proof that the ends of each edge are on the grid. It reads them and does nothing with them, so a
 /// compiler may leave it out.
 pub(crate) fn edges_lie_on_grid(edges: &[(GridPoint, GridPoint)])
     ensures { AllByRecursion AreOnGrid edges.now }

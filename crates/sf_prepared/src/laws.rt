@@ -21,7 +21,7 @@ pub fn apart_from_lines()
     ensures { ApartFromLines }
 {}
 
-/// The edges of an area in the columns over a valid geometry's box, from its lower side up, tell of each point of
+/// The edges of an area in the columns over a valid geometry's box, from its lower side up, give of each point of
 /// that geometry its place in the area.
 pub fn nearby_tells_places()
     ensures { NearbyTellsPlaces }

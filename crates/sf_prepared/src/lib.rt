@@ -1,4 +1,4 @@
-//! One geometry that many others are asked about: its edges, a tree of their boxes, and what the edges nearby tell,
+//! One geometry that many others are asked about: its edges, a tree of their boxes, and what the edges nearby show,
 //! also of an area beside a small geometry.
 #![tactic(auto)]
 

@@ -1,4 +1,4 @@
-ghost use Rattle.std.specs.Prelude.{◌≡◌, ◌≤◌, ◌^◌, length, map, IfOk, IfSome, IsFalse, IsTrue, false};
+ghost use Rattle.std.specs.Prelude.{◌≡◌, ◌≢◌, ◌≤◌, ◌^◌, length, map, not, is_some, IfOk, IfSome, IsFalse, IsTrue, false, true};
 ghost use Rattle.std.specs.List.{list_any};
 ghost use Rattle.sf_grid.specs.Edge.{on_edge};
 ghost use Rattle.sf_grid.specs.EvenOdd.{edges_above, is_odd};
@@ -6,12 +6,13 @@ ghost use Rattle.sf_grid.specs.Plane.{grid_point};
 ghost use Rattle.sf_geometry.specs.Envelope.{envelope_of};
 ghost use Rattle.sf_geometry.specs.Parts.{edge_of, edges_of};
 ghost use Rattle.sf_rules.specs.Validity.{IsValid};
-ghost use Rattle.sf_relate.specs.declared.shape.Shape.TheVariants.{Areas, Lines};
+ghost use Rattle.sf_relate.specs.declared.place.Place.TheVariants.{Boundary};
+ghost use Rattle.sf_relate.specs.declared.shape.Shape.TheVariants.{Areas, Lines, Points};
 ghost use Rattle.sf_relate.specs.Locating.{area_place};
 ghost use Rattle.sf_relate.specs.Matrices.{matrix_of};
 ghost use Rattle.sf_relate.specs.Places.{IsPlaceOf, shape_of};
 ghost use Rattle.sf_crossing.specs.Meeting.{extent_of_edge};
-ghost use Rattle.sf_prepared.specs.Boxes.{AreEdgesOf, boxes_from};
+ghost use Rattle.sf_prepared.specs.Boxes.{AreEdgesOf, boxes_from, is_box_met};
 ghost use Rattle.sf_prepared.specs.Places.{AreClear};
 
 use crate::above::{edges_lie_on_grid, has_odd_above, ray_above};
@@ -57,13 +58,16 @@ impl Prepared {
         Ok(Prepared { edges, boxes })
     }
 
-    /// The matrix of a geometry with the one that was prepared, where the edges nearby tell it: where the box of
+    /// The matrix of a geometry with the one that was prepared, where the edges nearby show it: where the box of
     /// the geometry lies on one side of each edge, its place does; else a walk over the edges of an area that can
     /// be on a point of the geometry or above one. None where that is not quicker than a walk over all of them,
-    /// and where no memory is found.
+    /// and where no memory is found; never where the boxes of all edges are off the box of the geometry, and there are
+    /// edges.
     pub fn matrix_told(&self, alloc: Global, geometry: &Valid, given: &Valid) -> Option<Matrix>
         requires { AreEdgesOf given.now self.now }
-        ensures { IfSome result (λ matrix. matrix.0 ≡ matrix_of geometry.now given.now) }
+        ensures told { IfSome result (λ matrix. matrix.0 ≡ matrix_of geometry.now given.now) }
+        ensures answers { IsFalse (is_box_met (envelope_of geometry.now) self.now) → shape_of given.now ≢ Points →
+            is_some result ≡ true }
     {
         let extent = geometry.geometry().envelope();
         if self.is_clear(alloc, &extent) {
@@ -75,14 +79,16 @@ impl Prepared {
 
     /// Whether no edge has a point of the box, as boxes show, or else the edges whose boxes are in the way.
     fn is_clear(&self, alloc: Global, extent: &Extent) -> bool
-        ensures { IsTrue result → AreClear extent.now (map edge_of self.now) }
+        ensures clear { IsTrue result → AreClear extent.now (map edge_of self.now) }
+        ensures boxes { IsFalse (is_box_met extent.now self.now) → result ≡ true }
     {
         self.has_no_box(extent) || self.is_missed(alloc, extent)
     }
 
     /// Whether no edge's box shares a point with the box.
     fn has_no_box(&self, extent: &Extent) -> bool
-        ensures { IsTrue result → AreClear extent.now (map edge_of self.now) }
+        ensures clear { IsTrue result → AreClear extent.now (map edge_of self.now) }
+        ensures boxes { result ≡ not (is_box_met extent.now self.now) }
     {
         !self.boxes.has_meeting(extent)
     }
@@ -110,7 +116,8 @@ impl Prepared {
         requires valid { IsValid geometry.now }
         requires extent { extent ≡ envelope_of geometry.now }
         requires clear { AreClear extent (map edge_of self.now) }
-        ensures { IfSome result (λ matrix. matrix.0 ≡ matrix_of geometry.now given.now) }
+        ensures told { IfSome result (λ matrix. matrix.0 ≡ matrix_of geometry.now given.now) }
+        ensures answers { shape_of given.now ≢ Points → is_some result ≡ true }
     {
         match given.geometry() {
             Geometry::Point(_) | Geometry::MultiPoint(_) => None,
@@ -138,7 +145,8 @@ impl Prepared {
         requires extent { extent ≡ envelope_of geometry.now }
         requires clear { AreClear extent (edges_of given.now) }
         requires area { shape_of given.now ≡ Areas }
-        ensures { IfSome result (λ matrix. matrix.0 ≡ matrix_of geometry.now given.now) }
+        ensures told { IfSome result (λ matrix. matrix.0 ≡ matrix_of geometry.now given.now) }
+        ensures answers { is_some result ≡ true }
     {
         let Some(first) = geometry.geometry().vertex(0, 0, 0) else {
             return None;
@@ -158,7 +166,8 @@ impl Prepared {
         requires valid { IsValid given.now }
         requires area { shape_of given.now ≡ Areas }
         requires off { IsFalse (list_any (λ e. on_edge e (grid_point point)) (edges_of given.now)) }
-        ensures { IsPlaceOf given.now (grid_point point) result }
+        ensures place { IsPlaceOf given.now (grid_point point) result }
+        ensures off { result ≢ Boundary }
     {
         match self.is_odd_above(alloc, point) {
             Ok(odd) => place_by_parity(odd),

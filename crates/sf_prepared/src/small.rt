@@ -4,7 +4,7 @@ ghost use Rattle.std.specs.Prelude.{◌≡◌, IfSome};
 ghost use Rattle.sf_relate.specs.declared.shape.Shape.TheVariants.{Areas};
 ghost use Rattle.sf_relate.specs.Matrices.{matrix_of};
 ghost use Rattle.sf_relate.specs.Places.{shape_of};
-ghost use Rattle.sf_prepared.specs.Transposed.{transposed};
+ghost use Rattle.sf_relate.specs.Transposed.{transposed};
 
 use crate::nearby::{MOST_NEARBY, columns_over, one_leaves};
 use sf_crossing::edges_meeting;

@@ -1,15 +1,16 @@
 -- What a query may pass over, and that its answers are those over the plane.
-use Rattle.std.proofs.Common.{◌≡◌, ◌∙◌, ℕ, ◌+◌, ◌<◌, ◌≤◌, ◌++◌, ◌&&◌, Bool, Bor, true, false, List, [], ◌∷◌, filter, length, take, take_all, get_or, option_copied, Option, None, Some, Ok, IfSome, IsSome, IsTrue, IsFalse, refl, ap, sym, subst, arith}
+use Rattle.std.proofs.Common.{◌≡◌, ◌∙◌, ℕ, ◌+◌, ◌<◌, ◌≤◌, ◌++◌, ◌&&◌, Bool, Bor, true, false, List, [], ◌∷◌, filter, length, take, take_all, get_or, option_copied, Option, None, Some, Ok, IfSome, IsSome, is_some, IsTrue, IsFalse, refl, ap, sym, subst, arith}
 use Rattle.std.proofs.lemmas.Bool.{both_ways, false≢true, not-false}
 use Rattle.std.proofs.lemmas.Map.Entries.{length-keys_of}
-use Rattle.std.specs.Prelude.{bytes_eq, cond, not}
+use Rattle.std.specs.Prelude.{◌↔◌, bytes_eq, cond, not}
 use Rattle.std.specs.List.{AllByRecursion}
 use Rattle.std.specs.Map.{keys_of}
-use Rattle.sf_grid.specs.Plane.{Coordinates, grid_point}
+use Rattle.sf_grid.specs.Plane.{Coordinates, Point as PlanePoint, grid_point}
 use Rattle.sf_geometry.specs.declared.extent.Extent.{Extent}
 use Rattle.sf_geometry.specs.declared.geometry.Geometry.{Geometry}
 use Rattle.sf_geometry.specs.declared.geometry.Geometry.TheVariants.{Point}
 use Rattle.sf_geometry.specs.Envelope.{envelope_of, extents_meet}
+use Rattle.sf_geometry.specs.PointSets.{in_boundary, in_interior}
 use Rattle.sf_rules.specs.Validity.{IsValid}
 use Rattle.sf_plane.specs.declared.dim.Dim.{Dim}
 use Rattle.sf_features.specs.Features.{FeatureContent}
@@ -19,12 +20,13 @@ use Rattle.sf_layers.specs.Content.{Content, LayerContent, feature_of, layer_of}
 use Rattle.sf_layers.specs.WellFormed.{IsFeature, IsLayer, IsWellFormed}
 use Rattle.sf_relate.specs.declared.matrix.Matrix.{Matrix}
 use Rattle.sf_relate.specs.declared.place.Place.{Place}
+use Rattle.sf_relate.specs.declared.place.Place.TheVariants.{Boundary, Exterior, Interior}
 use Rattle.sf_relate.specs.declared.predicate.Predicate.{Predicate}
 use Rattle.sf_relate.specs.declared.predicate.Predicate.TheVariants.{Disjoint, Intersects}
 use Rattle.sf_relate.specs.Matrices.{IsMatrix, matrix_of}
 use Rattle.sf_relate.specs.Patterns.{has_contact}
 use Rattle.sf_relate.specs.Places.{IsPlaceOf}
-use Rattle.sf_relate.specs.PointPredicates.{TellsOfPoint}
+use Rattle.sf_relate.specs.PointPredicates.{TellsOfPoint, needs_matrix}
 use Rattle.sf_relate.specs.Predicates.{holds}
 use Rattle.sf_relate.specs.Told.{ShareNone}
 use Rattle.sf_relate.proofs.ContactLaws.{patterns_need_contact, predicates_need_contact}
@@ -47,6 +49,31 @@ pub told-of-point : (answer : Option Bool) (predicate : Predicate) (place : Plac
 told-of-point None predicate place a b p is told at = tt
 told-of-point (Some r) predicate place a b p is told at =
     subst (λ g. r ≡ holds predicate (dim_of_geometry g) (dim_of_geometry b) (matrix_of g b)) (sym is) (told p b (dim_of_geometry b) at)
+
+-- a point has one place in a geometry
+one-place : (b : Geometry) (q : PlanePoint) (first second : Place) → IsPlaceOf b q first → IsPlaceOf b q second → first ≡ second
+one-place b q Interior Interior h k = refl
+one-place b q Boundary Boundary h k = refl
+one-place b q Exterior Exterior h k = refl
+one-place b q Interior Boundary h k = absurd (both_ways (in_interior b q) k.interior h.interior)
+one-place b q Interior Exterior h k = absurd (both_ways (in_interior b q) k.interior h.interior)
+one-place b q Boundary Interior h k = absurd (both_ways (in_interior b q) h.interior k.interior)
+one-place b q Exterior Interior h k = absurd (both_ways (in_interior b q) h.interior k.interior)
+one-place b q Boundary Exterior h k = absurd (both_ways (in_boundary b q) k.boundary h.boundary)
+one-place b q Exterior Boundary h k = absurd (both_ways (in_boundary b q) h.boundary k.boundary)
+
+-- a Point's place gives an answer where the predicate needs no matrix
+pub placed-answers : (answer : Option Bool) (predicate : Predicate) (found place : Place) (a b : Geometry) (p q : Coordinates) → a ≡ Point p → a ≡ Point q
+    → IsPlaceOf b (grid_point p) found → IsPlaceOf b (grid_point q) place → ((answer ≡ None) ↔ IsTrue (needs_matrix predicate found)) → needs_matrix predicate place ≡ false → is_some answer ≡ true
+placed-answers (Some r) predicate found place a b p q is other at there needed free = refl
+placed-answers None predicate found place a b p q is other at there needed free =
+    absurd (both_ways (needs_matrix predicate place) free (sym (ap (needs_matrix predicate) same) ∙ needed.0 refl))
+  where
+    one : p ≡ q
+    one = cc
+
+    same : found ≡ place
+    same = one-place b (grid_point p) found place at (subst (λ x. IsPlaceOf b (grid_point x) place) (sym one) there)
 
 -- and contact tells whether geometries intersect or are disjoint
 pub intersects-told : (predicate : Predicate) (a b : Geometry) (d e : Dim) → predicate ≡ Intersects → IsTrue (has_contact (matrix_of a b)) → true ≡ holds predicate d e (matrix_of a b)

@@ -1,10 +1,15 @@
-//! Whether a geometry is as asked. What a point tells is not walked.
+//! Whether a geometry is as asked. What a point shows is not walked.
 
-ghost use Rattle.std.specs.Prelude.{◌≡◌, IfOk, IfSome, IsTrue};
+ghost use Rattle.std.specs.Prelude.{◌≡◌, IfOk, IfSome, IsFalse, IsTrue, is_some, true};
+ghost use Rattle.sf_grid.specs.Plane.{Coordinates, grid_point};
+ghost use Rattle.sf_geometry.specs.declared.geometry.Geometry.TheVariants.{Point};
 ghost use Rattle.sf_geometry.specs.Envelope.{envelope_of};
 ghost use Rattle.sf_rules.specs.Validity.{IsValid};
 ghost use Rattle.sf_relate.specs.Matrices.{matrix_of};
 ghost use Rattle.sf_relate.specs.Patterns.{matches};
+ghost use Rattle.sf_relate.specs.declared.place.Place.{Place as PlaceOf};
+ghost use Rattle.sf_relate.specs.Places.{IsPlaceOf};
+ghost use Rattle.sf_relate.specs.PointPredicates.{needs_matrix};
 ghost use Rattle.sf_relate.specs.Predicates.{holds};
 ghost use Rattle.sf_relate.specs.Told.{ShareNone};
 ghost use Rattle.sf_prepared.specs.Boxes.{AreEdgesOf};
@@ -26,7 +31,7 @@ use std::alloc::{AllocError, Global};
 const MANY_POINTS: usize = 32;
 
 /// Whether the matrix of a feature's geometry with the given one is as asked, where `extent` is the
-/// given one's: where their boxes share no point, kinds and ends tell the matrix, without a walk.
+/// given one's: where their boxes share no point, kinds and ends give the matrix, without a walk.
 pub(crate) fn is_asked_beside(
     alloc: Global,
     ask: &Ask,
@@ -48,7 +53,7 @@ pub(crate) fn is_asked_beside(
 }
 
 /// Whether the matrix of a feature's geometry with the given one is as asked, by what was made of the given
-/// one where that tells the matrix.
+/// one where that gives the matrix.
 pub(crate) fn is_asked_prepared(
     alloc: Global,
     ask: &Ask,
@@ -65,7 +70,7 @@ pub(crate) fn is_asked_prepared(
     }
 }
 
-/// The matrix, where what was made of the given geometry tells it.
+/// The matrix, where what was made of the given geometry gives it.
 fn told_by_prepared(
     alloc: Global,
     geometry: &Valid,
@@ -109,7 +114,7 @@ pub(crate) fn is_asked(
     }
 }
 
-/// Whether it is as asked, where edges and first points tell it. Contact that is asked for by name is told by the first edges
+/// Whether it is as asked, where edges and first points show it. Contact that is asked for by name is shown by the first edges
 /// that meet; whatever else is asked, by the first edges that cross.
 fn told_without_walk(
     alloc: Global,
@@ -132,7 +137,7 @@ fn told_without_walk(
     }
 }
 
-/// Whether it is as asked, where edges and first points tell it, pair by pair.
+/// Whether it is as asked, where edges and first points show it, pair by pair.
 fn told_by_edges(ask: &Ask, geometry: &Valid, given: &Valid) -> Option<bool>
     ensures { IfSome result (λ answer. answer ≡ is_asked ask.now geometry.now given.now) }
 {
@@ -185,7 +190,7 @@ fn is_walked(alloc: Global, ask: &Ask, geometry: &Valid, given: &Valid) -> Resul
     }
 }
 
-/// The matrix of a feature's geometry of many points with a small given one, where the edges nearby tell it.
+/// The matrix of a feature's geometry of many points with a small given one, where the edges nearby show it.
 fn told_nearby(alloc: Global, geometry: &Valid, given: &Valid) -> Option<Matrix>
     ensures { IfSome result (λ matrix. matrix.0 ≡ matrix_of geometry.now given.now) }
 {
@@ -208,11 +213,14 @@ fn are_known_apart(geometry: &Valid, given: &Valid) -> bool
     }
 }
 
-/// Whether the predicate holds, where a Point's place, or contact, tells it.
+/// Whether the predicate holds, where a Point's place, or contact, decides it; a Point's place always does where the predicate
+/// needs no more.
 fn told_by_points(predicate: Predicate, geometry: &Valid, given: &Valid) -> Option<bool>
-    ensures { IfSome result (λ answer. answer ≡ holds predicate
+    ensures told { IfSome result (λ answer. answer ≡ holds predicate
         (dim_of_geometry geometry.now) (dim_of_geometry given.now)
         (matrix_of geometry.now given.now)) }
+    ensures place { (p : Coordinates) (place : PlaceOf) → geometry.now ≡ Point p → IsPlaceOf given.now (grid_point p) place →
+        IsFalse (needs_matrix predicate place) → is_some result ≡ true }
 {
     match geometry.geometry() {
         Geometry::Point(point) => holds_of_point(predicate, locate(given, *point)),

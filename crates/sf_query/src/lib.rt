@@ -10,5 +10,5 @@ mod refusal;
 
 pub use ask::Ask;
 pub use found::Found;
-pub use queries::{query, relate_one};
+pub use queries::{features_asked, query, relate_one};
 pub use refusal::Refusal;

@@ -44,7 +44,7 @@ pub fn query(
     let Some(layer) = store.layer(layer) else {
         return Err(Refusal::NoLayer);
     };
-    Ok(found_in(alloc, layer, ask, given)?)
+    Ok(features_asked(alloc, layer, ask, given)?)
 }
 
 /// The matrix of a feature with the given geometry.
@@ -70,17 +70,26 @@ pub fn relate_one(
     Ok(relate(alloc, feature.valid(), given)?)
 }
 
-/// The features of a layer that answer.
-fn found_in(alloc: Global, layer: &Layer, ask: &Ask, given: &Valid) -> Result<Found, AllocError>
+/// The features of a layer of a store whose matrix with the given geometry is as asked.
+///
+/// # Errors
+///
+/// Out of memory alone.
+pub fn features_asked(
+    alloc: Global,
+    layer: &Layer,
+    ask: &Ask,
+    given: &Valid,
+) -> Result<Found, AllocError>
     requires { IsLayer layer.now }
     ensures { IfOk result (IsAnswer layer.now ask.now given.now) }
 {
-    let prepared = prepared_for(alloc, ask, given, layer.feature_count());
     match layer.index() {
-        Some(index) if ask.needs_contact() => {
-            found_by_index(alloc, layer, index, ask, given, &prepared)
+        Some(index) if ask.needs_contact() => found_by_index(alloc, layer, index, ask, given),
+        _ => {
+            let prepared = prepared_for(alloc, ask, given, layer.feature_count());
+            found_by_pass(alloc, layer, ask, given, &prepared)
         }
-        _ => found_by_pass(alloc, layer, ask, given, &prepared),
     }
 }
 
@@ -92,17 +101,35 @@ fn found_by_index(
     index: &RTree,
     ask: &Ask,
     given: &Valid,
-    prepared: &Option<Prepared>,
 ) -> Result<Found, AllocError>
-    requires prepared { IfSome prepared.now (AreEdgesOf given.now) }
     requires layer { IsLayer layer.now }
     requires index { index.now ≡ boxes_of layer.now.features }
     requires contact { IsTrue (needs_contact ask.now) }
     ensures { IfOk result (IsAnswer layer.now ask.now given.now) }
 {
     let near = near_ids(alloc, index, given)?;
+    let prepared = prepared_for(alloc, ask, given, near.len());
+    found_among(alloc, layer, near.as_slice(), ask, given, &prepared)
+}
+
+/// The features that answer, where these are the identifiers of all whose boxes meet the given geometry's.
+fn found_among(
+    alloc: Global,
+    layer: &Layer,
+    near: &[u32],
+    ask: &Ask,
+    given: &Valid,
+    prepared: &Option<Prepared>,
+) -> Result<Found, AllocError>
+    requires prepared { IfSome prepared.now (AreEdgesOf given.now) }
+    requires layer { IsLayer layer.now }
+    requires valid { IsValid given.now }
+    requires near { near.now ≡ ids_meeting (envelope_of given.now) (boxes_of layer.now.features) }
+    requires contact { IsTrue (needs_contact ask.now) }
+    ensures { IfOk result (IsAnswer layer.now ask.now given.now) }
+{
     let mut ids = Vec::new(alloc);
-    for id in near.as_slice() {
+    for id in near {
         let feature = layer.feature(*id).unwrap();
         if is_asked_prepared(alloc, ask, feature.valid(), given, prepared)? {
             ids.push(*id)?;
@@ -112,8 +139,8 @@ fn found_by_index(
     Ok(Found { ids, looked })
 }
 
-/// What is made of the given geometry where many features are asked about it; else None, and where no memory is found. Of a
-/// small one its own edges tell contact as soon.
+/// What is made of the given geometry where so many features are asked about it; else None, and where no memory is found. Of a
+/// small one its own edges show contact as soon.
 fn prepared_for(alloc: Global, ask: &Ask, given: &Valid, features: usize) -> Option<Prepared>
     ensures { IfSome result (AreEdgesOf given.now) }
 {

@@ -46,7 +46,7 @@ pub(crate) fn ahead(alloc: Global) -> Result<Answer, Refusal> {
     Ok(Answer::Calls(reader.calls))
 }
 
-/// Reads a byte ahead and goes past it; tells whether one came.
+/// Reads a byte ahead and goes past it; says whether one came.
 fn goes_on(window: &mut Window, reader: &mut Endless) -> bool {
     match window.need(reader, 1) {
         Ok(true) => {

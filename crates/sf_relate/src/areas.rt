@@ -1,6 +1,6 @@
 //! The matrix of two areas. Where they overlap no cell is needed once two edges are found that cross, and else the walk
 //! ends after a few columns: then each entry has the most that areas allow, but that of the two boundaries, and edges that
-//! run along one another tell that one.
+//! run along one another decide that one.
 
 ghost use Rattle.std.specs.Prelude.{◌≡◌, IfOk, IsTrue};
 ghost use Rattle.sf_relate.specs.Areas.{Overlap, common_extent, overlapping_entries};
@@ -24,7 +24,7 @@ use std::alloc::{AllocError, Global};
 ///
 /// # Errors
 ///
-/// Want of memory alone.
+/// Out of memory alone.
 pub fn are_known_to_overlap(alloc: Global, a: &Valid, b: &Valid) -> Result<bool, AllocError>
     ensures { IfOk result (λ told. IsTrue told → Overlap a.now b.now) }
 {
@@ -65,7 +65,7 @@ pub(crate) fn are_areas(a: &Valid, b: &Valid) -> bool
 ///
 /// # Errors
 ///
-/// Want of memory alone.
+/// Out of memory alone.
 pub(crate) fn relate_areas(alloc: Global, a: &Valid, b: &Valid) -> Result<Matrix, AllocError>
     requires first { shape_of a.now ≡ Areas }
     requires second { shape_of b.now ≡ Areas }

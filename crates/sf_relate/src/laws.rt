@@ -15,7 +15,7 @@ pub fn matrices_are_over_the_plane()
     ensures { MatricesAreOverThePlane }
 {}
 
-/// Of a valid geometry the counts at a point tell its place.
+/// Of a valid geometry the counts at a point give its place.
 pub fn counts_tell_places()
     ensures { CountsTellPlaces }
 {}
@@ -31,7 +31,7 @@ pub fn predicates_need_contact()
 {}
 
 /// Two geometries have contact just where they share a point of their interiors or boundaries;
-/// contact alone tells whether they intersect or are disjoint.
+/// contact alone decides whether they intersect or are disjoint.
 pub fn contact_is_shared()
     ensures { (a b : Geometry) → ContactIsShared a b }
 {}
@@ -62,7 +62,7 @@ pub fn apart_has_no_contact()
     ensures { ApartHasNoContact }
 {}
 
-/// Valid geometries that share no point have a matrix that their kinds and ends tell.
+/// Valid geometries that share no point have a matrix that follows from their kinds and ends.
 pub fn apart_is_told()
     ensures { ApartIsTold }
 {}

@@ -173,7 +173,7 @@ fn place_in_ring(ring: &[GridPoint], point: GridPoint) -> Place
     place
 }
 
-/// What the edge between two neighbours tells of the place: that the point is on it, or below it.
+/// What the edge between two neighbours says of the place: that the point is on it, or below it.
 /// Equal ones have no edge.
 fn place_by_neighbours(from: GridPoint, to: GridPoint, point: GridPoint) -> Place
     ensures { result ≡ edges_place (edges_of (from ∷ to ∷ [])) (grid_point point) }

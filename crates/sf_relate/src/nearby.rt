@@ -26,12 +26,12 @@ use sf_validity::Valid;
 use std::alloc::{AllocError, Global};
 
 /// The matrix of a geometry with an area that has parts of its interior and of its boundary outside of it, by
-/// those edges of the area that tell the place of each point of the geometry. What the area has in the
+/// those edges of the area that decide the place of each point of the geometry. What the area has in the
 /// geometry's exterior is known, so the edges that are far away are not walked.
 ///
 /// # Errors
 ///
-/// Want of memory alone.
+/// Out of memory alone.
 pub fn relate_nearby(
     alloc: Global,
     a: &Valid,

@@ -1,9 +1,10 @@
-ghost use Rattle.std.specs.Prelude.{◌≡◌, ◌∷◌, [], ◌++◌, Result, map};
+ghost use Rattle.std.specs.Prelude.{◌≡◌, ◌∷◌, [], ◌++◌, Result, length, map};
 ghost use Rattle.sf_relate.specs.Areas.{overlap_letters};
 ghost use Rattle.sf_relate.specs.Contact.{own_rows};
 ghost use Rattle.sf_relate.specs.Most.{letter_for};
 ghost use Rattle.sf_relate.specs.Patterns.{asks_contact, matches, pattern_of};
 ghost use Rattle.sf_relate.specs.Questions.{is_matched_for_good, is_missed_for_good};
+ghost use Rattle.sf_relate.specs.Transposed.{transposed};
 ghost use Rattle.sf_relate.specs.declared.letter.Letter.TheVariants.{Any};
 ghost use Rattle.sf_relate.specs.declared.refusal.Refusal.TheVariants.{BadPattern};
 ghost use Rattle.std.specs.Option.{ok_or};
@@ -106,6 +107,17 @@ impl Pattern {
                 Letter::One,
                 Letter::Two,
             ],
+        }
+    }
+
+    /// The pattern of the two geometries the other way round: its columns as rows.
+    pub fn transposed(&self) -> Pattern
+        ensures turned { result ≡ transposed self.now }
+        ensures nine { length self.now ≡ 9 }
+    {
+        let [ii, ib, ie, bi, bb, be, ei, eb, ee] = self.letters;
+        Pattern {
+            letters: [ii, bi, ei, ib, bb, eb, ie, be, ee],
         }
     }
 

@@ -6,7 +6,7 @@ ghost use Rattle.sf_relate.specs.PointPredicates.{TellsOfPoint, holds_at, needs_
 use super::place::Place;
 use super::predicate::Predicate;
 
-/// What the place of a Point in the other geometry tells of a predicate of both, the Point as the
+/// What the place of a Point in the other geometry says of a predicate of both, the Point as the
 /// first, or None where it takes the matrix.
 pub fn holds_of_point(predicate: Predicate, place: Place) -> Option<bool>
     ensures told { IfSome result (TellsOfPoint predicate place) }
@@ -18,7 +18,7 @@ pub fn holds_of_point(predicate: Predicate, place: Place) -> Option<bool>
     Some(holds_at(predicate, place))
 }
 
-/// Whether the place doesn't tell: a point inside may be all that the other geometry has.
+/// Whether the place doesn't decide it: a point inside may be all that the other geometry has.
 fn needs_matrix(predicate: Predicate, place: Place) -> bool
     ensures { result ≡ needs_matrix predicate place }
 {
@@ -28,7 +28,7 @@ fn needs_matrix(predicate: Predicate, place: Place) -> bool
     }
 }
 
-/// Whether the predicate holds where the place tells it. Crosses and overlaps want two places of
+/// Whether the predicate holds where the place decides it. Crosses and overlaps want two places of
 /// the point, and equals and contains one inside.
 fn holds_at(predicate: Predicate, place: Place) -> bool
     ensures { result ≡ holds_at predicate place }

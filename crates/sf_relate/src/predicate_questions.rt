@@ -14,12 +14,12 @@ use sf_plane::Dim;
 use sf_validity::Valid;
 use std::alloc::{AllocError, Global};
 
-/// Whether the predicate holds of two geometries (06-103r4, 6.1.15.3), which a walk tells as soon as no
+/// Whether the predicate holds of two geometries (06-103r4, 6.1.15.3), which a walk decides as soon as no
 /// further cell can change it.
 ///
 /// # Errors
 ///
-/// Want of memory alone.
+/// Out of memory alone.
 pub fn holds_between(
     alloc: Global,
     predicate: Predicate,

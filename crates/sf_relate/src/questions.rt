@@ -16,7 +16,7 @@ use sf_plane::Dim;
 use sf_validity::Valid;
 use std::alloc::{AllocError, Global};
 
-/// The entries found so far, of geometries of two shapes, until they tell whether the matrix matches
+/// The entries found so far, of geometries of two shapes, until they decide whether the matrix matches
 /// one of the patterns.
 #[derive(Drop)]
 pub(crate) struct QuestionSink<'a> {
@@ -82,12 +82,12 @@ fn matches_any(patterns: &[Pattern], matrix: &Matrix) -> bool
     patterns.iter().any(|pattern| pattern.matches(matrix))
 }
 
-/// Whether the matrix of two geometries matches one of the patterns, which a walk tells as soon as
+/// Whether the matrix of two geometries matches one of the patterns, which a walk decides as soon as
 /// no further cell can change it.
 ///
 /// # Errors
 ///
-/// Want of memory alone.
+/// Out of memory alone.
 pub fn match_between(
     alloc: Global,
     patterns: &[Pattern],

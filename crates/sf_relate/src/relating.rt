@@ -13,11 +13,11 @@ use super::told::matrix_by_boxes;
 use sf_validity::Valid;
 use std::alloc::{AllocError, Global};
 
-/// The matrix of two geometries. Where their boxes share no point it is told by their kinds and ends.
+/// The matrix of two geometries. Where their boxes share no point it follows from their kinds and ends.
 ///
 /// # Errors
 ///
-/// Want of memory alone.
+/// Out of memory alone.
 pub fn relate(alloc: Global, a: &Valid, b: &Valid) -> Result<Matrix, AllocError>
     ensures plane { IfOk result (λ matrix. IsMatrix a.now b.now matrix.0) }
     ensures computed { IfOk result (λ matrix. matrix.0 ≡ matrix_of a.now b.now) }

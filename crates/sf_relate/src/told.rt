@@ -1,10 +1,10 @@
-//! Matrices that kinds and ends tell, with no walk and no memory: of geometries that share no point, and of one
+//! Matrices that follow from kinds and ends, with no walk and no memory: of geometries that share no point, and of one
 //! in the interior of an area.
 
-ghost use Rattle.std.specs.Prelude.{◌≡◌, ◌∷◌, [], IfSome, IsTrue, MatchOption, if◌then◌else◌};
+ghost use Rattle.std.specs.Prelude.{◌≡◌, ◌∷◌, [], IfSome, IsTrue, MatchOption, if◌then◌else◌, is_some, not};
 ghost use Rattle.std.specs.List.{list_any};
 ghost use Rattle.sf_geometry.specs.declared.geometry.Geometry.TheVariants.{LineString};
-ghost use Rattle.sf_geometry.specs.Envelope.{envelope_of};
+ghost use Rattle.sf_geometry.specs.Envelope.{envelope_of, extents_meet};
 ghost use Rattle.sf_geometry.specs.Lists.{ends_of};
 ghost use Rattle.sf_interiors.specs.Dimensions.{boundary_dim as boundary_dim_of, has_end, interior_dim as interior_dim_of};
 ghost use Rattle.sf_plane.specs.declared.dim.Dim.TheVariants as dims;
@@ -60,18 +60,20 @@ pub fn matrix_within(a: &Valid, b: &Valid) -> Matrix
     ])
 }
 
-/// Whether the boxes of two geometries show that they share no point, where `extent` is the second one's.
+/// Whether the boxes of two geometries share no point, where `extent` is the second one's: then the geometries share none.
 pub fn are_apart(a: &Valid, b: &Valid, extent: Extent) -> bool
     requires extent { extent ≡ envelope_of b.now }
     requires valid { IsValid b.now }
-    ensures { IsTrue result → ShareNone a.now b.now }
+    ensures apart { IsTrue result → ShareNone a.now b.now }
+    ensures boxes { result ≡ not (extents_meet (envelope_of a.now) extent) }
 {
     !a.geometry().envelope().meets(extent)
 }
 
-/// The matrix of two geometries whose boxes share no point, or None where the boxes meet.
+/// The matrix of two geometries whose boxes share no point, or None exactly where the boxes meet.
 pub(crate) fn matrix_by_boxes(a: &Valid, b: &Valid) -> Option<Matrix>
-    ensures { IfSome result (λ matrix. matrix.0 ≡ matrix_of a.now b.now) }
+    ensures told { IfSome result (λ matrix. matrix.0 ≡ matrix_of a.now b.now) }
+    ensures boxes { is_some result ≡ not (extents_meet (envelope_of a.now) (envelope_of b.now)) }
 {
     let extent = b.geometry().envelope();
     if are_apart(a, b, extent) {

@@ -97,7 +97,7 @@ pub enum Edit {
 }
 
 impl Edit {
-    /// The name of the layer that it adds, changes or takes out.
+    /// The name of the layer that it adds, changes or removes.
     pub fn layer_name(&self) -> &Text
         ensures { result.now ≡ edit_layer self.now }
     {

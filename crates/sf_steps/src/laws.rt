@@ -12,7 +12,7 @@ pub fn inverse_takes_back()
     ensures { InverseTakesBack }
 {}
 
-/// The inverse of an accepted edit holds as many grid points, values and columns as the edit takes out
+/// The inverse of an accepted edit holds as many grid points, values and columns as the edit removes
 /// of the content or overwrites.
 pub fn inverse_weighs_what_was_touched()
     ensures { InverseWeighsWhatWasTouched }

@@ -1,5 +1,5 @@
 //! One edge of a line or ring against all the others: where all but one are known not to meet, this
-//! tells whether the whole does.
+//! decides whether the whole does.
 
 ghost use Rattle.std.specs.Prelude.{◌↔◌, ◌+◌, ◌<◌, IsTrue, length};
 ghost use Rattle.sf_rules.specs.Conditions.{Applies, Condition};

@@ -86,7 +86,7 @@ impl Window {
         self.place += count as u64;
     }
 
-    /// Reads until so many bytes stand ahead, or the reader is at its end. Tells whether they do.
+    /// Reads until so many bytes stand ahead, or the reader is at its end. Says whether they do.
     ///
     /// # Errors
     ///
@@ -111,7 +111,7 @@ impl Window {
         self.bytes.len() - self.start
     }
 
-    /// Reads once more. Tells whether a byte came; where none did, the reader is at its end.
+    /// Reads once more. Says whether a byte came; where none did, the reader is at its end.
     fn fill<R: Read>(&mut self, reader: &mut R) -> Result<bool, ReadFault>
         requires { length self.old.bytes ≤ ahead_max }
         ensures ahead { ReadsAhead (R.remaining reader.old) (R.remaining reader.new) self.old self.new }

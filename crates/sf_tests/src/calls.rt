@@ -5,7 +5,7 @@ use std::alloc::Global;
 use std::test::Fail;
 
 /// What lines are read as: the editor, a verb, and the identifier of a feature or 0.
-const READ: [(&str, u8, &str, u32); 14] = [
+const READ: [(&str, u8, &str, u32); 16] = [
     (" undo ", 0, "undo", 0),
     ("show w", 0, "show", 0),
     ("get w 7 4294967295 007", 0, "get", 0),
@@ -17,6 +17,8 @@ const READ: [(&str, u8, &str, u32); 14] = [
     ("relate w 2 POINT (0 0)", 0, "relate", 2),
     ("match w t******** POINT (0 0)", 0, "match", 0),
     ("query w within POINT (0 0)", 0, "query", 0),
+    ("join w within v", 0, "join", 0),
+    ("join w T******** w 7", 0, "join", 7),
     ("@1 undo", 1, "undo", 0),
     (" @007\tshow w", 7, "show", 0),
     ("@255  box w 3", 255, "box", 3),
@@ -35,6 +37,9 @@ fn verb_of(command: &Command) -> Option<(&'static str, u32)> {
         Command::Relate(_, id, _) => Some(("relate", *id)),
         Command::Match(_, _, _) => Some(("match", 0)),
         Command::Query(_, _, _) => Some(("query", 0)),
+        Command::JoinNamed(_, _, _, id) | Command::JoinMatching(_, _, _, id) => {
+            Some(("join", id.unwrap_or(0)))
+        }
         _ => None,
     }
 }

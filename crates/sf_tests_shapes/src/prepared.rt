@@ -1,8 +1,8 @@
-//! The matrix of an area of 52 edges with small geometries, beside what a walk over all of them tells.
+//! The matrix of an area of 52 edges with small geometries, by the edges nearby, beside what a walk over all of them tells.
 
 use sf_geometry::{Geometry, Sequence};
 use sf_grid::GridPoint;
-use sf_prepared::matrix_nearby;
+use sf_prepared::{Prepared, matrix_nearby};
 use sf_relate::relate;
 use sf_validity::{Valid, validate};
 use std::alloc::Global;
@@ -83,21 +83,38 @@ fn shell(alloc: Global) -> Result<Sequence<GridPoint>, Fail> {
     Ok(Sequence::from_vec(points))
 }
 
-/// The area in this shell, with the holes.
-fn area(alloc: Global) -> Result<Valid, Fail> {
+/// The rings of the area: this shell, and the holes.
+fn rings(alloc: Global) -> Result<Sequence<Sequence<GridPoint>>, Fail> {
     let mut rings = Vec::new(alloc);
     rings.push(shell(alloc)?)?;
     for places in HOLES {
         rings.push(points(alloc, places)?)?;
     }
-    valid(alloc, Geometry::Polygon(Sequence::from_vec(rings)))
+    Ok(Sequence::from_vec(rings))
 }
 
-/// The number of the first small geometry whose matrix is not told, or not as by a walk.
+/// The area as a polygon.
+fn area(alloc: Global) -> Result<Valid, Fail> {
+    valid(alloc, Geometry::Polygon(rings(alloc)?))
+}
+
+/// The area as the only one of several polygons.
+fn multi_area(alloc: Global) -> Result<Valid, Fail> {
+    let mut polygons = Vec::new(alloc);
+    polygons.push(rings(alloc)?)?;
+    valid(alloc, Geometry::MultiPolygon(Sequence::from_vec(polygons)))
+}
+
+/// The number of the first small geometry whose matrix is not known from the edges nearby, or not as by a walk.
 fn told_otherwise(alloc: Global, area: &Valid) -> Result<Option<usize>, Fail> {
+    let prepared = Prepared::new(alloc, area)?;
     for (number, places) in SMALL.iter().enumerate() {
         let small = small(alloc, places)?;
-        if matrix_nearby(alloc, area, &small) != Some(relate(alloc, area, &small)?) {
+        let nearby = matrix_nearby(alloc, area, &small);
+        let told = prepared.matrix_told(alloc, &small, area);
+        if nearby != Some(relate(alloc, area, &small)?)
+            || told != Some(relate(alloc, &small, area)?)
+        {
             return Ok(Some(number));
         }
     }
@@ -106,8 +123,8 @@ fn told_otherwise(alloc: Global, area: &Valid) -> Result<Option<usize>, Fail> {
 
 #[test]
 fn nearby_tells_as_a_walk(rt: HostRuntime) -> Result<(), Fail> {
-    let area = area(rt.alloc())?;
-    assert_eq!(rt; told_otherwise(rt.alloc(), &area)?, None);
+    assert_eq!(rt; told_otherwise(rt.alloc(), &area(rt.alloc())?)?, None);
+    assert_eq!(rt; told_otherwise(rt.alloc(), &multi_area(rt.alloc())?)?, None);
     Ok(())
 }
 

@@ -1,4 +1,4 @@
-//! An index that was lost for want of memory, built anew by the next edit and the next undo.
+//! An index that was lost as memory ran out, built anew by the next edit and the next undo.
 
 ghost use Rattle.std.specs.Prelude.{Ok, IfOk};
 ghost use Rattle.sf_steps.specs.Inverses.{Carries, Fits, Reverts};
@@ -37,7 +37,7 @@ fn taken_back(alloc: Global, store: &mut Store, inverse: Inverse) -> Result<Reve
     }
 }
 
-/// A store of an empty layer, `wells`, which has no index, as after want of memory.
+/// A store of an empty layer, `wells`, which has no index, as after memory ran out.
 fn unindexed_store(alloc: Global) -> Result<Store, Fail> {
     let name = Text::from_string(String::from_str(alloc, "wells")?);
     let layer = Layer::unindexed(alloc, LayerKind::Any);

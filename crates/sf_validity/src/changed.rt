@@ -41,7 +41,7 @@ pub(crate) fn is_tight_at(geometry: &Geometry, part: u32, ring: u32) -> bool
     }
 }
 
-/// Whether a geometry is valid that was a valid one before such a change, told whether the ring was tight.
+/// Whether a geometry is valid that was a valid one before such a change, given whether the ring was tight.
 ///
 /// # Errors
 ///

@@ -41,7 +41,7 @@ impl Ending {
         }
     }
 
-    /// Tells the last words: on standard output where help was asked for, else on standard error, since
+    /// Writes the last words: on standard output where help was asked for, else on standard error, since
     /// the picture goes to standard output.
     pub fn tell(&self, rt: &(impl Print + Eprint)) -> io::Result<()> {
         if self.status() == 0 {

@@ -18,7 +18,7 @@ use std::io::{ErrorKind, Read, Seek, SeekFrom, Write};
 use std::{fs, io};
 
 /// What each head of a journal begins with.
-const HEAD_FRONT: &str = "sfstore-journal 2 ";
+const HEAD_FRONT: &str = "sfstore-journal 3 ";
 
 /// The journal of a folder, and an output.
 #[derive(Drop)]

@@ -1,7 +1,16 @@
-use Rattle.sf_prepared.proofs.PlacedLaws.{place-by-parity}
+use Rattle.sf_prepared.proofs.PlacedLaws.{never-boundary, parity-off-boundary, place-by-parity}
 use Rattle.sf_prepared.proofs.prepared.Prepared.place_of.Goals as goal
 
 pub returns-in-Ok : goal.returns-in-Ok
-returns-in-Ok c =
-    place-by-parity c.args.given.now c.args.self.now c.args.point c.in-Ok.odd c.place_by_parity.result c.requires.valid c.requires.area c.requires.edges c.requires.off
-    c.in-Ok.ensures c.place_by_parity.ensures
+returns-in-Ok c = record {
+  place =
+      place-by-parity c.args.given.now c.args.self.now c.args.point c.in-Ok.odd c.place_by_parity.result c.requires.valid c.requires.area c.requires.edges c.requires.off
+      c.in-Ok.ensures c.place_by_parity.ensures;
+  off = parity-off-boundary c.in-Ok.odd c.place_by_parity.result c.place_by_parity.ensures;
+}
+
+pub returns-in-Err : goal.returns-in-Err
+returns-in-Err c = record {
+  place = c.locate.ensures;
+  off = never-boundary c.args.given.now c.args.point c.locate.result c.requires.valid c.requires.area c.requires.off c.locate.ensures;
+}

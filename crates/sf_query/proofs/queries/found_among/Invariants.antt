@@ -1,5 +1,5 @@
 use Rattle.sf_query.proofs.QueryLaws.{AreFoundTo}
-use Rattle.sf_query.proofs.queries.found_by_index.Given as goal
+use Rattle.sf_query.proofs.queries.found_among.Given as goal
 
 -- the identifiers of those that pass, of the near features so far
 abbrev pub invariant-loop-id : goal.invariant-loop-id

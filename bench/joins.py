@@ -1,0 +1,193 @@
+#!/usr/bin/env python3
+"""Compares joins with a plain double loop, and measures them.
+
+    bench/joins.py [PROGRAM [ROUNDS]]     compares: 2,000 rounds, if no number is given
+    bench/joins.py --speed [PROGRAM]      measures: two layers of 100,000 squares that touch, and one with itself
+
+In each round two layers get features of all kinds, a few or as many as have an index searched, and are joined by each
+predicate and by some patterns, each layer with the other and with itself, whole and beside one feature. What belongs
+in each answer is worked out here, pair by pair, from the letters that `relate` answers, by the standard's table of
+predicates. Every difference is printed; the status is 1 where there is one.
+
+    rt run is needed once in crates/sfstore (it builds the program).
+"""
+
+from __future__ import annotations
+
+import random
+import resource
+import subprocess
+import sys
+from collections.abc import Iterator
+from dataclasses import dataclass
+from pathlib import Path
+
+from agreement import PROGRAM, feature, holds, matches
+
+ROUNDS = 2_000
+SEED = 20_261_127
+PREDICATES = ("equals", "disjoint", "intersects", "touches", "within", "contains", "crosses", "overlaps")
+# The sides of two fields of squares: each meets the eight round it, and of the other field nine.
+SQUARES = 316
+
+Layer = list[tuple[int, str]]
+Pair = tuple[int, int]
+
+
+@dataclass(frozen=True)
+class Join:
+    """A join of two layers by their names, and beside a feature where an identifier is given."""
+
+    first: str
+    ask: str
+    second: str
+    beside: int | None
+
+    def line(self) -> str:
+        """The command."""
+        return f"join {self.first} {self.ask} {self.second}" + ("" if self.beside is None else f" {self.beside}")
+
+
+def near(chance: random.Random) -> tuple[int, str]:
+    """A small geometry with its dimension, often one that another feature has too."""
+    if chance.randrange(3):
+        x, y = 10 * chance.randint(0, 4), 10 * chance.randint(0, 4)
+        return 2, f"POLYGON (({x} {y}, {x + 10} {y}, {x + 10} {y + 10}, {x} {y + 10}, {x} {y}))"
+    return feature(chance)
+
+
+def layer(chance: random.Random) -> Layer:
+    """The features of a layer, each with its dimension."""
+    return [near(chance) for _ in range(chance.choice((0, 1, 3, 7, 8, 12)))]
+
+
+def joins(chance: random.Random, layers: dict[str, Layer]) -> Iterator[Join]:
+    """What is asked of two layers."""
+    asks = [*PREDICATES, *("".join(chance.choice("****TF012") for _ in range(9)) for _ in range(3))]
+    for ask in asks:
+        first, second = chance.choice("ab"), chance.choice("ab")
+        yield Join(first, ask, second, None)
+        if layers[second]:
+            yield Join(first, ask, second, chance.randint(1, len(layers[second])))
+
+
+def rows_of(output: Iterator[str]) -> list[str]:
+    """The rows of the next answer, or its only line."""
+    head = next(output)
+    return [next(output) for _ in range(int(head[5:]))] if head.startswith("rows ") else [head]
+
+
+def answers(program: Path, lines: list[str]) -> Iterator[list[str]]:
+    """The answers of a session."""
+    text = "".join(line + "\n" for line in lines)
+    ended = subprocess.run([program], input=text, capture_output=True, text=True, check=True)
+    output = iter(ended.stdout.splitlines())
+    for _ in lines:
+        yield rows_of(output)
+
+
+def matrices(program: Path, layers: dict[str, Layer]) -> dict[tuple[str, str, int, int], str]:
+    """The matrix of each feature of a layer with each of a layer, by the names and identifiers."""
+    added = [f"layer add {name} any" for name in layers]
+    added += [f"add {name} {text}" for name, features in layers.items() for _, text in features]
+    pairs = [
+        (first, second, i, j)
+        for first in layers
+        for second in layers
+        for i in range(1, len(layers[first]) + 1)
+        for j in range(1, len(layers[second]) + 1)
+    ]
+    asked = [f"relate {first} {i} {layers[second][j - 1][1]}" for first, second, i, j in pairs]
+    found = [*answers(program, added + asked)][len(added) :]
+    return {pair: rows[0] for pair, rows in zip(pairs, found, strict=True)}
+
+
+def is_asked(ask: str, own: int, given: int, matrix: str) -> bool:
+    """Whether a matrix is as a predicate or a pattern asks."""
+    return holds(ask, own, given, matrix) if ask in PREDICATES else matches(matrix, ask)
+
+
+def expected(join: Join, layers: dict[str, Layer], known: dict[tuple[str, str, int, int], str]) -> list[str]:
+    """The rows of a join, by a plain double loop."""
+    found: list[Pair] = []
+    for i, (own, _) in enumerate(layers[join.first], 1):
+        for j, (given, _) in enumerate(layers[join.second], 1):
+            if join.first == join.second and i == j:
+                continue
+            if is_asked(join.ask, own, given, known[join.first, join.second, i, j]):
+                found.append((i, j))
+    if join.beside is None:
+        return [f"{i} {j}" for i, j in found]
+    return [str(i) for i, j in found if j == join.beside]
+
+
+def differences(program: Path, seed: int) -> list[str]:
+    """What a round answers otherwise than a double loop."""
+    chance = random.Random(seed)
+    layers = {"a": layer(chance), "b": layer(chance)}
+    known = matrices(program, layers)
+    asked = [*joins(chance, layers)]
+    lines = [f"layer add {name} any" for name in layers]
+    lines += [f"add {name} {text}" for name, features in layers.items() for _, text in features]
+    found = [*answers(program, lines + [join.line() for join in asked])][len(lines) :]
+    told = []
+    for join, rows in zip(asked, found, strict=True):
+        wanted = expected(join, layers, known)
+        if rows != wanted:
+            told.append(f"seed {seed}: {join.line()}: {rows}, not {wanted}")
+    return told
+
+
+def compare(program: Path, rounds: int) -> int:
+    """Compares, and prints what differs. The status is 1 where something does."""
+    told = [line for seed in range(SEED, SEED + rounds) for line in differences(program, seed)]
+    print(*told, f"{rounds} rounds, {len(told)} differences", sep="\n")
+    return int(bool(told))
+
+
+def seconds_of(program: Path, lines: list[str]) -> tuple[float, int]:
+    """The processor seconds that a session takes, and the rows of its last answer."""
+    before = resource.getrusage(resource.RUSAGE_CHILDREN)
+    text = "".join(line + "\n" for line in lines)
+    ended = subprocess.run([program], input=text, capture_output=True, text=True, check=True)
+    after = resource.getrusage(resource.RUSAGE_CHILDREN)
+    seconds = after.ru_utime + after.ru_stime - before.ru_utime - before.ru_stime
+    heads = [line for line in ended.stdout.splitlines() if line.startswith("rows ")]
+    return seconds, int(heads[-1][5:]) if heads else 0
+
+
+def squares(name: str, shift: int) -> list[str]:
+    """A layer of squares side by side."""
+    lines = [f"layer add {name} polygon"]
+    for k in range(SQUARES * SQUARES):
+        x, y = 20 * (k % SQUARES) + shift, 20 * (k // SQUARES) + shift
+        lines.append(f"add {name} POLYGON (({x} {y}, {x + 20} {y}, {x + 20} {y + 20}, {x} {y + 20}, {x} {y}))")
+    return lines
+
+
+def measure(program: Path) -> int:
+    """Prints how long joins take beyond what adding the features does."""
+    base = squares("a", 0) + squares("b", 10)
+    added, _ = seconds_of(program, base)
+    print(f"two layers of {SQUARES * SQUARES:,} squares: added in {added:.2f} s")
+    for line in ("join a touches a", "join a intersects b", "join a within b", "join a T******** a"):
+        seconds, rows = seconds_of(program, [*base, line])
+        # Each square has nine boxes of its own layer that meet its own, itself among them, and four of the other.
+        pairs = SQUARES * SQUARES * (9 if line.split()[1] == line.split()[3] else 4)
+        taken = seconds - added
+        print(f"{line}: {rows:,} rows, {taken:.2f} s, {1e6 * taken / pairs:.2f} microseconds for each pair of boxes")
+    return 0
+
+
+def main(words: list[str]) -> int:
+    """Compares, or measures."""
+    measures = "--speed" in words
+    rest = [word for word in words if word != "--speed"]
+    program = Path(rest[0]).resolve() if rest else PROGRAM
+    if measures:
+        return measure(program)
+    return compare(program, int(rest[1]) if len(rest) > 1 else ROUNDS)
+
+
+if __name__ == "__main__":
+    sys.exit(main(sys.argv[1:]))

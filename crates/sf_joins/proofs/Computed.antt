@@ -1,0 +1,36 @@
+-- Joins computed, of points.
+use Rattle.std.proofs.Common.{◌≡◌, ℕ, true, false, List, [], ◌∷◌, pos, refl}
+use Rattle.sf_geometry.specs.declared.geometry.Geometry.TheVariants.{Point}
+use Rattle.sf_features.specs.Features.{FeatureContent}
+use Rattle.sf_layers.specs.Content.{LayerContent}
+use Rattle.sf_layers.specs.declared.layer_kind.LayerKind.TheVariants.{Any}
+use Rattle.sf_relate.specs.declared.predicate.Predicate.TheVariants.{Equals, Disjoint, Intersects}
+use Rattle.sf_query.specs.declared.ask.Ask.TheVariants.{Named}
+use Rattle.sf_joins.specs.Joins.{pairs_found, found_beside}
+
+abbrev at : ℕ → ℕ → FeatureContent
+at x y = record { geometry = Point (record { x = pos x; y = pos y }); values = [] }
+
+abbrev points : List (ℕ × FeatureContent) → LayerContent
+points features = record { kind = Any; next_id = 9; next_column = 1; columns = []; features = features }
+
+abbrev a : LayerContent
+a = points ((1, at 1 1) ∷ (2, at 2 2) ∷ (4, at 1 1) ∷ [])
+
+abbrev b : LayerContent
+b = points ((1, at 2 2) ∷ (3, at 1 1) ∷ [])
+
+two_layers : pairs_found false a (Named Equals) b ≡ (1, 3) ∷ (2, 1) ∷ (4, 3) ∷ []
+two_layers = refl
+
+one_layer : pairs_found true a (Named Intersects) a ≡ (1, 4) ∷ (4, 1) ∷ []
+one_layer = refl
+
+apart : pairs_found true a (Named Disjoint) a ≡ (1, 2) ∷ (2, 1) ∷ (2, 4) ∷ (4, 2) ∷ []
+apart = refl
+
+none_there : pairs_found false a (Named Equals) (points []) ≡ []
+none_there = refl
+
+beside_itself : found_beside true a (Named Equals) (1, at 1 1) ≡ 4 ∷ []
+beside_itself = refl

@@ -1,0 +1,5 @@
+pub mod ConverseLaws
+pub mod PairLaws
+pub mod PlaneLaws
+pub mod LoopLaws
+mod Computed

@@ -1,0 +1,8 @@
+-- Internal: who wants to trust the program need not read this file.
+-- Matrices and patterns of two geometries the other way round.
+use Rattle.std.specs.Prelude.{List, [], ◌∷◌}
+
+-- of nine entries or letters, row by row, the columns as rows
+abbrev pub transposed : {X : Type 0} → List X → List X
+transposed (ii ∷ ib ∷ ie ∷ bi ∷ bb ∷ be ∷ ei ∷ eb ∷ ee ∷ rest) = ii ∷ bi ∷ ei ∷ ib ∷ bb ∷ eb ∷ ie ∷ be ∷ ee ∷ []
+transposed xs = []
