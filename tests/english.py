@@ -23,26 +23,6 @@ MEAN, LONGEST = 20, 40
 # Pages that scripts make of contracts and definitions: their text is code.
 OF_CODE = {"TRUST.md", "WRONG_BODIES.md"}
 
-# Pages that nobody has gone through yet.
-NOT_YET = {
-    "CONTRIBUTING.md",
-    "docs/MAP.md",
-    "docs/build/CELLS.md",
-    "docs/build/COSTS.md",
-    "docs/build/PROVING.md",
-    "docs/build/SWEEP.md",
-    "docs/build/ADDING_A_COMMAND.md",
-    "docs/trust/THREATS.md",
-    "docs/use/EXCHANGE.md",
-    "docs/use/FORMAT.md",
-    "docs/use/JOURNAL.md",
-    "docs/use/PAGE.md",
-    "docs/use/PICTURE.md",
-    "docs/use/REPLICAS.md",
-    "docs/use/PYTHON.md",
-    "python/sfstore",
-}
-
 FENCED = re.compile(r"^ *```.*?^ *```[^\n]*$", re.MULTILINE | re.DOTALL)
 CODE = re.compile(r"``[^\n]+?``|`[^`\n]+`")
 LINK = re.compile(r"!?\[([^\]]*)\]\([^)]*\)")
@@ -143,7 +123,8 @@ def faults_of(place: str, prose: Prose, words: list[tuple[str, str]]) -> list[st
     ]
     if place != str(WORDS.relative_to(TOP)):
         for word, better in words:
-            for hit in re.finditer(rf"[^\n]{{0,40}}\b{re.escape(word)}\b[^\n]{{0,20}}", prose.text):
+            # In brackets by itself it is the name of a file.
+            for hit in re.finditer(rf"[^\n]{{0,40}}(?<!\()\b{re.escape(word)}\b[^\n]{{0,20}}", prose.text):
                 found.append(f"{place}: {word} ({better}): {hit[0].strip()}")
     return found
 
@@ -155,12 +136,10 @@ def faults() -> list[str]:
     for path in pages():
         prose = prose_of(path.read_text(encoding="utf-8"))
         place = str(path.relative_to(TOP))
-        if place in NOT_YET:
-            continue
         found += faults_of(place, prose, words)
         if prose.mean() > MEAN:
             found.append(f"{place}: {prose.mean():.1f} words in a sentence on the mean")
-    for place, text in docstrings() if "python/sfstore" not in NOT_YET else []:
+    for place, text in docstrings():
         found += faults_of(place, prose_of(text), words)
     return found
 

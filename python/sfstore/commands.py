@@ -11,7 +11,7 @@ __all__ = ["COMMANDS", "OWN", "Command", "candidates", "help_text", "near_words"
 
 
 OWN = [
-    Command("help COMMAND", "tells the commands, or one with an example", "help add"),
+    Command("help COMMAND", "lists the commands, or shows one with an example", "help add"),
     Command("save", "saves the store; the history begins anew", "save"),
     Command("picture FILE", "draws the store as SVG, and opens it in a browser", "picture town.svg"),
     Command(

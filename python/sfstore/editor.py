@@ -23,8 +23,8 @@ class Editor:
     """One of the editors of a store, each known by a number, and its commands.
 
     All editors see one content, and edit it in turn. An editor undoes and redoes its own edits
-    alone: where the one in turn is another's, it is refused as 36 NotYours. An accepted edit of
-    any of them leaves nothing to be done again for all.
+    alone: if the one in turn is another's, it is refused as 36 NotYours. After an accepted edit of
+    any of them nobody has anything to redo.
 
     `Store.editor` gives an editor. A `Store` is itself the editor of number 0.
 
@@ -51,7 +51,7 @@ class Editor:
     def run(self, line: str) -> Answer:
         """The answer of a command line: its one line, or the rows behind ``rows N`` as a list.
 
-        `Refused` where it is refused. `ValueError` for a line with a line feed, which would be
+        `Refused` if it is refused. `ValueError` for a line with a line feed, which would be
         several, and for a blank one, which has no answer.
 
         >>> with Store() as store:
@@ -74,8 +74,8 @@ class Editor:
     ) -> list[Answer | Refused]:
         """The answers of many command lines in their order, faster than one by one.
 
-        Where a line is refused, its `Refused` stands among the answers, and the lines behind it are
-        carried out nevertheless. All lines are looked at before the first is sent: after
+        If a line is refused, its `Refused` stands among the answers, and the lines behind it are
+        carried out nevertheless. All lines are checked before the first is sent: after
         a `ValueError` none was carried out. ``progress`` is called after each batch with the number
         of lines that are answered, and that of all lines.
 
@@ -104,7 +104,7 @@ class Editor:
         self.run(f"layer add {spelling.name(name)} {spelling.one_of(Kind, kind)}")
 
     def drop_layer(self, name: str) -> None:
-        """Takes a layer out, with all that it has.
+        """Removes a layer, with all that it has.
 
         >>> with Store() as store:
         ...     store.add_layer("roads")
@@ -157,7 +157,7 @@ class Editor:
         self.run(f"column add {spelling.name(layer)} {spelling.name(name)} {spelling.one_of(ColumnType, column_type)}")
 
     def drop_column(self, layer: str, name: str) -> None:
-        """Takes a column out of a layer, with its values.
+        """Removes a column of a layer, with its values.
 
         >>> with Store() as store:
         ...     store.add_layer("wells")
@@ -199,7 +199,7 @@ class Editor:
         return int(answer.split(" ")[1])
 
     def delete(self, layer: str, feature_id: int) -> None:
-        """Takes a feature out of its layer.
+        """Removes a feature from its layer.
 
         >>> with Store() as store:
         ...     store.add_layer("wells")
@@ -257,7 +257,7 @@ class Editor:
         self.run(f"vertex move {vertex} {spelling.integer(x)} {spelling.integer(y)}")
 
     def vertex_remove(self, layer: str, feature_id: int, part: int, ring: int, index: int) -> None:
-        """Takes a vertex out, named as for `vertex_insert`.
+        """Removes a vertex, named as for `vertex_insert`.
 
         >>> with Store() as store:
         ...     store.add_layer("roads")
@@ -306,7 +306,7 @@ class Editor:
     def get(self, layer: str, *feature_ids: int) -> list[Feature]:
         """The features of these identifiers, one to 1,000 of them, in the order asked.
 
-        An identifier that is asked for again has its feature again. Where one is of no feature,
+        An identifier that is asked for again has its feature again. If one is of no feature,
         this is refused as 21 NoFeature. It costs what it gives, and not what the layer has.
 
         >>> with Store() as store:
@@ -454,7 +454,7 @@ class Editor:
         return [int(row) for row in self._rows(f"join {words}")]
 
     def undo(self) -> None:
-        """Takes back the last edit that is not undone yet, where it is this editor's.
+        """Takes back the last edit that is not undone yet, if it is this editor's.
 
         >>> with Store() as store:
         ...     store.add_layer("wells")
@@ -465,7 +465,7 @@ class Editor:
         self.run("undo")
 
     def redo(self) -> None:
-        """Does the last edit that was undone again, where it is this editor's.
+        """Redoes the last edit that was undone, if it is this editor's.
 
         >>> with Store() as store:
         ...     store.add_layer("wells")

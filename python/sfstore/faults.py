@@ -1,7 +1,7 @@
 """Where a geometry breaks the rules 10 to 17, worked out in whole numbers and exact fractions.
 
-This is told beside the program and is not proved: the program decides that a rule is broken, and
-this looks for a place to show. Members, rings and edges count from 0, as in the commands.
+This is worked out beside the program and is not proved: the program decides that a rule is broken, and
+this searches for a place to show. Members, rings and edges count from 0, as in the commands.
 
 Of a hostile geometry the search may take minutes, so it ends after a time.
 """

@@ -53,7 +53,7 @@ class Kept:
             return torn + journal.torn_bytes(self.path)
 
     def opened(self) -> None:
-        """Notes what the program has loaded, and done again. `JournalError` where the file is another one now."""
+        """Notes what the program has loaded, and replayed. `JournalError` where the file is another one now."""
         data = journal.bytes_of(self.journal) or b""
         self._head = data[: data.find(b"\n") + 1]
         self.unsaved = max(data.count(b"\n") - 1, 0)

@@ -108,7 +108,7 @@ COMMANDS = [
         "layer add wells point",
         "layers",
     ),
-    Command("layer drop LAYER", "takes a layer out, with all that it has", "layer drop wells", "layers"),
+    Command("layer drop LAYER", "removes a layer, with all that it has", "layer drop wells", "layers"),
     Command("layer rename LAYER NAME", "gives a layer another name", "layer rename roads streets", "layers"),
     Command(
         "layer move LAYER PLACE",
@@ -123,16 +123,16 @@ COMMANDS = [
         "column add wells depth int",
         "columns",
     ),
-    Command("column drop LAYER COLUMN", "takes a column out", "column drop wells depth", "columns"),
+    Command("column drop LAYER COLUMN", "removes a column", "column drop wells depth", "columns"),
     Command("columns LAYER", "lists the columns of a layer", "columns wells"),
-    Command("add LAYER WKT", "adds a feature, and tells its number", "add wells POINT (3 4)", "geometries"),
+    Command("add LAYER WKT", "adds a feature, and gives its number", "add wells POINT (3 4)", "geometries"),
     Command(
         "addhex LAYER HEX",
         "adds a feature of a well-known binary",
         "addhex wells 0101000000000000000000f03f0000000000000040",
         "geometries",
     ),
-    Command("delete LAYER ID", "takes a feature out", "delete wells 1", "geometries"),
+    Command("delete LAYER ID", "removes a feature", "delete wells 1", "geometries"),
     Command(
         "replace LAYER ID WKT",
         "gives a feature another geometry",
@@ -153,7 +153,7 @@ COMMANDS = [
     ),
     Command(
         "vertex remove LAYER ID PART RING INDEX",
-        "takes a vertex out",
+        "removes a vertex",
         "vertex remove roads 1 0 0 1",
         "geometries",
     ),
@@ -171,12 +171,12 @@ COMMANDS = [
         "lists the features with a value in a column; without VALUE those with any",
         "find wells label 'old'",
     ),
-    Command("hex LAYER ID", "tells a geometry as well-known binary", "hex wells 1"),
-    Command("box LAYER ID", "tells the corners of the least box of a feature", "box roads 1"),
-    Command("simple LAYER ID", "tells whether a geometry passes no point twice", "simple roads 1"),
+    Command("hex LAYER ID", "gives a geometry as well-known binary", "hex wells 1"),
+    Command("box LAYER ID", "gives the corners of the least box of a feature", "box roads 1"),
+    Command("simple LAYER ID", "says whether a geometry passes no point twice", "simple roads 1"),
     Command(
         "relate LAYER ID WKT",
-        "tells the DE-9IM matrix of a feature with a geometry",
+        "gives the DE-9IM matrix of a feature with a geometry",
         "relate parcels 1 POINT (5 5)",
     ),
     Command(
@@ -195,7 +195,7 @@ COMMANDS = [
         "join wells within parcels",
     ),
     Command("undo", "takes the last edit back", "undo", "history"),
-    Command("redo", "does what was undone again", "redo", "history"),
+    Command("redo", "redoes what was undone", "redo", "history"),
 ]
 """The commands of the program."""
 

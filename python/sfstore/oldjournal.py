@@ -2,9 +2,9 @@
 
 Version 1 was written by the module itself, before the program kept one. The head is ``sfstore-journal 1
 DIGEST``, where ``DIGEST`` is the SHA-256 of the file that the edits begin from, or ``new`` where there
-is none. A record is the CRC-32 of all lines up to it (the head, then the lines of the records, each
-with its line feed), eight digits in hexadecimal, a blank, the line as the program took it, and a line
-feed. A line ``#saved DIGEST``, which is no command, says that the edits before it are in a file of
+is none. A record is eight hexadecimal digits, a blank, the line as the program took it, and a line feed.
+The digits are the CRC-32 of all lines up to it: the head, then the lines of the records, each with its
+line feed. A line ``#saved DIGEST``, which is no command, says that the edits before it are in a file of
 that digest, which was about to take the file's place.
 
 Version 2 was written by the program. It is as today's but for the head's ``2`` and for the digits

@@ -17,7 +17,7 @@ class Words(NamedTuple):
 
 
 REFUSALS = {
-    1: Words("no memory was found for it", "Save, leave, and begin again; ask for less at a time."),
+    1: Words("memory ran out", "Save, leave, and begin again; ask for less at a time."),
     2: Words(
         "the geometry is not written as it has to be",
         "Look at brackets and commas, as in POLYGON ((0 0, 10 0, 10 10, 0 0)).",
@@ -27,14 +27,14 @@ REFUSALS = {
         "Coordinates are counted in steps of the grid: 12, not 12.5.",
     ),
     4: Words("a coordinate is too large", f"Coordinates go from {GRID_MIN} to {GRID_MAX}."),
-    5: Words("the geometry is empty", "A geometry has at least one point; leave it out else."),
+    5: Words("the geometry is empty", "A geometry has at least one point; else leave the feature out."),
     6: Words(
         "the geometry is of a kind that the store has not",
         "Kinds are POINT, LINESTRING, POLYGON and their MULTI forms, with x and y alone.",
     ),
     7: Words("the binary ends too early", "Look whether all of it was copied."),
     8: Words("something stands behind the binary's geometry", "Give one geometry at a time."),
-    9: Words("the geometry has too many points", f"{POINTS_MAX:,} are the most: split it."),
+    9: Words("the geometry has too many points", f"It has at most {POINTS_MAX:,}: split it."),
     10: Words("a line has fewer than two points", "Repeated points count once: add another one."),
     11: Words("a ring is not closed", "Write its first point again as its last one."),
     12: Words("a ring has too few points", "It has at least three, and its first one again."),
@@ -54,7 +54,7 @@ REFUSALS = {
     23: Words("a column of the layer has that name already", "`columns LAYER` lists them."),
     24: Words(
         "the value is none that the column takes",
-        f"An int takes digits; a text takes 'quotes', and {TEXT_MAX} bytes at most.",
+        f"An int takes digits; a text takes 'quotes', and at most {TEXT_MAX} bytes.",
     ),
     25: Words(
         "the geometry has no such vertex",
@@ -65,10 +65,10 @@ REFUSALS = {
     27: Words("all identifiers of the layer, or all layers, are used up", "Begin another layer."),
     28: Words("all column numbers of the layer are used up", "Begin another layer."),
     29: Words("there is nothing to undo", "A save and a loading begin a new history."),
-    30: Words("there is nothing to do again", "Any edit after an undo ends what could be."),
+    30: Words("there is nothing to redo", "An edit after an undo leaves nothing to redo."),
     31: Words("that is no command", "`help` lists them, and `help COMMAND` has an example."),
     32: Words("that is no pattern", "It has nine letters of T F * 0 1 2."),
-    33: Words("the line is too long", f"{LINE_MAX:,} bytes are the most."),
+    33: Words("the line is too long", f"It has at most {LINE_MAX:,} bytes."),
     35: Words("there is no such place among the layers", "Places count from 0."),
     36: Words("the step is another editor's", "Who made it can undo it."),
 }
@@ -86,9 +86,9 @@ BAD_FIELDS = {
     28: "the number can't stand there",
     34: "the file is none of a store, or of a version that is not known",
 }
-"""What is wrong with a field of a file, by the number that the program tells."""
+"""What is wrong with a field of a file, by the number that the program gives."""
 
 
 def words_of(number: int) -> Words:
     """The words of a refusal, of one without any too."""
-    return REFUSALS.get(number, Words("it was refused", "docs/use/CONSOLE.md has the reasons."))
+    return REFUSALS.get(number, Words("it was refused", "docs/use/REFUSALS.md has the reasons."))

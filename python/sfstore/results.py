@@ -58,7 +58,7 @@ class Refused(Exception):
     """
 
     number: int
-    """The number of the refusal. docs/use/CONSOLE.md has them all."""
+    """The number of the refusal. docs/use/REFUSALS.md has them all, with what helps."""
     name: str
     """Its name, which belongs to the number."""
     line: str
@@ -86,9 +86,9 @@ class ProgramEnded(Exception):
     """
 
     status: int
-    """The status of the program, or less than 0 where a signal of that number killed it."""
+    """The status of the program, or less than 0 if a signal of that number killed it."""
     last_line: str
-    """The last line that it wrote since the last answer. Empty where there is none."""
+    """The last line that it wrote since the last answer. Empty if there is none."""
 
     def __init__(self, status: int, last_line: str) -> None:
         super().__init__(status, last_line)
@@ -105,8 +105,8 @@ class JournalError(Exception):
     """The journal or its file can't be used, or an edit can't be written down.
 
     The text says which place of which file is wrong, and why. Nothing was changed by an opening
-    that raises it. Where an edit raises it, the store is closed, the edits that were answered are
-    in the journal, and the last one may be or not: open the store anew.
+    that raises it. If an edit raises it, the store is closed, and the edits that were answered are
+    in the journal. The last one may be there or not: open the store anew.
     """
 
 
@@ -149,8 +149,9 @@ class Column(NamedTuple):
 class Feature:
     """A feature of a layer, as `Store.show` lists it.
 
-    It has the interface by which shapely, geopandas and others take geometries:
-    ``shapely.geometry.shape(feature)``, ``geopandas.GeoDataFrame.from_features(features)``.
+    It has ``__geo_interface__``, by which geopandas and others take features:
+    ``geopandas.GeoDataFrame.from_features(features)``. shapely takes its geometry, by
+    ``shapely.wkt.loads(feature.wkt)``.
 
     >>> Feature(1, "POINT (3 4)", {"depth": 12}).values["depth"]
     12
@@ -167,7 +168,7 @@ class Feature:
     def __geo_interface__(self) -> dict[str, Any]:
         """The feature as a mapping in the form of GeoJSON, with tuples of whole numbers.
 
-        `ValueError` where `wkt` is no canonical text.
+        `ValueError` if `wkt` is no canonical text.
 
         >>> Feature(1, "LINESTRING (0 0, 5 -7)", {}).__geo_interface__["geometry"]
         {'type': 'LineString', 'coordinates': ((0, 0), (5, -7))}

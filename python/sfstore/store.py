@@ -63,25 +63,25 @@ class Store(Editor):
     """A store of layers, columns and features, held by a program that this object starts.
 
     ``load`` names a file to begin with, ``save`` one to which the store is saved when it is closed.
-    ``program`` is a path, or a name that is looked for on the ``PATH``.
-    `ProgramEnded` where the file can't be loaded.
+    ``program`` is a path, or a name that is searched on the ``PATH``.
+    `ProgramEnded` if the file can't be loaded.
 
-    A store is closed by `close`, or at the end of a ``with``. It is saved then, and not before.
-    Where an exception leaves the body of the ``with``, and where a store is dropped without
-    having been closed, the program is killed: the file to save to stays as it was.
-    If Python itself is killed between two commands, the program meets the end of its input, and
-    saves; in the middle of one it may save or not.
+    `close`, or the end of a ``with``, closes a store and saves it; nothing else does. If an
+    exception leaves the body of the ``with``, or a store is dropped without having been closed, the
+    program is killed, and the file to save to stays as it was. If Python itself is killed between
+    two commands, the program meets the end of its input, and saves; in the middle of one it may
+    save or not.
 
-    A command raises `Refused` where the store refuses it, `ValueError` where an argument has no
-    place in a line, such as a name with a blank or a text with a line feed, and `ProgramEnded`
-    where the program has ended. An exception from outside in the middle of a command, such as
+    A command raises `Refused` if the store refuses it, and `ProgramEnded` if the program has ended.
+    It raises `ValueError` if an argument has no place in a line, such as a name with a blank or
+    a text with a line feed. An exception from outside in the middle of a command, such as
     `KeyboardInterrupt`, kills the program.
 
-    ``Store(path, journal=True)`` has the program keep the store of a file with a journal beside it:
-    an accepted edit is on the disk before it is answered, `save` and `close` put a new file in the
-    place of the old one, and the next opening has what a crash left unsaved, and can undo it. A new
-    store begins where the file is missing. `JournalError` where another session has the file, and
-    where file and journal do not fit. docs/use/JOURNAL.md of the project says what is promised.
+    ``Store(path, journal=True)`` has the program keep the store of a file with a journal beside it.
+    An accepted edit is on the disk before it is answered. `save` and `close` put a new file in the
+    place of the old one. The next opening has what a crash left unsaved, and can undo it. If the
+    file is missing a new store begins. `JournalError` if another session has the file, or if file
+    and journal do not fit. docs/use/JOURNAL.md of the project says what is promised.
 
     Only the thread that made a store may use it: elsewhere, and in a forked process,
     its methods raise `RuntimeError`.
@@ -147,10 +147,10 @@ class Store(Editor):
     def close(self, save: bool = True) -> None:
         """Ends the input of the program, and waits until it has saved the store and ended.
 
-        `ProgramEnded` where it ends with another status than 0: a part of a file may then stand
+        `ProgramEnded` if it ends with another status than 0: a part of a file may then stand
         where the store was to be saved. A store that is closed already stays so.
 
-        With a journal the store is saved as by `save`. Where ``save`` is false nothing is saved:
+        With a journal the store is saved as by `save`. If ``save`` is false nothing is saved:
         the edits are lost, or with a journal stay there for the next opening.
 
         >>> store = Store()
@@ -182,10 +182,10 @@ class Store(Editor):
         """Saves a store with a journal to its file, and begins a new journal.
 
         The history ends with it, as with each loading: what was done before can't be undone any
-        more. Where all is saved already nothing is done. `JournalError` where the file can't be
-        made, as on a full disk, and where another program has changed it since it was opened:
-        nothing is lost then. The store can be used on, unless the program had to be started again
-        and could not be.
+        more. If all is saved already nothing is done. `JournalError` if the file can't be made, as
+        on a full disk, or if another program has changed it since it was opened: nothing is lost
+        then. The store can be used on, unless the program had to be started again and could not
+        be.
         `RuntimeError` without a journal: such a store is saved when it is closed.
 
         >>> import tempfile
@@ -202,8 +202,8 @@ class Store(Editor):
         """Writes a store with a journal as it is now to another file; nothing else is changed.
 
         The copy takes the place of a file that is there when it is whole, and not before.
-        `JournalError` where it can't be made, where the path is one of the store's own files, and
-        where another program has changed the store's file or its journal. `RuntimeError` without a
+        `JournalError` if it can't be made, if the path is one of the store's own files, or if
+        another program has changed the store's file or its journal. `RuntimeError` without a
         journal.
         """
         self._journaled().copy(os.fsdecode(path))
@@ -221,7 +221,7 @@ class Store(Editor):
         """The accepted edits that the file does not have, in their order, with their editors.
 
         A program that loads the file and is given them has the content and the history of the
-        store. `JournalError` where another program has changed the file since it was opened, so
+        store. `JournalError` if another program has changed the file since it was opened, so
         that the lines do not go on from it, or the journal. `RuntimeError` without a journal.
         """
         return self._journaled().unsaved_lines

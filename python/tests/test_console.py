@@ -234,7 +234,7 @@ class Sessions(ConsoleCase):
     def test_help(self):
         terminal = self.console()
         said = terminal.line("help add", "example: add wells POINT (3 4)")
-        self.assertIn("adds a feature, and tells its number", said)
+        self.assertIn("adds a feature, and gives its number", said)
         terminal.line("help nothing", "There is no command nothing")
         terminal.line("help", "leaves; asks first")
 

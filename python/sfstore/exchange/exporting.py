@@ -50,7 +50,7 @@ class Wishes:
 
 
 def give_back(wishes: Wishes, say: Say) -> None:
-    """Writes the map, whole or not at all; ``say`` is told before what the format can't keep.
+    """Writes the map, whole or not at all; ``say`` hears before what the format can't keep.
 
     `ogr.ExchangeError`, `sidecar.SidecarError`, `journal.JournalError` or `OSError` where nothing
     was written.

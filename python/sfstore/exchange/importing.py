@@ -1,7 +1,7 @@
 """The command ``sfstore-import``: a map of a format that OGR opens becomes a store's file.
 
 A feature is taken where its coordinates are on the grid and the program takes its geometry. All
-that is not taken is told by layer, identifier and reason.
+that is not taken is reported by layer, identifier and reason.
 """
 
 from __future__ import annotations

@@ -1,4 +1,4 @@
-"""Layers of OGR as layers of a store, with all told that does not fit."""
+"""Layers of OGR as layers of a store, and reports all that does not fit."""
 
 from __future__ import annotations
 

@@ -56,11 +56,11 @@ class Report:
         detail: str = "",
         geometry: bytes | None = None,
     ) -> None:
-        """Has something that did not fit told."""
+        """Reports something that did not fit."""
         self.problems.append(Problem(layer, identifier, reason, detail, geometry))
 
     def note(self, layer: str, text: str) -> None:
-        """Has something told that was changed, and not left out."""
+        """Reports something that was changed, and not left out."""
         self.notes.append((layer, text))
 
     def summary(self) -> str:

@@ -80,7 +80,7 @@ class Person:
 
     @property
     def said(self) -> str:
-        """What the replica told of what kept it waiting."""
+        """What the replica said of what kept it waiting."""
         return self._said.read_text()
 
     def file(self, at: int) -> bytes:

@@ -184,7 +184,7 @@ class Link:
             raise
 
     def heard(self) -> bool:
-        """Whether the server has told of something since this was asked last. `LinkLost` where it has gone."""
+        """Whether the server has said something new since this was asked last. `LinkLost` where it has gone."""
         try:
             self._raw.poll()
         except psycopg2.Error as error:
@@ -195,11 +195,11 @@ class Link:
         return told
 
     def has_news(self) -> bool:
-        """Whether `heard` would tell of something without asking the server."""
+        """Whether `heard` would say something new without asking the server."""
         return bool(self._raw.notifies)
 
     def fileno(self) -> int:
-        """The socket, which can be read where the server has told of something."""
+        """The socket, which can be read when the server has said something."""
         return int(self._raw.fileno())
 
     def close(self) -> None:

@@ -231,7 +231,7 @@ class Following(_Servers):
     def behind(self, place: int, until: float = 0.0) -> list[Entry]:
         """Entries behind a place, as many as are had at once, and none that is not kept by standbys.
 
-        Where standbys are late, nothing is given after half a second, and it is told why.
+        Where standbys are late, nothing is given after half a second, and it says why.
         """
         return self._on_link(lambda link: self._behind(link, place), until)
 
@@ -249,7 +249,7 @@ class Following(_Servers):
     def put_sum(self, place: int, total: str, until: float = 0.0) -> bool:
         """Puts down what the own file is at a cut. False where the login is not that of a replica.
 
-        `LogRefused` where the login has put down another file there before (``SF105``).
+        `LogRefused` where the login has recorded another file there before (``SF105``).
         """
         words = "SELECT sfstore.put_sum(%s, %s)"
         try:
@@ -266,7 +266,7 @@ class Following(_Servers):
         return str(name)
 
     def heard(self) -> bool:
-        """Whether something was put down since this was asked last. True where the server is lost."""
+        """Whether something was written since this was asked last. True where the server is lost."""
         if self._link is None:
             return True
         try:
@@ -276,7 +276,7 @@ class Following(_Servers):
             return True
 
     def has_news(self) -> bool:
-        """Whether something was put down that the socket does not tell of any more."""
+        """Whether something was written that the socket does not show any more."""
         return self._link is not None and self._link.has_news()
 
     def look(self) -> None:
@@ -335,7 +335,7 @@ class Writing(_Servers):
         return None if number is None else int(number)
 
     def append(self, keys: Sequence[str], lines: Sequence[str], until: float) -> list[int]:
-        """Has lines put down as one, each once however often it is tried with its key, and gives their places.
+        """Has lines written as one, each once however often it is tried with its key, and gives their places.
 
         A place is no acknowledgement: a line is kept where `Following.behind` gives it. Where no
         server takes the lines by some moment, `LogUnreachable`: it is not known whether they stand.

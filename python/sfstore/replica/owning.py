@@ -95,7 +95,7 @@ def set_up(dsn: str, standbys: int) -> None:
 
 
 def add_login(dsn: str, login: str, *, is_editor: bool, is_replica: bool) -> int | None:
-    """Lets a login follow the log, and as an editor append lines, and as a replica put down sums.
+    """Lets a login follow the log, and as an editor append lines, and as a replica record sums.
 
     Where there is no such login it is made, without a password. Gives the editor's number: the
     lowest that is not given. `LoginExists` where it is an editor already.

@@ -74,17 +74,17 @@ class Replica:
     """The store of a log in a folder of its own, which one process at a time has.
 
     ``log`` are the words of connection of PostgreSQL, with as many hosts as there are servers.
-    ``editor`` are those by which lines are put down, where they are of another login.
+    ``editor`` are the words of the login that writes lines, if it is another one.
     ``begin_from`` is the file of another replica, for a folder that has none. ``trust`` is the
-    login of the replica whose files are the right ones: one that differs from it stops.
-    ``patience`` is how long a line is tried, and how long servers are looked for at the beginning,
+    login of the replica whose files are right: one that differs from it stops.
+    ``patience`` is how long a line is tried, and how long a server is awaited at the beginning,
     and ``question_seconds`` how long a question may take, in seconds.
-    ``tell`` is told in a sentence what keeps the replica waiting, and nothing (an empty text) where
-    nothing does any more; ``progress`` how far it is, and how far the log goes.
+    ``tell`` is called with a sentence on what keeps the replica waiting, and with an empty text
+    when nothing does any more; ``progress`` with how far it is, and how far the log goes.
 
-    It begins from its newest file, and has all of the log when it is there. `LogUnreachable` where
-    no server can be used, `JournalError` where another process has the folder, `ReplicaStopped`
-    where the files here and the log do not fit.
+    It begins from its newest file, and has all of the log when it is there. `LogUnreachable` if
+    no server can be used, `JournalError` if another process has the folder, `ReplicaStopped`
+    if the files here and the log do not fit.
     """
 
     def __init__(
@@ -150,12 +150,12 @@ class Replica:
         return self._restarts
 
     def fileno(self) -> int:
-        """A socket that can be read when something was put down; -1 while no server is connected."""
+        """A socket that can be read when something was written; -1 while no server is connected."""
         number = self._following.fileno()
         return -1 if number is None else number
 
     def has_news(self) -> bool:
-        """Whether the server has told of something new that no socket tells of any more."""
+        """Whether the server has said something new that no socket shows any more."""
         return self._following.has_news()
 
     def follow(self, seconds: float = 60.0) -> None:
@@ -185,9 +185,9 @@ class Replica:
     def run_all(self, lines: Iterable[str]) -> list[Outcome]:
         """The answers of lines in their order: questions by the store here, edits by way of the log.
 
-        `ValueError` where a line has a line feed or is blank, before any is carried out,
-        `NotAcknowledged` where an edit could not be put down and kept in time, and `LogUnreachable`
-        where a store that begins again can't get to the place in time that was shown before.
+        `ValueError` if a line has a line feed or is blank, before any is carried out.
+        `NotAcknowledged` if an edit could not be written and kept in time. `LogUnreachable`
+        if a store that begins again can't get in time to the place that was shown before.
         """
         taken = [asked(_checked(line)) for line in lines]
         outcomes: list[Outcome] = []
@@ -215,7 +215,7 @@ class Replica:
             raise
 
     def write(self, lines: Sequence[str], keys: Sequence[str] | None = None) -> list[Outcome]:
-        """Has edits put down as one, and gives the answers that the store here has for them.
+        """Has edits written as one, and gives the answers that the store here has for them.
 
         They are given when the lines are on the standbys, and carried out here. With the keys of a
         `NotAcknowledged` they are tried again. `LogRefused` where the log takes none of them,

@@ -39,7 +39,7 @@ class _Peer:
         self._rest = b""
 
     def answer(self, replica: Replica) -> bool:
-        """Answers the lines that are there, which are put down together. False where no more come.
+        """Answers the lines that are there, which are written together. False where no more come.
 
         A last line without a line feed counts. Where a line is not acknowledged, those before it
         are answered.

@@ -1,4 +1,4 @@
-"""What all pages are told as it happens."""
+"""What all pages hear as it happens."""
 
 from __future__ import annotations
 

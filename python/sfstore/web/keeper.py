@@ -19,7 +19,7 @@ _T = TypeVar("_T")
 
 
 class Unavailable(Exception):
-    """What was asked for can't be told now. The text says why, in a sentence."""
+    """What was asked for can't be said now. The text says why, in a sentence."""
 
 
 class ChangedMeanwhile(Exception):

@@ -46,7 +46,7 @@ class _Link(NamedTuple):
 class Logins:
     """The links that were made, and the keys that were given for them.
 
-    Both are looked up by their digests, so that the time that it takes tells nothing of them.
+    Both are looked up by their digests, so that the time that it takes reveals nothing of them.
     """
 
     def __init__(self, editors: Editors) -> None:

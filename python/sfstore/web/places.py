@@ -1,6 +1,6 @@
 """Where a refused geometry breaks its rule, worked out by a program of its own.
 
-Of a hostile geometry that may take minutes: the program is ended after a time, and no place is told.
+Of a hostile geometry that may take minutes: the program is ended after a time, and no place is shown.
 It reads a number and a geometry as JSON, and writes words and points.
 """
 

@@ -2,9 +2,8 @@
 
 It listens on the loopback interface alone. Each request has to name it as its host, and to come
 from its own page where it says where from. The files of the page are given to whoever asks, as they
-hold nothing of the store; each call, and what is told as it happens, wants the key of a login in a
-header, which a browser sends for no other page. Nothing is named by paths but what stands in two
-fixed tables.
+hold nothing of the store. Each call, and what pages hear as it happens, wants the key of a login in a
+header, which a browser sends for no other page. Paths name only what stands in two fixed tables.
 """
 
 from __future__ import annotations
@@ -158,7 +157,7 @@ class _Handler(BaseHTTPRequestHandler):
         """Nothing is logged."""
 
     def send_error(self, code: int, message: str | None = None, explain: str | None = None) -> None:
-        """What the server's own reading of a request finds wrong is told as all else."""
+        """What the server's own reading of a request finds wrong is answered as all else."""
         self.close_connection = True
         self._reply_json(code, {"error": message or "the request can't be read"})
 

@@ -1,7 +1,7 @@
 """The steps that undo and redo would move, and whose they are.
 
 The program refuses an undo of another editor's step, and does not say whose it is. This follows
-the accepted lines, as the program's history does, so that it can be told.
+the accepted lines, as the program's history does, so that the page can say it.
 """
 
 from __future__ import annotations
@@ -21,7 +21,7 @@ _SHOWN_LETTERS = 200
 
 
 class Step(NamedTuple):
-    """An edit that can be undone, or done again."""
+    """An edit that can be undone, or redone."""
 
     editor: int
     """The number of the editor who made it."""
@@ -53,7 +53,7 @@ class Steps:
     def take(self, editor: int, line: str, answer: str = "") -> Step:
         """Follows an accepted line, and gives the step that it made or moved.
 
-        Of an addition the answer tells which feature it made.
+        Of an addition the answer names the feature that it made.
         """
         words = line.split()
         if words == ["undo"]:
@@ -74,5 +74,5 @@ class Steps:
 
     @property
     def to_redo(self) -> Step | None:
-        """The step that a redo would do again, whoever asks."""
+        """The step that a redo would move, whoever asks."""
         return self._undone[-1] if self._undone else None

@@ -1,4 +1,4 @@
-"""The values of single features, of which the console tells only those of whole layers."""
+"""The values of single features, read a whole layer at a time."""
 
 from __future__ import annotations
 

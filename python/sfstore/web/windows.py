@@ -1,6 +1,6 @@
 """What a window of the map shows, and how far the map reaches, by questions of the store.
 
-The store's index finds what meets a window, and tells each geometry as it is: nothing is
+The store's index finds what meets a window, and gives each geometry as it is: nothing is
 simplified, and where there is more than a page can show, it is counted.
 """
 
