@@ -146,14 +146,16 @@ def compare(program: Path, rounds: int) -> int:
 
 
 def seconds_of(program: Path, lines: list[str]) -> tuple[float, int]:
-    """The processor seconds that a session takes, and the rows of its last answer."""
-    before = resource.getrusage(resource.RUSAGE_CHILDREN)
+    """The processor seconds that a session takes, the least of five runs, and the rows of its last answer."""
     text = "".join(line + "\n" for line in lines)
-    ended = subprocess.run([program], input=text, capture_output=True, text=True, check=True)
-    after = resource.getrusage(resource.RUSAGE_CHILDREN)
-    seconds = after.ru_utime + after.ru_stime - before.ru_utime - before.ru_stime
+    taken = []
+    for _ in range(5):
+        before = resource.getrusage(resource.RUSAGE_CHILDREN)
+        ended = subprocess.run([program], input=text, capture_output=True, text=True, check=True)
+        after = resource.getrusage(resource.RUSAGE_CHILDREN)
+        taken.append(after.ru_utime + after.ru_stime - before.ru_utime - before.ru_stime)
     heads = [line for line in ended.stdout.splitlines() if line.startswith("rows ")]
-    return seconds, int(heads[-1][5:]) if heads else 0
+    return min(taken), int(heads[-1][5:]) if heads else 0
 
 
 def squares(name: str, shift: int) -> list[str]:
