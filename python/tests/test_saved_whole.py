@@ -214,6 +214,29 @@ class FullDisk(DiskCase):
         self.assertEqual(sorted(os.listdir(self.place)), ["filler", "town.sfs"])
 
 
+# Another file takes the place of one right behind its rename, once.
+RENAMED_OVER = r"""
+#include <fcntl.h>
+#include <stdio.h>
+#include <string.h>
+
+static long over(long done, const char *to) {
+    const char *name = strrchr(to, '/');
+    if (done == 0 && strcmp(name ? name + 1 : to, getenv("PLACE")) == 0)
+        syscall(SYS_renameat, AT_FDCWD, getenv("THEIRS"), AT_FDCWD, to);
+    return done;
+}
+
+int rename(const char *from, const char *to) {
+    return over(syscall(SYS_renameat, AT_FDCWD, from, AT_FDCWD, to), to);
+}
+
+int renameat(int one, const char *from, int other, const char *to) {
+    return over(syscall(SYS_renameat, one, from, other, to), to);
+}
+"""
+
+
 @unittest.skipIf(shutil.which("cc") is None, "cc is missing")
 class FailingSaves(SaveCase):
     """Each write, sync and rename of a save fails in turn, or is the last thing that the process does."""
@@ -351,6 +374,18 @@ class Looks(StoreCase):
         running.input.close()
         self.assert_ended(running, 4, "fault save Changed")
         self.assertEqual(self.path.read_bytes(), b"another's")
+
+    @unittest.skipIf(shutil.which("cc") is None, "cc is missing")
+    def test_what_is_put_there_right_behind_a_save_is_another_programs(self) -> None:
+        """Another file takes the place of the store before the call that renames the new one there has returned."""
+        theirs = self.path.with_name("theirs")
+        theirs.write_bytes(plain(["layer add theirs any"]).file)
+        data = theirs.read_bytes()
+        variables = {"LD_PRELOAD": str(library(Path(self.folder), RENAMED_OVER)), "THEIRS": str(theirs), "PLACE": self.path.name}
+        lines = [*self.LINES, "save", "add a POINT (5 5)", "save", "layers"]
+        ended = ran(["--store", str(self.path)], lines, variables)
+        self.assertEqual((ended.status, ended.output), (4, b"ok\nok 1\nok\nok 2\nfault save Changed\n"))
+        self.assertEqual(self.path.read_bytes(), data)
 
     def test_a_change_of_the_mode_alone_is_none(self) -> None:
         running = self.begun()
