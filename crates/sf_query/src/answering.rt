@@ -191,7 +191,7 @@ fn is_walked(alloc: Global, ask: &Ask, geometry: &Valid, given: &Valid) -> Resul
 }
 
 /// The matrix of a feature's geometry of many points with a small given one, where the edges nearby show it.
-fn told_nearby(alloc: Global, geometry: &Valid, given: &Valid) -> Option<Matrix>
+pub(crate) fn told_nearby(alloc: Global, geometry: &Valid, given: &Valid) -> Option<Matrix>
     ensures { IfSome result (λ matrix. matrix.0 ≡ matrix_of geometry.now given.now) }
 {
     if given.geometry().point_count() > FEW_POINTS {

@@ -8,10 +8,11 @@ ghost use Rattle.sf_layers.specs.Boxes.{boxes_of};
 ghost use Rattle.sf_layers.specs.Content.{layer_of};
 ghost use Rattle.sf_layers.specs.WellFormed.{IsLayer};
 ghost use Rattle.sf_prepared.specs.Boxes.{AreEdgesOf};
+ghost use Rattle.sf_relate.specs.Matrices.{matrix_of};
 ghost use Rattle.sf_query.specs.Answers.{IsAnswer, needs_contact};
 ghost use Rattle.sf_query.specs.Replies.{IsQueried, IsRelated};
 
-use super::answering::{is_asked_beside, is_asked_prepared};
+use super::answering::{is_asked_beside, is_asked_prepared, told_nearby};
 use super::ask::Ask;
 use super::found::Found;
 use super::refusal::Refusal;
@@ -67,7 +68,17 @@ pub fn relate_one(
     let Some(feature) = layer.feature(id) else {
         return Err(Refusal::NoFeature);
     };
-    Ok(relate(alloc, feature.valid(), given)?)
+    Ok(matrix_with(alloc, feature.valid(), given)?)
+}
+
+/// The matrix of a feature's geometry with the given one. Where that is small beside an area, the edges near it show it.
+fn matrix_with(alloc: Global, geometry: &Valid, given: &Valid) -> Result<Matrix, AllocError>
+    ensures { IfOk result (λ matrix. matrix.0 ≡ matrix_of geometry.now given.now) }
+{
+    match told_nearby(alloc, geometry, given) {
+        Some(matrix) => Ok(matrix),
+        None => relate(alloc, geometry, given),
+    }
 }
 
 /// The features of a layer of a store whose matrix with the given geometry is as asked.
