@@ -16,6 +16,8 @@ Each file is one plant, in the form of a wrong body of must-fail/ behind two lin
     old: a text that stands in that file once
     new: the text in its place
 
+Where it changes several files, each has its line `file:` with its pairs of `old:` and `new:` behind it.
+
 The chosen ones stand alone in must-fail/ of their crates in a copy of the checkout in a temporary folder, where
 `rt must-fail` tries them: it begins with what `rt check` has kept here. A row of the table is marked where something
 else came than is expected. A plant that is refused because proofs name what it took away, or by a limit of the prover,
@@ -43,16 +45,19 @@ VERDICTS = {"refused, as it must be": "refused", "NOT REFUSED": "proved", "BAD E
 BESIDE = {"only because a proof file names": "refused by names", "only by a limit": "refused by a limit"}
 
 
+# The texts that a plant exchanges in a file, each with the one in its place.
+Pairs = list[tuple[str, str]]
+
+
 @dataclass(frozen=True)
 class Plant:
-    """A wrong body: its crate, what breaks with it, what is expected, its file and the texts that it exchanges."""
+    """A wrong body: its crate, what breaks with it, what is expected, and the texts that it exchanges in each file."""
 
     name: str
     crate: str
     breaks: str
     expected: str
-    file: str
-    pairs: list[tuple[str, str]]
+    changes: dict[str, Pairs]
 
     @property
     def test(self) -> str:
@@ -62,19 +67,41 @@ class Plant:
 
     def edit(self) -> str:
         """The text of it as a wrong body."""
-        return "".join([f"file: {self.file}\n", *(f"old: {old}\nnew: {new}\n" for old, new in self.pairs)])
+        return "".join(
+            line
+            for file, pairs in self.changes.items()
+            for line in [f"file: {file}\n", *(f"old: {old}\nnew: {new}\n" for old, new in pairs)]
+        )
+
+
+def changes_of(fields: Sequence[tuple[str, str]]) -> dict[str, Pairs]:
+    """The texts that are exchanged in each file, from the fields `file`, `old` and `new`."""
+    changes: dict[str, Pairs] = {}
+    rest = list(fields)
+    while rest:
+        name, value = rest.pop(0)
+        if name == "file":
+            pairs = changes.setdefault(value, [])
+        elif name == "old" and changes and rest and rest[0][0] == "new":
+            pairs.append((value, rest.pop(0)[1]))
+        else:
+            raise ValueError(f"a field {name} out of its place")
+    if not all(changes.values()) or not changes:
+        raise ValueError("no file with a pair of old and new")
+    return changes
 
 
 def read(path: Path) -> Plant:
     """The plant of a file."""
     lines = path.read_text(encoding="utf-8").splitlines()
     crate, _, breaks = lines[0].partition(": ")
-    fields = [line.partition(": ") for line in lines[1:]]
-    names = [name for name, _, _ in fields]
-    values = [value for _, _, value in fields]
-    if names[:2] != ["expected", "file"] or names[2:] != ["old", "new"] * (len(names[2:]) // 2) or len(names) < 4:
-        raise ValueError(f"{path.name}: not expected, file, and pairs of old and new")
-    return Plant(path.stem, crate, breaks, values[0], values[1], list(zip(values[2::2], values[3::2])))
+    (expected, said), *fields = [(name, value) for name, _, value in (line.partition(": ") for line in lines[1:])]
+    if expected != "expected":
+        raise ValueError(f"{path.name}: its second line doesn't say what is expected")
+    try:
+        return Plant(path.stem, crate, breaks, said, changes_of(fields))
+    except ValueError as fault:
+        raise ValueError(f"{path.name}: {fault}") from fault
 
 
 def plants() -> list[Plant]:
@@ -82,11 +109,11 @@ def plants() -> list[Plant]:
     return [read(path) for path in sorted(PLANTS.glob("*.edit"))]
 
 
-def planted(plant: Plant, text: str) -> str:
-    """The text of its file with the plant in it."""
-    for old, new in plant.pairs:
+def planted(plant: Plant, file: str, text: str) -> str:
+    """The text of one of its files with the plant in it."""
+    for old, new in plant.changes[file]:
         if text.count(old) != 1:
-            raise ValueError(f"{plant.name}: {text.count(old)} times in {plant.file}: {old}")
+            raise ValueError(f"{plant.name}: {text.count(old)} times in {file}: {old}")
         text = text.replace(old, new)
     return text
 

@@ -39,8 +39,21 @@ class Plants(unittest.TestCase):
         for plant in self.plants:
             with self.subTest(plant.name):
                 self.assertTrue(plant.name.startswith(f"{plant.crate}-"))
-                before = (TOP / "crates" / plant.crate / plant.file).read_text(encoding="utf-8")
-                self.assertNotEqual(plants.planted(plant, before), before)
+                for file in plant.changes:
+                    before = (TOP / "crates" / plant.crate / file).read_text(encoding="utf-8")
+                    self.assertNotEqual(plants.planted(plant, file, before), before)
+
+    def test_each_is_read_whole(self) -> None:
+        for plant in self.plants:
+            lines = (plants.PLANTS / f"{plant.name}.edit").read_text(encoding="utf-8").splitlines(keepends=True)
+            self.assertEqual(plant.edit(), "".join(lines[2:]), plant.name)
+
+    def test_fields_out_of_place_are_refused(self) -> None:
+        file, old, new = ("file", "src/lib.rt"), ("old", "1"), ("new", "2")
+        self.assertEqual(plants.changes_of([file, old, new]), {"src/lib.rt": [("1", "2")]})
+        for fields in ([], [file], [file, old], [file, new, old], [old, new], [file, old, new, ("note", "3")]):
+            with self.subTest(fields=fields), self.assertRaises(ValueError):
+                plants.changes_of(fields)
 
     def test_each_says_what_is_expected(self) -> None:
         files = [*(TOP / "tests").glob("*.py"), *(TOP / "python" / "tests").glob("*.py"), *TOP.glob("crates/sf_tests*/src/*.rt")]
