@@ -57,12 +57,24 @@ pub(crate) fn behind(alloc: Global, row: &str) -> io::Result<String> {
     let (before, geometry) = parts(row)?;
     let before = bytes_of(alloc, before)?;
     let geometry = geometry_of(alloc, geometry)?;
+    let bytes = put_behind(alloc, before.as_slice(), &geometry)?;
+    with_room(alloc, &bytes)
+}
+
+/// Bytes with those of a geometry behind them, in what was room for 23.
+fn put_behind(alloc: Global, before: &[u8], geometry: &Geometry) -> io::Result<Vec<u8>>
+    requires { IsSized geometry.now }
+{
     let mut bytes = Vec::with_capacity(alloc, 23)?;
-    bytes.extend_from_slice(before.as_slice())?;
-    append(&mut bytes, &geometry)?;
-    let room = bytes.capacity();
+    bytes.extend_from_slice(before)?;
+    append(&mut bytes, geometry)?;
+    Ok(bytes)
+}
+
+/// Bytes, and what room they are in.
+fn with_room(alloc: Global, bytes: &Vec<u8>) -> io::Result<String> {
     let digits = hex::encode(alloc, bytes.as_slice())?;
-    Ok(format!(in alloc; "{digits} in {room}")?)
+    Ok(format!(in alloc; "{digits} in {}", bytes.capacity())?)
 }
 
 /// How many fronts of bytes end too early.
@@ -79,12 +91,18 @@ fn count_truncated(alloc: Global, bytes: &[u8]) -> usize {
 
 /// How many fronts of bytes that have a geometry end too early, how many there are, and the fault of one byte more.
 pub(crate) fn fronts(alloc: Global, row: &str) -> io::Result<String> {
-    let mut bytes = bytes_of(alloc, row)?;
     geometry_of(alloc, row)?;
-    let (truncated, all) = (count_truncated(alloc, bytes.as_slice()), bytes.len());
-    bytes.push(0)?;
-    let more = outcome(alloc, bytes.as_slice())?;
+    let bytes = bytes_of(alloc, row)?;
+    let truncated = count_truncated(alloc, bytes.as_slice());
+    let all = bytes.len();
+    let more = with_one_more(alloc, bytes)?;
     Ok(format!(in alloc; "{truncated} of {all}, {more}")?)
+}
+
+/// What bytes with one more read as.
+fn with_one_more(alloc: Global, mut bytes: Vec<u8>) -> io::Result<String> {
+    bytes.push(0)?;
+    outcome(alloc, bytes.as_slice())
 }
 
 /// The fault of a list of three items, of which one is the bad one.
@@ -139,11 +157,17 @@ fn repeated(alloc: Global, before: &[u8], count: u32, item: &[u8]) -> io::Result
 
 /// How many bytes are written of those that were read, and whether they are the same; or the fault.
 fn written_back(alloc: Global, bytes: &[u8]) -> io::Result<String> {
-    let geometry = match read(alloc, bytes) {
-        Ok(geometry) => geometry,
-        Err(found) => return fault(alloc, found),
-    };
-    let canonical = write(alloc, &geometry)?;
+    match read(alloc, bytes) {
+        Ok(geometry) => compared(alloc, &geometry, bytes),
+        Err(found) => fault(alloc, found),
+    }
+}
+
+/// How many canonical bytes a geometry has, and whether they are these.
+fn compared(alloc: Global, geometry: &Geometry, bytes: &[u8]) -> io::Result<String>
+    requires { IsSized geometry.now }
+{
+    let canonical = write(alloc, geometry)?;
     let same = canonical.as_slice() == bytes;
     Ok(format!(in alloc; "{} bytes, the same: {same}", canonical.len())?)
 }
@@ -155,10 +179,15 @@ pub(crate) fn times(alloc: Global, row: &str) -> io::Result<String> {
     let Ok(count) = count.parse::<u32>() else {
         return Err(unreadable());
     };
+    let bytes = times_of(alloc, before, count, item)?;
+    written_back(alloc, bytes.as_slice())
+}
+
+/// The bytes that a row repeats, behind those before.
+fn times_of(alloc: Global, before: &str, count: u32, item: &str) -> io::Result<Vec<u8>> {
     let before = bytes_of(alloc, before)?;
     let item = bytes_of(alloc, item)?;
-    let bytes = repeated(alloc, before.as_slice(), count, item.as_slice())?;
-    written_back(alloc, bytes.as_slice())
+    repeated(alloc, before.as_slice(), count, item.as_slice())
 }
 
 /// The name of a fault, or that there is none.

@@ -17,6 +17,7 @@ use std::process::ExitCode;
 fn answer(alloc: Global, row: &str) -> io::Result<String> {
     let (word, rest) = row.split_once(' ').unwrap_or((row, ""));
     match word {
+        "==" => Ok(String::from_str(alloc, row)?),
         "text" => texts::rewritten(alloc, rest),
         "text-behind" => texts::behind(alloc, rest),
         "text-in-list" => texts::in_list(alloc, rest),
@@ -52,12 +53,8 @@ fn answer_word(alloc: Global, word: &str, rest: &str) -> io::Result<String> {
 /// Answers all rows of a text.
 fn answer_all<W: Write>(alloc: Global, text: &str, output: &mut W) -> io::Result<()> {
     for row in text.lines() {
-        if row.starts_with("==") {
-            writeln!(output, "{row}")?;
-        } else {
-            let answer = answer(alloc, row)?;
-            writeln!(output, "{answer}")?;
-        }
+        let answer = answer(alloc, row)?;
+        writeln!(output, "{answer}")?;
     }
     Ok(())
 }

@@ -123,12 +123,23 @@ fn count_in_list(alloc: Global, ends: (&str, &str), items: (&str, &str)) -> io::
 pub(crate) fn full(alloc: Global, row: &str) -> io::Result<String> {
     let (before, behind) = parts(row)?;
     let mut text = String::from_str(alloc, quoted(before))?;
+    push_points(&mut text)?;
+    text.push_str(quoted(behind))?;
+    told(alloc, read(alloc, text.as_str()))
+}
+
+/// Puts 4,096 points behind a text.
+fn push_points(text: &mut String) -> io::Result<()> {
     for _ in 1..4096 {
         text.push_str("-12345 67890, ")?;
     }
     text.push_str("1 2")?;
-    text.push_str(quoted(behind))?;
-    match read(alloc, text.as_str()) {
+    Ok(())
+}
+
+/// That a text was read, or the fault.
+fn told(alloc: Global, read: Result<Geometry, WktFault>) -> io::Result<String> {
+    match read {
         Ok(_) => Ok(String::from_str(alloc, "read")?),
         Err(found) => fault(alloc, found),
     }
