@@ -1,7 +1,6 @@
 -- What a sink has that is asked for patterns tells of the whole matrix whether it matches one of them.
 use Rattle.std.proofs.Common.{◌≡◌, refl, ap, sym, ◌∙◌, subst, Bool, true, false, ◌&&◌, ◌||◌, ◌⊎◌, inl, inr, List, [], ◌∷◌, fold}
-use Rattle.std.specs.Prelude.{ℕ, Err, IfOk, None, Ok, Option, Result, Some, codes, slice_index_or}
-use Rattle.std.specs.Option.{ok_or, option_map_or}
+use Rattle.std.specs.Prelude.{Err, IfOk, Ok, Result, slice_index_or}
 use Rattle.std.specs.List.{list_all, list_any}
 use Rattle.sf_cells.specs.Groups.{Item}
 use Rattle.sf_classes.specs.Classes.{Represent, WereHanded}
@@ -18,8 +17,7 @@ use Rattle.sf_relate.specs.declared.place.Place.TheVariants.{Interior, Boundary,
 use Rattle.sf_relate.specs.declared.shape.Shape.{Shape}
 use Rattle.sf_relate.specs.AllPieces.{all_grouped}
 use Rattle.sf_relate.specs.Matrices.{matrix_of}
-use Rattle.sf_relate.specs.Patterns.{admits, matches, pattern_of}
-use Rattle.sf_relate.specs.Predicates.{is_like, touches}
+use Rattle.sf_relate.specs.Patterns.{admits, matches}
 use Rattle.sf_relate.specs.Places.{entry_place, exceeds, first_place, is_areal, no_entries, second_place, shape_of, with_item}
 use Rattle.sf_relate.specs.Questions.{Asked, is_broken, is_matched_for_good, is_missed_for_good, is_settled, is_told, matches_any, with_asked}
 use Rattle.sf_relate.proofs.FoldLaws.{Table, fold-listed, greatest_at, listed, matrix-of-items, raised-listed, with_dim}
@@ -208,17 +206,10 @@ answer-is a b ms areal ps old new v w e f o h =
 pub begun-asked-as : (a b : Geometry) (f g : Shape) (ps : List (List Letter)) → f ≡ shape_of a → g ≡ shape_of b → begun-asked f g ps ≡ begun-asked (shape_of a) (shape_of b) ps
 begun-asked-as a b f g ps h k = ap (λ s. begun-asked s g ps) h ∙ ap (λ s. begun-asked (shape_of a) s ps) k
 
--- ---- patterns by their texts
-pub read-as : {T E : Type 0} (read : Option T) (e : E) (x : T) (r : Result T E) → r ≡ ok_or read e → r ≡ Ok x → read ≡ Some x
-read-as None e x r is ok = absurd cc
-read-as (Some y) e x r is ok = cc
-
+-- ---- what is asked
 pub answered : {T E : Type 0} {p q : T → Type 0} (r : Result T E) → ((x : T) → p x → q x) → IfOk r p → IfOk r q
 answered (Ok x) f h = f x h
 answered (Err e) f h = tt
-
-liked : (text : List ℕ) (letters : List Letter) (m : List Dim) → pattern_of text ≡ Some letters → matches letters m ≡ is_like text m
-liked text letters m e = sym (ap (λ p. option_map_or (λ ls. matches ls m) p false) e)
 
 or-nothing : (b : Bool) → (b || false) ≡ b
 or-nothing true = refl
@@ -227,19 +218,8 @@ or-nothing false = refl
 pub one-matched : (letters : List Letter) (m : List Dim) → matches_any (letters ∷ []) m ≡ matches letters m
 one-matched letters m = or-nothing (matches letters m)
 
-pub one-asked : (text : List ℕ) (letters : List Letter) (m : List Dim) → pattern_of text ≡ Some letters → matches_any (letters ∷ []) m ≡ is_like text m
-one-asked text letters m e = one-matched letters m ∙ liked text letters m e
-
-or-three : (a b c : Bool) → (a || (b || (c || false))) ≡ (a || b || c)
+pub or-three : (a b c : Bool) → (a || (b || (c || false))) ≡ (a || b || c)
 or-three true b c = refl
 or-three false true c = refl
 or-three false false true = refl
 or-three false false false = refl
-
-pub touches-asked : (p q r : List Letter) (m : List Dim) → pattern_of (codes "FT*******") ≡ Some p → pattern_of (codes "F**T*****") ≡ Some q → pattern_of (codes "F***T****") ≡ Some r →
-    matches_any (p ∷ q ∷ r ∷ []) m ≡ touches m
-touches-asked p q r m e f g =
-    ap (λ z. z || (matches q m || (matches r m || false))) (liked (codes "FT*******") p m e)
-    ∙ ap (λ z. is_like (codes "FT*******") m || (z || (matches r m || false))) (liked (codes "F**T*****") q m f)
-    ∙ ap (λ z. is_like (codes "FT*******") m || (is_like (codes "F**T*****") m || (z || false))) (liked (codes "F***T****") r m g)
-    ∙ or-three (is_like (codes "FT*******") m) (is_like (codes "F**T*****") m) (is_like (codes "F***T****") m)

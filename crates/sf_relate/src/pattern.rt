@@ -18,7 +18,7 @@ use std::marker::Model;
 /// What nine entries are to be.
 #[derive(Clone, Copy, Debug, PartialEq, Eq)]
 pub struct Pattern {
-    letters: [Letter; 9],
+    pub(crate) letters: [Letter; 9],
 }
 
 impl Model for Pattern {
