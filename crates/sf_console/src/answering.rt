@@ -69,7 +69,7 @@ fn answer_text(alloc: Global, editor: &mut Editor, bytes: &[u8]) -> Result<Reply
     execute(alloc, editor, asker, command)
 }
 
-/// Carries a command out, of the editor of that number. Nothing is read any more, so memory may be wanting only for what
+/// Carries a command out, of the editor of that number. Nothing is read any more, so memory may run out only for what
 /// takes it here. The reply is sent as that of `answer_line`.
 pub fn execute(
     alloc: Global,

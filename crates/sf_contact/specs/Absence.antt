@@ -1,5 +1,5 @@
 -- Internal: who wants to trust the program need not read this file.
--- When two geometries share no point: what edges and first points tell of it.
+-- When two geometries share no point: what edges and first points show of it.
 use Rattle.std.specs.Prelude.{Bool, false, ◌||◌, List, [], ◌∷◌, IsFalse}
 use Rattle.std.specs.List.{list_any}
 use Rattle.sf_grid.specs.Plane.{Coordinates, Point as PlanePoint, grid_point}

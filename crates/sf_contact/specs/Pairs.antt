@@ -1,5 +1,5 @@
 -- Internal: who wants to trust the program need not read this file.
--- What a search for a point that two sets share tells.
+-- What a search for a point that two sets share reports.
 use Rattle.std.specs.Prelude.{Bool, true, false}
 use Rattle.sf_grid.specs.Plane.{Coordinates, Point as PlanePoint}
 use Rattle.sf_geometry.specs.declared.extent.Extent.{Extent}

@@ -1,5 +1,5 @@
 -- Internal: who wants to trust the program need not read this file.
--- Edits that were taken back, and how they are carried out again.
+-- Edits that were taken back, and how they are redone.
 use Rattle.std.specs.Prelude.{◌≡◌, Bool, true, false, Result, Ok, IfOk, IfErr, OnErr, IsTrue}
 use Rattle.sf_layers.specs.Content.{Content}
 use Rattle.sf_steps.specs.declared.edit.Edit.{Edit}
@@ -26,7 +26,7 @@ abbrev pub IsKept : Kept → Type 0
 IsKept (Other edit) = IsTrue (brings_no_geometry edit)
 IsKept kept = Unit {0}
 
--- whether an edit that is known to be accepted takes a feature or a vertex out, moves a vertex or exchanges a geometry, for
+-- whether an edit that is known to be accepted removes a feature or a vertex, moves a vertex or exchanges a geometry, for
 -- which no memory is needed
 abbrev pub takes_no_memory : Edit → Bool
 takes_no_memory (edits.DeleteFeature name id) = true

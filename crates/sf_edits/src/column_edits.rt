@@ -125,7 +125,7 @@ fn column_spot(store: &Store, layer: &str, name: &str) -> Result<ColumnSpot, Ref
     })
 }
 
-/// Takes a column out, with all values in it.
+/// Removes a column, with all values in it.
 pub(crate) fn drop_column(
     alloc: Global,
     store: &mut Store,

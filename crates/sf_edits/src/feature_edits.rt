@@ -100,7 +100,7 @@ pub(crate) fn undo_add_feature(alloc: Global, store: &mut Store, layer: Text, id
     Reverted::add_feature(layer, feature.into_valid())
 }
 
-/// Takes a feature out. Its identifier is not given again.
+/// Removes a feature. Its identifier is not given again.
 pub(crate) fn delete_feature(
     alloc: Global,
     store: &mut Store,

@@ -63,7 +63,7 @@ pub(crate) fn undo_add_layer(store: &mut Store) -> Edit
     }
 }
 
-/// Takes a layer out, with all that it has.
+/// Removes a layer, with all that it has.
 pub(crate) fn drop_layer(
     alloc: Global,
     store: &mut Store,

@@ -1,5 +1,5 @@
-//! Edits that were taken back, carried out again. Each was accepted from this very content once, so no fault is looked
-//! for: only memory can be wanting.
+//! Edits that were taken back, redone. Each was accepted from this very content once, so no fault is
+//! searched: only memory can run out.
 ghost use Rattle.std.specs.Prelude.{◌≡◌, Ok, IsOk, IsTrue};
 ghost use Rattle.sf_steps.specs.Inverses.{Carries};
 ghost use Rattle.sf_steps.specs.Steps.{step};
@@ -13,7 +13,7 @@ use sf_steps::{Edit, Inverse};
 use sf_validity::Valid;
 use std::alloc::Global;
 
-/// Carries an edit that was taken back out again, whatever becomes of indexes.
+/// Redoes an edit that was taken back, whatever becomes of indexes.
 pub(crate) fn carry_out_again(
     alloc: Global,
     store: &mut Store,
@@ -34,7 +34,7 @@ pub(crate) fn carry_out_again(
     }
 }
 
-// Carries an edit that brings no geometry out again.
+// Redoes an edit that brings no geometry.
 fn redo_other(alloc: Global, store: &mut Store, edit: Edit) -> Result<Inverse, Reverted>
     requires accepted { IsOk (step store.old edit) }
     requires plain { IsTrue (brings_no_geometry edit) }
@@ -84,7 +84,7 @@ fn redo_add_feature(
     ensures { CarriesOrKeeps store.old (Edit.AddFeature layer geometry) result store.new }
 {
     let place = store.place(layer.as_str()).unwrap();
-    // Tells the proof that the geometry is valid and on the grid.
+    // Shows the proof that the geometry is valid and on the grid.
     geometry.geometry();
     match store.push_feature(alloc, place, Feature::new(alloc, geometry)) {
         Ok(id) => Ok(Inverse::TakeFeature { layer, id }),
@@ -92,7 +92,7 @@ fn redo_add_feature(
     }
 }
 
-// Takes a feature out again.
+// Removes a feature again.
 fn redo_delete_feature(alloc: Global, store: &mut Store, layer: Text, id: u32) -> Inverse
     requires { IsOk (step store.old (Edit.DeleteFeature layer id)) }
     ensures { Carries store.old (Edit.DeleteFeature layer id) (Ok result) store.new }
@@ -114,7 +114,7 @@ fn redo_replace_geometry(
     ensures { Carries store.old (Edit.ReplaceGeometry layer id geometry) (Ok result) store.new }
 {
     let place = store.place(layer.as_str()).unwrap();
-    // Tells the proof that the geometry is valid and on the grid.
+    // Shows the proof that the geometry is valid and on the grid.
     geometry.geometry();
     let old = store.exchange_geometry(alloc, place, id, geometry);
     Inverse::PutGeometry { layer, id, old }
@@ -135,7 +135,7 @@ fn redo_insert_vertex(
     ensures { CarriesOrKeeps store.old (Edit.InsertVertex layer id part ring index point) result store.new }
 {
     let place = store.place(layer.as_str()).unwrap();
-    // Tells the proof that the point is on the grid.
+    // Shows the proof that the point is on the grid.
     point.x();
     match store.put_vertex_back(alloc, place, id, part, ring, index, point) {
         Ok(()) => Ok(Inverse::TakeVertex {
@@ -171,7 +171,7 @@ fn redo_move_vertex(
     ensures { Carries store.old (Edit.MoveVertex layer id part ring index point) (Ok result) store.new }
 {
     let place = store.place(layer.as_str()).unwrap();
-    // Tells the proof that the point is on the grid.
+    // Shows the proof that the point is on the grid.
     point.x();
     let old = store.move_vertex_back(alloc, place, id, part, ring, index, point);
     Inverse::MoveVertex {
@@ -184,7 +184,7 @@ fn redo_move_vertex(
     }
 }
 
-// Takes a vertex out again.
+// Removes a vertex again.
 fn redo_remove_vertex(
     alloc: Global,
     store: &mut Store,

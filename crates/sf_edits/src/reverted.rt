@@ -7,8 +7,8 @@ use sf_steps::{Edit, Inverse};
 use sf_validity::Valid;
 use std::marker::Model;
 
-/// An edit that was taken back, kept for doing it again: a geometry that it brings stays known as valid, so
-/// that nobody has to look for its faults again. Contracts see it as the edit.
+/// An edit that was taken back, kept for its redo: a geometry that it brings stays known as valid, so
+/// that nobody has to search its faults again. Contracts see it as the edit.
 #[derive(Debug, Drop)]
 pub struct Reverted {
     pub(crate) kept: Kept,

@@ -61,13 +61,13 @@ pub fn revert(alloc: Global, store: &mut Store, inverse: Inverse) -> Result<Reve
     Ok(reverted)
 }
 
-/// Carries an edit that was taken back out again, from a content that accepts it, as the one does that taking it
-/// back has led to. No fault of its geometry is looked for.
+/// Redoes an edit that was taken back, from a content that accepts it, as the one does that taking it
+/// back has led to. No fault of its geometry is searched.
 ///
 /// # Errors
 ///
 /// Where no memory is found, the edit is given back and nothing is changed. Deleting a feature, exchanging its
-/// geometry, moving a vertex and taking one out are never refused so.
+/// geometry, moving a vertex and removing one are never refused so.
 pub fn reapply(alloc: Global, store: &mut Store, reverted: Reverted) -> Result<Inverse, Reverted>
     requires { IsOk (step store.old reverted) }
     ensures carried_out { IfOk result (λ inverse. Carries store.old reverted (Ok inverse) store.new) }

@@ -42,7 +42,7 @@ pub(crate) fn set_value(
     Err((edit, refusal))
 }
 
-/// Takes the value out of a column of a feature, if there is one.
+/// Removes the value of a feature in a column, if there is one.
 pub(crate) fn clear_value(
     store: &mut Store,
     layer: Text,

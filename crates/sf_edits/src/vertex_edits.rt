@@ -47,7 +47,7 @@ pub(crate) fn insert_vertex(
     Err((edit, refusal))
 }
 
-/// Takes a vertex that was put in out again.
+/// Removes a vertex that was put in.
 pub(crate) fn undo_insert_vertex(
     alloc: Global,
     store: &mut Store,
@@ -138,7 +138,7 @@ pub(crate) fn undo_move_vertex(
     }
 }
 
-/// Takes the vertex at an index out.
+/// Removes the vertex at an index.
 pub(crate) fn remove_vertex(
     alloc: Global,
     store: &mut Store,

@@ -97,7 +97,7 @@ impl Columns {
         Ok(())
     }
 
-    /// Takes the column at a place out; the columns after it close up.
+    /// Removes the column at a place, and gives it; the columns after it close up.
     pub fn take(&mut self, place: usize) -> Column
         requires { place < length self.old }
         ensures taken { slice_get self.old place ≡ Some result }

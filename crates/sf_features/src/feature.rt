@@ -119,7 +119,7 @@ impl Feature {
         }
     }
 
-    /// Takes the value out of the column of a number, if there is one.
+    /// Removes the value from the column of a number, if there is one, and gives it.
     pub fn take_value(&mut self, number: u16) -> Option<AttrValue>
         ensures taken { result ≡ value_in number self.old }
         ensures rest { self.new ≡ without_value number self.old }
@@ -191,7 +191,7 @@ impl Feature {
         self.valid.move_vertex(alloc, part, ring, index, point)
     }
 
-    /// Takes a vertex out of the geometry, and gives its point.
+    /// Removes a vertex from the geometry, and gives its point.
     ///
     /// # Errors
     ///
@@ -217,7 +217,7 @@ impl Feature {
     }
 
     /// Puts a vertex in where it is known that there is such a place and that the geometry is valid
-    /// with it. No fault is looked for.
+    /// with it. No fault is searched.
     ///
     /// # Errors
     ///
@@ -245,7 +245,7 @@ impl Feature {
     }
 
     /// Moves a vertex where it is known that it is there and that the geometry is valid then, and
-    /// gives the point where it was. No fault is looked for.
+    /// gives the point where it was. No fault is searched.
     pub fn move_vertex_back(
         &mut self,
         part: u32,
@@ -262,8 +262,8 @@ impl Feature {
             .unwrap()
     }
 
-    /// Takes a vertex out where it is known that it is there and that the geometry is valid without
-    /// it, and gives its point. No fault is looked for.
+    /// Removes a vertex where it is known that it is there and that the geometry is valid without
+    /// it, and gives its point. No fault is searched.
     pub fn take_vertex_back(&mut self, part: u32, ring: u32, index: u32) -> GridPoint
         requires { IsOkAnd (remove_vertex self.old.geometry part ring index) IsValid }
         ensures removed { self.new ≡ change_geometry (λ g. remove_vertex g part ring index) self.old }

@@ -160,12 +160,12 @@ is_second text = if bytes_eq text (codes "SFSTORE1") then Ok false else allowed 
 abbrev pub grid_of_byte : ℕ → Result Grid Defect
 grid_of_byte byte = allowed (nat_eq byte 24) BadFile Bits24
 
--- the grid of the binary geometries: the first version has 20 bits, in the second one a byte tells
+-- the grid of the binary geometries: the first version has 20 bits, in the second one a byte says
 abbrev pub grid_of : Bool → Reading Grid
 grid_of false = done Bits20
 grid_of true = field (number 1) grid_of_byte
 
--- the bytes at the front that tell which version follows: the grid on which its binary geometries are read
+-- the bytes at the front that say which version follows: the grid on which its binary geometries are read
 abbrev pub head : Reading Grid
 head = do
   second ← field (bytes 8) is_second

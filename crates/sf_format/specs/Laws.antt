@@ -49,7 +49,7 @@ AreBytes text = AllByRecursion (λ b. b < 256) text
 abbrev pub FilesAreWellFormed : Type 0
 FilesAreWellFormed = (text : List ℕ) (content : Content) → AreBytes text → content_of text ≡ Ok content → IsWellFormed content
 
--- a file has at this place a binary geometry, of so many bytes and on the grid that the file's front tells, whose first
+-- a file has at this place a binary geometry, of so many bytes and on the grid that the file's front says, whose first
 -- fault over all points of the plane is this one
 pub record HasFaultyGeometry (text : List ℕ) (place : ℕ) (fault : ShapeFault) : Type 0 where
   pub grid : Grid
@@ -60,7 +60,7 @@ pub record HasFaultyGeometry (text : List ℕ) (place : ℕ) (fault : ShapeFault
   pub is_there : read_in grid (take size (drop place text)) ≡ Ok geometry
   pub first : IsFirstFault geometry fault
 
--- a file that is refused for a fault of shape has at the place that is told a geometry with that first fault; those of a file
+-- a file that is refused for a fault of shape has at the place that is reported a geometry with that first fault; those of a file
 -- that is not refused are valid, as its content is well formed
 abbrev pub FilesAreJudgedOverThePlane : Type 0
 FilesAreJudgedOverThePlane =

@@ -40,7 +40,7 @@ abbrev pub after_step : ℕ → Machine → Result (Content × Answer) EditRefus
 after_step editor machine (Ok done) = Ok (advanced editor machine done.0, done.1)
 after_step editor machine (Err refusal) = Err (refusal_of refusal)
 
--- what an edit of the editor makes of the machine, want of memory aside
+-- what an edit of the editor makes of the machine, if memory does not run out
 abbrev pub edited : ℕ → Machine → Edit → Result (Machine × Answer) Refusal
 edited editor machine edit = after_step editor machine (step machine.now edit)
 
@@ -66,11 +66,11 @@ forth_to editor machine (after ∷ later) = if_own editor after (record {
   future = later;
 })
 
--- what undo by the editor makes of the machine, want of memory aside
+-- what undo by the editor makes of the machine, if memory does not run out
 abbrev pub undone : ℕ → Machine → Result Machine Refusal
 undone editor machine = back_to editor machine machine.past
 
--- what redo by the editor makes of the machine, want of memory aside
+-- what redo by the editor makes of the machine, if memory does not run out
 abbrev pub redone : ℕ → Machine → Result Machine Refusal
 redone editor machine = forth_to editor machine machine.future
 

@@ -14,7 +14,7 @@ pub struct Editor {
     store: Store,
     // The last one is that of the last edit.
     done: Vec<Inverse>,
-    // The last one is the next to be done again.
+    // The last one is the next to be redone.
     undone: Vec<Reverted>,
     // Whose steps these are: of those done the first one first, then of those undone the next one first. So
     // undo and redo leave them as they are.
@@ -131,7 +131,7 @@ impl Editor {
         if owner != editor {
             return Err(Refusal::NotYours(owner));
         }
-        // The place among the edits to be done again comes first.
+        // The place among the edits to be redone comes first.
         if self.undone.reserve(1).is_err() {
             return Err(Refusal::Memory);
         }
@@ -148,7 +148,7 @@ impl Editor {
         }
     }
 
-    /// Does the last edit that was taken back again, where it was editor 0's.
+    /// Redoes the last edit that was taken back, where it was editor 0's.
     pub fn redo(&mut self, alloc: Global) -> Result<(), Refusal>
         ensures done { OnOk result (redone 0 self.old ≡ Ok self.new) }
         ensures refused { IfErr result (λ refusal. (redone 0 self.old ≡ Err refusal)
@@ -158,7 +158,7 @@ impl Editor {
         self.redo_as(alloc, 0)
     }
 
-    /// Does the last edit that was taken back again, where it was the editor's: `NothingToRedo` without a
+    /// Redoes the last edit that was taken back, where it was the editor's: `NothingToRedo` without a
     /// future, `NotYours` where it was another's. A refused redo changes nothing, and but for `Memory` it takes
     /// no memory.
     pub fn redo_as(&mut self, alloc: Global, editor: u8) -> Result<(), Refusal>
@@ -183,7 +183,7 @@ impl Editor {
                 self.done.push(inverse).unwrap();
                 Ok(())
             }
-            // It was accepted once, from this very content: only memory can be wanting.
+            // It was accepted once, from this very content: only memory can run out.
             Err(reverted) => {
                 self.undone.push(reverted).unwrap();
                 Err(Refusal::Memory)

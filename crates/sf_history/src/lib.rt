@@ -1,4 +1,4 @@
-//! A store with the history of its edits: what was done can be undone, and done again.
+//! A store with the history of its edits: what was done can be undone, and redone.
 #![tactic(auto)]
 
 mod editor;

@@ -21,7 +21,7 @@ IsJoin one None ask second result = result ≡ Err NoLayer
 IsJoin one (Some first) ask None result = result ≡ Err NoLayer
 IsJoin one (Some first) ask (Some second) result = IsJoinOf one first ask second result
 
--- beside one feature: its identifier is looked for last
+-- beside one feature: its identifier is searched last
 abbrev pub IsBesideOf : Bool → LayerContent → Ask → LayerContent → ℕ → Option FeatureContent → Result Beside Refusal → Type 0
 IsBesideOf one first ask second id None result = result ≡ Err NoFeature
 IsBesideOf one first ask second id (Some feature) (Ok beside) =

@@ -1,4 +1,4 @@
--- What a text of a journal does: the edits that were accepted, done again.
+-- What a text of a journal does: the edits that were accepted, replayed.
 use Rattle.std.specs.Prelude.{◌≡◌, ℕ, List, [], ◌∷◌, Option, None, Some, Result, Ok, Err}
 use Rattle.sf_refusals.specs.declared.refusal.Refusal.{Refusal}
 use Rattle.sf_steps.specs.declared.answer.Answer.{Answer}

@@ -1,16 +1,16 @@
 -- Where edits are kept and answers go: the calls that were made, and what is known of both after them.
 use Rattle.std.specs.Prelude.{◌≡◌, ℕ, Bool, true, false, List, [], ◌∷◌, ◌++◌, Option, None, Some, if◌then◌else◌}
 
--- what was asked: bytes that were put behind the journal; bytes of which a front may stand behind it, since the call failed;
--- that all bytes before are on the disk, which was told; bytes that were put out, or a front of them
+-- what was asked. Bytes were put behind the journal; or a front of them may stand behind it, since the call failed. All bytes
+-- before are on the disk, as was reported. Bytes, or a front of them, were put out
 pub data Call : Type 0 where
   Appends : List ℕ → Call
   Fails : List ℕ → Call
   Syncs : Call
   Answers : List ℕ → Call
 
--- the bytes of the journal that a crash leaves in any case, those behind them of which it leaves some front, the bytes that
--- were put out at most, and whether a call failed, behind which nothing more is known to be kept
+-- the bytes of the journal that a crash leaves in any case, and those behind them of which it leaves some front; the bytes that
+-- were put out at most; and whether a call failed. Behind such a call nothing more is known to be kept
 pub record Standing : Type 0 where
   pub kept : List ℕ
   pub waiting : List ℕ

@@ -1,4 +1,4 @@
--- What doing the edits of a journal again gives.
+-- What replaying the edits of a journal gives.
 use Rattle.std.specs.Prelude.{◌≡◌, ℕ, Bool, List, [], ◌∷◌, ◌++◌, length, if◌then◌else◌}
 use Rattle.sf_journal.specs.Records.{records, sum_behind}
 use Rattle.sf_journal.specs.Readings.{Ending, Reads}
@@ -13,7 +13,7 @@ use Rattle.sf_keeping.specs.declared.replaying.ReplayFault.TheVariants.{Memory, 
 abbrev pub ending_of : Bool → Ending
 ending_of cut_short = if cut_short then CutShort else Whole
 
--- the texts that stand in the bytes were done again, one after another
+-- the texts that stand in the bytes were replayed, one after another
 pub record IsReplayed (sum : ℕ) (bytes : List ℕ) (old : Machine) (done : Replayed) (new : Machine) : Type 0 where
   pub texts : List (List ℕ)
   pub reads : Reads sum bytes texts (ending_of done.is_cut_short)

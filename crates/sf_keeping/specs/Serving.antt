@@ -1,4 +1,4 @@
--- What serving with a journal does, in the words of `Read` for the bytes that it tells, and of `Desk` for its calls.
+-- What serving with a journal does, in the words of `Read` for the bytes that it reports, and of `Desk` for its calls.
 use Rattle.std.specs.Prelude.{◌≡◌, ℕ, true, false, List, [], ◌∷◌, ◌++◌, Option, if◌then◌else◌}
 use Rattle.std.specs.Io.KnownBytes.{Consumes, IsAtEnd}
 use Rattle.sf_lines.specs.Lines.{Line, lines_of, text_of, IsWhole, HasNoFeed}

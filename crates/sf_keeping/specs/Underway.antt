@@ -65,7 +65,7 @@ BreaksWithin before now was old more new =
     → IsUnderway start before sum first lines was old
     → (done : List Line) × (left : List Line) × (more ≡ done ++ left) × BrokeOff start now sum first (lines ++ done) new
 
--- an answer that changed nothing is told as that of a line
+-- an answer that changed nothing is given as that of a line
 abbrev pub IsTold : Machine → Line → List ℕ → Type 0
 IsTold machine line answer = IsKept machine line answer [] machine
 

@@ -1,4 +1,4 @@
-//! The edits of a journal, done again.
+//! The edits of a journal, replayed.
 ghost use Rattle.std.specs.Prelude.{◌≡◌, ◌⊎◌, Some, IfOk, IfErr, OnOk};
 ghost use Rattle.sf_console.specs.Readings.{text_reading};
 ghost use Rattle.sf_keeping.specs.Changes.{changed};
@@ -22,7 +22,7 @@ pub struct Replayed {
     pub is_cut_short: bool,
 }
 
-/// Why the records of a journal could not be done again. Places are bytes behind the head.
+/// Why the records of a journal could not be replayed. Places are bytes behind the head.
 #[derive(Clone, Copy, Debug, PartialEq, Eq)]
 pub enum ReplayFault {
     Memory,
@@ -32,7 +32,7 @@ pub enum ReplayFault {
     NotAccepted(usize),
 }
 
-/// Does the edit of a record again, which stands at that place.
+/// Replays the edit of a record, which stands at that place.
 fn replay_text(
     alloc: Global,
     editor: &mut Editor,
@@ -49,7 +49,7 @@ fn replay_text(
     }
 }
 
-/// Does the edits of the records behind the head of a journal again. The sum is that behind the head.
+/// Replays the edits of the records behind the head of a journal. The sum is that behind the head.
 ///
 /// # Errors
 ///

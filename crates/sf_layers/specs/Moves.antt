@@ -21,7 +21,7 @@ put_each number [] features = features
 put_each number (entry ∷ entries) features =
     change_value (nat_eq entry.0) (put_each number entries features) (with_value number entry.1)
 
--- each of these values is in its feature, and features come to this once all are taken out
+-- each of these values is in its feature, and features come to this once all are removed
 abbrev pub Takes : ℕ → List (ℕ × AttrValue) → Features → Features → Type 0
 Takes number [] before after = before ≡ after
 Takes number (entry ∷ entries) before after =

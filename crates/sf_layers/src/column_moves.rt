@@ -39,8 +39,8 @@ pub(crate) fn ids_with_value(
     Ok(ids)
 }
 
-/// Takes the values of the features of these identifiers out of a column, from the identifier on whose
-/// place is the number of values that are there already.
+/// Removes the values of the features of these identifiers from a column, and gives them. It begins with the
+/// identifier whose place is the number of values that are there already.
 pub(crate) fn take_from(
     features: &mut BTreeMap<u32, Feature>,
     number: u16,

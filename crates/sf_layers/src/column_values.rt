@@ -6,7 +6,7 @@ use std::marker::Model;
 
 /// The values of one column with the identifiers of their features, rising, moved out of a layer.
 ///
-/// There is room for all its values, so they can be moved out and in again without memory.
+/// There is room for all its values, so they can be removed and put back without memory.
 #[derive(Debug, Drop)]
 pub struct ColumnValues {
     pub(crate) ids: Vec<u32>,

@@ -59,7 +59,7 @@ pub(crate) fn put_box(alloc: Global, index: &mut Option<RTree>, id: u32, extent:
     };
 }
 
-/// Takes a box out of the index, if there is one.
+/// Removes a box from the index, if there is one.
 pub(crate) fn take_box(alloc: Global, index: &mut Option<RTree>, id: u32, extent: Extent)
     requires { IfSome index.old (λ boxes. box_of boxes id ≡ Some extent) }
     ensures { IfSome index.new (λ boxes. IsSomeAnd index.old (λ old. boxes ≡ without_box id old)) }

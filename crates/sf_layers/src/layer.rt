@@ -198,7 +198,7 @@ impl Layer {
         Ok(())
     }
 
-    /// Takes the feature of an identifier out.
+    /// Removes the feature of an identifier, and gives it.
     pub fn take_feature(&mut self, alloc: Global, id: u32) -> Feature
         requires { IsSome (feature_of self.old id) }
         ensures taken { feature_of self.old id ≡ Some result }
@@ -228,7 +228,7 @@ impl Layer {
         Ok(id)
     }
 
-    /// Takes the feature of an identifier out, which is the next one then.
+    /// Removes the feature of an identifier, which is the next one then, and gives it.
     pub fn pop_feature(&mut self, alloc: Global, id: u32) -> Feature
         requires { IsSome (feature_of self.old id) }
         ensures taken { feature_of self.old id ≡ Some result }
@@ -268,7 +268,7 @@ impl Layer {
         self.columns.put(alloc, place, column)
     }
 
-    /// Takes the column at a place out of the order; values under its number stay.
+    /// Removes the column at a place of the order, and gives it; values under its number stay.
     pub fn take_column(&mut self, place: usize) -> Column
         requires { place < length self.old.columns }
         ensures taken { slice_get self.old.columns place ≡ Some result }
@@ -311,7 +311,7 @@ impl Layer {
         }
     }
 
-    /// Takes the last column out, whose number is the next one again.
+    /// Removes the last column, whose number is the next one again, and gives it.
     pub fn pop_column(&mut self) -> Column
         requires some { 0 < length self.old.columns }
         requires counted { 0 < self.old.next_column }
@@ -351,7 +351,7 @@ impl Layer {
         }
     }
 
-    /// Takes the value out of a column of a feature, if there is one.
+    /// Removes the value of a feature in a column, if there is one, and gives it.
     pub fn take_value(&mut self, id: u32, number: u16) -> Option<AttrValue>
         requires { IsSome (feature_of self.old id) }
         ensures taken { IsSomeAnd (feature_of self.old id) (λ feature.
@@ -364,7 +364,7 @@ impl Layer {
         }
     }
 
-    /// Takes all values out of the column of a number.
+    /// Removes all values from the column of a number, and gives them.
     ///
     /// # Errors
     ///
@@ -499,7 +499,7 @@ impl Layer {
         )
     }
 
-    /// Takes a vertex out of a feature's geometry, and gives its point.
+    /// Removes a vertex from a feature's geometry, and gives its point.
     pub(crate) fn remove_vertex(
         &mut self,
         alloc: Global,
@@ -574,7 +574,7 @@ impl Layer {
         )
     }
 
-    /// Takes a vertex out where it is known that the geometry is valid without it, and gives its point.
+    /// Removes a vertex where it is known that the geometry is valid without it, and gives its point.
     pub(crate) fn take_vertex_back(
         &mut self,
         alloc: Global,

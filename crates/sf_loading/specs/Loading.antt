@@ -1,4 +1,4 @@
--- What loading does to a reader, in the words of `Read` for the bytes that it tells.
+-- What loading does to a reader, in the words of `Read` for the bytes that it reports.
 use Rattle.std.specs.Prelude.{◌≡◌, ℕ, List, ◌++◌, Option, Ok, Err}
 use Rattle.std.specs.Io.KnownBytes.{Consumes, IsAtEnd}
 use Rattle.sf_layers.specs.Content.{Content}

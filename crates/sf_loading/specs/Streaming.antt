@@ -22,7 +22,7 @@ pub record Finds {T : Type 0} (read : Reading T) (fault : Fault) (unread_before 
   pub is_left : AreLeft unread rest
   pub faulty : read (record { place = old.place; bytes = (old.bytes ++ got) ++ rest }) ≡ Err fault
 
--- reading ended so: at a field that the reading refuses; or the reader failed, or memory was wanting
+-- reading ended so: at a field that the reading refuses; or the reader failed, or memory ran out
 abbrev pub Ends : {T : Type 0} → Reading T → Option (List ℕ) → Option (List ℕ) → Left → Halt → Type 0
 Ends read unread_before unread old (halts.Found place defect) = Finds read (record { place = place; defect = defect }) unread_before unread old
 Ends read unread_before unread old halt = Loses unread_before unread
@@ -36,7 +36,7 @@ Reaches before after unread_before unread old new (Err halt) = Ends before unrea
 abbrev pub Gives : {X T : Type 0} → (X → T) → Reading T → Option (List ℕ) → Option (List ℕ) → Left → Left → Result X Halt → Type 0
 Gives view read unread_before unread old new result = Reaches read (λ x. done (view x)) unread_before unread old new result
 
--- what a function returned is what a rule makes of the field at a place; or memory was wanting
+-- what a function returned is what a rule makes of the field at a place; or memory ran out
 abbrev pub Judges : {X T : Type 0} → (X → T) → ℕ → Result T Defect → Result X Halt → Type 0
 Judges view place verdict (Ok x) = verdict ≡ Ok (view x)
 Judges view place verdict (Err (halts.Found there defect)) = (there ≡ place) × (verdict ≡ Err defect)

@@ -39,7 +39,7 @@ pub record IsBesideArea (a area : Geometry) (pairs : List (Coordinates × Coordi
   pub edges : AreEdgesOf area pairs
   pub on_grid : AllByRecursion AreOnGrid pairs
 
--- those nearby tell the places of all points of the geometry
+-- those nearby decide the places of all points of the geometry
 abbrev pub NearbyTellsPlaces : Type 0
 NearbyTellsPlaces =
     (a area : Geometry) (pairs : List (Coordinates × Coordinates)) → IsBesideArea a area pairs

@@ -58,11 +58,11 @@ impl Prepared {
         Ok(Prepared { edges, boxes })
     }
 
-    /// The matrix of a geometry with the one that was prepared, where the edges nearby show it: where the box of
-    /// the geometry lies on one side of each edge, its place does; else a walk over the edges of an area that can
-    /// be on a point of the geometry or above one. None where that is not quicker than a walk over all of them,
-    /// and where no memory is found; never where the boxes of all edges are off the box of the geometry, and there are
-    /// edges.
+    /// The matrix of a geometry with the one that was prepared, where the edges nearby show it. Where the box of
+    /// the geometry lies on one side of each edge, its place shows it. Else a walk does, over the edges of an area
+    /// that can be on a point of the geometry or above one. None where that is not quicker than a walk over all of
+    /// them, and where no memory is found; never where the boxes of all edges are off the box of the geometry, and
+    /// there are edges.
     pub fn matrix_told(&self, alloc: Global, geometry: &Valid, given: &Valid) -> Option<Matrix>
         requires { AreEdgesOf given.now self.now }
         ensures told { IfSome result (λ matrix. matrix.0 ≡ matrix_of geometry.now given.now) }

@@ -1,4 +1,4 @@
--- What a run does from the bytes of a file on, in the words of `Read` and `Write` for the bytes that they tell.
+-- What a run does from the bytes of a file on, in the words of `Read` and `Write` for the bytes that they report.
 use Rattle.std.specs.Prelude.{◌≡◌, ℕ, List, Option}
 use Rattle.sf_layers.specs.Content.{Content}
 use Rattle.sf_layers.specs.WellFormed.{IsWellFormed}

@@ -81,7 +81,7 @@ pub fn run_from<F: Read, R: Read, W: Write>(
     match load(alloc, file) {
         Err(fault) => Err(RunFault::Load(fault)),
         Ok(store) => {
-            // The store's type keeps its content well formed. Asked for a number, it tells the proof so.
+            // The store's type keeps its content well formed. Asked for a number, it shows the proof so.
             let _ = store.layer_count();
             let editor = Editor::from_store(alloc, store);
             serve_from(alloc, editor, input, output).map_err(RunFault::Serve)

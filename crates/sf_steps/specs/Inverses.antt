@@ -226,7 +226,7 @@ weight (MoveVertex name id part ring index old) = 1
 weight (PutVertex name id part ring index old) = 1
 weight (PutValue name id column old) = value_weight old
 
--- whether an inverse only takes out or exchanges, which needs no memory
+-- whether an inverse only removes or exchanges, which needs no memory
 abbrev pub frees_only : Content → Inverse → Bool
 frees_only content TakeLayer = true
 frees_only content (MoveLayer name place) = true
@@ -259,7 +259,7 @@ pub record Accepts (old : Content) (edit : Edit) (inverse : Inverse) (new : Cont
   pub restores : Restores new inverse old
   pub same_edit : taken_back new inverse ≡ edit
 
--- the edit is refused: by the step, or for want of memory where that may come
+-- the edit is refused: by the step, or as out of memory where that may come
 abbrev pub Refuses : Content → Edit → Refusal → Type 0
 Refuses content edit refusal =
     (step content edit ≡ Err refusal)

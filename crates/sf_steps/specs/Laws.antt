@@ -39,7 +39,7 @@ InverseTakesBack =
     → IsWellFormed old → step old edit ≡ Ok (new, answer)
     → Accepts old edit (inverse_of old edit) new × (answer_of (inverse_of old edit) ≡ answer)
 
--- the inverse of an accepted edit holds as much as the edit takes out of the content or overwrites
+-- the inverse of an accepted edit holds as much as the edit removes from the content or overwrites
 abbrev pub InverseWeighsWhatWasTouched : Type 0
 InverseWeighsWhatWasTouched =
     (old new : Content) (edit : Edit) (answer : Answer)

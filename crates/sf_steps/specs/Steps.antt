@@ -23,7 +23,7 @@ use Rattle.sf_steps.specs.declared.refusal.Refusal.{Refusal}
 use Rattle.sf_steps.specs.declared.refusal.Refusal.TheVariants.{Invalid, NoLayer, LayerExists, BadName, NoFeature, NoColumn, ColumnExists, WrongValue, WrongKind, IdsExhausted, ColumnsExhausted, BadPlace}
 use Rattle.sf_steps.specs.Refusals.{from_geometry}
 
--- the name of the layer that an edit adds, changes or takes out
+-- the name of the layer that an edit adds, changes or removes
 abbrev pub edit_layer : Edit → List ℕ
 edit_layer (AddLayer name kind) = name
 edit_layer (DropLayer name) = name
@@ -122,7 +122,7 @@ abbrev pub entry_checks : Content → List ℕ → Geometry → List (Option Ref
 entry_checks content name geometry =
     unless (takes_kind content name geometry) WrongKind ∷ size_check geometry ∷ []
 
--- the checks of an edit that are made without looking for faults of validity, in order
+-- the checks of an edit that are made without a search for faults of validity, in order
 abbrev pub early_checks : Content → Edit → List (Option Refusal)
 early_checks content (AddLayer name kind) =
     unless (is_name name) BadName
@@ -231,7 +231,7 @@ abbrev pub step : Content → Edit → Result (Content × Answer) Refusal
 step content edit =
     result_of (first_refusal (checks content edit)) (effect content edit, answer content edit)
 
--- whether want of memory may come in the place of this result of an edit: of success, of a fault of
+-- whether "out of memory" may come in the place of this result of an edit: of success, of a fault of
 -- validity, and of what is checked after validity
 abbrev pub memory_may_replace : Edit → Result (Content × Answer) Refusal → Bool
 memory_may_replace edit (Ok done) = true

@@ -1,4 +1,4 @@
--- How much of a content an edit takes out or overwrites.
+-- How much of a content an edit removes or overwrites.
 use Rattle.std.specs.Prelude.{ℕ, ◌+◌, List, count_by, is_some, if◌then◌else◌}
 use Rattle.std.specs.Option.{option_map_or}
 use Rattle.sf_geometry.specs.Size.{point_count}
@@ -17,7 +17,7 @@ value_count number layer = count_by (λ entry. is_some (value_in number entry.1)
 abbrev pub value_touched : Content → List ℕ → ℕ → List ℕ → ℕ
 value_touched content name id column = if is_some (value_under content name id column) then 1 else 0
 
--- the number of grid points, attribute values and columns that an edit takes out of a content or overwrites
+-- the number of grid points, attribute values and columns that an edit removes from a content or overwrites
 abbrev pub touched : Content → Edit → ℕ
 touched content (AddLayer name kind) = 0
 touched content (DropLayer name) = option_map_or layer_weight (layer_of content name) 0

@@ -14,7 +14,7 @@ pub enum Edit {
         name: Text,
         kind: LayerKind,
     },
-    /// Takes a layer out, with all that it has.
+    /// Removes a layer, with all that it has.
     DropLayer {
         name: Text,
     },
@@ -34,7 +34,7 @@ pub enum Edit {
         name: Text,
         column_type: ColumnType,
     },
-    /// Takes a column out, with all values in it.
+    /// Removes a column, with all values in it.
     DropColumn {
         layer: Text,
         name: Text,
@@ -44,7 +44,7 @@ pub enum Edit {
         layer: Text,
         geometry: Geometry,
     },
-    /// Takes a feature out. Its identifier is not given again.
+    /// Removes a feature. Its identifier is not given again.
     DeleteFeature {
         layer: Text,
         id: u32,
@@ -73,7 +73,7 @@ pub enum Edit {
         index: u32,
         point: GridPoint,
     },
-    /// Takes the vertex at an index out.
+    /// Removes the vertex at an index.
     RemoveVertex {
         layer: Text,
         id: u32,
@@ -88,7 +88,7 @@ pub enum Edit {
         column: Text,
         value: AttrValue,
     },
-    /// Takes the value out of a column of a feature, if there is one.
+    /// Removes the value of a feature in a column, if there is one.
     ClearValue {
         layer: Text,
         id: u32,

@@ -7,7 +7,7 @@ use sf_grid::GridPoint;
 use sf_layers::{AttrValue, BoxedLayer, BoxedValues, Column, Feature, Text};
 use sf_validity::Valid;
 
-/// What takes an accepted edit back. It holds what the edit took out, moved and not copied; what is
+/// What takes an accepted edit back. It holds what the edit removed, moved and not copied; what is
 /// large stands behind a box, so that a list of inverses stays small.
 #[derive(Debug, Drop)]
 pub enum Inverse {
@@ -21,7 +21,7 @@ pub enum Inverse {
         stored: Text,
         layer: BoxedLayer,
     },
-    /// Gives the layer at a place its stored old name back. The edit's own is kept for doing it again.
+    /// Gives the layer at a place its stored old name back. The edit's own is kept for its redo.
     RenameLayer {
         name: Text,
         place: usize,
@@ -37,7 +37,7 @@ pub enum Inverse {
         layer: Text,
     },
     /// Puts a column back at its place, and its values into their features. The edit's own name is
-    /// kept for doing it again.
+    /// kept for its redo.
     PutColumn {
         layer: Text,
         name: Text,
@@ -62,7 +62,7 @@ pub enum Inverse {
         id: u32,
         old: Valid,
     },
-    /// Takes the vertex at an index out.
+    /// Removes the vertex at an index.
     TakeVertex {
         layer: Text,
         id: u32,
