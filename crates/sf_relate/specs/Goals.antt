@@ -1,3 +1,4 @@
+-- Internal: who wants to trust the program need not read this file.
 -- What is asked of a matrix, and whether it is as is asked.
 use Rattle.std.specs.Prelude.{◌≡◌, Bool, false, ◌||◌, not, List}
 use Rattle.sf_plane.specs.declared.dim.Dim.{Dim}
