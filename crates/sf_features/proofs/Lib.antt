@@ -3,3 +3,4 @@ pub mod Orders
 pub mod Numbers
 pub mod VertexLaws
 pub mod GridLaws
+pub mod Copied

@@ -1,9 +1,10 @@
-ghost use Rattle.std.specs.Prelude.{◌≡◌};
+ghost use Rattle.std.specs.Prelude.{◌≡◌, IfOk};
 ghost use Rattle.std.specs.List.{list_all};
 ghost use Rattle.sf_features.specs.Values.{fits_int as fits_int_of, is_attr_text as is_attr_text_of, is_text_byte as is_text_byte_of, is_of_type};
 
 use super::column_type::ColumnType;
 use super::text::Text;
+use std::alloc::{AllocError, Global};
 
 /// How many bytes an attribute text has at most.
 const TEXT_MAX: usize = 255;
@@ -27,6 +28,38 @@ impl AttrValue {
             _ => false,
         }
     }
+
+    /// A copy of the value.
+    ///
+    /// # Errors
+    ///
+    /// Out of memory, which a number takes none of.
+    pub fn copy(&self, alloc: Global) -> Result<AttrValue, AllocError>
+        ensures { IfOk result (λ copy. copy ≡ self.now) }
+    {
+        Ok(match self {
+            AttrValue::Int(n) => AttrValue::Int(*n),
+            AttrValue::Text(text) => AttrValue::Text(text.copy(alloc)?),
+        })
+    }
+}
+
+/// A copy of values by column number.
+///
+/// # Errors
+///
+/// Out of memory.
+pub(crate) fn copy_of_values(
+    alloc: Global,
+    values: &[(u16, AttrValue)],
+) -> Result<Vec<(u16, AttrValue)>, AllocError>
+    ensures { IfOk result (λ copy. copy.items ≡ values.now) }
+{
+    let mut copy = Vec::with_capacity(alloc, values.len())?;
+    for (number, value) in values {
+        copy.push((*number, value.copy(alloc)?))?;
+    }
+    Ok(copy)
 }
 
 // Each number of the type fits.

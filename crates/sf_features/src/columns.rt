@@ -1,9 +1,9 @@
-ghost use Rattle.std.specs.Prelude.{◌≡◌, ◌<◌, ◌≤◌, ◌^◌, [], None, Some, IfErr, IfSome, OnErr, OnOk, insert, is_some, length, option_copied, remove, slice_get};
+ghost use Rattle.std.specs.Prelude.{◌≡◌, ◌<◌, ◌≤◌, ◌^◌, [], None, Some, IfErr, IfOk, IfSome, OnErr, OnOk, insert, is_some, length, option_copied, remove, slice_get};
 ghost use Rattle.sf_features.specs.Columns.{named, numbered, place_named};
 
 use super::column::Column;
 use indexmap::IndexMap;
-use std::alloc::Global;
+use std::alloc::{AllocError, Global};
 use std::collections::BTreeMap;
 use std::marker::Model;
 
@@ -40,6 +40,24 @@ impl Columns {
             numbers: BTreeMap::new(alloc),
             columns: IndexMap::new(alloc),
         }
+    }
+
+    /// A copy of the columns, in their order.
+    ///
+    /// # Errors
+    ///
+    /// Out of memory.
+    pub fn copy(&self, alloc: Global) -> Result<Columns, AllocError>
+        ensures { IfOk result (λ copy. copy ≡ self.now) }
+    {
+        let mut copy = Columns::new(alloc);
+        for place in 0..self.columns.len() {
+            let column = self.columns[place].copy(alloc)?;
+            let Ok(()) = copy.put(alloc, place, column) else {
+                return Err(AllocError);
+            };
+        }
+        Ok(copy)
     }
 
     /// How many columns there are.

@@ -8,7 +8,7 @@ ghost use Rattle.sf_validity.specs.Held.{IsHeld};
 ghost use Rattle.sf_validity.specs.Refusals.{RefusesChange};
 ghost use Rattle.sf_features.specs.Features.{change_geometry, number_end, plain_feature, value_in, with_geometry, with_value, without_value};
 
-use super::attr_value::AttrValue;
+use super::attr_value::{AttrValue, copy_of_values};
 use sf_grid::GridPoint;
 use sf_validity::{Refusal, Valid};
 use std::alloc::{AllocError, Global};
@@ -40,6 +40,19 @@ impl Feature {
             valid,
             values: Vec::new(alloc),
         }
+    }
+
+    /// A copy of the feature.
+    ///
+    /// # Errors
+    ///
+    /// Out of memory.
+    pub fn copy(&self, alloc: Global) -> Result<Feature, AllocError>
+        ensures { IfOk result (λ copy. copy ≡ self.now) }
+    {
+        let valid = self.valid.copy(alloc)?;
+        let values = copy_of_values(alloc, self.values.as_slice())?;
+        Ok(Feature { valid, values })
     }
 
     /// The feature's geometry.

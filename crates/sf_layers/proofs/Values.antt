@@ -29,10 +29,10 @@ nat_eq-apart m n h = grind (arith, nat_tests)
 pub nat_eq-apart-above : (m n : ℕ) → n < m → nat_eq m n ≡ false
 nat_eq-apart-above m n h = grind (arith, nat_tests)
 
-nat_cmp-of_above : (m n : ℕ) → n < m → nat_cmp m n ≡ Greater
+pub nat_cmp-of_above : (m n : ℕ) → n < m → nat_cmp m n ≡ Greater
 nat_cmp-of_above m n h = grind (arith, nat_tests)
 
-nat_cmp-of_same : (n : ℕ) → nat_cmp n n ≡ Equal
+pub nat_cmp-of_same : (n : ℕ) → nat_cmp n n ≡ Equal
 nat_cmp-of_same n = grind (arith, nat_tests)
 
 pub nat_cmp-of_below : (m n : ℕ) → m < n → nat_cmp m n ≡ Less
@@ -115,7 +115,7 @@ remove_entry-none {X} k (e ∷ es) none = by (remove_entry-none k es) (nat_eq k 
     by later false h = ap (λ rest. e ∷ rest) (later h)
 
 -- what is found stands above what is below all
-found_above : {X : Type 0} (m k : ℕ) (v : X) (es : List (ℕ × X)) → AllByRecursion (λ n. nat_cmp m n ≡ Less) (keys_of es) → lookup (nat_eq k) es ≡ Some v → m < k
+pub found_above : {X : Type 0} (m k : ℕ) (v : X) (es : List (ℕ × X)) → AllByRecursion (λ n. nat_cmp m n ≡ Less) (keys_of es) → lookup (nat_eq k) es ≡ Some v → m < k
 found_above m k v [] all found = cc
 found_above {X} m k v (e ∷ es) all found = by (found_above m k v es all.1) (nat_eq k e.0) refl found
   where

@@ -1,5 +1,6 @@
 ghost use Rattle.std.specs.Prelude.{◌≡◌, ◌<◌, ◌≤◌, ◌-◌, ◌^◌, ℕ, false, is_some, length, option_copied, None, Some, IsOkAnd, IsSome, IsSomeAnd, IfErr, IfOk, IfSome, OnErr, OnOk, nat_eq, slice_get};
 ghost use Rattle.std.specs.List.{AllByRecursion};
+ghost use Rattle.std.specs.List.Sorted.{IsStrictlySortedBy};
 ghost use Rattle.std.specs.BTreeMap.{insert_entry};
 ghost use Rattle.std.specs.Fn.{FnOnceReturnsAtMut, FnOnceTakesAtMut};
 ghost use Rattle.std.specs.Map.{keys_of, lookup, values_of};
@@ -12,7 +13,7 @@ ghost use Rattle.sf_validity.specs.Refusals.{RefusesChange};
 ghost use Rattle.sf_features.specs.Columns.{numbered};
 ghost use Rattle.sf_features.specs.Features.{FeatureContent, change_geometry, value_in, with_geometry, with_value, without_value};
 ghost use Rattle.sf_layers.specs.Boxes.{boxes_of};
-ghost use Rattle.sf_layers.specs.Content.{change_feature, column_named, column_place, column_values, empty_layer, feature_of, with_column, with_feature, with_last_column, with_next_column, with_next_feature, with_next_id, with_values, without_column, without_feature, without_last_column, without_last_feature, without_values};
+ghost use Rattle.sf_layers.specs.Content.{change_feature, column_named, column_place, column_values, empty_layer, feature_of, head_of, with_column, with_feature, with_last_column, with_next_column, with_next_feature, with_next_id, with_values, without_column, without_feature, without_last_column, without_last_feature, without_values};
 ghost use Rattle.sf_layers.specs.WellFormed.{column_end, id_end};
 
 use super::column_moves::{ids_with_value, put_all, take_from};
@@ -85,6 +86,25 @@ impl Layer {
             index: None,
             ..Layer::new(alloc, kind)
         }
+    }
+
+    /// A layer of the same kind, counters and columns, without features and without an index.
+    ///
+    /// # Errors
+    ///
+    /// Out of memory.
+    pub fn head(&self, alloc: Global) -> Result<Layer, AllocError>
+        ensures { IfOk result (λ head. head ≡ head_of self.now) }
+    {
+        let columns = self.columns.copy(alloc)?;
+        Ok(Layer {
+            kind: self.kind,
+            next_id: self.next_id,
+            next_column: self.next_column,
+            columns,
+            features: BTreeMap::new(alloc),
+            index: None,
+        })
     }
 
     /// Which kinds of geometry the layer takes.
@@ -441,6 +461,24 @@ impl Layer {
         ensures put { self.new ≡ change_feature id (with_geometry valid) self.old }
     {
         self.change_feature(alloc, id, |feature| feature.exchange_geometry(valid))
+    }
+
+    /// Puts another feature in the place of the one under an identifier, and gives that one. Where memory runs
+    /// out, the index is lost, and nothing is refused.
+    pub(crate) fn exchange_feature(&mut self, alloc: Global, id: u32, feature: Feature) -> Feature
+        requires { IsSome (feature_of self.old id) }
+        ensures given { feature_of self.old id ≡ Some result }
+        ensures put { self.new ≡ with_feature id feature self.old }
+    {
+        self.identifiers_rise();
+        self.change_feature(alloc, id, |old| std::mem::replace(old, feature))
+    }
+
+    // Shows a proof that identifiers rise. It does nothing, so a compiler may leave it out.
+    fn identifiers_rise(&self)
+        ensures { IsStrictlySortedBy nat_cmp (keys_of self.now.features) }
+    {
+        let _features = self.features.iter();
     }
 
     /// Puts a vertex into a feature's geometry, before an index or last.

@@ -11,7 +11,7 @@ use super::checks::check;
 use super::refusal::Refusal;
 use sf_geometry::Geometry;
 use sf_grid::GridPoint;
-use std::alloc::Global;
+use std::alloc::{AllocError, Global};
 use std::marker::Model;
 
 /// A valid geometry. Contracts see it as the geometry.
@@ -74,6 +74,18 @@ impl Valid {
         ensures valid { IsHeld self }
     {
         self.geometry
+    }
+
+    /// A copy of the geometry, which is not checked again.
+    ///
+    /// # Errors
+    ///
+    /// Out of memory.
+    pub fn copy(&self, alloc: Global) -> Result<Valid, AllocError>
+        ensures { IfOk result (λ copy. copy ≡ self.now) }
+    {
+        let geometry = self.geometry.copy(alloc)?;
+        Ok(Valid { geometry })
     }
 
     /// Puts a vertex before the one at an index, or at the end where the index is their count.
