@@ -18,7 +18,7 @@ returns-in-MatchOne c =
     let m = matrix_of c.args.a.now c.args.b.now in
     answered c.match_between-in-MatchOne.result
     (λ answer is. is ∙ or-three (matches c.in-MatchOne.one m) (matches c.in-MatchOne.other m) (matches c.in-MatchOne.third m)
-        ∙ sym (ap (λ g. is_met g m) c.in-MatchOne.is))
+    ∙ sym (ap (λ g. is_met g m) c.in-MatchOne.is))
     c.match_between-in-MatchOne.ensures
 
 pub returns-in_ok-match_between-in-Miss : goal.returns-in_ok-match_between-in-Miss
