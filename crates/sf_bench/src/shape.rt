@@ -1,6 +1,5 @@
 //! Rings and combs, as pieces with a group for each.
 
-use sf_geometry::Geometry;
 use sf_grid::GridPoint;
 use sf_slabs::Piece;
 use std::alloc::{AllocError, Global};
@@ -43,43 +42,10 @@ impl Shape {
         }
     }
 
-    /// The edges of a geometry, all in one group.
-    pub(crate) fn of(alloc: Global, geometry: &Geometry) -> Result<Shape, AllocError> {
-        let mut shape = Shape::new(alloc);
-        shape.add(alloc, 0, geometry)?;
-        Ok(shape)
-    }
-
-    /// The edges of two geometries, in a group each.
-    pub(crate) fn of_both(alloc: Global, a: &Geometry, b: &Geometry) -> Result<Shape, AllocError> {
-        let mut shape = Shape::new(alloc);
-        shape.add(alloc, 0, a)?;
-        shape.add(alloc, 1, b)?;
-        Ok(shape)
-    }
-
-    /// Adds the edges of a geometry.
-    fn add(&mut self, alloc: Global, group: u32, geometry: &Geometry) -> Result<(), AllocError> {
-        for (a, b) in geometry.edges(alloc)? {
-            self.pieces.push(Piece::Edge(a, b))?;
-            self.groups.push(group)?;
-        }
-        Ok(())
-    }
-
     /// Adds an edge, unless an end is off the grid or both are one.
     pub(crate) fn edge(&mut self, group: u32, a: Place, b: Place) -> Result<(), AllocError> {
         if let Some(piece) = piece(a, b) {
             self.pieces.push(piece)?;
-            self.groups.push(group)?;
-        }
-        Ok(())
-    }
-
-    /// Adds a point, unless it is off the grid.
-    pub(crate) fn dot(&mut self, group: u32, at: Place) -> Result<(), AllocError> {
-        if let Some(at) = point(at) {
-            self.pieces.push(Piece::Dot(at))?;
             self.groups.push(group)?;
         }
         Ok(())
