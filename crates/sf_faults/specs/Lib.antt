@@ -1,0 +1,4 @@
+pub mod Orders
+pub mod Candidates
+pub mod Places
+pub mod Computed
