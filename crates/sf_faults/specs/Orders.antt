@@ -1,5 +1,5 @@
 -- The orders in which members of lists are gone through: with their numbers, and two at a time.
-use Rattle.std.specs.Prelude.{ℕ, ◌+◌, List, [], ◌∷◌, ◌++◌, map, if◌then◌else◌}
+use Rattle.std.specs.Prelude.{ℕ, ◌+◌, List, [], ◌∷◌, ◌++◌, map, Option, option_and_then, slice_get, if◌then◌else◌}
 use Rattle.std.specs.List.{enumerate_from, flat_map, zip}
 use Rattle.sf_grid.specs.Plane.{Coordinates}
 use Rattle.sf_grid.specs.Edge.{Edge}
@@ -49,3 +49,11 @@ placed_from n polygons = flat_map (λ (part : ℕ × List (List Coordinates)). p
 -- all rings of polygons in the order in which they are written, each with its part and number
 abbrev pub placed_rings : List (List (List Coordinates)) → List (Spot × List Coordinates)
 placed_rings polygons = placed_from 0 polygons
+
+-- their parts and numbers alone
+abbrev pub spots : List (List (List Coordinates)) → List Spot
+spots polygons = map (λ (ring : Spot × List Coordinates). ring.0) (placed_rings polygons)
+
+-- the ring of a part and number
+abbrev pub ring_of : List (List (List Coordinates)) → Spot → Option (List Coordinates)
+ring_of polygons at = option_and_then (λ rings. slice_get rings at.ring) (slice_get polygons at.part)
