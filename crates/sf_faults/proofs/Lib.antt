@@ -5,3 +5,6 @@ pub mod WrittenLaws
 pub mod RingLaws
 pub mod CrossingLaws
 pub mod SharingLaws
+pub mod AreaLaws
+pub mod OutsideLaws
+pub mod OverlapLaws
