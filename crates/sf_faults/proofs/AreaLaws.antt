@@ -148,3 +148,13 @@ edge-to shell a b n x = (x.0, x.1, sym (edge-same shell a b x.0 n x.1) ∙ x.2)
 
 pub edge-from : (shell : List Coordinates) (a b : Coordinates) → a ≢ b → Applies (AtPoint (is_edge_outside shell (edge_between a b))) → Applies (AtPoint (leaves shell (LineString (line a b))))
 edge-from shell a b n x = (x.0, x.1, edge-same shell a b x.0 n x.1 ∙ x.2)
+
+-- as the code has the two
+abbrev pub leaves_by : Geometry → Geometry → Point → Bool
+leaves_by a b p = in_exterior a p && (in_interior b p || in_boundary b p)
+
+pub leaves-to : (a b other : Geometry) (shell : List Coordinates) → a ≡ Polygon (shell ∷ []) → b ≡ other → Applies (AtPoint (leaves_by a b)) → Applies (AtPoint (leaves shell other))
+leaves-to a b other shell e f x = (x.0, x.1, sym (ap (λ g. leaves_by g b x.0) e ∙ ap (λ g. leaves_by (Polygon (shell ∷ [])) g x.0) f) ∙ x.2)
+
+pub leaves-from : (a b other : Geometry) (shell : List Coordinates) → a ≡ Polygon (shell ∷ []) → b ≡ other → Applies (AtPoint (leaves shell other)) → Applies (AtPoint (leaves_by a b))
+leaves-from a b other shell e f x = (x.0, x.1, (ap (λ g. leaves_by g b x.0) e ∙ ap (λ g. leaves_by (Polygon (shell ∷ [])) g x.0) f) ∙ x.2)

@@ -1,8 +1,8 @@
 -- The first place of candidates that stand one after another, and among pairs.
 use Rattle.std.proofs.Common.{◌≡◌, ◌⊎◌, refl, ap, sym, ◌∙◌, subst, ℕ, ◌+◌, ◌<◌, ◌≤◌, arith, inl, inr, List, [], ◌∷◌, ◌++◌, append_assoc, length, map, take, drop, slice_index_or, Option, Some, None}
-use Rattle.std.specs.Prelude.{IsTrue, nat_lt, is_some, true, false}
+use Rattle.std.specs.Prelude.{IfOk, IsTrue, Result, Ok, Err, nat_lt, is_some, true, false}
 use Rattle.std.proofs.lemmas.Bool.{false≢true}
-use Rattle.std.specs.List.{AllByRecursion, flat_map}
+use Rattle.std.specs.List.{AllByRecursion, enumerate_from, flat_map}
 use Rattle.std.proofs.lemmas.Bool.Decides.{nat_tests}
 use Rattle.std.proofs.lemmas.List.FromFn.{get_or-enumerate_from, length-enumerate_from}
 use Rattle.std.proofs.lemmas.List.{append-nil, drop_more, get_or-take, get_or_default, length-take-le, take-append-drop, take_all, take_more}
@@ -172,3 +172,20 @@ among-some cs ds (Some place) h f lead = lead place f
 pub among-none : (cs : List Candidate) (o : Option Place) → is_some o ≡ false → IsFirstAmong cs o → NoneIsAtFault cs
 among-none cs None h f = f
 among-none cs (Some place) h f = absurd (false≢true (sym h))
+
+-- members numbered from 1 on
+pub counted-length : {X : Type 0} (xs : List X) (i : ℕ) → i < length xs → i < length (enumerate_from 1 xs)
+counted-length xs i h = subst (λ n. i < n) (sym (length-enumerate_from 1 xs)) h
+
+pub counted-end : {X : Type 0} (xs : List X) (i : ℕ) → length xs ≤ i → length (enumerate_from 1 xs) ≤ i
+counted-end xs i h = subst (λ n. n ≤ i) (sym (length-enumerate_from 1 xs)) h
+
+pub counted-at : {X : Type 0} (xs : List X) (i : ℕ) (x : X) → i < length xs → x ≡ slice_index_or xs i x → (i + 1, x) ≡ slice_index_or (enumerate_from 1 xs) i (i + 1, x)
+counted-at {X} xs i x h e =
+    let other : i + 1 ≡ 1 + i = omega arith in
+    ap (λ (z : X). (i + 1, z)) e ∙ ap (λ n. (n, slice_index_or xs i x)) other ∙ sym (get_or-enumerate_from 1 xs i (i + 1, x) h)
+
+-- what is said of a result that is passed on
+pub ok-map : {T E : Type 0} (r : Result T E) (P Q : T → Type 0) → ((x : T) → P x → Q x) → IfOk r P → IfOk r Q
+ok-map (Ok x) P Q f h = f x h
+ok-map (Err e) P Q f h = tt

@@ -1,10 +1,10 @@
 //! Holes that have a point outside their shell.
 
 ghost use Rattle.std.specs.Prelude.{◌≡◌, ◌∷◌, [], IfOk, List};
-ghost use Rattle.std.specs.List.{flat_map};
+ghost use Rattle.std.specs.List.{enumerate_from, flat_map};
 ghost use Rattle.sf_grid.specs.Plane.{Coordinates};
 ghost use Rattle.sf_geometry.specs.declared.geometry.Geometry.TheVariants.{Polygon};
-ghost use Rattle.sf_faults.specs.Candidates.{outside_in};
+ghost use Rattle.sf_faults.specs.Candidates.{outside_at as outside_at_hole, outside_in};
 ghost use Rattle.sf_faults.specs.Orders.{numbered};
 ghost use Rattle.sf_faults.specs.Places.{IsFirstAmong};
 ghost use Rattle.sf_faults.specs.Written.{IsFirstEdge, outside_of};
@@ -47,9 +47,22 @@ fn hole_outside_in(
         return Ok(None);
     };
     let area = polygon_of(alloc, slice::from_ref(shell))?;
+    first_outside(alloc, &area, part, holes)
+}
+
+/// The same of the holes of a part, whose shell is the area.
+fn first_outside(
+    alloc: Global,
+    area: &Valid,
+    part: usize,
+    holes: &[Sequence<GridPoint>],
+) -> Result<Option<Place>, AllocError>
+    ensures { IfOk result (λ place. (shell : List Coordinates) → area.now ≡ Polygon (shell ∷ [])
+        → IsFirstAmong (flat_map (outside_at_hole part shell) (enumerate_from 1 holes.now)) place) }
+{
     for (index, hole) in holes.iter().enumerate() {
         let ring = index + 1;
-        let place = outside_at(alloc, &area, Spot { part, ring }, hole)?;
+        let place = outside_at(alloc, area, Spot { part, ring }, hole)?;
         if place.is_some() {
             return Ok(place);
         }

@@ -1,6 +1,6 @@
 //! Polygons, and holes of one polygon, that have an inner point in common.
 
-ghost use Rattle.std.specs.Prelude.{◌≡◌, IfOk, map};
+ghost use Rattle.std.specs.Prelude.{◌≡◌, ◌<◌, IfOk, IfSome, length, map};
 ghost use Rattle.std.specs.List.{flat_map};
 ghost use Rattle.sf_geometry.specs.declared.geometry.Geometry.TheVariants.{Polygon};
 ghost use Rattle.sf_faults.specs.Candidates.{nested_in, parts_overlap};
@@ -25,8 +25,10 @@ pub(crate) fn first_overlap(
     ensures { IfOk result (IsFirstAmong (map parts_overlap (pairs (numbered polygons.now)))) }
 {
     let areas = areas_of(alloc, polygons)?;
-    let found = first_overlapping(alloc, areas.as_slice())?;
-    Ok(found.map(|(first, second)| Place::Parts { first, second }))
+    let Some((first, second)) = first_overlapping(alloc, areas.as_slice())? else {
+        return Ok(None);
+    };
+    Ok(Some(Place::Parts { first, second }))
 }
 
 /// The first hole that has an inner point in common with an earlier one of its polygon, and the first of those. Each
@@ -58,8 +60,10 @@ fn nested_holes_in(
         return Ok(None);
     };
     let areas = areas_of_rings(alloc, holes)?;
-    let found = first_overlapping(alloc, areas.as_slice())?;
-    Ok(found.map(|(first, second)| Place::Holes {
+    let Some((first, second)) = first_overlapping(alloc, areas.as_slice())? else {
+        return Ok(None);
+    };
+    Ok(Some(Place::Holes {
         part,
         first: first + 1,
         second: second + 1,
@@ -99,7 +103,8 @@ fn first_overlapping(
     alloc: Global,
     areas: &[Valid],
 ) -> Result<Option<(usize, usize)>, AllocError>
-    ensures { IfOk result (AreFirstOverlapping areas.now) }
+    ensures found { IfOk result (AreFirstOverlapping areas.now) }
+    ensures within { IfOk result (λ found. IfSome found (λ pair. (pair.0 < length areas.now) × (pair.1 < length areas.now))) }
 {
     for second in 0..areas.len() {
         for first in 0..second {
