@@ -25,7 +25,7 @@ each-found front [] n h = tt
 each-found {X} front (x ∷ xs) n h = (
   ap (slice_get (front ++ x ∷ xs)) (sym h) ∙ slice-behind front x xs,
   subst (λ ys. AllByRecursion (λ (e : ℕ × X). slice_get ys e.0 ≡ Some e.1) (enumerate_from (n + 1) xs)) (append_assoc front (x ∷ []) xs)
-  (each-found (front ++ x ∷ []) xs (n + 1) (length-append front (x ∷ []) ∙ ap (λ k. k + 1) h)),
+      (each-found (front ++ x ∷ []) xs (n + 1) (length-append front (x ∷ []) ∙ ap (λ k. k + 1) h)),
 )
 
 -- a ring is that of its part and number

@@ -35,8 +35,8 @@ pub apart-share : (e f : Edge) → IsSharing e f Apart → IsTrue false ↔ Appl
 apart-share e f h = (
   λ t. absurd (false≢true t),
   λ a. let parts = and_parts _ _ a.4 in
-  let on = and_parts _ _ parts.1 in
-  absurd (h a.0 a.2 (and_parts _ _ on.0)),
+      let on = and_parts _ _ parts.1 in
+      absurd (h a.0 a.2 (and_parts _ _ on.0)),
 )
 
 pub once-share : (e f : Edge) (q : Point) → IsSharing e f (At q) → IsTrue false ↔ Applies (AtTwoPoints (share_two e f))
@@ -61,7 +61,7 @@ along-share e f a b h = (
         grid-IsPoint a,
         grid-IsPoint b,
         and_from _ _ (not_from_false (same_point (grid_point a) (grid_point b)) (grid-differ a b (differs_from_before a b h.0)))
-        (and_from _ _ (and_from _ _ first.0 first.1) (and_from _ _ second.0 second.1)),
+            (and_from _ _ (and_from _ _ first.0 first.1) (and_from _ _ second.0 second.1)),
       ),
   λ x. refl,
 )

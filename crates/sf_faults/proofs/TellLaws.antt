@@ -261,11 +261,10 @@ outside_at-tells rings part shell hole i j =
     (λ e k.
     point-tells rings (is_edge_outside shell e.1)
     (λ p q a. outside-same p q shell (on_edge e.1 p) (on_edge e.1 q) (edge-agrees p q hole.1 e.1 (each-in (Agree p q) rings a hole.1 j) k).0 (each-in (Agree p q) rings a shell i)))
-    (written-in hole.1)))
-    (
+    (written-in hole.1))) (
       point-tells rings (is_hole_outside shell hole.1)
-      (λ p q a.
-      outside-same p q shell (within_ring hole.1 p) (within_ring hole.1 q) (within_ring-same p q hole.1 (each-in (Agree p q) rings a hole.1 j)) (each-in (Agree p q) rings a shell i)),
+          (λ p q a.
+          outside-same p q shell (within_ring hole.1 p) (within_ring hole.1 q) (within_ring-same p q hole.1 (each-in (Agree p q) rings a hole.1 j)) (each-in (Agree p q) rings a shell i)),
       tt,
     )
 

@@ -36,11 +36,7 @@ pub(crate) fn first_crossing(
 }
 
 /// The first two edges of a ring that meet: the first one that meets an earlier one, and the first of those.
-fn crossing_in(
-    alloc: Global,
-    ring: Spot,
-    points: &[GridPoint],
-) -> Result<Option<Place>, AllocError>
+fn crossing_in(alloc: Global, ring: Spot, points: &[GridPoint]) -> Result<Option<Place>, AllocError>
     ensures { IfOk result (IsFirstAmong (crossings_of (ring, points.now))) }
 {
     let edges = edges_of(alloc, points)?;

@@ -85,10 +85,7 @@ fn areas_of(
 }
 
 /// Rings, each as a polygon of its own.
-fn areas_of_rings(
-    alloc: Global,
-    rings: &[Sequence<GridPoint>],
-) -> Result<Vec<Valid>, AllocError>
+fn areas_of_rings(alloc: Global, rings: &[Sequence<GridPoint>]) -> Result<Vec<Valid>, AllocError>
     ensures { IfOk result (λ areas. areas.items ≡ map single_ring rings.now) }
 {
     let mut areas = Vec::with_capacity(alloc, rings.len())?;
@@ -99,10 +96,7 @@ fn areas_of_rings(
 }
 
 /// The first area that has an inner point in common with an earlier one, behind the first of those.
-fn first_overlapping(
-    alloc: Global,
-    areas: &[Valid],
-) -> Result<Option<(usize, usize)>, AllocError>
+fn first_overlapping(alloc: Global, areas: &[Valid]) -> Result<Option<(usize, usize)>, AllocError>
     ensures found { IfOk result (AreFirstOverlapping areas.now) }
     ensures within { IfOk result (λ found. IfSome found (λ pair. (pair.0 < length areas.now) × (pair.1 < length areas.now))) }
 {

@@ -11,9 +11,13 @@ pub struct Spot {
 #[derive(Clone, Copy, Debug, PartialEq, Eq)]
 pub enum Place {
     /// A line that has too few points.
-    Line { part: usize },
+    Line {
+        part: usize,
+    },
     /// A ring that is open or has too few points.
-    Ring { ring: Spot },
+    Ring {
+        ring: Spot,
+    },
     /// Two edges of a ring that meet.
     Edges {
         ring: Spot,
@@ -28,7 +32,10 @@ pub enum Place {
         second_edge: usize,
     },
     /// A hole that has a point outside its shell, and its first edge that has one, if there is such an edge.
-    Hole { hole: Spot, edge: Option<usize> },
+    Hole {
+        hole: Spot,
+        edge: Option<usize>,
+    },
     /// Two holes of one polygon, by their numbers as rings, that have an inner point in common.
     Holes {
         part: usize,
@@ -36,5 +43,8 @@ pub enum Place {
         second: usize,
     },
     /// Two polygons that have an inner point in common.
-    Parts { first: usize, second: usize },
+    Parts {
+        first: usize,
+        second: usize,
+    },
 }
