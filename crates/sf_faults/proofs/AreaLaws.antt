@@ -1,17 +1,17 @@
 -- What an entry of a matrix says of rings and edges as areas and lines.
-use Rattle.std.proofs.Common.{◌≡◌, ◌≢◌, ◌↔◌, refl, ap, sym, ◌∙◌, subst, Bool, true, false, not, ◌&&◌, ◌||◌, List, [], ◌∷◌, slice_index_or, inl, inr}
+use Rattle.std.proofs.Common.{◌≡◌, ◌≢◌, ◌↔◌, refl, ap, sym, ◌∙◌, Bool, true, false, not, ◌&&◌, ◌||◌, List, [], ◌∷◌, slice_index_or, inl, inr}
 use Rattle.std.specs.Prelude.{IsTrue, if◌then◌else◌}
 use Rattle.std.specs.List.{list_any}
 use Rattle.std.proofs.lemmas.Bool.{and_from, and_parts, false≢true, false_from_ne_true, or_cases, or_left, or_right}
 use Rattle.sf_grid.specs.Plane.{Coordinates, IsPoint, Point, grid_point, same_point}
-use Rattle.sf_grid.specs.Edge.{Edge, edge_between, on_edge}
+use Rattle.sf_grid.specs.Edge.{edge_between, on_edge}
 use Rattle.sf_geometry.specs.declared.geometry.Geometry.{Geometry}
 use Rattle.sf_geometry.specs.declared.geometry.Geometry.TheVariants.{LineString, Polygon}
 use Rattle.sf_geometry.specs.Lists.{edges_of, is_same}
-use Rattle.sf_geometry.specs.PointSets.{in_boundary, in_exterior, in_interior, in_ring, is_among, on_line, within_ring}
+use Rattle.sf_geometry.specs.PointSets.{in_boundary, in_exterior, in_interior, in_ring, is_among, on_line}
 use Rattle.sf_geometry.proofs.ListLaws.{edges-step, same-is}
 use Rattle.sf_plane.specs.declared.dim.Dim.{Dim}
-use Rattle.sf_plane.specs.Dimension.{HasDimension, HasPoint, PointSet}
+use Rattle.sf_plane.specs.Dimension.{HasDimension, PointSet}
 use Rattle.sf_relate.specs.Matrices.{both, matrix_of}
 use Rattle.sf_relate.specs.Patterns.{is_filled}
 use Rattle.sf_relate.proofs.SetLaws.{matrices_are_over_the_plane}

@@ -9,7 +9,6 @@ use Rattle.sf_geometry.specs.Parts.{lines_of, polygons_of, rings_of}
 use Rattle.sf_rules.specs.declared.fault.Fault.{Fault}
 use Rattle.sf_rules.specs.Conditions.{Applies, applies_among}
 use Rattle.sf_rules.specs.Verdicts.{points_among}
-use Rattle.sf_rules.proofs.SampledLaws.{Tells}
 use Rattle.sf_faults.specs.declared.place.Place.{Place}
 use Rattle.sf_faults.specs.Candidates.{Candidate, candidates}
 use Rattle.sf_faults.specs.Computed.{PlaceIsOverThePlane, first_place, first_place_among}

@@ -1,6 +1,5 @@
 -- The edges of a ring two at a time: those of its tight list meet just where the numbered ones do.
-use Rattle.std.proofs.Common.{◌≡◌, ◌↔◌, refl, ap, sym, ◌∙◌, subst, ℕ, ◌+◌, ◌<◌, ◌≤◌, arith, Bool, not, ◌&&◌, List, [], ◌∷◌, length, map, slice_index_or, get_or, IsTrue, true, false}
-use Rattle.std.specs.List.{enumerate_from, flat_map, zip}
+use Rattle.std.proofs.Common.{◌≡◌, ap, sym, ◌∙◌, subst, ℕ, ◌+◌, ◌<◌, ◌≤◌, arith, List, length, map, slice_index_or, get_or}
 use Rattle.std.proofs.lemmas.List.FromFn.{get_or-enumerate_from, length-enumerate_from}
 use Rattle.std.proofs.lemmas.List.{get_or-map, get_or_default, length-map}
 use Rattle.std.proofs.lemmas.Slice.Zip.{get_or-zip}
@@ -8,9 +7,7 @@ use Rattle.sf_grid.specs.Plane.{Coordinates, Point}
 use Rattle.sf_grid.specs.Edge.{Edge}
 use Rattle.sf_geometry.specs.Lists.{edges_between, edges_of, is_closed, tight}
 use Rattle.sf_rules.specs.Conditions.{Applies, AtPoint}
-use Rattle.sf_rules.specs.Shapes.{is_joint, on_both}
 use Rattle.sf_strands.specs.Pairs.{pair_meets}
-use Rattle.sf_strands.specs.Tight.{IsTight}
 use Rattle.sf_strands.proofs.PairLaws.{any_edge, pair-is}
 use Rattle.sf_strands.proofs.PlaceLaws.{edges-more}
 use Rattle.sf_strands.proofs.NumberedLaws.{meet_apart}
@@ -19,10 +16,10 @@ use Rattle.sf_faults.specs.declared.place.Place.{Place}
 use Rattle.sf_faults.specs.declared.place.Place.TheVariants.{Edges}
 use Rattle.sf_faults.specs.declared.place.Spot.{Spot}
 use Rattle.sf_faults.specs.declared.written_edge.WrittenEdge.{WrittenEdge}
-use Rattle.sf_faults.specs.Candidates.{Candidate, crossings_of, do_edges_meet, edges_meeting}
+use Rattle.sf_faults.specs.Candidates.{crossings_of, do_edges_meet, edges_meeting}
 use Rattle.sf_faults.specs.Orders.{edge_numbers, numbered, pairs, written_edges}
 use Rattle.sf_faults.specs.Written.{written}
-use Rattle.sf_faults.specs.Places.{IsFirstAmong, IsFirstPlace, NoneIsAtFault}
+use Rattle.sf_faults.specs.Places.{IsFirstPlace, NoneIsAtFault}
 use Rattle.sf_faults.proofs.PlaceLaws.{NoPair, NoneWith, first-alone, first-map, first-pair, no_pair-all, no_pair-more, none-alone, none-map, none_with-more, single}
 use Rattle.sf_faults.proofs.WrittenLaws.{numbers-counted, written-counted}
 

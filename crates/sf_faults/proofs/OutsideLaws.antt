@@ -1,7 +1,7 @@
 -- The edges of a hole, and the hole, against its shell.
-use Rattle.std.proofs.Common.{◌≡◌, refl, ap, sym, ◌∙◌, subst, ℕ, ◌<◌, ◌≤◌, ◌+◌, arith, Bool, true, false, List, [], ◌∷◌, ◌++◌, length, map, take, slice_index_or, get_or, inl, inr}
+use Rattle.std.proofs.Common.{◌≡◌, refl, ap, sym, ◌∙◌, subst, ℕ, ◌<◌, ◌≤◌, ◌+◌, List, [], ◌∷◌, length, map, take, slice_index_or, inl, inr}
 use Rattle.std.specs.Prelude.{Option, Some, None}
-use Rattle.std.specs.List.{AllByRecursion, enumerate_from, flat_map, list_any, zip}
+use Rattle.std.specs.List.{AllByRecursion, flat_map, zip}
 use Rattle.std.proofs.lemmas.Bool.{and_from, and_parts, or_left}
 use Rattle.std.proofs.lemmas.List.{get_or-map, length-map}
 use Rattle.sf_grid.specs.Plane.{Coordinates}
@@ -10,15 +10,13 @@ use Rattle.sf_geometry.specs.Lists.{edges_of}
 use Rattle.sf_geometry.specs.PointSets.{in_ring, on_line, within_ring}
 use Rattle.sf_plane.proofs.PlaceLaws.{IsIn}
 use Rattle.sf_rules.specs.Conditions.{Applies, AtPoint}
-use Rattle.sf_rules.proofs.MemberLaws.{each-from_in, each-to_map, one-any}
-use Rattle.std.proofs.lemmas.Bool.{not-true, not_from_false}
-use Rattle.sf_faults.specs.declared.place.Place.{Place}
+use Rattle.sf_rules.proofs.MemberLaws.{each-to_map, one-any}
 use Rattle.sf_faults.specs.declared.place.Place.TheVariants.{Hole}
 use Rattle.sf_faults.specs.declared.place.Spot.{Spot}
 use Rattle.sf_faults.specs.declared.written_edge.WrittenEdge.{WrittenEdge}
 use Rattle.sf_faults.specs.Candidates.{Candidate, edge_outside, hole_outside, is_edge_outside, is_hole_outside}
 use Rattle.sf_faults.specs.Orders.{edge_numbers, written_edges}
-use Rattle.sf_faults.specs.Places.{IsFirstAmong, IsFirstPlace, NoneIsAtFault}
+use Rattle.sf_faults.specs.Places.{IsFirstPlace, NoneIsAtFault}
 use Rattle.sf_faults.specs.Written.{IsFirstEdge, outside_of, written}
 use Rattle.sf_faults.proofs.PlaceLaws.{first-alone, first-here, first-later, first-map, first-member, none-all, none-alone, none-append, none-map, none-member, single}
 

@@ -2,7 +2,7 @@
 use Rattle.std.proofs.Common.{◌≡◌, refl, ap, sym, ◌∙◌, subst, ℕ, ◌+◌, ◌<◌, ◌≤◌, arith, Bool, true, ◌&&◌, List, [], ◌∷◌, ◌++◌, length, map, slice_index_or}
 use Rattle.std.proofs.Math.Bool.{and-true}
 use Rattle.std.proofs.lemmas.List.{get_or_default, map-append}
-use Rattle.std.specs.Prelude.{Option, Some, None}
+use Rattle.std.specs.Prelude.{Some, None}
 use Rattle.std.specs.List.{enumerate_from}
 use Rattle.sf_grid.specs.Plane.{Coordinates, Point}
 use Rattle.sf_geometry.specs.declared.geometry.Geometry.{Geometry}
@@ -13,7 +13,7 @@ use Rattle.sf_faults.specs.declared.place.Place.{Place}
 use Rattle.sf_faults.specs.declared.place.Place.TheVariants.{Holes, Parts}
 use Rattle.sf_faults.specs.Candidates.{Candidate, candidate, holes_nested, parts_overlap}
 use Rattle.sf_faults.specs.Orders.{numbered, pairs, pairs_after, with_last}
-use Rattle.sf_faults.specs.Places.{IsFirstAmong, IsFirstPlace, NoneIsAtFault}
+use Rattle.sf_faults.specs.Places.{IsFirstPlace, NoneIsAtFault}
 use Rattle.sf_faults.specs.Written.{AreFirstOverlapping, areas_overlap, single_ring}
 use Rattle.sf_faults.proofs.PlaceLaws.{NoPair, NoneWith, first-alone, first-map, first-pair, no_pair-all, no_pair-more, none-alone, none-map, none_with-more, numbered-at, numbered-end, numbered-length, single}
 

@@ -1,6 +1,6 @@
 -- The rings of polygons by part and number.
 use Rattle.std.proofs.Common.{◌≡◌, refl, ap, sym, ◌∙◌, subst, ℕ, zero, suc, ◌+◌, ◌<◌, arith, List, [], ◌∷◌, ◌++◌, append_assoc, length, map, slice_index_or, get_or, take, ◌≤◌}
-use Rattle.std.specs.Prelude.{Option, Some, None, IsSome, option_and_then, slice_get}
+use Rattle.std.specs.Prelude.{Option, Some, IsSome, option_and_then, slice_get}
 use Rattle.std.specs.List.{AllByRecursion, enumerate_from, flat_map}
 use Rattle.std.proofs.lemmas.List.{get_or-map, get_or_default, length-map, length-append, take_all, take_more}
 use Rattle.std.proofs.lemmas.List.FromFn.{get_or-enumerate_from, length-enumerate_from}

@@ -1,28 +1,24 @@
 -- Two edges share two points just where they run along one another.
-use Rattle.std.proofs.Common.{◌≡◌, ◌≢◌, ◌↔◌, refl, ap, sym, ◌∙◌, subst, arith, ℕ, Bool, true, false, not, ◌&&◌, List, [], ◌∷◌, ◌++◌, map, length, slice_index_or, take, inl, inr, ◌+◌, ◌<◌, ◌≤◌}
-use Rattle.std.specs.Prelude.{IsTrue, Option, Some, None, is_some}
+use Rattle.std.proofs.Common.{◌≡◌, ◌≢◌, ◌↔◌, refl, ap, sym, ◌∙◌, subst, ℕ, true, false, List, [], ◌∷◌, ◌++◌, map, length, slice_index_or, ◌<◌}
+use Rattle.std.specs.Prelude.{IsTrue, Option}
 use Rattle.std.specs.List.{flat_map}
 use Rattle.std.proofs.lemmas.Bool.{and_from, and_parts, false_from_ne_true, false≢true, not-true, not_from_false}
-use Rattle.std.proofs.lemmas.List.Concat.{flat_map_single}
 use Rattle.std.proofs.lemmas.List.Folds.{flat_map-map}
-use Rattle.std.proofs.lemmas.List.{get_or-map, length-map, take-map}
-use Rattle.sf_grid.specs.Plane.{Coordinates, IsPoint, Point, grid_point, same_point}
-use Rattle.sf_grid.specs.Edge.{Edge, edge_between, on_edge}
+use Rattle.sf_grid.specs.Plane.{Coordinates, Point, grid_point, same_point}
+use Rattle.sf_grid.specs.Edge.{Edge}
 use Rattle.sf_grid.specs.Sharing.{IsSharing}
-use Rattle.sf_grid.specs.declared.meet.Meet.{Meet}
 use Rattle.sf_grid.specs.declared.meet.Meet.TheVariants.{Along, Apart, At}
 use Rattle.sf_grid.proofs.CallerLemmas.{differs_from_before, same_point_is_equivalence}
 use Rattle.sf_geometry.proofs.ListLaws.{same-is}
 use Rattle.sf_strands.proofs.EndLaws.{both-same, end-on, grid-IsPoint, start-on}
 use Rattle.sf_rules.specs.Conditions.{Applies, AtTwoPoints}
-use Rattle.sf_rules.specs.Shapes.{on_both}
 use Rattle.sf_faults.specs.declared.place.Place.{Place}
 use Rattle.sf_faults.specs.declared.place.Spot.{Spot}
 use Rattle.sf_faults.specs.declared.written_edge.WrittenEdge.{WrittenEdge}
-use Rattle.sf_faults.specs.Candidates.{Candidate, edges_between, edges_shared, share_two, shared_by}
+use Rattle.sf_faults.specs.Candidates.{edges_between, edges_shared, share_two, shared_by}
 use Rattle.sf_faults.specs.Orders.{placed_rings, spots, written_edges}
 use Rattle.sf_faults.proofs.RingLaws.{any_spot, read-member, read-ring, read-spot, ring_read}
-use Rattle.sf_faults.specs.Places.{IsFirstAmong, IsFirstPlace, NoneIsAtFault}
+use Rattle.sf_faults.specs.Places.{IsFirstAmong}
 use Rattle.sf_faults.specs.Written.{AreRingsSharing, edges_shared_by, written}
 
 -- ---- what a meeting says

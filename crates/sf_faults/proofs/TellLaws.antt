@@ -1,6 +1,6 @@
 -- The condition of each candidate applies at the samples of the rings just where it applies over the plane.
-use Rattle.std.proofs.Common.{◌≡◌, ◌≢◌, refl, ap, sym, ◌∙◌, ℕ, ◌+◌, Bool, true, false, ◌&&◌, ◌||◌, not, List, [], ◌∷◌, ◌++◌, length, map, inl, inr}
-use Rattle.std.specs.Prelude.{◌↔◌, IsTrue, nat_eq, nat_lt, Some, None}
+use Rattle.std.proofs.Common.{◌≡◌, ◌≢◌, refl, ap, ◌∙◌, ℕ, ◌+◌, Bool, true, ◌&&◌, ◌||◌, not, List, [], ◌∷◌, ◌++◌, length, map}
+use Rattle.std.specs.Prelude.{nat_eq, nat_lt}
 use Rattle.std.specs.List.{AllByRecursion, enumerate_from, flat_map, list_any, zip}
 use Rattle.std.proofs.lemmas.Bool.{and_from, and_parts, not-true, not_from_false}
 use Rattle.std.proofs.lemmas.List.Elements.{recursion_from_All}
@@ -8,10 +8,9 @@ use Rattle.sf_slabs.proofs.CallerLemmas.{each-append, each-map}
 use Rattle.sf_grid.specs.Plane.{Coordinates, IsPoint, Point, grid_point, same_point}
 use Rattle.sf_grid.specs.Edge.{Edge as Line, edge_above, on_edge}
 use Rattle.sf_grid.specs.EvenOdd.{edges_above, is_odd}
-use Rattle.sf_columns.specs.declared.piece.Piece.{Piece}
 use Rattle.sf_columns.specs.declared.piece.Piece.TheVariants.{Dot, Edge}
 use Rattle.sf_cells.specs.Samples.{Sample, samples}
-use Rattle.sf_plane.proofs.CoverLaws.{contains, in_append_left, in_append_right}
+use Rattle.sf_plane.proofs.CoverLaws.{contains, in_append_left}
 use Rattle.sf_plane.proofs.PlaceLaws.{IsIn}
 use Rattle.sf_plane.proofs.SampleCellLaws.{every_sample}
 use Rattle.sf_plane.proofs.ShareLaws.{in_from_contains}
@@ -23,10 +22,10 @@ use Rattle.sf_geometry.specs.Parts.{joined}
 use Rattle.sf_geometry.specs.PointSets.{in_polygon, in_ring, on_line, within_ring}
 use Rattle.sf_rules.specs.declared.fault.Fault.{Fault}
 use Rattle.sf_rules.specs.declared.fault.Fault.TheVariants.{ShortLine, OpenRing, ShortRing, RingNotSimple, RingsMeet, HoleOutside, HolesNested, PolygonsOverlap}
-use Rattle.sf_rules.specs.Conditions.{Applies, AtPoint, AtTwoPoints}
+use Rattle.sf_rules.specs.Conditions.{AtTwoPoints}
 use Rattle.sf_rules.specs.Shapes.{is_joint, on_both}
 use Rattle.sf_rules.specs.Verdicts.{pieces_of, points_among}
-use Rattle.sf_rules.proofs.AgreeLaws.{Agree, AgreeAt, AgreeBy, two_polygons-same}
+use Rattle.sf_rules.proofs.AgreeLaws.{Agree, AgreeAt, AgreeBy}
 use Rattle.sf_rules.proofs.MemberLaws.{any-one, any-same, count-same, each-from_in, each-in, each-numbered, each-to_flat, each-to_map, in_flat_map, in_map, one-any}
 use Rattle.sf_rules.proofs.SampledLaws.{Tells, all_pieces, plain-tells, point-tells}
 use Rattle.sf_rules.proofs.TightLaws.{edges-differ, edges-ends}

@@ -1,5 +1,5 @@
 -- The places where a geometry may have a fault, in their order, each with the condition under which it has it there.
-use Rattle.std.specs.Prelude.{ℕ, Bool, ◌&&◌, not, List, [], ◌∷◌, ◌++◌, map, length, nat_lt, Option, None, Some}
+use Rattle.std.specs.Prelude.{ℕ, Bool, ◌&&◌, not, List, [], ◌∷◌, ◌++◌, map, length, nat_lt, None, Some}
 use Rattle.std.specs.List.{enumerate_from, flat_map}
 use Rattle.sf_grid.specs.Plane.{Coordinates, Point, same_point}
 use Rattle.sf_grid.specs.Edge.{Edge, on_edge}

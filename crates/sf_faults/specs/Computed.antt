@@ -6,7 +6,6 @@ use Rattle.sf_geometry.specs.declared.geometry.Geometry.{Geometry}
 use Rattle.sf_geometry.specs.Parts.{rings_of}
 use Rattle.sf_rules.specs.declared.fault.Fault.{Fault}
 use Rattle.sf_rules.specs.Conditions.{applies_among}
-use Rattle.sf_rules.specs.Validity.{IsFirstFault}
 use Rattle.sf_rules.specs.Verdicts.{points_among}
 use Rattle.sf_faults.specs.declared.place.Place.{Place}
 use Rattle.sf_faults.specs.Candidates.{Candidate, candidates}

@@ -1,8 +1,6 @@
-use Rattle.std.proofs.Common.{arith, refl, subst, sym, ap, ◌∙◌, ◌≡◌, List, length}
-use Rattle.std.specs.Prelude.{IsTrue}
+use Rattle.std.proofs.Common.{arith, subst, sym, ap, ◌∙◌, List, length}
 use Rattle.std.proofs.lemmas.Bool.{false≢true}
 use Rattle.sf_grid.specs.Plane.{Coordinates}
-use Rattle.sf_geometry.specs.Lists.{tight}
 use Rattle.sf_rules.specs.Conditions.{Applies, AtPoint}
 use Rattle.sf_strands.specs.Pairs.{pair_meets}
 use Rattle.sf_strands.proofs.TightLaws.{made-IsTight}

@@ -1,7 +1,6 @@
-use Rattle.std.proofs.Common.{◌≡◌, refl, ap, sym, ◌∙◌, ◌+◌, ◌++◌, List, [], ◌∷◌, drop, map}
-use Rattle.std.proofs.lemmas.List.{append-nil, drop_all, drop_more, map-append}
+use Rattle.std.proofs.Common.{◌≡◌, ap, sym, ◌∙◌, ◌+◌, ◌++◌, List, ◌∷◌, drop, map}
+use Rattle.std.proofs.lemmas.List.{drop_more, map-append}
 use Rattle.sf_grid.specs.Plane.{Coordinates}
-use Rattle.sf_grid.specs.Edge.{edge_between}
 use Rattle.sf_geometry.specs.Lists.{is_same}
 use Rattle.sf_geometry.proofs.ListLaws.{not-false, not-true}
 use Rattle.sf_faults.specs.Orders.{written_edges}

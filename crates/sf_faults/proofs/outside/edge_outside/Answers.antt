@@ -1,4 +1,4 @@
-use Rattle.std.proofs.Common.{◌≡◌, sym, ◌∙◌, [], ◌∷◌}
+use Rattle.std.proofs.Common.{sym, ◌∙◌, [], ◌∷◌}
 use Rattle.std.proofs.lemmas.Bool.{false≢true}
 use Rattle.sf_geometry.specs.declared.geometry.Geometry.TheVariants.{LineString}
 use Rattle.sf_faults.proofs.AreaLaws.{edge-from, edge-to, leaves-from, leaves-to}

@@ -1,4 +1,4 @@
-use Rattle.std.proofs.Common.{◌≡◌, ap, sym, ◌∙◌, subst, [], ◌∷◌, List}
+use Rattle.std.proofs.Common.{ap, sym, ◌∙◌, subst, [], ◌∷◌, List}
 use Rattle.std.proofs.lemmas.Bool.{false≢true}
 use Rattle.sf_grid.specs.Plane.{Coordinates}
 use Rattle.sf_geometry.specs.declared.geometry.Geometry.TheVariants.{Polygon}

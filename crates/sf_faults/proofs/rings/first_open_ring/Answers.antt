@@ -1,12 +1,12 @@
-use Rattle.std.proofs.Common.{◌≡◌, refl, ap, sym, ◌∙◌, Bool, not, true, false, length, slice_index_or}
+use Rattle.std.proofs.Common.{◌≡◌, refl, ap, sym, ◌∙◌, Bool, not, true, false, slice_index_or}
 use Rattle.sf_grid.specs.Plane.{Coordinates}
 use Rattle.std.specs.Prelude.{List, IsTrue}
 use Rattle.std.proofs.lemmas.Bool.{false≢true}
-use Rattle.sf_geometry.specs.Lists.{is_closed, tight}
+use Rattle.sf_geometry.specs.Lists.{is_closed}
 use Rattle.sf_faults.specs.declared.place.Place.TheVariants.{Ring}
 use Rattle.sf_faults.specs.Candidates.{open_ring}
 use Rattle.sf_faults.specs.Orders.{placed_rings}
-use Rattle.sf_faults.proofs.PlaceLaws.{first-alone, first-map, lt-from, lt-not, none-alone, none-map, single}
+use Rattle.sf_faults.proofs.PlaceLaws.{first-alone, first-map, none-alone, none-map, single}
 use Rattle.sf_faults.proofs.RingLaws.{any_spot, ring-end, ring-first, ring-none, read-is_there}
 use Rattle.sf_faults.proofs.rings.first_open_ring.Goals as goal
 

@@ -1,4 +1,4 @@
-use Rattle.std.proofs.Common.{map, take}
+use Rattle.std.proofs.Common.{take}
 use Rattle.sf_faults.specs.Candidates.{edges_shared}
 use Rattle.sf_faults.specs.Places.{NoneIsAtFault}
 use Rattle.std.specs.List.{flat_map}

@@ -1,4 +1,4 @@
-use Rattle.std.proofs.Common.{arith, ◌<◌, length, ap}
+use Rattle.std.proofs.Common.{arith, ◌<◌, length}
 use Rattle.sf_faults.specs.Candidates.{shared_by}
 use Rattle.sf_faults.specs.Orders.{pairs, placed_rings}
 use Rattle.std.specs.List.{flat_map}

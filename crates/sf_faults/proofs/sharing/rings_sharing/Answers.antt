@@ -1,10 +1,8 @@
 use Rattle.std.proofs.Common.{◌≡◌, ap, sym, ◌∙◌, subst, List}
 use Rattle.std.specs.Prelude.{Some}
-use Rattle.sf_grid.specs.Plane.{Coordinates}
 use Rattle.sf_faults.specs.Candidates.{Candidate}
 use Rattle.sf_faults.specs.Orders.{written_edges}
 use Rattle.sf_faults.specs.Places.{IsFirstAmong}
-use Rattle.sf_faults.specs.Written.{written}
 use Rattle.sf_faults.proofs.SharingLaws.{shared-by_edges}
 use Rattle.sf_faults.proofs.WrittenLaws.{moved-list}
 use Rattle.sf_faults.proofs.sharing.rings_sharing.Goals as goal

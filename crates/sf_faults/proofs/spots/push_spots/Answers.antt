@@ -1,4 +1,4 @@
-use Rattle.std.proofs.Common.{◌≡◌, ap, sym, ◌∙◌, ◌++◌, ◌∷◌, [], append_assoc, take, map}
+use Rattle.std.proofs.Common.{ap, sym, ◌∙◌, ◌++◌, ◌∷◌, [], append_assoc, take, map}
 use Rattle.sf_faults.specs.Orders.{placed_in, spot}
 use Rattle.sf_faults.proofs.RingLaws.{spots-of_part, spots-part_end}
 use Rattle.sf_faults.proofs.spots.push_spots.Goals as goal
