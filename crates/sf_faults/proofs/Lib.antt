@@ -8,3 +8,4 @@ pub mod SharingLaws
 pub mod AreaLaws
 pub mod OutsideLaws
 pub mod OverlapLaws
+pub mod FoundLaws

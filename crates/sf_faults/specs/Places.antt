@@ -4,6 +4,7 @@ use Rattle.std.specs.List.{AllByRecursion}
 use Rattle.sf_geometry.specs.declared.geometry.Geometry.{Geometry}
 use Rattle.sf_rules.specs.declared.fault.Fault.{Fault}
 use Rattle.sf_rules.specs.Conditions.{Applies}
+use Rattle.sf_rules.specs.Validity.{IsFirstFault}
 use Rattle.sf_faults.specs.declared.place.Place.{Place}
 use Rattle.sf_faults.specs.Candidates.{Candidate, candidates}
 
@@ -24,3 +25,7 @@ IsFirstAmong cs (Some place) = IsFirstPlace cs place
 -- where a geometry has a fault first, over all points of the plane; or nowhere
 abbrev pub IsPlaceOf : Geometry → Fault → Option Place → Type 0
 IsPlaceOf geometry fault place = IsFirstAmong (candidates geometry fault) place
+
+-- a geometry has its first fault somewhere
+abbrev pub FirstFaultsHavePlaces : Type 0
+FirstFaultsHavePlaces = (geometry : Geometry) (fault : Fault) → IsFirstFault geometry fault → ¬ (IsPlaceOf geometry fault None)
