@@ -238,8 +238,7 @@ all-without lines polygons fault n =
         λ e. each-in (λ r. ¬ (Applies (Plain (nat_lt (length (tight r)) 4)))) rings (short-fine polygons (at ShortRing e)) ring i,
         (λ e. each-in (λ r. ¬ (Applies (AtPoint (meets_itself r)))) rings (simple-fine polygons (at RingNotSimple e)) ring i, tt),
       ),
-    )))))
-    (
+    ))))) (
       λ e. sharing-fine polygons (at RingsMeet e),
       (
         λ e. one-fine in_hole_outside polygons (parts-fine outside_in (λ rings. ¬ (Applies (AtPoint (in_hole_outside rings)))) polygons outside-fine (at HoleOutside e)),
