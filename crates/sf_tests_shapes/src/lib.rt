@@ -1,8 +1,10 @@
-//! Tests of valid geometries and of their matrices.
+//! Tests of valid geometries, of where faults are, and of matrices.
 #![tactic(auto)]
 
 #[cfg(test)]
 mod contact;
+#[cfg(test)]
+mod places;
 #[cfg(test)]
 mod prepared;
 #[cfg(test)]

@@ -1,0 +1,11 @@
+pub mod PlaceLaws
+pub mod TellLaws
+pub mod ComputedLaws
+pub mod WrittenLaws
+pub mod RingLaws
+pub mod CrossingLaws
+pub mod SharingLaws
+pub mod AreaLaws
+pub mod OutsideLaws
+pub mod OverlapLaws
+pub mod FoundLaws
