@@ -30,6 +30,7 @@ unset
 show
 get
 find
+check
 hex
 box
 simple

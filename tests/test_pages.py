@@ -117,6 +117,9 @@ query nosuch contains LINESTRING (1 1, 1 1): 10
 relate nosuch 1 LINESTRING (1 1, 1 1): 10
 add nosuch POINT (1.5 1): 3
 add nosuch LINESTRING (1 1, 1 1): 18
+check nosuch POINT (1.5 1): 3
+check nosuch LINESTRING (1 1, 1 1): 18
+check p LINESTRING (1 1, 1 1): 26
 addhex nosuch 0x: 2
 addhex nosuch 01: 7
 add p LINESTRING (1 1, 1 1): 26

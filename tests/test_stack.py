@@ -66,6 +66,7 @@ SESSION = [
     f"get a {' '.join(['6'] * 1000)}",
     "find a depth 12",
     "find a label",
+    *(f"check a {geometry}" for geometry in GEOMETRIES),
     f"relate a 1 {GEOMETRIES[2]}",
     f"query a intersects {GEOMETRIES[0]}",
     f"match a ****1**** {GEOMETRIES[5]}",

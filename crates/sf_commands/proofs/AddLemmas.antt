@@ -1,4 +1,4 @@
--- What `add`, `replace` and `set` make of the words after it.
+-- What `add`, `check`, `replace` and `set` make of the words after it.
 use Rattle.std.proofs.Common.{◌≡◌, ◌≢◌, ℕ, List, [], ◌∷◌, Option, Result, Ok, Err, refl, sym, ap, ◌∙◌, subst}
 use Rattle.std.specs.Result.{IsErrAnd}
 use Rattle.sf_refusals.specs.declared.refusal.Refusal.{Refusal}
@@ -13,23 +13,23 @@ use Rattle.sf_steps.specs.declared.edit.Edit.TheVariants as edits
 use Rattle.sf_commands.specs.declared.command.Command.{Command}
 use Rattle.sf_commands.specs.declared.command.Command.TheVariants.{Edit}
 use Rattle.sf_commands.specs.Words.{words, skip_blanks, skip_word, trimmed_end}
-use Rattle.sf_commands.specs.Commands.{id_of, given, of_text, add_arguments, replace_arguments, set_arguments, OrMemory}
+use Rattle.sf_commands.specs.Commands.{id_of, given, of_text, layer_and_text, replace_arguments, set_arguments, OrMemory}
 use Rattle.sf_commands.specs.Values.{value_of}
 
-with_text : (layer text : List ℕ) (more : List (List ℕ)) → more ≢ []
-    → add_arguments (layer ∷ more) text ≡ of_text (read text) (λ geometry. Edit (edits.AddFeature layer geometry))
-with_text layer text [] some = absurd (some refl)
-with_text layer text (word ∷ more) some = refl
+with_text : (command : List ℕ → Geometry → Command) (layer text : List ℕ) (more : List (List ℕ)) → more ≢ []
+    → layer_and_text command (layer ∷ more) text ≡ of_text (read text) (command layer)
+with_text command layer text [] some = absurd (some refl)
+with_text command layer text (word ∷ more) some = refl
 
--- what the words after `add` give, where a text stands behind the first of them
-pub add_arguments-text : (line next layer text : List ℕ) → words line ≡ layer ∷ words next → next ≡ skip_word line
+-- what the words after `add` or `check` give, where a text stands behind the first of them
+pub layer_and_text-text : (command : List ℕ → Geometry → Command) (line next layer text : List ℕ) → words line ≡ layer ∷ words next → next ≡ skip_word line
     → words next ≢ [] → text ≡ skip_blanks next
-    → add_arguments (words line) (skip_blanks (skip_word line)) ≡ of_text (read text) (λ geometry. Edit (edits.AddFeature layer geometry))
-add_arguments-text line next layer text first rest some behind =
-    ap (λ w. add_arguments w (skip_blanks (skip_word line))) first
-    ∙ ap (λ n. add_arguments (layer ∷ words next) (skip_blanks n)) (sym rest)
-    ∙ ap (λ t. add_arguments (layer ∷ words next) t) (sym behind)
-    ∙ with_text layer text (words next) some
+    → layer_and_text command (words line) (skip_blanks (skip_word line)) ≡ of_text (read text) (command layer)
+layer_and_text-text command line next layer text first rest some behind =
+    ap (λ w. layer_and_text command w (skip_blanks (skip_word line))) first
+    ∙ ap (λ n. layer_and_text command (layer ∷ words next) (skip_blanks n)) (sym rest)
+    ∙ ap (λ t. layer_and_text command (layer ∷ words next) t) (sym behind)
+    ∙ with_text command layer text (words next) some
 
 -- `replace` of a layer, an identifier if it could be read, and what a text was read as
 abbrev pub replaced_by : List ℕ → Option ℕ → Result Geometry WktFault → Result Command Refusal

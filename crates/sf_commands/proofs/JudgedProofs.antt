@@ -38,7 +38,7 @@ use Rattle.sf_commands.specs.declared.verb.Action.{Action}
 use Rattle.sf_commands.specs.declared.verb.Action.TheVariants as actions
 use Rattle.sf_commands.specs.Words.{words, skip_blanks, skip_word, trimmed_end}
 use Rattle.sf_commands.specs.Values.{point_by, point_of, value_of}
-use Rattle.sf_commands.specs.Commands.{action_of, add_arguments, add_column, add_layer, addhex_arguments, addressed, addressed_command, after_two_words, alone, behind_at, by_editor, by_verb, by_words, by_digits, by_first_word, bytes_command, column_arguments, column_command, column_type_of, delete_arguments, drop_column, drop_layer, editor_of, faultless, feature_arguments, feature_command, feature_named, find_arguments, get_arguments, join_arguments, join_by, beside_of, given, hex_command, id_of, ids_of, insert_vertex, layer_arguments, layer_command, layer_kind_of, made, match_arguments, move_layer, move_vertex, of_layer, of_text, predicate_of, query_arguments, relate_arguments, remove_vertex, rename_layer, replace_arguments, set_arguments, sought_of, unset_arguments, valid_of, verb_of, vertex_arguments, vertex_command, vertex_place, with_geometry, with_id}
+use Rattle.sf_commands.specs.Commands.{action_of, add_arguments, add_column, check_arguments, add_layer, addhex_arguments, addressed, addressed_command, after_two_words, alone, behind_at, by_editor, by_verb, by_words, by_digits, by_first_word, bytes_command, column_arguments, column_command, column_type_of, delete_arguments, drop_column, drop_layer, editor_of, faultless, feature_arguments, feature_command, feature_named, find_arguments, get_arguments, join_arguments, join_by, beside_of, given, hex_command, id_of, ids_of, insert_vertex, layer_arguments, layer_command, layer_kind_of, made, match_arguments, move_layer, move_vertex, of_layer, of_text, predicate_of, query_arguments, relate_arguments, remove_vertex, rename_layer, replace_arguments, set_arguments, sought_of, unset_arguments, valid_of, verb_of, vertex_arguments, vertex_command, vertex_place, with_geometry, with_id}
 use Rattle.sf_commands.specs.Laws.{GivenGeometriesAreJudgedOverThePlane, HasFaultyGiven, HasJudgedGiven, HasValidGiven, SpellsValid, given_text}
 
 -- what is said of what was made of a text behind the verb
@@ -266,6 +266,10 @@ add_judged : (t : List ℕ) (arguments : List (List ℕ)) (text : List ℕ) → 
 add_judged t (layer ∷ first ∷ more) text = text_judged t (read text) _ (λ geometry. tt)
 add_judged t arguments text = bad t
 
+check_judged : (t : List ℕ) (arguments : List (List ℕ)) (text : List ℕ) → Judged t (check_arguments arguments text)
+check_judged t (layer ∷ first ∷ more) text = text_judged t (read text) _ (λ geometry. tt)
+check_judged t arguments text = bad t
+
 addhex_judged : (t : List ℕ) (arguments : List (List ℕ)) → Judged t (addhex_arguments arguments)
 addhex_judged t (layer ∷ hex ∷ []) = hex_judged t layer (decode_of hex)
 addhex_judged t arguments = bad t
@@ -380,6 +384,7 @@ by_verb_judged (Some verbs.Columns) rest = of_layer_judged (behind rest) Columns
 by_verb_judged (Some verbs.Show) rest = of_layer_judged (behind rest) Show (words rest) (λ layer. tt)
 by_verb_judged (Some verbs.Get) rest = get_judged (behind rest) (words rest)
 by_verb_judged (Some verbs.Find) rest = find_judged (behind rest) (words rest) (behind rest)
+by_verb_judged (Some verbs.Check) rest = check_judged (behind rest) (words rest) (skip_blanks (skip_word rest))
 by_verb_judged (Some verbs.Hex) rest = feature_judged (behind rest) Hex (words rest) (λ layer id. tt)
 by_verb_judged (Some verbs.Box) rest = feature_judged (behind rest) Extent (words rest) (λ layer id. tt)
 by_verb_judged (Some verbs.Simple) rest = feature_judged (behind rest) Simple (words rest) (λ layer id. tt)

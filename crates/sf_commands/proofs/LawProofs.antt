@@ -31,7 +31,7 @@ use Rattle.sf_commands.specs.declared.verb.Action.{Action}
 use Rattle.sf_commands.specs.declared.verb.Action.TheVariants as actions
 use Rattle.sf_commands.specs.Words.{words, skip_blanks, skip_word, trimmed_end}
 use Rattle.sf_commands.specs.Values.{point_by, point_of, value_of}
-use Rattle.sf_commands.specs.Commands.{action_of, add_arguments, add_column, add_layer, addhex_arguments, addressed, addressed_command, after_two_words, alone, by_editor, by_verb, by_words, bytes_command, column_arguments, column_command, column_type_of, command_of, delete_arguments, drop_column, drop_layer, feature_arguments, feature_command, feature_named, find_arguments, get_arguments, join_arguments, join_by, beside_of, given, hex_command, id_of, ids_of, insert_vertex, layer_arguments, layer_command, layer_kind_of, made, match_arguments, move_layer, move_vertex, of_layer, of_text, predicate_of, query_arguments, relate_arguments, remove_vertex, rename_layer, replace_arguments, set_arguments, sought_of, unset_arguments, valid_of, verb_of, vertex_arguments, vertex_command, vertex_place, with_geometry}
+use Rattle.sf_commands.specs.Commands.{action_of, add_arguments, add_column, check_arguments, add_layer, addhex_arguments, addressed, addressed_command, after_two_words, alone, by_editor, by_verb, by_words, bytes_command, column_arguments, column_command, column_type_of, command_of, delete_arguments, drop_column, drop_layer, feature_arguments, feature_command, feature_named, find_arguments, get_arguments, join_arguments, join_by, beside_of, given, hex_command, id_of, ids_of, insert_vertex, layer_arguments, layer_command, layer_kind_of, made, match_arguments, move_layer, move_vertex, of_layer, of_text, predicate_of, query_arguments, relate_arguments, remove_vertex, rename_layer, replace_arguments, set_arguments, sought_of, unset_arguments, valid_of, verb_of, vertex_arguments, vertex_command, vertex_place, with_geometry}
 use Rattle.sf_commands.specs.Laws.{CommandsBringGridPoints}
 use Rattle.sf_commands.proofs.PointLemmas.{spelled_on_grid}
 
@@ -157,6 +157,10 @@ add_brings : (arguments : List (List ℕ)) (text : List ℕ) → Brings (add_arg
 add_brings (layer ∷ first ∷ more) text = text_brings (read text) _ (read_is_sized text) (λ geometry on_grid. on_grid)
 add_brings arguments text = tt
 
+check_brings : (arguments : List (List ℕ)) (text : List ℕ) → Brings (check_arguments arguments text)
+check_brings (layer ∷ first ∷ more) text = text_brings (read text) _ (read_is_sized text) (λ geometry on_grid. tt)
+check_brings arguments text = tt
+
 addhex_brings : (arguments : List (List ℕ)) → Brings (addhex_arguments arguments)
 addhex_brings (layer ∷ hex ∷ []) = hex_brings layer (decode_of hex)
 addhex_brings arguments = tt
@@ -254,6 +258,7 @@ by_verb_brings (Some verbs.Columns) rest = of_layer_brings Columns (words rest) 
 by_verb_brings (Some verbs.Show) rest = of_layer_brings Show (words rest) (λ layer. tt)
 by_verb_brings (Some verbs.Get) rest = get_brings (words rest)
 by_verb_brings (Some verbs.Find) rest = find_brings (words rest) (skip_blanks (skip_word (skip_word rest)))
+by_verb_brings (Some verbs.Check) rest = check_brings (words rest) (skip_blanks (skip_word rest))
 by_verb_brings (Some verbs.Hex) rest = feature_brings Hex (words rest) (λ layer id. tt)
 by_verb_brings (Some verbs.Box) rest = feature_brings Extent (words rest) (λ layer id. tt)
 by_verb_brings (Some verbs.Simple) rest = feature_brings Simple (words rest) (λ layer id. tt)

@@ -36,7 +36,7 @@ use Rattle.sf_commands.specs.declared.verb.Verb.TheVariants as verbs
 use Rattle.sf_commands.specs.declared.verb.Action.{Action}
 use Rattle.sf_commands.specs.declared.verb.Action.TheVariants as actions
 use Rattle.sf_commands.specs.declared.command.Command.{Command}
-use Rattle.sf_commands.specs.declared.command.Command.TheVariants.{Edit, Undo, Redo, Layers, Columns, Show, Get, Find, Hex, Simple, Extent, Relate, Match, Query, JoinMatching, JoinNamed}
+use Rattle.sf_commands.specs.declared.command.Command.TheVariants.{Edit, Undo, Redo, Layers, Columns, Show, Get, Find, Check, Hex, Simple, Extent, Relate, Match, Query, JoinMatching, JoinNamed}
 use Rattle.sf_commands.specs.declared.vertex_place.VertexPlace.{VertexPlace}
 use Rattle.sf_commands.specs.Words.{words, skip_blanks, skip_word, trimmed_end}
 use Rattle.sf_commands.specs.Values.{point_of, value_of}
@@ -44,7 +44,7 @@ use Rattle.sf_commands.specs.Values.{point_of, value_of}
 -- the words of the verbs that ask, and change neither the store nor its history
 abbrev pub asking_verbs : List (List ℕ × Verb)
 asking_verbs = (codes "layers", verbs.Layers) ∷ (codes "columns", verbs.Columns) ∷ (codes "show", verbs.Show)
-    ∷ (codes "get", verbs.Get) ∷ (codes "find", verbs.Find) ∷ (codes "hex", verbs.Hex) ∷ (codes "box", verbs.Box) ∷ (codes "simple", verbs.Simple)
+    ∷ (codes "get", verbs.Get) ∷ (codes "find", verbs.Find) ∷ (codes "check", verbs.Check) ∷ (codes "hex", verbs.Hex) ∷ (codes "box", verbs.Box) ∷ (codes "simple", verbs.Simple)
     ∷ (codes "relate", verbs.Relate) ∷ (codes "match", verbs.Match) ∷ (codes "query", verbs.Query) ∷ (codes "join", verbs.Join) ∷ []
 
 -- the asking verb that a word spells
@@ -242,10 +242,18 @@ abbrev pub feature_command : (List ℕ → ℕ → Command) → Result (List ℕ
 feature_command command (Ok feature) = Ok (command feature.0 feature.1)
 feature_command command (Err refusal) = Err refusal
 
--- the command of the words after `add`; the text is the rest of the line from the second of them on
+-- a command about a layer and a geometry; the text is the rest of the line from the second of the words on
+abbrev pub layer_and_text : (List ℕ → Geometry → Command) → List (List ℕ) → List ℕ → Result Command Refusal
+layer_and_text command (layer ∷ first ∷ more) text = of_text (read text) (command layer)
+layer_and_text command arguments text = Err BadCommand
+
+-- the command of the words after `add`: a layer and a text
 abbrev pub add_arguments : List (List ℕ) → List ℕ → Result Command Refusal
-add_arguments (layer ∷ first ∷ more) text = of_text (read text) (λ geometry. Edit (edits.AddFeature layer geometry))
-add_arguments arguments text = Err BadCommand
+add_arguments arguments text = layer_and_text (λ layer geometry. Edit (edits.AddFeature layer geometry)) arguments text
+
+-- the command of the words after `check`: the same
+abbrev pub check_arguments : List (List ℕ) → List ℕ → Result Command Refusal
+check_arguments arguments text = layer_and_text Check arguments text
 
 -- the command of the words after `addhex`; the binary is one word
 abbrev pub addhex_arguments : List (List ℕ) → Result Command Refusal
@@ -371,6 +379,7 @@ by_verb (Some verbs.Columns) rest = of_layer Columns (words rest)
 by_verb (Some verbs.Show) rest = of_layer Show (words rest)
 by_verb (Some verbs.Get) rest = get_arguments (words rest)
 by_verb (Some verbs.Find) rest = find_arguments (words rest) (skip_blanks (skip_word (skip_word rest)))
+by_verb (Some verbs.Check) rest = check_arguments (words rest) (skip_blanks (skip_word rest))
 by_verb (Some verbs.Hex) rest = feature_arguments Hex (words rest)
 by_verb (Some verbs.Box) rest = feature_arguments Extent (words rest)
 by_verb (Some verbs.Simple) rest = feature_arguments Simple (words rest)

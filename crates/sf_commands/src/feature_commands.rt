@@ -1,6 +1,6 @@
 //! Commands about whole features and their geometries.
 ghost use Rattle.std.specs.Prelude.{◌≡◌};
-ghost use Rattle.sf_commands.specs.Commands.{add_arguments as add_command_of, addhex_arguments as addhex_command_of, delete_arguments as delete_command_of, replace_arguments as replace_command_of, set_arguments as set_command_of, unset_arguments as unset_command_of, feature_arguments as feature_command_of, feature_named, of_layer, OrMemory};
+ghost use Rattle.sf_commands.specs.Commands.{add_arguments as add_command_of, addhex_arguments as addhex_command_of, check_arguments as check_command_of, delete_arguments as delete_command_of, replace_arguments as replace_command_of, set_arguments as set_command_of, unset_arguments as unset_command_of, feature_arguments as feature_command_of, feature_named, of_layer, OrMemory};
 ghost use Rattle.sf_commands.specs.declared.command.Command.TheVariants.{Show, Hex, Simple, Extent};
 ghost use Rattle.sf_commands.specs.Words.{words as words_of, skip_blanks, skip_word};
 
@@ -21,6 +21,16 @@ pub(crate) fn add_arguments(alloc: Global, mut words: Words<'_>) -> Result<Comma
     let geometry = sf_wkt::read(alloc, words.rest()?)?;
     let layer = text_of(alloc, layer)?;
     Ok(Command::Edit(Edit::AddFeature { layer, geometry }))
+}
+
+/// The text is the rest of the line from the second word after `check` on.
+pub(crate) fn check_arguments(alloc: Global, mut words: Words<'_>) -> Result<Command, Refusal>
+    ensures { OrMemory (check_command_of (words_of words.entry) (skip_blanks (skip_word words.entry))) result }
+{
+    let layer = words.next()?;
+    let geometry = sf_wkt::read(alloc, words.rest()?)?;
+    let layer = text_of(alloc, layer)?;
+    Ok(Command::Check(layer, geometry))
 }
 
 /// The binary is one word of hexadecimal.

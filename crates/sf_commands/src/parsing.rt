@@ -8,8 +8,9 @@ use super::addressing::addressed;
 use super::column_commands::{column_arguments, columns_arguments};
 use super::command::Command;
 use super::feature_commands::{
-    add_arguments, addhex_arguments, box_arguments, delete_arguments, hex_arguments,
-    replace_arguments, set_arguments, show_arguments, simple_arguments, unset_arguments,
+    add_arguments, addhex_arguments, box_arguments, check_arguments, delete_arguments,
+    hex_arguments, replace_arguments, set_arguments, show_arguments, simple_arguments,
+    unset_arguments,
 };
 use super::join_commands::join_arguments;
 use super::layer_commands::{layer_arguments, layers_arguments};
@@ -70,6 +71,7 @@ fn arguments_of(alloc: Global, verb: Option<Verb>, words: Words<'_>) -> Result<C
         Some(Verb::Show) => show_arguments(alloc, words),
         Some(Verb::Get) => get_arguments(alloc, words),
         Some(Verb::Find) => find_arguments(alloc, words),
+        Some(Verb::Check) => check_arguments(alloc, words),
         Some(Verb::Hex) => hex_arguments(alloc, words),
         Some(Verb::Box) => box_arguments(alloc, words),
         Some(Verb::Simple) => simple_arguments(alloc, words),

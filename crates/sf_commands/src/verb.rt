@@ -20,6 +20,7 @@ pub(crate) enum Verb {
     Show,
     Get,
     Find,
+    Check,
     Hex,
     Box,
     Simple,
@@ -85,6 +86,8 @@ fn asking_verb_of(word: &str) -> Option<Verb>
         Some(Verb::Get)
     } else if word == "find" {
         Some(Verb::Find)
+    } else if word == "check" {
+        Some(Verb::Check)
     } else if word == "hex" {
         Some(Verb::Hex)
     } else if word == "box" {

@@ -6,6 +6,7 @@ ghost use Rattle.sf_console.specs.Answers.{reply_text, refusal_line, rows, rows_
 ghost use Rattle.sf_console.specs.Readings.{Asked, reading, text_reading};
 ghost use Rattle.sf_console.specs.Session.{IsAnswered, IsLastAnswered};
 
+use super::checking::checked;
 use super::finding::{column_of, ids_with, may_be_sought};
 use super::joining::joined;
 use super::reply::{Reply, hex_line};
@@ -96,6 +97,7 @@ pub fn execute(
         Command::Find(layer, column, sought) => {
             find(alloc, editor.store(), &layer, &column, &sought)
         }
+        Command::Check(layer, geometry) => checked(alloc, editor.store(), &layer, &geometry),
         Command::Hex(layer, id) => hex(alloc, editor.store(), &layer, id),
         Command::Simple(layer, id) => simple(alloc, editor.store(), &layer, id),
         Command::Extent(layer, id) => extent(editor.store(), &layer, id),

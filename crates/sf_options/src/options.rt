@@ -22,7 +22,7 @@ Commands, one on a line:
   layer add|drop|rename|move   column add|drop   layers   columns
   add   addhex   delete   replace   vertex insert|move|remove   set   unset
   undo   redo   save
-  show   get   find   hex   box   simple   relate   match   query   join
+  show   get   find   check   hex   box   simple   relate   match   query   join
 
 A line may begin with the editor who gives it, from @1 to @255: @2 undo.
 `man sfstore`, and docs/use/CONSOLE.md, have the commands with their answers.";

@@ -5,12 +5,13 @@ use std::alloc::Global;
 use std::test::Fail;
 
 /// What lines are read as: the editor, a verb, and the identifier of a feature or 0.
-const READ: [(&str, u8, &str, u32); 16] = [
+const READ: [(&str, u8, &str, u32); 17] = [
     (" undo ", 0, "undo", 0),
     ("show w", 0, "show", 0),
     ("get w 7 4294967295 007", 0, "get", 0),
     ("find w depth -12", 0, "find", 0),
     ("find w label 'it''s old' ", 0, "find", 0),
+    ("check w LINESTRING (1 1, 1 1)", 0, "check", 0),
     ("hex w 4294967295", 0, "hex", 4_294_967_295),
     ("simple w 007", 0, "simple", 7),
     ("box w 1", 0, "box", 1),
@@ -31,6 +32,7 @@ fn verb_of(command: &Command) -> Option<(&'static str, u32)> {
         Command::Show(_) => Some(("show", 0)),
         Command::Get(_, _) => Some(("get", 0)),
         Command::Find(_, _, _) => Some(("find", 0)),
+        Command::Check(_, _) => Some(("check", 0)),
         Command::Hex(_, id) => Some(("hex", *id)),
         Command::Simple(_, id) => Some(("simple", *id)),
         Command::Extent(_, id) => Some(("box", *id)),

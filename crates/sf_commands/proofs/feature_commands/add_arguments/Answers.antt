@@ -1,23 +1,28 @@
-use Rattle.std.proofs.Common.{◌∙◌, Ok, Result, ap, refl, subst, sym}
+use Rattle.std.proofs.Common.{◌∙◌, ℕ, List, Ok, Result, ap, refl, subst, sym}
 use Rattle.sf_refusals.specs.declared.refusal.Refusal.{Refusal}
+use Rattle.sf_geometry.specs.declared.geometry.Geometry.{Geometry}
 use Rattle.sf_wkt.specs.Grammar.{read}
 use Rattle.sf_steps.specs.declared.edit.Edit.TheVariants as edits
 use Rattle.sf_commands.specs.declared.command.Command.{Command}
 use Rattle.sf_commands.specs.declared.command.Command.TheVariants.{Edit}
 use Rattle.sf_commands.specs.Commands.{of_text, OrMemory}
-use Rattle.sf_commands.proofs.AddLemmas.{add_arguments-text, OrMemory-unread}
+use Rattle.sf_commands.proofs.AddLemmas.{layer_and_text-text, OrMemory-unread}
 use Rattle.sf_commands.proofs.feature_commands.add_arguments.Goals as goal
+
+-- the command that adds a geometry to a layer
+abbrev added : List ℕ → Geometry → Command
+added layer geometry = Edit (edits.AddFeature layer geometry)
 
 pub returns-in_err-geometry : goal.returns-in_err-geometry
 returns-in_err-geometry c =
     let layer = c.in_ok-layer.layer.now in
     let P : Result Command Refusal → Type 0 = λ expected. OrMemory expected c.from_residual-in_err-geometry.result in
-    subst P (sym (add_arguments-text c.args.words c.next.new.self layer c.in_ok-rest.field-0.now c.in_ok-layer.ensures.0 c.in_ok-layer.ensures.1 c.in_ok-rest.ensures.0 c.in_ok-rest.ensures.1))
-    (OrMemory-unread (λ x. of_text x (λ geometry. Edit (edits.AddFeature layer geometry))) (λ fault. refl) (read c.in_ok-rest.field-0.now) c.from_residual-in_err-geometry.result _ c.in_err-geometry.ensures.exact c.from_residual-in_err-geometry.ensures.1)
+    subst P (sym (layer_and_text-text added c.args.words c.next.new.self layer c.in_ok-rest.field-0.now c.in_ok-layer.ensures.0 c.in_ok-layer.ensures.1 c.in_ok-rest.ensures.0 c.in_ok-rest.ensures.1))
+    (OrMemory-unread (λ x. of_text x (added layer)) (λ fault. refl) (read c.in_ok-rest.field-0.now) c.from_residual-in_err-geometry.result _ c.in_err-geometry.ensures.exact c.from_residual-in_err-geometry.ensures.1)
 
 pub returns : goal.returns
 returns c =
     let layer = c.in_ok-layer.layer.now in
-    ap (λ l. Ok (Edit (edits.AddFeature l c.in_ok-geometry.geometry))) c.in_ok-layer-2.ensures
-    ∙ sym (add_arguments-text c.args.words c.next.new.self layer c.in_ok-rest.field-0.now c.in_ok-layer.ensures.0 c.in_ok-layer.ensures.1 c.in_ok-rest.ensures.0 c.in_ok-rest.ensures.1
-    ∙ ap (λ x. of_text x (λ geometry. Edit (edits.AddFeature layer geometry))) (sym c.in_ok-geometry.ensures.exact))
+    ap (λ l. Ok (added l c.in_ok-geometry.geometry)) c.in_ok-layer-2.ensures
+    ∙ sym (layer_and_text-text added c.args.words c.next.new.self layer c.in_ok-rest.field-0.now c.in_ok-layer.ensures.0 c.in_ok-layer.ensures.1 c.in_ok-rest.ensures.0 c.in_ok-rest.ensures.1
+    ∙ ap (λ x. of_text x (added layer)) (sym c.in_ok-geometry.ensures.exact))
