@@ -6,6 +6,7 @@ proved. What these edges share is worked out here, in whole numbers and exact fr
 
 from __future__ import annotations
 
+import itertools
 from collections.abc import Callable
 from fractions import Fraction
 from typing import NamedTuple, Union
@@ -113,8 +114,8 @@ class _Told:
         return _once(self._shape.members[place.part][place.ring or 0])
 
     def _edge(self, place: Place, number: int) -> Edge:
-        points = self._points(place)
-        return points[number], points[number + 1]
+        line = self._shape.members[place.part][place.ring or 0]
+        return _point(line, number), _point(line, number + 1)
 
 
 _TOLD: dict[int, Callable[..., Fault]] = {
@@ -129,14 +130,13 @@ _TOLD: dict[int, Callable[..., Fault]] = {
 }
 
 
+def _point(line: Flat, number: int) -> Point:
+    return int(line[2 * number]), int(line[2 * number + 1])
+
+
 def _once(line: Flat) -> list[Point]:
     """The points of a list, repeats in a row once."""
-    points: list[Point] = []
-    for x, y in zip(line[::2], line[1::2]):
-        point = int(x), int(y)
-        if not points or points[-1] != point:
-            points.append(point)
-    return points
+    return [point for point, _ in itertools.groupby(_point(line, at) for at in range(len(line) // 2))]
 
 
 def _meeting(names: str, shared: list[Point]) -> Fault:

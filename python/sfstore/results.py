@@ -60,8 +60,7 @@ class Place(NamedTuple):
     ring: int | None
     """The ring, 0 the shell; None where the whole part is meant, or a line."""
     edges: tuple[int, ...]
-    """The edges of the ring that are named. An edge goes from one point to the next; a point that
-    repeats the one before it counts for none."""
+    """The edges of the ring that are named: an edge has the number of the point from which it goes."""
 
 
 class Refused(Exception):

@@ -37,6 +37,12 @@ def edges_of(line: Flat) -> list[Edge]:
     return list(zip(points, points[1:]))
 
 
+def edge_numbers(line: Flat) -> list[int]:
+    """The numbers of the points from which an edge goes: those whose next point is another one."""
+    points = list(zip(line[::2], line[1::2]))
+    return [number for number, (point, following) in enumerate(zip(points, points[1:])) if point != following]
+
+
 def turn(a: Point, b: Point, c: Point):
     return (b[0] - a[0]) * (c[1] - a[1]) - (b[1] - a[1]) * (c[0] - a[0])
 
@@ -93,7 +99,7 @@ def tangle(line: Flat) -> Optional[tuple[int, int]]:
             if closed and first == 0 and second == len(edges) - 1:
                 joints.append(edges[0][0])
             if any(point not in joints for point in common):
-                return first, second
+                return edge_numbers(line)[first], edge_numbers(line)[second]
     return None
 
 
@@ -115,7 +121,7 @@ def running_along(one: Flat, other: Flat) -> Optional[tuple[int, int]]:
     for second, beside in enumerate(edges_of(other)):
         for first, edge in enumerate(edges_of(one)):
             if len(shared(edge, beside)) == 2:
-                return first, second
+                return edge_numbers(one)[first], edge_numbers(other)[second]
     return None
 
 
@@ -132,7 +138,7 @@ def rings_meeting(shape: Shape) -> Optional[list[Place]]:
 def hole_outside(shape: Shape) -> Optional[list[Place]]:
     for part, (shell, *holes) in enumerate(shape.members):
         for ring, hole in enumerate(holes, 1):
-            for number, edge in enumerate(edges_of(hole)):
+            for number, edge in zip(edge_numbers(hole), edges_of(hole)):
                 if any(side(shell, point) < 0 for point in samples([edge], [shell])):
                     return [Place(part, ring, (number,))]
     return None
@@ -279,11 +285,12 @@ class Places(TestCase):
             x, y = dice.randrange(size), dice.randrange(size)
             width, height = dice.randrange(1, 7), dice.randrange(1, 7)
             corners = [(x, y), (x + width, y), (x + width, y + height), (x, y + height)]
-            if dice.random() < 0.5:
+            if dice.random() < 0.2:
                 corners[dice.randrange(4)] = dice.randrange(size), dice.randrange(size)
             if dice.random() < 0.3:
-                corners.insert(dice.randrange(4), corners[dice.randrange(4)])
-            closed = ring(corners)
+                at = dice.randrange(4)
+                corners.insert(at, corners[at])
+            closed = ring(corners[:2] if dice.random() < 0.02 else corners)
             return closed if dice.random() < 0.98 else closed[:-2]
 
         for _ in range(count):
