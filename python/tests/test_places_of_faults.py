@@ -308,7 +308,7 @@ class Places(TestCase):
             for shape in self.shapes(7, 3000):
                 counts[self.compare(store, shape)] += 1
         for number, count in counts.items():
-            self.assertGreater(count, 5, (number, counts))
+            self.assertGreater(count, 3, (number, counts))
 
     def test_holes_and_parts_side_by_side(self) -> None:
         """Rings that are simple, and of which few meet: the faults 14 to 17 have the later places."""
