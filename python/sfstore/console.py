@@ -25,7 +25,7 @@ from typing import Protocol
 from sfstore import files
 from sfstore.commands import candidates, help_text, near_words
 from sfstore.exchange import exporting, importing
-from sfstore.faults import fault_of
+from sfstore.faults import fault_at, fault_of
 from sfstore.journal import JournalError
 from sfstore.lines import geometry_of
 from sfstore.refusals import words_of
@@ -221,19 +221,18 @@ class Console:
         """A refusal in words: what is wrong, where, and what helps."""
         words = words_of(refused.number)
         print(f"Refused ({refused.number} {refused.name}): {words.reason}.")
-        place = self._place(refused.number, line)
+        place = self._place(refused, line)
         if place:
             print(f"  {place}")
-            print("  (This place is worked out by the console, outside of the proved program.)")
         near = near_words(line) if refused.number == 31 else ""
         print(f"  {near or words.help}")
 
-    def _place(self, number: int, line: str) -> str:
+    def _place(self, refused: Refused, line: str) -> str:
         """Where a geometry breaks a rule, or nothing."""
-        if not 10 <= number <= 17:
+        shape = geometry_of(line, self._store) if 10 <= refused.number <= 17 else None
+        if shape is None:
             return ""
-        shape = geometry_of(line, self._store)
-        return str(fault_of(number, shape) or "") if shape else ""
+        return str(fault_at(shape, refused) or fault_of(shape, self._program) or "")
 
     def _complete(self, line: str) -> list[str]:
         return candidates(line, self._layer_names, self._column_names)

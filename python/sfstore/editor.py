@@ -198,6 +198,21 @@ class Editor:
             answer = self._line(f"addhex {spelling.name(layer)} {memoryview(geometry).hex()}")
         return int(answer.split(" ")[1])
 
+    def check(self, layer: str, wkt: str) -> Refused | None:
+        """What adding a geometry to a layer would bring, without adding it.
+
+        None where it would be added. Else the refusal, and for a geometry that is not valid its
+        `Refused.places` say where: the first place in the order of docs/use/CONSOLE.md.
+
+        >>> with Store() as store:
+        ...     store.add_layer("parcels")
+        ...     refused = store.check("parcels", "POLYGON ((0 0, 4 4, 4 0, 0 4, 0 0))")
+        ...     refused.name, refused.places
+        ('RingNotSimple', [Place(part=0, ring=0, edges=(0, 2))])
+        """
+        outcome = self.run_all([f"check {spelling.name(layer)} {spelling.geometry(wkt)}"])[0]
+        return outcome if isinstance(outcome, Refused) else None
+
     def delete(self, layer: str, feature_id: int) -> None:
         """Removes a feature from its layer.
 

@@ -171,6 +171,11 @@ COMMANDS = [
         "lists the features with a value in a column; without VALUE those with any",
         "find wells label 'old'",
     ),
+    Command(
+        "check LAYER WKT",
+        "says what adding the geometry would bring, and where it is wrong; adds nothing",
+        "check parcels POLYGON ((0 0, 4 4, 4 0, 0 4, 0 0))",
+    ),
     Command("hex LAYER ID", "gives a geometry as well-known binary", "hex wells 1"),
     Command("box LAYER ID", "gives the corners of the least box of a feature", "box roads 1"),
     Command("simple LAYER ID", "says whether a geometry passes no point twice", "simple roads 1"),

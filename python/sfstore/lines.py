@@ -12,7 +12,7 @@ __all__ = ["geometry_of"]
 def geometry_of(line: str, store: Editor) -> Shape | None:
     """The geometry that a refused line would have brought, or none where that is not known."""
     words = words_of_line(line)
-    given = {"add": 2, "addhex": 2, "replace": 3, "relate": 3, "match": 3, "query": 3}
+    given = {"add": 2, "addhex": 2, "check": 2, "replace": 3, "relate": 3, "match": 3, "query": 3}
     try:
         if words[0] == "addhex":
             return read_wkb(bytes.fromhex(words[2]))

@@ -156,8 +156,8 @@ class Program:
         if first.startswith("rows "):
             return [self._read_line() for _ in range(int(first[5:]))]
         if first.startswith("refused "):
-            _, number, name = first.split(" ")
-            return Refused(int(number), name, line[:-1].decode("utf-8"))
+            _, number, name, *detail = first.split(" ", 3)
+            return Refused(int(number), name, line[:-1].decode("utf-8"), *detail)
         return first
 
     def _read_line(self) -> str:

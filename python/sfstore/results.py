@@ -3,6 +3,7 @@
 from __future__ import annotations
 
 import os
+import re
 from dataclasses import dataclass
 from typing import Any, Literal, NamedTuple, Union
 
@@ -17,6 +18,7 @@ __all__ = [
     "Kind",
     "Layer",
     "PathName",
+    "Place",
     "Predicate",
     "ProgramEnded",
     "Recovered",
@@ -46,6 +48,21 @@ PathName = Union[str, "os.PathLike[str]"]
 """The name of a file."""
 
 
+class Place(NamedTuple):
+    """A part of a geometry, or a ring or line of it, with the edges that are named. All count from 0.
+
+    >>> Place(part=0, ring=1, edges=(2, 5)).ring
+    1
+    """
+
+    part: int
+    """The member of a Multi form; 0 where there is one alone."""
+    ring: int | None
+    """The ring, 0 the shell; None where the whole part is meant, or a line."""
+    edges: tuple[int, ...]
+    """The edges of the ring that are named: an edge has the number of the point from which it goes."""
+
+
 class Refused(Exception):
     """The store refused a command, and nothing was changed.
 
@@ -63,16 +80,47 @@ class Refused(Exception):
     """Its name, which belongs to the number."""
     line: str
     """The line that was refused."""
+    detail: str
+    """What the answer says behind the name: where a geometry is wrong, if `Editor.check` asked."""
 
-    def __init__(self, number: int, name: str, line: str) -> None:
-        super().__init__(number, name, line)
+    def __init__(self, number: int, name: str, line: str, detail: str = "") -> None:
+        super().__init__(number, name, line, *([detail] if detail else []))
         self.number = number
         self.name = name
         self.line = line
+        self.detail = detail
+
+    @property
+    def answer(self) -> str:
+        """The answer of the program.
+
+        >>> Refused(10, "ShortLine", "check roads LINESTRING (1 1, 1 1)", "line 0").answer
+        'refused 10 ShortLine line 0'
+        """
+        return " ".join(filter(None, ["refused", str(self.number), self.name, self.detail]))
+
+    @property
+    def places(self) -> list[Place]:
+        """Where the geometry is wrong, if `Editor.check` asked: one place, or two that don't go together.
+
+        >>> Refused(13, "RingNotSimple", "", "ring 0 1 edges 2 5").places
+        [Place(part=0, ring=1, edges=(2, 5))]
+        """
+        return [_place(words) for words in _PLACE.findall(self.detail)]
 
     def __str__(self) -> str:
         shown = self.line if len(self.line) <= 200 else self.line[:200] + ".."
         return f"{self.number} {self.name}: {shown}"
+
+
+_PLACE = re.compile(r"(?:ring|part|line)(?: [0-9]+)+(?: edges?(?: [0-9]+)+)?")
+
+
+def _place(words: str) -> Place:
+    """The place that some words name: ``line P``, ``part P``, or ``ring P R`` with edges behind it."""
+    where, _, edges = words.partition(" edge")
+    part, *ring = map(int, where.split(" ")[1:])
+    return Place(part, ring[0] if ring else None, tuple(map(int, edges.removeprefix("s").split())))
 
 
 class ProgramEnded(Exception):

@@ -481,7 +481,7 @@ class BreakingOff(SetCase):
             "def looking(*words):\n"
             "    print('looking', flush=True)\n"
             "    time.sleep(100)\n"
-            "reading.fault_of = looking\n"
+            "reading.fault_at = looking\n"
             "sys.exit(importing.main())"
         )
         words = [sys.executable, "-c", script, str(self.source), str(self.store), *self.NEW_GRID]

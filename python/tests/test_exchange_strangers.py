@@ -254,17 +254,12 @@ class Odd(ExchangeCase):
         with mock.patch("sfstore.exchange.exporting.parts_of", side_effect=ZeroDivisionError):
             self.assertEqual(give_back(self.store, self.target)[0], 4)
 
-    def test_the_time_for_places_is_for_all_of_them(self):
+    def test_the_place_of_each_fault_is_reported(self):
         bow = "500000 5600000, 500009 5600009, 500009 5600000, 500000 5600009, 500000 5600000"
         self.points({k: (f"POLYGON (({bow}))", {}) for k in range(1, 4)})
-        words = [self.source, self.store, *GRID, "--overwrite"]
-        out = bring_in(*words)[1]
-        self.assertIn("1 (edges 0 and 2 of ring 0 meet at (500004.5 5600004.5))", out)
-        out = bring_in(*words, "--search-seconds", "0")[1]
-        self.assertIn("1 (its place was not looked for: 0 seconds are over)", out)
-        out = bring_in(*words, "--search-seconds", "1e-9")[1]
-        self.assertIn("1 (the place was not found within 1e-09 seconds)", out)
-        self.assertIn("2 (its place was not looked for: 1e-09 seconds are over)", out)
+        out = bring_in(self.source, self.store, *GRID)[1]
+        for k in range(1, 4):
+            self.assertIn(f"{k} (edges 0 and 2 of ring 0 meet at (500004.5 5600004.5))", out)
 
 
 class Reports(ExchangeCase):

