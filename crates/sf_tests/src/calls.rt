@@ -57,7 +57,7 @@ fn read(alloc: Global, line: &str) -> Option<(u8, Option<(&'static str, u32)>)> 
 #[test]
 fn parse_reads_commands(rt: HostRuntime) {
     for (line, editor, verb, id) in READ {
-        assert_eq!(rt; read(rt.alloc(), line), Some((editor, Some((verb, id)))));
+        assert!(rt; read(rt.alloc(), line) == Some((editor, Some((verb, id)))));
     }
 }
 
@@ -102,16 +102,10 @@ fn editor_edits_undoes_and_redoes(rt: HostRuntime) -> Result<(), Fail> {
         let answer = answer_to(rt.alloc(), &mut editor, line)?;
         assert!(rt; answer == wanted);
     }
-    assert_eq!(rt; editor.depths(), Depths { past: 3, future: 0 });
-    assert_eq!(rt;
-        depths_undone(rt.alloc(), &mut editor)?,
-        Depths { past: 2, future: 1 }
-    );
-    assert_eq!(rt;
-        depths_done_again(rt.alloc(), &mut editor)?,
-        Depths { past: 3, future: 0 }
-    );
-    assert_eq!(rt; editor.store().layer_count(), 1);
-    assert_eq!(rt; editor.into_store().layer_count(), 1);
+    assert!(rt; editor.depths() == Depths { past: 3, future: 0 });
+    assert!(rt; depths_undone(rt.alloc(), &mut editor)? == Depths { past: 2, future: 1 });
+    assert!(rt; depths_done_again(rt.alloc(), &mut editor)? == Depths { past: 3, future: 0 });
+    assert!(rt; editor.store().layer_count() == 1);
+    assert!(rt; editor.into_store().layer_count() == 1);
     Ok(())
 }

@@ -42,9 +42,9 @@ const OWNERS: [(&str, Option<Refusal>); 12] = [
 fn refusals_name_the_owner(rt: HostRuntime) {
     let mut editor = Editor::new(rt.alloc());
     for (line, refusal) in OWNERS {
-        assert_eq!(rt; asked(rt.alloc(), &mut editor, line), refusal);
+        assert!(rt; asked(rt.alloc(), &mut editor, line) == refusal);
     }
-    assert_eq!(rt; editor.depths(), Depths { past: 3, future: 0 });
-    assert_eq!(rt; editor.undo(rt.alloc()), Err(Refusal::NotYours(2)));
-    assert_eq!(rt; editor.redo(rt.alloc()), Err(Refusal::NothingToRedo));
+    assert!(rt; editor.depths() == Depths { past: 3, future: 0 });
+    assert!(rt; editor.undo(rt.alloc()) == Err(Refusal::NotYours(2)));
+    assert!(rt; editor.redo(rt.alloc()) == Err(Refusal::NothingToRedo));
 }

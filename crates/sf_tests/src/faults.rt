@@ -26,17 +26,14 @@ const INPUT: &str = "layer add wells point\nadd wells POINT (3 4)\nshow wells\nu
 const OUTPUT: &str = "ok\nok 1\nrows 1\n1 POINT (3 4)\nok\nrows 0\n";
 
 /// The file of the store before its undo.
-const FILE: [u8; 63] = [
-    0x53, 0x46, 0x53, 0x54, 0x4f, 0x52, 0x45, 0x32, 0x18, 0, 0, 0, 1, 5, 0x77, 0x65, 0x6c, 0x6c,
-    0x73, 1, 0, 0, 0, 2, 0, 1, 0, 0, 0, 0, 0, 1, 0, 0, 0, 1, 0, 0, 0, 0x15, 1, 1, 0, 0, 0, 0, 0, 0,
-    0, 0, 0, 8, 0x40, 0, 0, 0, 0, 0, 0, 0x10, 0x40, 0, 0,
-];
+const FILE: &[u8] =
+    b"SFSTORE2\x18\0\0\0\x01\x05wells\x01\0\0\0\x02\0\x01\0\0\0\0\0\x01\0\0\0\x01\0\0\0\x15\x01\x01\0\0\0\0\0\0\0\0\0\x08\x40\0\0\0\0\0\0\x10\x40\0\0";
 
 /// How many bytes are given or taken at a time.
 const STEPS: [usize; 3] = [1, 7, 100_000];
 
 /// What a reader or a writer does at the call that goes wrong.
-#[derive(Clone, Copy, PartialEq, Eq, Debug)]
+#[derive(Clone, Copy)]
 enum Fault {
     /// It fails.
     Error,
@@ -196,7 +193,7 @@ impl Write for FailingWriter {
 /// How a run went: how it ended, how many bytes were read, how many bytes of what is wanted were written (none
 /// where they are others), how many of them were flushed, how many edits can be undone and redone, whether
 /// a call went wrong, and whether one followed it.
-#[derive(Clone, Copy, Debug, PartialEq, Eq)]
+#[derive(Clone, Copy, PartialEq, Eq)]
 struct Outcome {
     end: &'static str,
     read: usize,
@@ -339,9 +336,9 @@ fn serve_answers_what_was_read(rt: HostRuntime) {
     for (fault, heals) in READER_FAULTS {
         for step in STEPS {
             for calls in 0..INPUT.len() + 2 {
-                assert_eq!(rt;
-                    served_from(rt.alloc(), step, Trouble::after(calls, fault, heals)),
-                    wanted_from(step, calls),
+                assert!(rt;
+                    served_from(rt.alloc(), step, Trouble::after(calls, fault, heals))
+                        == wanted_from(step, calls),
                     "{calls} of {step}, {heals}"
                 );
             }
@@ -394,7 +391,7 @@ fn serve_writes_a_front(rt: HostRuntime) {
                     Trouble::never(),
                 );
                 let written = calls.saturating_mul(step).min(outcome.front.unwrap_or(0));
-                assert_eq!(rt; outcome, wanted_to(written), "{calls} of {step}, {heals}");
+                assert!(rt; outcome == wanted_to(written), "{calls} of {step}, {heals}");
             }
         }
     }
@@ -429,9 +426,8 @@ fn serve_flushes_each_answer(rt: HostRuntime) {
     for heals in [false, true] {
         for flushes in 0..LINES.len() + 1 {
             let trouble = Trouble::after(flushes, Fault::Error, heals);
-            assert_eq!(rt;
-                served_to(rt.alloc(), 100, Trouble::never(), trouble),
-                wanted_flushed(flushes),
+            assert!(rt;
+                served_to(rt.alloc(), 100, Trouble::never(), trouble) == wanted_flushed(flushes),
                 "at {flushes}, {heals}"
             );
         }
@@ -447,14 +443,13 @@ fn editor_goes_on_after_a_fault(rt: HostRuntime) -> Result<(), Fail> {
     let mut reader = FailingReader::new(input.as_slice(), 100, trouble);
     let mut written: Vec<u8> = Vec::new(rt.alloc());
     let served = serve(rt.alloc(), &mut editor, &mut reader, &mut written);
-    assert_eq!(rt; serving_end(served), "Read");
-    assert_eq!(rt;
+    assert!(rt; serving_end(served) == "Read");
+    assert!(rt;
         other_answer(
             rt.alloc(),
             &mut editor,
             &[("show w", "rows 1\n1 POINT (1 1)")]
-        )?,
-        None
+        )? == None
     );
     Ok(())
 }
@@ -462,7 +457,7 @@ fn editor_goes_on_after_a_fault(rt: HostRuntime) -> Result<(), Fail> {
 /// How loading the file from a reader goes: how it ended, how many bytes were left, and whether a read followed
 /// one that went wrong.
 fn loaded_from(alloc: Global, step: usize, trouble: Trouble) -> (&'static str, usize, bool) {
-    let mut reader = FailingReader::new(FILE.as_slice(), step, trouble);
+    let mut reader = FailingReader::new(FILE, step, trouble);
     let loaded = load(alloc, &mut reader);
     (
         loading_end(&loaded),
@@ -479,9 +474,9 @@ fn load_tells_a_read_fault(rt: HostRuntime) {
             for calls in 0..FILE.len() + 2 {
                 let end = end_after(is_reached(FILE.len(), step, calls), "Read");
                 let left = FILE.len().saturating_sub(calls.saturating_mul(step));
-                assert_eq!(rt;
-                    loaded_from(rt.alloc(), step, Trouble::after(calls, fault, heals)),
-                    (end, left, false),
+                assert!(rt;
+                    loaded_from(rt.alloc(), step, Trouble::after(calls, fault, heals))
+                        == (end, left, false),
                     "{calls} of {step}, {heals}"
                 );
             }
@@ -502,7 +497,7 @@ fn saved_to(
     let saved = save(alloc, store, &mut writer);
     (
         saving_end(saved),
-        front_of(writer.taken.as_slice(), FILE.as_slice()),
+        front_of(writer.taken.as_slice(), FILE),
         writer.flushed,
         writer.went_on,
     )
@@ -511,7 +506,8 @@ fn saved_to(
 // A front of the file is written; a writer that fails or takes no byte is told.
 #[test]
 fn save_writes_a_front(rt: HostRuntime) -> Result<(), Fail> {
-    let store = load(rt.alloc(), &mut FILE.as_slice())?;
+    let mut file = FILE;
+    let store = load(rt.alloc(), &mut file)?;
     for (fault, heals) in WRITER_FAULTS {
         for step in STEPS {
             for calls in 0..FILE.len() + 2 {
@@ -519,9 +515,9 @@ fn save_writes_a_front(rt: HostRuntime) -> Result<(), Fail> {
                 let fails = len < FILE.len();
                 let writes = Trouble::after(calls, fault, heals);
                 let flushed = if fails { 0 } else { FILE.len() };
-                assert_eq!(rt;
-                    saved_to(rt.alloc(), &store, step, writes, Trouble::never()),
-                    (end_after(fails, "Write"), Some(len), flushed, false),
+                assert!(rt;
+                    saved_to(rt.alloc(), &store, step, writes, Trouble::never())
+                        == (end_after(fails, "Write"), Some(len), flushed, false),
                     "{calls} of {step}, {heals}"
                 );
             }
@@ -533,12 +529,13 @@ fn save_writes_a_front(rt: HostRuntime) -> Result<(), Fail> {
 // A flush that fails is told, once the file is written.
 #[test]
 fn save_tells_a_flush_fault(rt: HostRuntime) -> Result<(), Fail> {
-    let store = load(rt.alloc(), &mut FILE.as_slice())?;
+    let mut file = FILE;
+    let store = load(rt.alloc(), &mut file)?;
     for heals in [false, true] {
         let flushes = Trouble::after(0, Fault::Error, heals);
-        assert_eq!(rt;
-            saved_to(rt.alloc(), &store, 100, Trouble::never(), flushes),
-            ("Write", Some(FILE.len()), 0, false)
+        assert!(rt;
+            saved_to(rt.alloc(), &store, 100, Trouble::never(), flushes)
+                == ("Write", Some(FILE.len()), 0, false)
         );
     }
     Ok(())

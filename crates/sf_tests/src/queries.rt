@@ -84,6 +84,6 @@ fn points_are_found_added_deleted_and_back(rt: HostRuntime) -> Result<(), Fail> 
     push_questions(&mut input)?;
     push_found(&mut output, rt.alloc())?;
     let mut whole = input.as_bytes();
-    assert_eq!(rt; answers(rt.alloc(), &mut whole)?.as_str(), output.as_str());
+    assert!(rt; answers(rt.alloc(), &mut whole)?.as_str() == output.as_str());
     Ok(())
 }

@@ -9,11 +9,8 @@ use std::process::Abort;
 use std::test::Fail;
 
 /// A layer `wells` of points with the point (3 4) under the identifier 1: 62 bytes.
-const WELLS: [u8; 62] = [
-    0x53, 0x46, 0x53, 0x54, 0x4f, 0x52, 0x45, 0x31, 0, 0, 0, 1, 5, 0x77, 0x65, 0x6c, 0x6c, 0x73, 1,
-    0, 0, 0, 2, 0, 1, 0, 0, 0, 0, 0, 1, 0, 0, 0, 1, 0, 0, 0, 0x15, 1, 1, 0, 0, 0, 0, 0, 0, 0, 0, 0,
-    8, 0x40, 0, 0, 0, 0, 0, 0, 0x10, 0x40, 0, 0,
-];
+const WELLS: &[u8] =
+    b"SFSTORE1\0\0\0\x01\x05wells\x01\0\0\0\x02\0\x01\0\0\0\0\0\x01\0\0\0\x01\0\0\0\x15\x01\x01\0\0\0\0\0\0\0\0\0\x08\x40\0\0\0\0\0\0\x10\x40\0\0";
 
 /// Whether the store is that of the saved wells.
 fn is_wells(store: &Store) -> bool {
@@ -61,7 +58,8 @@ impl Read for Drops {
 
 #[test]
 fn saved_bytes_load(rt: HostRuntime) -> Result<(), Fail> {
-    let store = load(rt.alloc(), &mut WELLS.as_slice())?;
+    let mut bytes = WELLS;
+    let store = load(rt.alloc(), &mut bytes)?;
     assert!(rt; is_wells(&store));
     Ok(())
 }
@@ -70,13 +68,13 @@ fn saved_bytes_load(rt: HostRuntime) -> Result<(), Fail> {
 #[test]
 fn pieces_make_no_difference(rt: HostRuntime) -> Result<(), Fail> {
     let mut whole = Drops {
-        bytes: &WELLS,
+        bytes: WELLS,
         failing_at: usize::MAX,
     };
     assert!(rt; is_wells(&load(rt.alloc(), &mut whole)?));
     for failing_at in 0..WELLS.len() {
         let mut broken = Drops {
-            bytes: &WELLS,
+            bytes: WELLS,
             failing_at,
         };
         let Err(LoadFault::Read) = load(rt.alloc(), &mut broken) else {

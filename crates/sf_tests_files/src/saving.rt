@@ -14,7 +14,7 @@ fn new_store_is_saved(rt: HostRuntime) {
     let alloc = rt.alloc();
     let mut bytes: Vec<u8> = Vec::new(alloc);
     assert!(rt; save(alloc, &Store::new(alloc), &mut bytes).is_ok());
-    assert_eq!(rt; bytes.as_slice(), b"SFSTORE2\x18\0\0\0\0".as_slice());
+    assert!(rt; bytes.as_slice() == b"SFSTORE2\x18\0\0\0\0".as_slice());
 }
 
 /// The step and the room of a writer and whether it can flush, and how many bytes it takes of 63.
@@ -41,9 +41,9 @@ fn point_is_saved_or_a_prefix(rt: HostRuntime) -> Result<(), Fail> {
         if count == 63 && can_flush {
             assert!(rt; saved.is_ok());
         } else {
-            assert_eq!(rt; saved, Err(SaveFault::Write));
+            assert!(rt; saved == Err(SaveFault::Write));
         }
-        assert_eq!(rt; writer.bytes.as_slice(), &WELLS[..count]);
+        assert!(rt; writer.bytes.as_slice() == &WELLS[..count]);
     }
     Ok(())
 }

@@ -36,8 +36,8 @@ fn layer_is_indexed(rt: HostRuntime) -> Result<(), Fail> {
     let Ok(()) = layer.put_feature(rt.alloc(), 7, feature) else {
         return Err(Fail::from("no memory"));
     };
-    assert_eq!(rt; count_near(rt.alloc(), &layer)?, 1);
+    assert!(rt; count_near(rt.alloc(), &layer)? == 1);
     let _ = layer.take_feature(rt.alloc(), 7);
-    assert_eq!(rt; count_near(rt.alloc(), &layer)?, 0);
+    assert!(rt; count_near(rt.alloc(), &layer)? == 0);
     Ok(())
 }

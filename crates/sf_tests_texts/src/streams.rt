@@ -61,16 +61,16 @@ fn window_joins_pieces(rt: HostRuntime) -> Result<(), Fail> {
         let Ok(true) = window.need(&mut reader, 200) else {
             return Err(Fail::from("no byte came"));
         };
-        assert_eq!(rt; window.place(), step * 200);
+        assert!(rt; window.place() == step * 200);
         assert!(rt; window.end() >= (step + 1) * 200);
         let first = window.front(200)[0];
-        assert_eq!(rt; u64::from(first), step * 200 % 256, "at {step}");
+        assert!(rt; u64::from(first) == step * 200 % 256, "at {step}");
         window.skip(200);
     }
     let Ok(false) = window.need(&mut reader, 1) else {
         return Err(Fail::from("no end"));
     };
-    assert_eq!(rt; window.end(), 200_000);
+    assert!(rt; window.end() == 200_000);
     Ok(())
 }
 
@@ -118,7 +118,7 @@ fn output_keeps_order(rt: HostRuntime) -> Result<(), Fail> {
     let Ok(()) = output.finish(&mut writer) else {
         return Err(Fail::from("not sent"));
     };
-    assert_eq!(rt; writer.taken.len(), 2 * (2 + 70_000 + 8));
+    assert!(rt; writer.taken.len() == 2 * (2 + 70_000 + 8));
     for (place, byte) in [
         (0, 1),
         (1, 2),
@@ -128,9 +128,8 @@ fn output_keeps_order(rt: HostRuntime) -> Result<(), Fail> {
         (70_009, 0xfe),
         (70_010, 1),
     ] {
-        assert_eq!(rt;
-            *writer.taken.get(place).ok_or("no byte")?,
-            byte,
+        assert!(rt;
+            *writer.taken.get(place).ok_or("no byte")? == byte,
             "at {place}"
         );
     }
@@ -147,6 +146,6 @@ fn full_writer_is_told(rt: HostRuntime) -> Result<(), Fail> {
     let Err(WriteFault) = send(&mut writer, b"SFSTORE123") else {
         return Err(Fail::from("no fault"));
     };
-    assert_eq!(rt; writer.taken.as_slice(), b"SFSTORE1".as_slice());
+    assert!(rt; writer.taken.as_slice() == b"SFSTORE1".as_slice());
     Ok(())
 }
