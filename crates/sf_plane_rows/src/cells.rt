@@ -170,13 +170,20 @@ fn ring_and_line(alloc: Global, row: &str) -> io::Result<(Vec<Piece>, Vec<u32>)>
     let Some((ring, line)) = row.split_once(" | ") else {
         return Err(unreadable());
     };
+    let line = pieces_of(alloc, line)?;
     let mut pieces = pieces_of(alloc, ring)?;
     let mut groups = vec![in alloc; 0u32; pieces.len()]?;
-    for piece in pieces_of(alloc, line)?.as_slice() {
+    push_line(&mut pieces, &mut groups, line.as_slice())?;
+    Ok((pieces, groups))
+}
+
+/// Puts the pieces of a line behind others, each in group 1.
+fn push_line(pieces: &mut Vec<Piece>, groups: &mut Vec<u32>, line: &[Piece]) -> io::Result<()> {
+    for piece in line {
         pieces.push(*piece)?;
         groups.push(1)?;
     }
-    Ok((pieces, groups))
+    Ok(())
 }
 
 /// What of a ring and a line is handed out by classes: area inside the ring, line inside it, a point of both, and more

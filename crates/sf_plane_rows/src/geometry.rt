@@ -18,12 +18,18 @@ pub(crate) fn tightened(alloc: Global, row: &str) -> io::Result<String> {
 pub(crate) fn edges(alloc: Global, row: &str) -> io::Result<String> {
     let geometry = geometry_of(alloc, row)?;
     let edges = geometry.edges(alloc)?;
+    let ends = ends_of(alloc, edges.as_slice())?;
+    points(alloc, ends.as_slice())
+}
+
+/// Both ends of each edge.
+fn ends_of(alloc: Global, edges: &[(GridPoint, GridPoint)]) -> io::Result<Vec<GridPoint>> {
     let mut ends = Vec::new(alloc);
-    for edge in edges.as_slice() {
+    for edge in edges {
         ends.push(edge.0)?;
         ends.push(edge.1)?;
     }
-    points(alloc, ends.as_slice())
+    Ok(ends)
 }
 
 /// The ends of open lines.

@@ -8,11 +8,17 @@
 //! - `dipping COUNT NUMBER`: the same at 9, that comes down to -9 behind the point with this number;
 //! - `copies COUNT X Y`: one point so many times.
 
-use super::reading::{at, numbers_of, points_of, unreadable, unsigned};
+use super::reading::{at, four_of, numbers_of, points_of, unreadable, unsigned};
 use sf_geometry::{Geometry, Sequence};
 use sf_grid::GridPoint;
 use std::alloc::Global;
 use std::io;
+
+/// Puts the point at a place behind others.
+fn push_at(points: &mut Vec<GridPoint>, x: i32, y: i32) -> io::Result<()> {
+    points.push(at(x, y)?)?;
+    Ok(())
+}
 
 /// The line through these points.
 fn line(points: Vec<GridPoint>) -> Geometry {
@@ -42,7 +48,7 @@ fn columns(alloc: Global, ends: [i32; 4]) -> io::Result<Vec<GridPoint>> {
     let mut points = Vec::new(alloc);
     for x in from..to {
         let y = if x % 2 == 0 { even } else { odd };
-        points.push(at(x, y)?)?;
+        push_at(&mut points, x, y)?;
     }
     Ok(points)
 }
@@ -50,8 +56,8 @@ fn columns(alloc: Global, ends: [i32; 4]) -> io::Result<Vec<GridPoint>> {
 /// A line up and down from column to column, and on to some places.
 fn zigzag(alloc: Global, text: &str) -> io::Result<Geometry> {
     let (ends, places) = text.split_once(';').unwrap_or((text, ""));
-    let mut points = columns(alloc, super::reading::four_of(alloc, ends)?)?;
     let further = points_of(alloc, places)?;
+    let mut points = columns(alloc, four_of(alloc, ends)?)?;
     points.extend_from_slice(further.as_slice())?;
     Ok(line(points))
 }
@@ -89,7 +95,11 @@ fn push_turned(
 ) -> io::Result<()> {
     for place in places {
         let (x, y) = turned(*place, quarters);
-        points.push(at(x.saturating_add(middle.0), y.saturating_add(middle.1))?)?;
+        push_at(
+            points,
+            x.saturating_add(middle.0),
+            y.saturating_add(middle.1),
+        )?;
     }
     Ok(())
 }
@@ -108,7 +118,7 @@ fn star(alloc: Global, x: i32, y: i32) -> io::Result<Geometry> {
 fn valley(alloc: Global, base: i32) -> io::Result<Geometry> {
     let mut points = Vec::new(alloc);
     for x in -40i32..41 {
-        points.push(at(x, base.saturating_add(x.saturating_mul(x)))?)?;
+        push_at(&mut points, x, base.saturating_add(x.saturating_mul(x)))?;
     }
     Ok(line(points))
 }
@@ -117,7 +127,7 @@ fn valley(alloc: Global, base: i32) -> io::Result<Geometry> {
 fn hill(alloc: Global, base: i32) -> io::Result<Geometry> {
     let mut points = Vec::new(alloc);
     for x in -40i32..41 {
-        points.push(at(x, base.saturating_sub(x.saturating_mul(x)))?)?;
+        push_at(&mut points, x, base.saturating_sub(x.saturating_mul(x)))?;
     }
     Ok(line(points))
 }
@@ -126,7 +136,7 @@ fn hill(alloc: Global, base: i32) -> io::Result<Geometry> {
 fn level(alloc: Global, count: i32) -> io::Result<Geometry> {
     let mut points = Vec::new(alloc);
     for number in 0i32..count {
-        points.push(at(number.saturating_mul(10), 0)?)?;
+        push_at(&mut points, number.saturating_mul(10), 0)?;
     }
     Ok(line(points))
 }
@@ -136,9 +146,9 @@ fn dipping(alloc: Global, count: i32, dip: i32) -> io::Result<Geometry> {
     let mut points = Vec::new(alloc);
     for number in 0i32..count {
         let x = number.saturating_mul(10);
-        points.push(at(x, 9)?)?;
+        push_at(&mut points, x, 9)?;
         if number.saturating_add(1) == dip {
-            points.push(at(x.saturating_add(5), -9)?)?;
+            push_at(&mut points, x.saturating_add(5), -9)?;
         }
     }
     Ok(line(points))

@@ -28,6 +28,7 @@ use std::process::ExitCode;
 fn answer(alloc: Global, row: &str) -> io::Result<String> {
     let (word, rest) = row.split_once(' ').unwrap_or((row, ""));
     match word {
+        "==" => writing::text(alloc, row),
         "turn" => grid::turn(alloc, rest),
         "on-edge" => grid::is_on_edge(alloc, rest),
         "shared" => grid::shared(alloc, rest),
@@ -108,12 +109,8 @@ fn answer_tree(alloc: Global, word: &str, rest: &str) -> io::Result<String> {
 /// Answers all rows of a text.
 fn answer_all<W: Write>(alloc: Global, text: &str, output: &mut W) -> io::Result<()> {
     for row in text.lines() {
-        if row.starts_with("==") {
-            writeln!(output, "{row}")?;
-        } else {
-            let answer = answer(alloc, row)?;
-            writeln!(output, "{answer}")?;
-        }
+        let answer = answer(alloc, row)?;
+        writeln!(output, "{answer}")?;
     }
     Ok(())
 }

@@ -27,14 +27,25 @@ fn between(from: GridPoint, to: GridPoint, pieces: i32, step: i32) -> io::Result
 fn cut(alloc: Global, places: &[GridPoint], pieces: i32) -> io::Result<Sequence<GridPoint>> {
     let mut points = Vec::new(alloc);
     for (from, to) in places.iter().zip(places.iter().skip(1)) {
-        for step in 0..pieces {
-            points.push(between(*from, *to, pieces, step)?)?;
-        }
+        push_edge(&mut points, *from, *to, pieces)?;
     }
     if let Some(last) = places.last() {
         points.push(between(*last, *last, pieces, 0)?)?;
     }
     Ok(Sequence::from_vec(points))
+}
+
+/// Puts the points that begin the pieces of an edge behind others.
+fn push_edge(
+    points: &mut Vec<GridPoint>,
+    from: GridPoint,
+    to: GridPoint,
+    pieces: i32,
+) -> io::Result<()> {
+    for step in 0..pieces {
+        points.push(between(from, to, pieces, step)?)?;
+    }
+    Ok(())
 }
 
 /// Whether a line or ring meets itself once it is cut.

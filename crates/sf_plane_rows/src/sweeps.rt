@@ -121,14 +121,69 @@ fn pieces_and_dots(alloc: Global, all: &[[i32; 4]], dots: u16) -> io::Result<Vec
 
 /// Marks of all groups, where those from `base` on have these: below them no piece is, nor behind them.
 fn all_marks(alloc: Global, areal: &Marks, base: usize) -> io::Result<Vec<bool>> {
-    let mut all = vec![in alloc; true; base]?;
-    for mark in areal {
-        all.push(*mark)?;
-    }
-    for _ in 0..FURTHER {
-        all.push(true)?;
+    let mut all = Vec::new(alloc);
+    for group in 0..base.saturating_add(GROUPS + FURTHER) {
+        let mark = areal.get(group.wrapping_sub(base)).copied();
+        all.push(mark.unwrap_or(true))?;
     }
     Ok(all)
+}
+
+/// The groups of so many pieces: those from `base` on, by turns.
+fn groups_of(alloc: Global, count: usize, base: u16) -> io::Result<Vec<u32>> {
+    let mut groups = Vec::new(alloc);
+    for number in 0..count {
+        groups.push(u32::from(base).wrapping_add((number % GROUPS) as u32))?;
+    }
+    Ok(groups)
+}
+
+/// What the sweep over pieces hands out.
+fn swept(alloc: Global, pieces: &[Piece], areal: Marks, base: u16) -> io::Result<Greatest> {
+    let groups = groups_of(alloc, pieces.len(), base)?;
+    let marks = all_marks(alloc, &areal, usize::from(base))?;
+    let mut found = Greatest::new(alloc, areal, usize::from(base))?;
+    sweep(
+        alloc,
+        pieces,
+        groups.as_slice(),
+        marks.as_slice(),
+        &mut found,
+    )?;
+    Ok(found)
+}
+
+/// Hands a sink what the sweep over pieces with these groups and marks hands out.
+fn sweep(
+    alloc: Global,
+    pieces: &[Piece],
+    groups: &[u32],
+    marks: &[bool],
+    found: &mut Greatest,
+) -> io::Result<()> {
+    if pieces.len() != groups.len() || pieces.len() > 65535 {
+        return Err(unreadable());
+    }
+    if !have_length(pieces) || !are_in_range(groups, pieces.len()) {
+        return Err(unreadable());
+    }
+    walk_classes(alloc, pieces, groups, marks, found)?;
+    Ok(())
+}
+
+/// What the cells of pieces are, worked out one by one.
+fn listed(alloc: Global, pieces: &[Piece], areal: Marks) -> io::Result<Greatest> {
+    if pieces.len() > 65535 || !have_length(pieces) {
+        return Err(unreadable());
+    }
+    let cells = decompose(alloc, pieces)?;
+    let mut wanted = Greatest::new(alloc, areal, 0)?;
+    for cell in cells.as_slice() {
+        let on = counts_by(cell.on.as_slice());
+        let above = counts_by(cell.above.as_slice());
+        wanted.put(cell.dim, &on, &above);
+    }
+    Ok(wanted)
 }
 
 /// Whether the sweep over these pieces, and dots above them, hands out the classes of their cells. The groups
@@ -141,27 +196,8 @@ fn does_agree(
     dots: u16,
 ) -> io::Result<bool> {
     let pieces = pieces_and_dots(alloc, all, dots)?;
-    let mut groups = Vec::new(alloc);
-    for number in 0..pieces.len() {
-        groups.push(u32::from(base).wrapping_add((number % GROUPS) as u32))?;
-    }
-    let (pieces, groups) = (pieces.as_slice(), groups.as_slice());
-    if pieces.len() != groups.len()
-        || pieces.len() > 65535
-        || !have_length(pieces)
-        || !are_in_range(groups, pieces.len())
-    {
-        return Err(unreadable());
-    }
-    let marks = all_marks(alloc, &areal, usize::from(base))?;
-    let mut found = Greatest::new(alloc, areal, usize::from(base))?;
-    walk_classes(alloc, pieces, groups, marks.as_slice(), &mut found)?;
-    let mut wanted = Greatest::new(alloc, areal, 0)?;
-    for cell in decompose(alloc, pieces)?.as_slice() {
-        let on = counts_by(cell.on.as_slice());
-        let above = counts_by(cell.above.as_slice());
-        wanted.put(cell.dim, &on, &above);
-    }
+    let found = swept(alloc, pieces.as_slice(), areal, base)?;
+    let wanted = listed(alloc, pieces.as_slice(), areal)?;
     Ok(found.dims.as_slice() == wanted.dims.as_slice())
 }
 

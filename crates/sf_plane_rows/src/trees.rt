@@ -94,12 +94,40 @@ fn is_like_list(alloc: Global, tree: RTree, boxes: &[(u32, Extent)]) -> io::Resu
 {
     let list: ListIndex = put_all(alloc, boxes)?;
     let whole = find_alike(alloc, &tree, &list)?;
+    let halved = is_halved_like_list(alloc, tree, list, boxes)?;
+    Ok(whole && halved)
+}
+
+/// Whether a tree of the boxes finds what a list does once half of them are removed, and then becomes low.
+fn is_halved_like_list(
+    alloc: Global,
+    tree: RTree,
+    list: ListIndex,
+    boxes: &[(u32, Extent)],
+) -> io::Result<bool>
+    requires tree { tree ≡ boxes.now }
+    requires list { list ≡ boxes.now }
+{
     let half = boxes.len() / 2;
     let tree = take_out(alloc, tree, boxes, 0, half)?;
     let list = take_out(alloc, list, boxes, 0, half)?;
     let halved = find_alike(alloc, &tree, &list)?;
-    let tree = take_out(alloc, tree, boxes, half, boxes.len())?;
-    Ok(whole && halved && tree.height() == 1)
+    let is_low = is_low_once_empty(alloc, tree, boxes, half)?;
+    Ok(halved && is_low)
+}
+
+/// Whether a tree of the boxes from one on has one level once these are removed.
+fn is_low_once_empty(
+    alloc: Global,
+    tree: RTree,
+    boxes: &[(u32, Extent)],
+    from: usize,
+) -> io::Result<bool>
+    requires from { from ≤ length boxes.now }
+    requires tree { tree ≡ drop from boxes.now }
+{
+    let tree = take_out(alloc, tree, boxes, from, boxes.len())?;
+    Ok(tree.height() == 1)
 }
 
 /// Whether a tree of so many boxes, put in one by one, is like a list.

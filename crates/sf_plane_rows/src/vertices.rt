@@ -52,8 +52,8 @@ fn changed(alloc: Global, answer: &str, geometry: &Geometry) -> io::Result<Strin
     };
     let mut found = text(alloc, answer)?;
     for ring in rings.as_slice() {
-        found.push_str("; ")?;
-        found.push_str(points(alloc, ring.as_slice())?.as_str())?;
+        let ring = points(alloc, ring.as_slice())?;
+        write!(found, "; {ring}")?;
     }
     Ok(found)
 }

@@ -19,21 +19,12 @@ pub(crate) fn text(alloc: Global, text: &str) -> io::Result<String> {
     Ok(String::from_str(alloc, text)?)
 }
 
-/// Puts a point behind a text.
-fn push_point(alloc: Global, text: &mut String, point: GridPoint) -> io::Result<()> {
-    let piece = format!(in alloc; "{} {}", point.x(), point.y())?;
-    text.push_str(piece.as_str())?;
-    Ok(())
-}
-
 /// Points as a row spells them.
 pub(crate) fn points(alloc: Global, points: &[GridPoint]) -> io::Result<String> {
     let mut text = String::new(alloc);
     for point in points {
-        if !text.as_str().is_empty() {
-            text.push_str(", ")?;
-        }
-        push_point(alloc, &mut text, *point)?;
+        let comma = if text.as_str().is_empty() { "" } else { ", " };
+        write!(text, "{comma}{} {}", point.x(), point.y())?;
     }
     Ok(text)
 }
@@ -42,11 +33,8 @@ pub(crate) fn points(alloc: Global, points: &[GridPoint]) -> io::Result<String> 
 pub(crate) fn numbers(alloc: Global, numbers: &[u32]) -> io::Result<String> {
     let mut text = String::new(alloc);
     for number in numbers {
-        if !text.as_str().is_empty() {
-            text.push_str(" ")?;
-        }
-        let piece = format!(in alloc; "{number}")?;
-        text.push_str(piece.as_str())?;
+        let blank = if text.as_str().is_empty() { "" } else { " " };
+        write!(text, "{blank}{number}")?;
     }
     Ok(text)
 }
