@@ -1,4 +1,3 @@
--- Beside the headline, which says nothing of where a fault is.
 -- The places where a geometry may have a fault, in their order, each with the condition under which it has it there.
 use Rattle.std.specs.Prelude.{ℕ, Bool, ◌&&◌, not, List, [], ◌∷◌, ◌++◌, map, length, nat_lt, None, Some}
 use Rattle.std.specs.List.{enumerate_from, flat_map}

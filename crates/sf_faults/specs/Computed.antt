@@ -1,4 +1,3 @@
--- Beside the headline, which says nothing of where a fault is.
 -- Computes the place of a fault (IsPlaceOf), as the law PlaceIsOverThePlane below says: the points of the plane that are
 -- looked at are the samples of the rings' edges and vertices.
 use Rattle.std.specs.Prelude.{◌≡◌, List, [], ◌∷◌, Option, Some, None, if◌then◌else◌}

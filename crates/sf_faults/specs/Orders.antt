@@ -1,4 +1,3 @@
--- Beside the headline, which says nothing of where a fault is.
 -- The orders in which members of lists are gone through: with their numbers, and two at a time.
 use Rattle.std.specs.Prelude.{ℕ, ◌+◌, List, [], ◌∷◌, ◌++◌, map, Option, option_and_then, slice_get, if◌then◌else◌}
 use Rattle.std.specs.List.{enumerate_from, flat_map, zip}

@@ -1,4 +1,3 @@
--- Beside the headline, which says nothing of where a fault is.
 -- The place of a fault: the first one, in their order, whose condition applies.
 use Rattle.std.specs.Prelude.{◌≡◌, ◌⊎◌, List, [], ◌∷◌, Option, Some, None}
 use Rattle.std.specs.List.{AllByRecursion}
