@@ -1,6 +1,6 @@
 //! Valid geometries made of rings and edges, and what two of them have in common.
 
-ghost use Rattle.std.specs.Prelude.{◌≡◌, ◌↔◌, ◌∷◌, ◌&&◌, ◌||◌, [], IfOk, IsTrue};
+ghost use Rattle.std.specs.Prelude.{◌≡◌, ◌↔◌, ◌∷◌, ◌&&◌, ◌||◌, [], IfOk, IfSome, IsTrue};
 ghost use Rattle.sf_geometry.specs.declared.geometry.Geometry.TheVariants.{LineString, Polygon};
 ghost use Rattle.sf_geometry.specs.PointSets.{in_boundary, in_exterior, in_interior};
 ghost use Rattle.sf_relate.specs.Matrices.{matrix_of};
@@ -85,13 +85,26 @@ pub(crate) fn leaves_area(alloc: Global, area: &Valid, other: &Valid) -> Result<
     Ok(is_one_filled(matrix.0[6], matrix.0[7]))
 }
 
-/// The matrix of an area with another geometry. Where that is small, the edges of the area near it show it.
+/// The matrix of an area with another geometry.
 fn matrix_between(alloc: Global, area: &Valid, other: &Valid) -> Result<Matrix, AllocError>
     ensures { IfOk result (λ matrix. matrix.0 ≡ matrix_of area.now other.now) }
 {
-    match matrix_nearby(alloc, area, other) {
+    match told_nearby(alloc, area, other) {
         Some(matrix) => Ok(matrix),
         None => relate(alloc, area, other),
+    }
+}
+
+/// The matrix, where the edges of the area near the other geometry show it. Where the boxes of both share no point
+/// these are not looked for, since the boxes alone tell it.
+fn told_nearby(alloc: Global, area: &Valid, other: &Valid) -> Option<Matrix>
+    ensures { IfSome result (λ matrix. matrix.0 ≡ matrix_of area.now other.now) }
+{
+    let extent = area.geometry().envelope();
+    if extent.meets(other.geometry().envelope()) {
+        matrix_nearby(alloc, area, other)
+    } else {
+        None
     }
 }
 

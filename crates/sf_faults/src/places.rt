@@ -24,7 +24,7 @@ use std::slice;
 ///
 /// # Errors
 ///
-/// Out of memory.
+/// Out of memory; it also stands for a ring or polygon that has an earlier fault than the one asked for.
 pub fn place_of(
     alloc: Global,
     geometry: &Geometry,
