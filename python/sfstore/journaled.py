@@ -91,7 +91,7 @@ class Journaled:
         self._in_doubt = True
         try:
             outcomes = self._program.exchange([_REFUSED.get(line, line) for line in lines])
-            self._kept.unsaved += sum(map(is_edit, outcomes))
+            self._kept.unsaved += sum(map(is_edit, lines, outcomes))
             self._in_doubt = False
         except ProgramEnded as ended:
             self.abort()

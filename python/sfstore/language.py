@@ -174,7 +174,7 @@ COMMANDS = [
     Command(
         "check LAYER WKT",
         "says what adding the geometry would bring, and where it is wrong; adds nothing",
-        "check parcels POLYGON ((0 0, 4 4, 4 0, 0 4, 0 0))",
+        "check parcels POLYGON ((0 0, 4 0, 4 4, 0 0))",
     ),
     Command("hex LAYER ID", "gives a geometry as well-known binary", "hex wells 1"),
     Command("box LAYER ID", "gives the corners of the least box of a feature", "box roads 1"),

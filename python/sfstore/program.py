@@ -4,6 +4,7 @@ from __future__ import annotations
 
 import contextlib
 import os
+import re
 import select
 import subprocess  # nosec B404: the store's own program is started, without a shell.
 import threading
@@ -25,6 +26,9 @@ _OUTPUT_BYTES = 65_536
 
 # No answer, and no row of one, begins so.
 _LAST_WORDS = ("fault serve ", "fault words ", "fault load ", "fault journal ", "fault save ", "error: ")
+
+# A question that may be answered as an edit is.
+_CHECK = re.compile(rb"[ \t]*(?:@[0-9]{1,3}[ \t]+)?check[ \t]")
 
 # A line that every store refuses, whatever it has, and that changes nothing.
 _GREETING = b"?\n"
@@ -226,9 +230,14 @@ def started(words: list[str], errors: IO[bytes] | None = None) -> Program:
     return program
 
 
-def is_edit(outcome: Answer | Refused) -> bool:
-    """Whether a line was an edit that was accepted: these alone are answered so."""
-    return isinstance(outcome, str) and (outcome == "ok" or outcome.startswith("ok "))
+def is_edit(line: bytes, outcome: object) -> bool:
+    """Whether a line was an edit, an undo or a redo that was accepted.
+
+    These are answered so, and of the questions `check`.
+    """
+    if not isinstance(outcome, str):
+        return False
+    return outcome.startswith("ok ") or (outcome == "ok" and not _CHECK.match(line))
 
 
 _programs: weakref.WeakSet[Program] = weakref.WeakSet()

@@ -221,7 +221,6 @@ class Sessions(ConsoleCase):
         )
         self.assertIn("Refused (13 RingNotSimple): a ring meets itself.", said)
         self.assertIn("edges 0 and 2 of ring 0 meet at (6/5 6/5)", said)
-        self.assertIn("outside of the proved program", said)
         terminal.line("add p POLYGON ((0 0, 10 0, 10 10, 0 10, 0 0))", "ok 1")
         said = terminal.line("vertex move p 1 0 0 2 5 -5", "edges do not cross.")
         self.assertIn("edges 0 and 2 of ring 0 meet at (10/3 0)", said)

@@ -141,7 +141,7 @@ class Faults(TestCase):
         (
             13,
             "POLYGON ((0 0, 9 0, 9 0, 4 0, 4 5, 0 0))",
-            "edges 0 and 1 of ring 0 run along each other from (4 0) to (9 0)",
+            "edges 0 and 2 of ring 0 run along each other from (4 0) to (9 0)",
         ),
         (13, "POLYGON ((0 0, 4 0, 4 4, 2 0, 0 4, 0 0))", "edges 0 and 2 of ring 0 meet at (2 0)"),
         (

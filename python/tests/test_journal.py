@@ -105,6 +105,18 @@ class Sessions(JournalCase):
             store.redo()
         self.assertEqual(self.wkts(), ["POINT (1 1)"])
 
+    def test_a_question_that_is_answered_as_an_edit_is_leaves_nothing_unsaved(self):
+        store = journaled(self.path)
+        store.add_layer("w", "point")
+        store.save()
+        self.assertIsNone(store.check("w", "POINT (1 1)"))
+        self.assertIsNone(store.editor(7).check("w", "POINT (1 1)"))
+        self.assertEqual(store.run_all(["check w POINT (1 1)", " @7\tcheck\tw POINT (1 1)"]), ["ok", "ok"])
+        self.assertEqual((store.unsaved, store.unsaved_lines), (0, []))
+        store.add("w", "POINT (2 2)")
+        self.assertEqual(store.unsaved, 1)
+        store.close()
+
     def test_unsaved_lines_make_the_same_store_with_its_history(self):
         with self.assertRaises(RuntimeError), Store(PROGRAM) as plain:
             self.assertIsNone(plain.unsaved_lines)

@@ -120,7 +120,7 @@ class Mendings(ModelCase):
 
         def exchange(journaled, lines):
             outcomes = journaled._program.exchange(lines)
-            journaled._kept.unsaved += sum(map(is_edit, outcomes))
+            journaled._kept.unsaved += sum(map(is_edit, lines, outcomes))
             return outcomes
 
         with mock.patch.object(Journaled, "exchange", exchange):

@@ -58,14 +58,16 @@ class Language(TestCase):
                     continue
                 if command.usage.startswith("column drop"):
                     store.run("column add wells depth int")
+                store.run("layer add before any")
                 try:
-                    answer = store.run(command.example)
+                    store.run(command.example)
                 except Refused as refused:
                     self.fail(f"{command.example}: {refused}")
-                is_edit = str(answer).startswith("ok")
-                self.assertEqual(is_edit, command.touches is not None, command.usage)
-                if is_edit:
+                if command.touches is not None:
                     store.run("undo")
+                # What is undone next is the step before the example.
+                store.run("undo")
+                self.assertNotIn("before", [layer.name for layer in store.layers()], command.usage)
 
 
 if __name__ == "__main__":

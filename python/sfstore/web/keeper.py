@@ -9,9 +9,10 @@ from concurrent.futures import ThreadPoolExecutor
 from typing import NamedTuple, TypeVar
 
 from sfstore.journal import JournalError
+from sfstore.program import is_edit
 from sfstore.store import Answer, Editor, ProgramEnded, Refused, Store
 from sfstore.web.changes import Change, Changes, Target, feature_of
-from sfstore.web.steps import Step, Steps, is_edit
+from sfstore.web.steps import Step, Steps
 
 __all__ = ["Asked", "ChangedMeanwhile", "Edit", "Keeper", "Snapshot", "Unavailable"]
 
@@ -180,7 +181,7 @@ class Keeper:
         self._check_seen(asked)
         editor, line = asked.editor, asked.line
         answer = (store.editor(editor) if editor else store).run(line)
-        if is_edit(answer):
+        if is_edit(line.encode(), answer):
             self._version += 1
             step = self._steps.take(editor, line, str(answer))
             moved = line.strip()

@@ -12,7 +12,7 @@ from typing import NamedTuple
 
 from sfstore.web.changes import Target, targets_of
 
-__all__ = ["Step", "Steps", "is_edit"]
+__all__ = ["Step", "Steps"]
 
 _ADDRESS = re.compile(r"[ \t]*@([0-9]{1,3})[ \t]+")
 
@@ -29,11 +29,6 @@ class Step(NamedTuple):
     """The beginning of its line, without the editor."""
     targets: tuple[Target, ...] = ()
     """What it changes, and so does its undoing."""
-
-
-def is_edit(answer: object) -> bool:
-    """Whether a line was an edit, an undo or a redo that was accepted."""
-    return isinstance(answer, str) and (answer == "ok" or answer.startswith("ok "))
 
 
 class Steps:
