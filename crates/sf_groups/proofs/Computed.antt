@@ -1,5 +1,5 @@
 -- Groups computed.
-use Rattle.std.proofs.Common.{◌≡◌, ℕ, Bool, true, false, List, [], ◌∷◌, pos, Some, None, Ok, Err, codes, refl}
+use Rattle.std.proofs.Common.{◌≡◌, ℕ, true, false, List, [], ◌∷◌, pos, Some, None, Ok, Err, codes, refl}
 use Rattle.sf_geometry.specs.declared.geometry.Geometry.{Geometry}
 use Rattle.sf_geometry.specs.declared.geometry.Geometry.TheVariants.{Point, LineString}
 use Rattle.sf_geometry.specs.declared.kind.Kind.TheVariants as kinds
@@ -10,8 +10,8 @@ use Rattle.sf_features.specs.Features.{FeatureContent}
 use Rattle.sf_layers.specs.Content.{Content}
 use Rattle.sf_layers.specs.declared.layer_kind.LayerKind.TheVariants.{Only}
 use Rattle.sf_steps.specs.declared.edit.Edit.{Edit}
-use Rattle.sf_steps.specs.declared.edit.Edit.TheVariants.{AddFeature, DeleteFeature, ReplaceGeometry, SetValue, ClearValue, DropLayer}
-use Rattle.sf_steps.specs.declared.refusal.Refusal.TheVariants.{NoFeature, NoLayer, WrongKind, WrongValue}
+use Rattle.sf_steps.specs.declared.edit.Edit.TheVariants.{AddFeature, DeleteFeature, SetValue, DropLayer}
+use Rattle.sf_steps.specs.declared.refusal.Refusal.TheVariants.{NoFeature, NoLayer, WrongKind}
 use Rattle.sf_patches.specs.declared.slot.Slot.{Slot}
 use Rattle.sf_patches.specs.declared.slot.Slot.TheVariants.{Counter, State}
 use Rattle.sf_patches.specs.Patches.{patched, undoing, grows, removes}

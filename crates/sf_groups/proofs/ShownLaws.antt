@@ -1,11 +1,9 @@
 -- What one content shows of another stays shown through steps.
-use Rattle.std.proofs.Common.{◌≡◌, ℕ, ◌+◌, Bool, true, false, cond, not, ◌&&◌, ◌||◌, if◌then◌else◌, List, [], ◌∷◌, Option, None, Some, option_map, is_some, Result, Ok, Err, IsTrue, nat_eq, nat_lt, bytes_eq, refl, ap, sym, subst, ◌∙◌}
+use Rattle.std.proofs.Common.{◌≡◌, ℕ, ◌+◌, Bool, true, false, cond, if◌then◌else◌, List, [], ◌∷◌, Option, None, Some, option_map, Result, Ok, Err, IsTrue, nat_eq, nat_lt, bytes_eq, refl, ap, sym, subst, ◌∙◌}
 use Rattle.std.proofs.lemmas.Bool.{eq-eqb, eqb-true}
 use Rattle.std.proofs.lemmas.Slice.Eq.{bytes_eq-Decides}
-use Rattle.std.specs.List.{AllByRecursion}
 use Rattle.std.specs.List.Sorted.{IsStrictlySortedBy}
-use Rattle.std.specs.Map.{keys_of, values_of, lookup}
-use Rattle.std.specs.Option.{option_map_or}
+use Rattle.std.specs.Map.{keys_of, lookup}
 use Rattle.std.specs.Ordering.{nat_cmp}
 use Rattle.sf_steps.specs.declared.refusal.Refusal.{Refusal}
 use Rattle.sf_steps.specs.declared.refusal.Refusal.TheVariants.{NoLayer, IdsExhausted, WrongKind}
@@ -20,7 +18,7 @@ use Rattle.sf_steps.specs.declared.answer.Answer.TheVariants.{Id}
 use Rattle.sf_geometry.specs.declared.geometry.Geometry.{Geometry}
 use Rattle.sf_patches.proofs.Rising.{AreRising}
 use Rattle.sf_steps.specs.Steps.{edit_layer, step, unless, first_refusal, size_check, validity_check}
-use Rattle.sf_groups.specs.Local.{is_of_features, edit_id, Sight, sight, Writing, Adds, Puts, Removes, written, outcome, outcome_of, writing, into_layer, step_seen}
+use Rattle.sf_groups.specs.Local.{is_of_features, edit_id, Sight, sight, Writing, Adds, Puts, Removes, written, outcome, outcome_of, into_layer, step_seen}
 use Rattle.sf_groups.specs.Scratches.{ShowsLayer, ShowsThere, Shows}
 use Rattle.sf_layers.proofs.Changes.{layer_of-change_layer}
 use Rattle.sf_layers.proofs.Values.{lookup-insert_entry}

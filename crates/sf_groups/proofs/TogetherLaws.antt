@@ -1,6 +1,6 @@
 -- What a group does on a scratch content it does on the whole one.
-use Rattle.std.proofs.Common.{◌≡◌, ◌⊎◌, inl, inr, ℕ, suc, ◌+◌, ◌-◌, ◌<◌, ◌≤◌, Bool, true, false, not, ◌&&◌, ◌||◌, cond, if◌then◌else◌, List, [], ◌∷◌, ◌++◌, append_assoc, Option, None, Some, option_map, is_some, Result, Ok, Err, IsTrue, nat_eq, nat_le, nat_lt, bytes_eq, refl, ap, sym, subst, ◌∙◌, arith}
-use Rattle.std.proofs.lemmas.Bool.{eq-eqb, eqb-true}
+use Rattle.std.proofs.Common.{◌≡◌, ◌⊎◌, inl, inr, ℕ, ◌+◌, ◌-◌, ◌<◌, ◌≤◌, Bool, true, false, not, ◌&&◌, ◌||◌, if◌then◌else◌, List, [], ◌∷◌, ◌++◌, append_assoc, Option, None, Some, option_map, Result, Ok, Err, IsTrue, nat_eq, nat_le, bytes_eq, refl, ap, sym, subst, ◌∙◌, arith}
+use Rattle.std.proofs.lemmas.Bool.{eq-eqb}
 use Rattle.std.proofs.lemmas.Bool.Decides.{nat_tests}
 use Rattle.std.proofs.lemmas.Slice.Eq.{bytes_eq-Decides}
 use Rattle.std.specs.List.{AllByRecursion, list_any}
@@ -13,15 +13,15 @@ use Rattle.sf_steps.specs.declared.edit.Edit.{Edit}
 use Rattle.sf_steps.specs.declared.edit.Edit.TheVariants.{AddLayer, DropLayer, RenameLayer, MoveLayer, AddColumn, DropColumn, AddFeature, DeleteFeature, ReplaceGeometry, InsertVertex, MoveVertex, RemoveVertex, SetValue, ClearValue}
 use Rattle.sf_steps.specs.declared.refusal.Refusal.{Refusal}
 use Rattle.sf_steps.specs.declared.refusal.Refusal.TheVariants.{NoLayer}
-use Rattle.sf_steps.specs.Steps.{edit_layer, next_id_of, step, add_feature, effect, checks, first_refusal, unless}
+use Rattle.sf_steps.specs.Steps.{edit_layer, next_id_of, step, add_feature}
 use Rattle.sf_steps.specs.Laws.{BringsGridPoints}
 use Rattle.sf_steps.proofs.Passes.{Accepted-step, passed, there_from_test}
 use Rattle.sf_steps.proofs.StepsFine.{IsWellFormed-step}
 use Rattle.sf_patches.proofs.ExchangeLaws.{AreRising-fine}
 use Rattle.sf_groups.specs.declared.member.Member.{Member}
 use Rattle.sf_groups.specs.Local.{is_of_features, edit_id, sight, Writing, Adds, Puts, Removes, written, outcome, into_layer, step_seen}
-use Rattle.sf_groups.specs.Members.{with_id, resolved, edit_adds_to, adds_to, may_follow, FollowInTurn, IsGroup, Refused, ids_given, in_front, and_behind, members_from, together, names}
-use Rattle.sf_groups.specs.Scratches.{is_of_layer, is_looked_at, ShowsLayer, ShowsThere, Shows, IsScratchFor}
+use Rattle.sf_groups.specs.Members.{with_id, resolved, edit_adds_to, adds_to, may_follow, FollowInTurn, Refused, ids_given, in_front, and_behind, members_from, together, names}
+use Rattle.sf_groups.specs.Scratches.{is_of_layer, is_looked_at, ShowsThere, Shows}
 use Rattle.sf_groups.specs.Laws.{DoesAlike, ScratchesDoAlike}
 use Rattle.sf_groups.proofs.LocalLaws.{steps-local}
 use Rattle.sf_groups.proofs.ShownLaws.{LooksAtShown, StepsAlike, BothRefused, BothCarried, steps-alike, layer_of-change_layer-other}
@@ -324,13 +324,13 @@ members-alike : (start : Content) (number : ℕ) (whole part : Content) (earlier
 members-alike start number whole part earlier [] all parts follow brings fine fine' grown shows = AllCarried whole part [] refl refl shows
 members-alike start number whole part earlier (member ∷ rest) all parts follow brings fine fine' grown shows =
     subst (λ e. MembersAlike (is_of_layer all) (is_looked_at start all) (and_behind number (step whole (resolved whole member)) (λ next. members_from (number + 1) next rest))
-        (and_behind number (step part e) (λ next. members_from (number + 1) next rest))) (sym (resolved-shown (is_of_layer all) (is_looked_at start all) whole part member is_in shows))
+    (and_behind number (step part e) (λ next. members_from (number + 1) next rest))) (sym (resolved-shown (is_of_layer all) (is_looked_at start all) whole part member is_in shows))
     (by (λ new new' grown' f f' shown. members-alike start (number + 1) new new' (earlier ++ member ∷ []) rest all (parts ∙ sym (append_assoc earlier (member ∷ []) rest)) follow.1 brings.1 f f' grown' shown)
-        (steps-alike (is_of_layer all) (is_looked_at start all) (resolved whole member) whole part (features-resolved whole member ∙ one)
-        (ap (is_of_layer all) (layer-resolved whole member) ∙ is_in)
-        (subst (λ n. LooksAtShown (is_looked_at start all n) (resolved whole member)) (sym (layer-resolved whole member))
-            (subst (λ ms. LooksAtShown (is_looked_at start ms (edit_layer member.edit)) (resolved whole member)) (sym parts) (member-looks start whole earlier rest member follow.0 grown)))
-        (AreRising-fine whole fine) (AreRising-fine part fine') shows))
+    (steps-alike (is_of_layer all) (is_looked_at start all) (resolved whole member) whole part (features-resolved whole member ∙ one)
+    (ap (is_of_layer all) (layer-resolved whole member) ∙ is_in)
+    (subst (λ n. LooksAtShown (is_looked_at start all n) (resolved whole member)) (sym (layer-resolved whole member))
+    (subst (λ ms. LooksAtShown (is_looked_at start ms (edit_layer member.edit)) (resolved whole member)) (sym parts) (member-looks start whole earlier rest member follow.0 grown)))
+    (AreRising-fine whole fine) (AreRising-fine part fine') shows))
   where
     one : is_of_features member.edit ≡ true
     one = (and_true (is_of_features member.edit) (not member.of_last || list_any (adds_to (edit_layer member.edit)) earlier) follow.0).0
@@ -376,8 +376,7 @@ scratches-do_alike whole scratch members group brings fine fine' shows =
       refused = λ r h. let no : ◌≡◌ {A = Result (Content × List ℕ) Refused} (Ok (new', ids)) (Err r) = sym (b_is ∙ y) ∙ h in cc;
       carried = λ after given h.
           let same : ◌≡◌ {A = Result (Content × List ℕ) Refused} (Ok (new', ids)) (Ok (after, given)) = sym (b_is ∙ y) ∙ h in
-          let both : ◌≡◌ {A = Content × List ℕ} (new', ids) (after, given) = cc in
-          (
+          let both : ◌≡◌ {A = Content × List ℕ} (new', ids) (after, given) = cc in (
             new,
             a_is ∙ x ∙ ap (λ p. let r : Result (Content × List ℕ) Refused = Ok (new, p.1) in r) both,
             subst (Shows (is_of_layer members) (is_looked_at whole members) new) (ap (λ p. p.0) both) shown,

@@ -1,16 +1,15 @@
 -- Internal: who wants to trust the program need not read this file.
 -- Laws of groups.
-use Rattle.std.specs.Prelude.{◌≡◌, ◌∷◌, [], ℕ, false, List, Result, Ok, Err}
+use Rattle.std.specs.Prelude.{◌≡◌, ◌∷◌, [], ℕ, false, List, Ok, Err}
 use Rattle.std.specs.List.{AllByRecursion}
 use Rattle.sf_layers.specs.Content.{Content}
 use Rattle.sf_layers.specs.WellFormed.{IsWellFormed}
 use Rattle.sf_steps.specs.declared.answer.Answer.{Answer}
 use Rattle.sf_steps.specs.declared.edit.Edit.{Edit}
-use Rattle.sf_steps.specs.declared.refusal.Refusal.{Refusal}
 use Rattle.sf_steps.specs.Steps.{step}
 use Rattle.sf_steps.specs.Laws.{BringsGridPoints}
 use Rattle.sf_groups.specs.declared.member.Member.{Member}
-use Rattle.sf_groups.specs.Members.{IsGroup, Refused, ids_given, resolved, together}
+use Rattle.sf_groups.specs.Members.{IsGroup, Refused, ids_given, together}
 use Rattle.sf_groups.specs.Scratches.{IsScratchFor, Shows, is_of_layer, is_looked_at}
 
 -- a group keeps a content well formed

@@ -1,6 +1,6 @@
 -- Internal: who wants to trust the program need not read this file.
 -- What a step of an edit of features looks at, and what it writes.
-use Rattle.std.specs.Prelude.{◌≡◌, ℕ, Bool, true, false, List, [], ◌∷◌, ◌++◌, Option, None, Some, is_some, option_and_then, Result, Ok, Err, IsTrue, nat_lt}
+use Rattle.std.specs.Prelude.{◌≡◌, ℕ, Bool, true, false, List, [], ◌∷◌, Option, None, Some, is_some, option_and_then, Result, Ok, Err, IsTrue, nat_lt}
 use Rattle.std.specs.Option.{option_map_or}
 use Rattle.sf_geometry.specs.Kinds.{kind_of}
 use Rattle.sf_geometry.specs.Vertices.{insert_vertex, move_vertex, remove_vertex}

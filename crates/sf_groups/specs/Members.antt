@@ -1,6 +1,6 @@
 -- Internal: who wants to trust the program need not read this file.
 -- Several edits of features carried out as one step: all, or none.
-use Rattle.std.specs.Prelude.{◌≡◌, ℕ, ◌+◌, ◌-◌, Bool, true, false, not, ◌&&◌, ◌||◌, List, [], ◌∷◌, ◌++◌, Result, Ok, Err, IsTrue, nat_eq, bytes_eq, if◌then◌else◌}
+use Rattle.std.specs.Prelude.{ℕ, ◌+◌, ◌-◌, Bool, false, not, ◌&&◌, ◌||◌, List, [], ◌∷◌, ◌++◌, Result, Ok, Err, IsTrue, nat_eq, bytes_eq, if◌then◌else◌}
 use Rattle.std.specs.List.{list_any}
 use Rattle.sf_groups.specs.declared.member.Member.{Member}
 use Rattle.sf_steps.specs.declared.refusal.Refusal.{Refusal}

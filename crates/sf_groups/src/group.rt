@@ -65,7 +65,8 @@ impl Group {
     fn may_follow(&self, member: &Member) -> bool
         ensures { result ≡ may_stand_behind self.now member.now }
     {
-        member.is_of_features() && (!member.of_last || self.adds_to(member.edit.layer_name().as_str()))
+        member.is_of_features()
+            && (!member.of_last || self.adds_to(member.edit.layer_name().as_str()))
     }
 
     /// Whether a member adds to the layer of a name.

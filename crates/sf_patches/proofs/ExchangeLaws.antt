@@ -1,12 +1,10 @@
 -- Exchanges made one after another, and taken back one after another.
-use Rattle.std.proofs.Common.{◌≡◌, ℕ, zero, suc, ◌+◌, ◌-◌, ◌<◌, ◌≤◌, Bool, true, false, not, List, [], ◌∷◌, ◌++◌, append_assoc, length, reverse, take, Option, None, Some, is_some, option_map, option_and_then, Result, Ok, Err, IsTrue, slice_index_or, slice_set, slice_get, nat_eq, refl, ap, sym, subst, ◌∙◌, arith, length-append}
+use Rattle.std.proofs.Common.{◌≡◌, ℕ, zero, suc, ◌+◌, ◌<◌, ◌≤◌, Bool, true, false, List, [], ◌∷◌, ◌++◌, append_assoc, length, reverse, take, Some, option_map, option_and_then, Result, Ok, Err, IsTrue, slice_index_or, slice_set, refl, ap, sym, subst, ◌∙◌, arith, length-append}
 use Rattle.std.specs.Prelude.{OnOk, OnErr}
 use Rattle.std.proofs.lemmas.List.{reverse-append}
 use Rattle.std.specs.Result.{IsOk, is_ok}
 use Rattle.std.specs.List.{AllByRecursion}
-use Rattle.std.specs.Map.{values_of, keys_of}
-use Rattle.std.specs.List.Sorted.{IsStrictlySortedBy}
-use Rattle.std.specs.Ordering.{nat_cmp}
+use Rattle.std.specs.Map.{values_of}
 use Rattle.std.specs.Option.{option_map_or}
 use Rattle.sf_layers.specs.Content.{Content, LayerContent, change_at, feature_of, layer_at, with_next_id}
 use Rattle.sf_layers.specs.WellFormed.{IsLayer, IsWellFormed}
@@ -131,11 +129,11 @@ IsPartly-next content all n now slots slot new after x to back =
       count = length-append p.done (slot ∷ []) ∙ ap (λ k. k + 1) p.count;
       led = to ∙ ap (with_slot slot) p.led ∙ sym (patched-append content p.done (slot ∷ []));
       held =
-        ap (λ ss. slice_set ss n new) (p.held ∙ ap (λ l. befores content p.done ++ l) x.next)
-        ∙ set-append (befores content p.done) x.rest slot new n (length-befores content p.done ∙ p.count)
-        ∙ ap (λ s. befores content p.done ++ s ∷ x.rest) (back ∙ ap (λ c. before c slot) p.led)
-        ∙ sym (append_assoc (befores content p.done) (before (patched content p.done) slot ∷ []) x.rest)
-        ∙ ap (λ b. b ++ x.rest) (sym (befores-append content p.done (slot ∷ [])));
+          ap (λ ss. slice_set ss n new) (p.held ∙ ap (λ l. befores content p.done ++ l) x.next)
+          ∙ set-append (befores content p.done) x.rest slot new n (length-befores content p.done ∙ p.count)
+          ∙ ap (λ s. befores content p.done ++ s ∷ x.rest) (back ∙ ap (λ c. before c slot) p.led)
+          ∙ sym (append_assoc (befores content p.done) (before (patched content p.done) slot ∷ []) x.rest)
+          ∙ ap (λ b. b ++ x.rest) (sym (befores-append content p.done (slot ∷ [])));
     }
 
 -- or stays as it is
@@ -184,8 +182,7 @@ front-of content [] back (d ∷ done) rest slot parts removes_none grows_none gr
     none-at c (x ∷ ds) h = none-at (with_slot x c) ds h.1
 front-of content (f ∷ front) back (d ∷ done) rest slot parts removes_none grows_none grew =
     let heads : f ≡ d = ap (head_or f) parts in
-    let tails : front ++ back ≡ done ++ slot ∷ rest = ap tail_of parts in
-    (
+    let tails : front ++ back ≡ done ++ slot ∷ rest = ap tail_of parts in (
       subst (λ x. removes content x ≡ false) heads removes_none.0,
       front-of (with_slot d content) front back done rest slot tails (subst (λ x. NoneRemoves (with_slot x content) front) heads removes_none.1)
           (subst (λ x. NoneGrows (patched (with_slot x content) front) back) heads grows_none) grew,
@@ -330,8 +327,8 @@ IsToTakeBack-less content all n now slots back new after x fits to is =
         count = x.count;
         led = to ∙ ap (with_slot back) x.led ∙ ap (λ b. with_slot b (with_slot x.slot c)) x.is_back ∙ with_slot-before c x.slot rising;
         held =
-          ap (λ ss. slice_set ss n new) x.held ∙ set-append (befores content x.done) x.left back new n (length-befores content x.done ∙ x.count)
-          ∙ ap (λ s. befores content x.done ++ s ∷ x.left) slot_again;
+            ap (λ ss. slice_set ss n new) x.held ∙ set-append (befores content x.done) x.left back new n (length-befores content x.done ∙ x.count)
+            ∙ ap (λ s. befores content x.done ++ s ∷ x.left) slot_again;
       };
       none_removes = x.none_removes;
     }

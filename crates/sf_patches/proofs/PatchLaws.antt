@@ -1,8 +1,7 @@
 -- Patches take one another back.
-use Rattle.std.proofs.Common.{◌≡◌, ℕ, zero, suc, Bool, true, false, not, cond, List, [], ◌∷◌, ◌++◌, append_assoc, Option, None, Some, is_some, option_map, option_and_then, slice_get, nat_eq, refl, ap, sym, subst, ◌∙◌}
-use Rattle.std.specs.List.{AllByRecursion}
+use Rattle.std.proofs.Common.{◌≡◌, ℕ, zero, suc, false, not, List, [], ◌∷◌, ◌++◌, append_assoc, Option, None, Some, is_some, option_and_then, nat_eq, refl, ap, sym, subst, ◌∙◌}
 use Rattle.std.specs.List.Sorted.{IsStrictlySortedBy}
-use Rattle.std.specs.Map.{keys_of, values_of, lookup}
+use Rattle.std.specs.Map.{keys_of, lookup}
 use Rattle.std.specs.Ordering.{nat_cmp}
 use Rattle.std.specs.Option.{option_map_or}
 use Rattle.sf_layers.specs.Content.{Content, LayerContent, layer_at, change_at, with_feature, without_feature, with_next_id, feature_of, feature_at}
@@ -167,6 +166,6 @@ GrowsFirst-undoing content slots rising keep first =
       parts = ap (undone_by content) first.parts ∙ undoing_onto-append content first.front first.back [] ∙ undoing_onto-others mid first.back (undone_by content first.front);
       none_removes = subst (λ c. NoneRemoves c (undone_by mid first.back)) (sym whole) (NoneRemoves-undoing_onto mid first.back [] mid_rising back_keeps first.none_grows tt);
       none_grows = subst (λ c. NoneGrows c (undone_by content first.front))
-        (sym (ap (λ c. patched c (undone_by mid first.back)) whole ∙ back_again))
-        (NoneGrows-undoing_onto content first.front [] rising front_keeps first.none_removes tt);
+          (sym (ap (λ c. patched c (undone_by mid first.back)) whole ∙ back_again))
+          (NoneGrows-undoing_onto content first.front [] rising front_keeps first.none_removes tt);
     }

@@ -6,8 +6,7 @@ use Rattle.sf_patches.specs.declared.slot.Slot.{Slot}
 use Rattle.sf_patches.specs.Patches.{with_slot, before, patched, undoing}
 use Rattle.sf_patches.proofs.Undoing.{undoing_onto, undone_by}
 use Rattle.sf_patches.specs.Fits.{StayFine, FitsPatch}
-use Rattle.sf_patches.specs.Merged.{HasAllChanges}
-use Rattle.sf_patches.specs.Laws.{TakesBack, PatchesTakeBack, PatchesOfAllChangesLead}
+use Rattle.sf_patches.specs.Laws.{PatchesTakeBack, PatchesOfAllChangesLead}
 use Rattle.sf_patches.proofs.PatchLaws.{with_slot-before, patched-undoing, GrowsFirst-undoing}
 use Rattle.sf_patches.proofs.MergedLaws.{patched-all_changes}
 use Rattle.sf_patches.proofs.ExchangeLaws.{AreRising-fine, KeepRising-fine, IsAt-back, before-before, undone_by-undoing}
@@ -50,7 +49,7 @@ patches-take_back content slots h =
         first = GrowsFirst-undoing content slots rising keep h.first;
       });
       again = sym (undone_by-undoing last (undoing content slots)) ∙ ap (undone_by last) (sym is)
-        ∙ undoing-again content slots [] [] h.well_formed h.fine ∙ append-none slots;
+          ∙ undoing-again content slots [] [] h.well_formed h.fine ∙ append-none slots;
     }
 
 pub patches-lead : PatchesOfAllChangesLead

@@ -1,6 +1,6 @@
 -- Internal: who wants to trust the program need not read this file.
 -- When a patch can be exchanged with a store.
-use Rattle.std.specs.Prelude.{◌≡◌, ℕ, ◌<◌, List, [], ◌∷◌, length}
+use Rattle.std.specs.Prelude.{◌<◌, List, [], ◌∷◌, length}
 use Rattle.sf_layers.specs.Content.{Content}
 use Rattle.sf_layers.specs.WellFormed.{IsWellFormed}
 use Rattle.sf_patches.specs.declared.slot.Slot.{Slot}

@@ -1,6 +1,6 @@
 -- Internal: who wants to trust the program need not read this file.
 -- When a patch, read off a content, leads to it.
-use Rattle.std.specs.Prelude.{◌≡◌, ℕ, Bool, true, false, ◌&&◌, List, [], ◌∷◌, nat_eq}
+use Rattle.std.specs.Prelude.{◌≡◌, ℕ, Bool, false, ◌&&◌, List, [], ◌∷◌, nat_eq}
 use Rattle.std.specs.List.{list_any, AllByRecursion}
 use Rattle.sf_layers.specs.Content.{Content, LayerContent, feature_at}
 use Rattle.sf_patches.specs.declared.slot.Slot.{Slot}

@@ -15,7 +15,11 @@ use std::alloc::{AllocError, Global};
 /// # Errors
 ///
 /// Where no memory is found for a feature that is put where none was, all is as it was.
-pub(crate) fn exchange_all(alloc: Global, store: &mut Store, slots: &mut Vec<Slot>) -> Result<(), AllocError>
+pub(crate) fn exchange_all(
+    alloc: Global,
+    store: &mut Store,
+    slots: &mut Vec<Slot>,
+) -> Result<(), AllocError>
     requires { FitsPatch store.old slots.old.items }
     ensures exchanged { OnOk result (store.new ≡ patched store.old slots.old.items) }
     ensures back { OnOk result (slots.new.items ≡ undoing store.old slots.old.items) }

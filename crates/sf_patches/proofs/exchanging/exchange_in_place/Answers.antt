@@ -1,8 +1,7 @@
-use Rattle.std.proofs.Common.{rules, ◌≡◌, ◌<◌, ◌≤◌, ◌-◌, ◌+◌, ◌∙◌, ℕ, suc, Bool, true, false, length, sym, ap, subst, refl, arith, slice_index_or, slice_set}
+use Rattle.std.proofs.Common.{rules, ◌≡◌, ◌<◌, ◌-◌, ◌∙◌, ℕ, suc, true, false, length, sym, subst, arith, slice_set}
 use Rattle.std.specs.Vec.{vec_len}
-use Rattle.sf_patches.specs.Patches.{before, grows, patched, with_slot}
-use Rattle.sf_patches.specs.Fits.{FitsPatch, IsAt, StayFine}
-use Rattle.sf_patches.proofs.ExchangeLaws.{IsPartly, IsPartly-start, IsPartly-length, IsPartly-next, IsPartly-all, IsPartly-none, IsNext, IsNext-at, IsNext-kept, fine-next, grows-next, IsToTakeBack, IsToTakeBack-grown, IsToTakeBack-less, IsLast, IsLast-at, CanTakeBack, CanTakeBack-last, then-ok, else-err, ok-unless, ok-then}
+use Rattle.sf_patches.specs.Patches.{before, grows, with_slot}
+use Rattle.sf_patches.proofs.ExchangeLaws.{IsPartly, IsPartly-length, IsPartly-next, IsNext, IsNext-at, IsNext-kept, fine-next, grows-next, IsToTakeBack, IsToTakeBack-grown, IsToTakeBack-less, IsLast, IsLast-at, CanTakeBack, CanTakeBack-last, then-ok, else-err, ok-unless, ok-then}
 use Rattle.sf_patches.proofs.exchanging.exchange_in_place.Goals as goal
 use Rattle.sf_patches.proofs.exchanging.exchange_in_place.Goals.{After-index_mut, After-index_mut-in-loop-done}
 
@@ -30,8 +29,7 @@ pub loop-has_room-preserved-then-is_ok : goal.loop-has_room-preserved-then-is_ok
 loop-has_room-preserved-then-is_ok c =
     let x = next ((goal.at.loop-has_room-preserved-then-is_ok c).After-index_mut) in
     let made : c.swap.new.store ≡ with_slot c.index_mut.result.now c.loop-has_room.store = then-ok c.swap.result (sym c.is_ok.ensures.value ∙ c.if-is_ok.true) c.swap.ensures.exchanged in
-    let back : c.swap.new.slot ≡ before c.loop-has_room.store c.index_mut.result.now = then-ok c.swap.result (sym c.is_ok.ensures.value ∙ c.if-is_ok.true) c.swap.ensures.back in
-    (
+    let back : c.swap.new.slot ≡ before c.loop-has_room.store c.index_mut.result.now = then-ok c.swap.result (sym c.is_ok.ensures.value ∙ c.if-is_ok.true) c.swap.ensures.back in (
       IsPartly-next c.args.store.now c.args.slots.now.items c.loop-has_room.done c.loop-has_room.store c.loop-has_room.slots.items c.index_mut.result.now c.swap.new.slot c.swap.new.store x made back,
       omega (arith, c.if-done-count.true),
       λ no. let h : true ≡ false = sym c.loop-has_room-test.true ∙ no in cc,
@@ -44,8 +42,7 @@ loop-has_room-preserved c =
     let no = sym c.is_ok.ensures.value ∙ c.if-is_ok.false in
     let store_is : c.swap.new.store ≡ c.loop-has_room.store = else-err c.swap.result no c.swap.ensures.unchanged in
     let slot_is : c.swap.new.slot ≡ c.index_mut.result.now = else-err c.swap.result no c.swap.ensures.kept in
-    let slots_are = IsNext-kept c.args.store.now c.args.slots.now.items c.loop-has_room.done c.loop-has_room.store c.loop-has_room.slots.items c.index_mut.result.now c.swap.new.slot x slot_is in
-    (
+    let slots_are = IsNext-kept c.args.store.now c.args.slots.now.items c.loop-has_room.done c.loop-has_room.store c.loop-has_room.slots.items c.index_mut.result.now c.swap.new.slot x slot_is in (
       subst (λ m. IsPartly c.args.store.now c.args.slots.now.items c.loop-has_room.done m (slice_set c.loop-has_room.slots.items c.loop-has_room.done c.swap.new.slot)) (sym store_is)
           (subst (IsPartly c.args.store.now c.args.slots.now.items c.loop-has_room.done c.loop-has_room.store) (sym slots_are) c.loop-has_room.invariant.0),
       c.loop-has_room.invariant.1,
@@ -96,8 +93,7 @@ pub loop-done-preserved : goal.loop-done-preserved
 loop-done-preserved c =
     let d = (goal.at.loop-done-preserved c).After-index_mut-in-loop-done in
     let h = can d in
-    let is_ok = ok-unless c.swap-in-loop-done.result (grows c.loop-done.store c.index_mut-in-loop-done.result.now) c.swap-in-loop-done.ensures.grew h.grows_not in
-    (
+    let is_ok = ok-unless c.swap-in-loop-done.result (grows c.loop-done.store c.index_mut-in-loop-done.result.now) c.swap-in-loop-done.ensures.grew h.grows_not in (
       IsToTakeBack-less c.args.store.now c.args.slots.now.items (c.loop-done.done - 1) c.loop-done.store c.loop-done.slots.items c.index_mut-in-loop-done.result.now c.swap-in-loop-done.new.slot c.swap-in-loop-done.new.store
           (last d) c.requires (ok-then c.swap-in-loop-done.result is_ok c.swap-in-loop-done.ensures.exchanged) (ok-then c.swap-in-loop-done.result is_ok c.swap-in-loop-done.ensures.back),
       omega (arith, c.loop-done.invariant.1),

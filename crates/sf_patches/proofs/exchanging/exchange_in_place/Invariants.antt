@@ -1,4 +1,4 @@
-use Rattle.std.proofs.Common.{◌≡◌, ◌≤◌, ◌-◌, ◌+◌, ℕ, Bool, true, false, length, if◌then◌else◌}
+use Rattle.std.proofs.Common.{◌≡◌, ◌≤◌, ◌-◌, ◌+◌, false, if◌then◌else◌}
 use Rattle.sf_patches.specs.Patches.{NoneGrows}
 use Rattle.sf_patches.proofs.ExchangeLaws.{IsPartly, IsToTakeBack}
 use Rattle.sf_patches.proofs.exchanging.exchange_in_place.Given as goal

@@ -8,8 +8,7 @@ pub invariant_of-self-2 : goal.invariant_of-self-2
 invariant_of-self-2 c =
     let members = c.self.inside.members.items in
     let pushed : c.push.new.self.items ≡ members ++ c.args.member ∷ [] = search rules in
-    let may : IsTrue (may_follow members c.args.member) = search rules in
-    (
+    let may : IsTrue (may_follow members c.args.member) = search rules in (
       subst IsGroup (sym pushed) (IsGroup-push members c.args.member c.self.invariant.0 may),
       λ name.
           c.in-Ok-note_added.ensures.noted name
