@@ -129,6 +129,8 @@ show c
 get a 4 2 4
 find a depth
 find a label 'it''s'
+check a POLYGON ((0 0, 9 0, 9 9, 0 9, 0 0), (1 1, 2 1, 2 2, 1 1))
+check a POLYGON ((0 0, 4 4, 4 0, 0 4, 0 0))
 hex a 2
 box a 4
 simple a 4

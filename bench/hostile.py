@@ -75,6 +75,8 @@ FORMS = {
     b"simple": re.compile(rb"true|false"),
     b"relate": re.compile(rb"[F012]{9}"),
 }
+# Where a geometry is wrong, behind a refusal of `check`.
+PLACE = re.compile(rb"(?: (?:line|part|ring [0-9]+) [0-9]+(?: edges? [0-9]+(?: [0-9]+)?)?){1,2}")
 EDITS = {verb for verb, form in FORMS.items() if form in (EDIT, ADDITION)}
 
 BEGINNING = [
@@ -220,9 +222,11 @@ def verb(line: bytes) -> bytes:
 
 def is_refused(told: Told) -> bool:
     """Whether the answer is a refusal. `Wrong` where its number and name are none of the table, or it is no answer."""
-    found = re.fullmatch(rb"refused ([0-9]+) ([A-Za-z]+)", told.first)
+    found = re.fullmatch(rb"refused ([0-9]+) ([A-Za-z]+)(.*)", told.first)
     if found:
-        if REFUSALS.get(int(found[1])) != found[2].decode():
+        has_place = bool(PLACE.fullmatch(found[3]))
+        wants_place = verb(told.line) == b"check" and 10 <= int(found[1]) <= 17
+        if REFUSALS.get(int(found[1])) != found[2].decode() or has_place != wants_place or (found[3] and not has_place):
             raise Wrong(f"no refusal of the table: {told.first!r} to {told.line[:200]!r}")
         return True
     form = FORMS.get(verb(told.line))
