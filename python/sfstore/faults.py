@@ -7,15 +7,19 @@ proved. What these edges share is worked out here, in whole numbers and exact fr
 from __future__ import annotations
 
 import itertools
+import threading
 from collections.abc import Callable
 from fractions import Fraction
 from typing import NamedTuple, Union
 
 from sfstore.geometry import Flat, Shape, write_wkt
 from sfstore.results import Place, Refused
-from sfstore.store import Editor, Store
+from sfstore.store import Editor, ProgramEnded, Store
 
-__all__ = ["Fault", "fault_at", "fault_in", "fault_of"]
+__all__ = ["SECONDS", "Fault", "fault_at", "fault_in", "fault_of"]
+
+SECONDS = 5.0
+"""How long a program may take that is started for a place, where nothing else is asked."""
 
 Number = Union[int, Fraction]
 Point = tuple[Number, Number]
@@ -39,11 +43,22 @@ def point_text(point: Point) -> str:
     return f"({point[0]} {point[1]})"
 
 
-def fault_of(shape: Shape, program: str = "sfstore") -> Fault | None:
-    """Where a geometry is wrong, as a program says that is started for it. None where it is valid."""
-    with Store(program=program) as store:
+def fault_of(shape: Shape, program: str = "sfstore", seconds: float = SECONDS) -> Fault | None:
+    """Where a geometry is wrong, as a program says that is started for it.
+
+    None where it is valid, and where the program takes longer, as it may for a shape made so by hand.
+    """
+    store = Store(program=program)
+    limit = threading.Timer(seconds, store.stop)
+    limit.start()
+    try:
         store.add_layer("any")
         return fault_in(store, "any", shape)
+    except ProgramEnded:
+        return None
+    finally:
+        limit.cancel()
+        store.close(save=False)
 
 
 def fault_in(store: Editor, layer: str, shape: Shape) -> Fault | None:

@@ -385,6 +385,17 @@ class Time(TestCase):
         words = "ring 815, which begins at (8140 0), and ring 816, which begins at (8142 1), have points inside both"
         self.assertEqual(self.timed(Shape(3, [[shell, *holes]]), 10), words)
 
+    def test_a_program_that_takes_too_long(self) -> None:
+        slow = self.program("""
+            for _ in range(2):
+                line()
+                say("ok\\n")
+            time.sleep(100)
+        """)
+        begun = time.monotonic()
+        self.assertIsNone(fault_of(read_wkt("POLYGON ((0 0, 10 10, 10 0, 0 10, 0 0))"), str(slow), 0.5))
+        self.assertLess(time.monotonic() - begun, 20)
+
     def test_a_program_of_its_own(self) -> None:
         self.assertIn("meet at (5 5)", str(fault_of(read_wkt("POLYGON ((0 0, 10 10, 10 0, 0 10, 0 0))"), PROGRAM)))
         self.assertIsNone(fault_of(read_wkt("POINT (1 1)"), PROGRAM))
