@@ -3,9 +3,10 @@
 from __future__ import annotations
 
 import os
-from collections.abc import Callable
-from typing import Any
+from collections.abc import Callable, Sequence
+from typing import Any, TypeVar
 
+from sfstore import spelling
 from sfstore.commands import Command, help_text, near_words
 from sfstore.faults import fault_at, fault_of
 from sfstore.geometry import Shape, read_wkb, write_wkt
@@ -13,12 +14,15 @@ from sfstore.language import GRID_MAX, GRID_MIN, QUESTIONS
 from sfstore.lines import geometry_of
 from sfstore.refusals import words_of
 from sfstore.store import Answer, Column, Refused, Store, Value
+from sfstore.web.batches import LineRefused, batch_of
+from sfstore.web.changed import changed_by, merged
 from sfstore.web.changes import Change, Target, feature_of
 from sfstore.web.editors import Editors
 from sfstore.web.events import Events
 from sfstore.web.keeper import Asked, ChangedMeanwhile, Edit, Keeper, Unavailable
 from sfstore.web.logins import Logins
 from sfstore.web.mirror import Mirror
+from sfstore.web.rows import identifiers_of, ids_of, rows_of
 from sfstore.web.steps import Step
 from sfstore.web.windows import ELEMENTS_MAX, Box, extent_of, window_of
 
@@ -26,6 +30,8 @@ __all__ = ["BadCall", "Calls", "Outdated"]
 
 Body = dict[str, Any]
 """A JSON object."""
+
+_T = TypeVar("_T")
 
 OWN = [
     Command("help COMMAND", "tells the commands, or one with an example", "help add"),
@@ -69,7 +75,7 @@ class Calls:
         self._looks = Mirror(keeper, program, seconds)
         self._values = Mirror(keeper, program, _VALUES_TIMES * seconds)
         self._questions = Mirror(keeper, program, seconds)
-        keeper.follow.append(self._tell_edit)
+        keeper.follow.append(self._tell_edits)
         keeper.anew.append(lambda: self.events.tell({"anew": True}))
         self.by_path: dict[str, Callable[[int, Body], Body]] = {
             "/me": self._me,
@@ -77,6 +83,9 @@ class Calls:
             "/window": self._window,
             "/feature": self._feature,
             "/line": self._line,
+            "/batch": self._batch,
+            "/ids": self._ids,
+            "/rows": self._rows,
         }
 
     def close(self) -> None:
@@ -164,9 +173,7 @@ class Calls:
 
     def _line(self, editor: int, body: Body) -> Body:
         """Carries out a line of the console, as the editor who has logged in."""
-        line, page = _text(body, "line"), _text(body, "page")
-        if not 1 <= len(page) <= _PAGE_LETTERS_MAX:
-            raise BadCall(f"page has to be a text of 1 to {_PAGE_LETTERS_MAX} letters")
+        line, page = _text(body, "line"), _page(body)
         words = line.split()
         if not words:
             return {"text": ""}
@@ -186,16 +193,45 @@ class Calls:
 
     def _edit(self, asked: Asked) -> Body:
         """Has a line carried out that changes something."""
+        return _answered(self._changing(asked.editor, lambda: self._keeper.carry_out(asked)))
+
+    def _batch(self, editor: int, body: Body) -> Body:
+        """Carries out lines as a whole: all of them, or none."""
+        batch = batch_of(editor, _page(body), body.get("lines"), body.get("seen"))
         try:
-            self._editors.keep(asked.editor)
+            return self._changing(editor, lambda: self._keeper.carry_out_all(batch))._asdict()
+        except LineRefused as refused:
+            line = batch.lines[refused.at]
+            return {"refused": {**self._refusal(refused.refused, line), "line": refused.at}}
+
+    def _changing(self, editor: int, change: Callable[[], _T]) -> _T:
+        """What a change of an editor gives, whose name is kept before it is carried out."""
+        try:
+            self._editors.keep(editor)
         except OSError as error:
             raise Unavailable(
                 f"Your name can't be written beside the store: {error.strerror}. Nothing was done."
             ) from error
         try:
-            return _answered(self._keeper.carry_out(asked))
+            return change()
         except ChangedMeanwhile as meanwhile:
             raise Outdated(self._meanwhile(meanwhile.target, meanwhile.change)) from None
+
+    def _ids(self, editor: int, body: Body) -> Body:
+        """The features of a layer, or those that meet a box."""
+        layer = spelling.name(_text(body, "layer"))
+        box = None if body.get("box") is None else _box(body)
+        looks = self._looks
+        return looks.ask(
+            editor, lambda store: {"ids": identifiers_of(store, layer, box), "version": looks.version}
+        )
+
+    def _rows(self, editor: int, body: Body) -> Body:
+        """Features with their geometries and values, of those that are there."""
+        layer, features, looks = spelling.name(_text(body, "layer")), ids_of(body.get("ids")), self._looks
+        return looks.ask(
+            editor, lambda store: {"rows": rows_of(store, layer, features), "version": looks.version}
+        )
 
     def _meanwhile(self, target: Target, change: Change | None) -> str:
         """Who changed what before an edit, in a sentence."""
@@ -237,18 +273,24 @@ class Calls:
         fault = fault_at(shape, refused) or fault_of(shape, self._program)
         return fault and {"words": str(fault), "points": [[float(x), float(y)] for x, y in fault.points]}
 
-    def _tell_edit(self, edit: Edit) -> None:
-        """Tells all pages of an edit."""
+    def _tell_edits(self, edits: Sequence[Edit]) -> None:
+        """Tells all pages of an edit, or of a batch of them."""
+        last = edits[-1]
+        line, did = last.line[:1_000], last.step.line
+        if len({edit.line for edit in edits}) > 1:
+            line, did = f"together {len(edits)}", edits[0].step.line if last.stays else "refused, and taken back"
+        changes = [change for edit in edits if edit.stays for change in changed_by(edit.line, edit.step)]
         self.events.tell(
             {
-                "version": edit.version,
-                "number": edit.editor,
-                "page": edit.page,
-                "editor": self._editors.name_of(edit.editor),
-                "line": edit.line[:1_000],
-                "step": edit.step.line,
-                "undo": self._step(edit.to_undo),
-                "redo": self._step(edit.to_redo),
+                "version": last.version,
+                "number": last.editor,
+                "page": last.page,
+                "editor": self._editors.name_of(last.editor),
+                "line": line,
+                "step": did,
+                "undo": self._step(last.to_undo),
+                "redo": self._step(last.to_redo),
+                "changed": merged(changes),
             }
         )
 
@@ -273,6 +315,14 @@ def _answered(answer: Answer) -> Body:
             break
         rows.append(row)
     return {"rows": rows, "count": len(answer)}
+
+
+def _page(body: Body) -> str:
+    """Which page it is that calls, among those of its editor."""
+    page = _text(body, "page")
+    if not 1 <= len(page) <= _PAGE_LETTERS_MAX:
+        raise BadCall(f"page has to be a text of 1 to {_PAGE_LETTERS_MAX} letters")
+    return page
 
 
 def _text(body: Body, name: str) -> str:

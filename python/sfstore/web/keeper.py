@@ -4,13 +4,14 @@ from __future__ import annotations
 
 import os
 import warnings
-from collections.abc import Callable
+from collections.abc import Callable, Sequence
 from concurrent.futures import ThreadPoolExecutor
-from typing import NamedTuple, TypeVar
+from typing import NamedTuple, TypeVar, cast
 
 from sfstore.journal import JournalError
 from sfstore.program import is_edit
 from sfstore.store import Answer, Editor, ProgramEnded, Refused, Store
+from sfstore.web.batches import Batch, Done, LineRefused, carry_out
 from sfstore.web.changes import Change, Changes, Target, feature_of
 from sfstore.web.steps import Step, Steps
 
@@ -61,6 +62,8 @@ class Edit(NamedTuple):
     to_undo: Step | None
     """The step that an undo would take back now, whoever asks."""
     to_redo: Step | None
+    stays: bool = True
+    """False for those of a batch that was refused: together they have changed nothing."""
 
 
 class Snapshot(NamedTuple):
@@ -78,12 +81,12 @@ class Snapshot(NamedTuple):
 class Keeper:
     """The store of a file with its journal, and what all pages have to know of it.
 
-    `follow` is called in the keeper's thread after each accepted edit, `anew` where the store had
-    to be opened again.
+    `follow` is called in the keeper's thread with the edits of each line or batch that was accepted,
+    `anew` where the store had to be opened again.
     """
 
     def __init__(self, path: str, program: str) -> None:
-        self.follow: list[Callable[[Edit], object]] = []
+        self.follow: list[Callable[[Sequence[Edit]], object]] = []
         self.anew: list[Callable[[], object]] = []
         self._path = path
         self._program = program
@@ -106,6 +109,13 @@ class Keeper:
         this look and the edit.
         """
         return self._do(lambda store: self._carry_out(store, asked))
+
+    def carry_out_all(self, batch: Batch) -> Done:
+        """Carries out lines as a whole: all of them, or none. They are one step for undo and redo.
+
+        `LineRefused` where one of them is refused, and `ChangedMeanwhile` as for a line.
+        """
+        return self._do(lambda store: self._carry_out_all(store, batch))
 
     def last_change(self, target: Target) -> Change | None:
         """The last change of a feature. It may be asked by any thread."""
@@ -141,7 +151,7 @@ class Keeper:
         """Does a job. Where it ends the program, the store is opened anew by the next one."""
         try:
             return job(self._opened())
-        except (ChangedMeanwhile, Refused, ValueError):
+        except (ChangedMeanwhile, LineRefused, Refused, ValueError):
             raise
         except (JournalError, ProgramEnded, RuntimeError, OSError) as error:
             if self._store is not None and not self._is_open(self._store):
@@ -179,19 +189,48 @@ class Keeper:
 
     def _carry_out(self, store: Store, asked: Asked) -> Answer:
         self._check_seen(asked)
-        editor, line = asked.editor, asked.line
-        answer = (store.editor(editor) if editor else store).run(line)
-        if is_edit(line.encode(), answer):
-            self._version += 1
-            step = self._steps.take(editor, line, str(answer))
-            moved = line.strip()
-            did = f"{moved}: {step.line}" if moved in ("undo", "redo") else step.line
-            self._changes.take(Change(self._version, editor, asked.page, did, step.targets))
-            steps = self._steps.to_undo, self._steps.to_redo
-            edit = Edit(self._version, editor, asked.page, line, step, *steps)
+        editor, page, line, _ = asked
+        # An undo moves all steps of a batch, or none: they are one editor's.
+        lines = [line] * max(1, self._steps.moved_by(line))
+        answers = _speaker(store, editor).run_all(lines)
+        accepted = [answer for answer in answers if is_edit(line.encode(), answer)]
+        self._tell([self._taken(Asked(editor, page, line, None), str(answer)) for answer in accepted])
+        for answer in answers:
+            if isinstance(answer, Refused):
+                raise answer
+        return cast(Answer, answers[0])
+
+    def _carry_out_all(self, store: Store, batch: Batch) -> Done:
+        editor, page = batch.editor, batch.page
+        for line, seen in zip(batch.lines, batch.seen):
+            self._check_seen(Asked(editor, page, line, seen))
+        outcome = carry_out(_speaker(store, editor), batch.lines)
+        group = self._version + 1
+        asked = (Asked(editor, page, line, None) for line, _ in outcome.accepted)
+        answers = (answer for _, answer in outcome.accepted)
+        self._tell(
+            [self._taken(*each, group, outcome.refused is None) for each in zip(asked, answers)]
+        )
+        if outcome.refused is not None:
+            raise outcome.refused
+        return Done(outcome.answers, self._version)
+
+    def _taken(self, asked: Asked, answer: str, group: int = 0, stays: bool = True) -> Edit:
+        """Notes a line that was accepted. One that does not stay is undone by another of the same batch."""
+        self._version += 1
+        editor, page, line, _ = asked
+        step = self._steps.take(editor, line, answer, group)
+        moved = line.strip()
+        did = f"{moved}: {step.line}" if moved in ("undo", "redo") else step.line
+        if stays:
+            self._changes.take(Change(self._version, editor, page, did, step.targets))
+        steps = self._steps.to_undo, self._steps.to_redo
+        return Edit(self._version, editor, page, line, step, *steps, stays)
+
+    def _tell(self, edits: Sequence[Edit]) -> None:
+        if edits:
             for told in self.follow:
-                told(edit)
-        return answer
+                told(edits)
 
     def _check_seen(self, asked: Asked) -> None:
         """`ChangedMeanwhile` where a line edits what its page has not seen as it is."""
@@ -223,3 +262,7 @@ class Keeper:
         unsaved = store.unsaved
         store.close(save=False)
         return unsaved
+
+
+def _speaker(store: Store, editor: int) -> Editor:
+    return store.editor(editor) if editor else store

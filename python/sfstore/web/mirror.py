@@ -7,7 +7,7 @@ takes too long ends it, and not the store; the next question begins it anew.
 from __future__ import annotations
 
 import threading
-from collections.abc import Callable, Iterator
+from collections.abc import Callable, Iterator, Sequence
 from concurrent.futures import ThreadPoolExecutor
 from contextlib import contextmanager
 from typing import TypeVar
@@ -51,7 +51,7 @@ class Mirror:
         self._thread = ThreadPoolExecutor(1, "mirror")
         self._places = threading.BoundedSemaphore(_WAITING_MAX)
         self._turns: dict[int, _Turn] = {}
-        keeper.follow.append(lambda edit: self._thread.submit(self._follow, edit))
+        keeper.follow.append(lambda edits: self._thread.submit(self._follow, edits))
         keeper.anew.append(lambda: self._thread.submit(self._drop))
 
     @property
@@ -112,16 +112,24 @@ class Mirror:
                 f"That took more than {self._seconds:g} seconds and was stopped: ask for less."
             )
 
-    def _follow(self, edit: Edit) -> None:
-        """Does an edit of the store, where the program has not got it with its file."""
-        if self._store is None or edit.version <= self._version:
+    def _follow(self, edits: Sequence[Edit]) -> None:
+        """Does edits of one editor, where the program has not got them with its file."""
+        news = [edit for edit in edits if edit.version > self._version]
+        if self._store is None or not news:
             return
+        editor = news[0].editor
+        speaker = self._store.editor(editor) if editor else self._store
         try:
-            (self._store.editor(edit.editor) if edit.editor else self._store).run(edit.line)
-            self._version = edit.version
-            self.values.follow(edit)
-        except (ProgramEnded, Refused):
+            answers = speaker.run_all(edit.line for edit in news)
+        except ProgramEnded:
             self._drop()
+            return
+        if any(isinstance(answer, Refused) for answer in answers):
+            self._drop()
+            return
+        self._version = news[-1].version
+        for edit in news:
+            self.values.follow(edit)
 
     def _current(self) -> Store:
         """The program with the content of the store."""

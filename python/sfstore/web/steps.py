@@ -6,6 +6,7 @@ the accepted lines, as the program's history does, so that the page can say it.
 
 from __future__ import annotations
 
+import itertools
 import re
 from collections.abc import Iterable
 from typing import NamedTuple
@@ -29,6 +30,8 @@ class Step(NamedTuple):
     """The beginning of its line, without the editor."""
     targets: tuple[Target, ...] = ()
     """What it changes, and so does its undoing."""
+    group: int = 0
+    """A number that the steps of a batch have in common; 0 for one that stands alone."""
 
 
 class Steps:
@@ -45,7 +48,7 @@ class Steps:
             else:
                 self.take(int(found[1]), line[found.end() :])
 
-    def take(self, editor: int, line: str, answer: str = "") -> Step:
+    def take(self, editor: int, line: str, answer: str = "", group: int = 0) -> Step:
         """Follows an accepted line, and gives the step that it made or moved.
 
         Of an addition the answer names the feature that it made.
@@ -59,8 +62,15 @@ class Steps:
             return self._done[-1]
         self._undone.clear()
         shown = line.strip()[:_SHOWN_LETTERS]
-        self._done.append(Step(editor, shown, targets_of(line, answer)))
+        self._done.append(Step(editor, shown, targets_of(line, answer), group))
         return self._done[-1]
+
+    def moved_by(self, line: str) -> int:
+        """How many steps an undo or a redo moves: those of a batch go together. Any other line moves none."""
+        source = {"undo": self._done, "redo": self._undone}.get(line.strip(), [])
+        if not source or not source[-1].group:
+            return min(len(source), 1)
+        return sum(1 for _ in itertools.takewhile(lambda step: step.group == source[-1].group, reversed(source)))
 
     @property
     def to_undo(self) -> Step | None:

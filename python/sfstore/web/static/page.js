@@ -155,7 +155,7 @@ class App {
   /** Draws what an edit may have changed. */
   async #redraw(line) {
     const first = line.trim().split(/[ \t]+/)[0];
-    if (["layer", "column", "undo", "redo"].includes(first)) await this.#readMap(false);
+    if (["layer", "column", "undo", "redo", "together"].includes(first)) await this.#readMap(false);
     if (!UNDRAWN.test(line)) await this.map.refresh();
     await this.selection.refresh();
   }

@@ -1,0 +1,194 @@
+"""Lines that are carried out as a whole: all of them, or none.
+
+The program carries out single lines. So each geometry is judged by a question first, then the lines
+are carried out one after another, and where one is refused nevertheless those before it are undone.
+`carry_out` alone knows of this.
+"""
+
+from __future__ import annotations
+
+import re
+from collections.abc import Sequence
+from typing import NamedTuple
+
+from sfstore import spelling
+from sfstore.language import QUESTIONS, words_of_line
+from sfstore.program import is_edit
+from sfstore.store import Answer, Editor, Refused
+from sfstore.web.changes import feature_of
+
+__all__ = ["LINES_MAX", "Batch", "Done", "LineRefused", "Outcome", "batch_of", "carry_out"]
+
+LINES_MAX = 100_000
+"""How many lines a batch has at most."""
+
+# What is no line of a batch: questions, and steps of the history.
+_OTHERS = QUESTIONS | {"undo", "redo"}
+
+# A line that names the feature of the nearest addition before it to the same layer.
+_LAST = re.compile(
+    r"([ \t]*(?:set|unset|delete|replace|vertex[ \t]+[a-z]+)[ \t]+([^ \t]+)[ \t]+)last(?=[ \t\r]|$)"
+)
+# How many words stand before a geometry.
+_BEFORE_GEOMETRY = {"add": 2, "replace": 3}
+
+
+class LineRefused(Exception):
+    """A line of a batch is refused, and nothing was changed."""
+
+    def __init__(self, at: int, refused: Refused) -> None:
+        super().__init__(at, refused)
+        self.at = at
+        """Its place among the lines, from 0."""
+        self.refused = refused
+
+
+class Batch(NamedTuple):
+    """Lines that somebody wants to be carried out as a whole."""
+
+    editor: int
+    page: str
+    lines: Sequence[str]
+    seen: Sequence[int | None]
+    """Of each line the version of the store that the page has seen of what it edits."""
+
+
+class Done(NamedTuple):
+    """What a batch has brought."""
+
+    answers: list[str]
+    """The answers of its lines, in their order."""
+    version: int
+    """The version of the store that it has made."""
+
+
+class Outcome(NamedTuple):
+    """What became of the lines of a batch."""
+
+    answers: list[str]
+    """The answers of its lines, in their order; none where one is refused."""
+    accepted: list[tuple[str, str]]
+    """What the program has accepted, in its order, with the answers: also what was undone then."""
+    refused: LineRefused | None
+    """The line that is refused, where one is."""
+
+
+class _Late(NamedTuple):
+    """A line that names a feature whose identifier an earlier line gives."""
+
+    front: str
+    rest: str
+    addition: int
+    """The place of that line."""
+
+
+def batch_of(editor: int, page: str, lines: object, seen: object) -> Batch:
+    """A batch of what a call brings. `ValueError` where it is none."""
+    if not isinstance(lines, list) or not 1 <= len(lines) <= LINES_MAX:
+        raise ValueError(f"lines has to be a list of 1 to {LINES_MAX} texts")
+    if not isinstance(seen, list) or len(seen) != len(lines):
+        raise ValueError("seen has to be a list with a version, or null, for each line")
+    for line, version in zip(lines, seen):
+        _check(line, version)
+    _late_ones(lines)
+    return Batch(editor, page, lines, seen)
+
+
+def _check(line: object, version: object) -> None:
+    """`ValueError` where something is no line of a batch, or does not say what its page has seen."""
+    if not isinstance(line, str):
+        raise ValueError("lines has to be a list of texts")
+    spelling.encoded(line)
+    word = (words_of_line(line) or [""])[0]
+    if word in _OTHERS or line.lstrip(" \t").startswith("@"):
+        raise ValueError(f"a batch has edits of its own editor alone, not {line[:40]!r}")
+    if version is None and feature_of(line) is None:
+        return
+    if type(version) is not int or not 0 <= version <= 2**53:
+        raise ValueError("seen has to be a whole number for a line that edits a feature")
+
+
+def carry_out(editor: Editor, lines: Sequence[str]) -> Outcome:
+    """Carries out lines as a whole.
+
+    Lines that name a new feature as ``last`` are carried out behind all others.
+    """
+    late = _late_ones(lines)
+    refused = _judged(editor, lines)
+    if refused is not None:
+        return Outcome([], [], refused)
+    accepted: list[tuple[str, str]] = []
+    answers: dict[int, Answer | Refused] = {}
+    early = {at: line for at, line in enumerate(lines) if at not in late}
+    accepted += _sent(editor, early, answers)
+    refused = _first_refused(answers)
+    if refused is None:
+        numbered = {at: _numbered(each, answers) for at, each in late.items()}
+        accepted += _sent(editor, numbered, answers)
+        refused = _first_refused(answers)
+    if refused is not None:
+        return Outcome([], accepted + _taken_back(editor, len(accepted)), refused)
+    return Outcome([str(answers[at]) for at in range(len(lines))], accepted, None)
+
+
+def _late_ones(lines: Sequence[str]) -> dict[int, _Late]:
+    """The lines that say ``last``, by their places. `ValueError` where there is no such addition."""
+    additions: dict[str, int] = {}
+    late: dict[int, _Late] = {}
+    for at, line in enumerate(lines):
+        found = _LAST.match(line)
+        if found is not None:
+            if found[2] not in additions:
+                raise ValueError(f"no line before {line[:40]!r} adds a feature to {found[2]}")
+            late[at] = _Late(found[1], line[found.end() :], additions[found[2]])
+            continue
+        words = words_of_line(line)
+        if words[0] in ("add", "addhex") and len(words) > 1:
+            additions[words[1]] = at
+    return late
+
+
+def _judged(editor: Editor, lines: Sequence[str]) -> LineRefused | None:
+    """The first line whose geometry would be refused: asked before, so that it leaves no trace in the history."""
+    questions = {at: question for at, line in enumerate(lines) if (question := _question(line))}
+    outcomes = editor.run_all(questions.values())
+    for at, outcome in zip(questions, outcomes):
+        # The layer may come by a line before, and a geometry that takes another's place needs no identifier.
+        if isinstance(outcome, Refused) and outcome.name not in ("NoLayer", "IdsExhausted"):
+            return LineRefused(at, outcome)
+    return None
+
+
+def _question(line: str) -> str:
+    """The question whether a line's geometry would be added; empty where it has none."""
+    words = words_of_line(line)
+    before = _BEFORE_GEOMETRY.get(words[0], len(words))
+    return f"check {words[1]} {' '.join(words[before:])}" if len(words) > before else ""
+
+
+def _sent(editor: Editor, lines: dict[int, str], answers: dict[int, Answer | Refused]) -> list[tuple[str, str]]:
+    """Has lines carried out, and puts down their answers. Gives those that were accepted."""
+    outcomes = editor.run_all(lines.values())
+    answers.update(zip(lines, outcomes))
+    return [(line, str(each)) for line, each in zip(lines.values(), outcomes) if is_edit(line.encode(), each)]
+
+
+def _numbered(late: _Late, answers: dict[int, Answer | Refused]) -> str:
+    return f"{late.front}{str(answers[late.addition]).partition(' ')[2]}{late.rest}"
+
+
+def _first_refused(answers: dict[int, Answer | Refused]) -> LineRefused | None:
+    refused = {at: answer for at, answer in answers.items() if isinstance(answer, Refused)}
+    return LineRefused(min(refused), refused[min(refused)]) if refused else None
+
+
+def _taken_back(editor: Editor, count: int) -> list[tuple[str, str]]:
+    """Undoes the last lines, and leaves a step that changes nothing as the one to redo. Gives what was accepted."""
+    if not count:
+        return []
+    lines = ["undo"] * count
+    outcomes = editor.run_all(lines)
+    layers = editor.layers()
+    nothing = [f"layer move {layers[0].name} 0", "undo"] if layers else []
+    outcomes += editor.run_all(nothing)
+    return [(line, each) for line, each in zip(lines + nothing, outcomes) if isinstance(each, str)]

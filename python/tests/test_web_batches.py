@@ -1,0 +1,406 @@
+"""Tests of lines that are carried out as a whole, of whole layers as rows, and of what all hear that was changed."""
+
+from __future__ import annotations
+
+import json
+import random
+import signal
+import unittest
+
+from support import PROGRAM, TestCase
+from test_web import Listening
+from web_support import WebCase
+
+from sfstore import Refused, Store
+from sfstore.web.batches import batch_of, carry_out
+from sfstore.web.changed import Changed, changed_by, merged
+from sfstore.web.changes import Target
+from sfstore.web.rows import ROWS_MAX, rows_of
+from sfstore.web.steps import Step, Steps
+
+SQUARE = "POLYGON ((0 0, 100 0, 100 100, 0 100, 0 0))"
+CROSSED = "POLYGON ((0 0, 10 10, 10 0, 0 10, 0 0))"
+MADE = (
+    f"layer add p polygon\nlayer add w point\ncolumn add p owner text\ncolumn add p number int\nadd p {SQUARE}\n"
+    f"add p {SQUARE}\nadd p {SQUARE}\nset p 1 owner 'Dunn'\nset p 2 number 2\n"
+).encode()
+
+
+class BatchCase(WebCase):
+    """Two people over a store with three parcels."""
+
+    def setUp(self):
+        super().setUp()
+        self.make(MADE)
+        self.serving = self.serve()
+        self.ann, self.ben = self.serving.log_in("Ann"), self.serving.log_in("Ben")
+
+    def batch(self, person, *lines, seen=None):
+        """The status and the answer of a batch, by a page that has seen all if nothing else is said."""
+        version = person.version() if seen is None else seen
+        body = {"page": person.page, "lines": list(lines), "seen": [version] * len(lines)}
+        return self.serving.posted("/batch", person.key, **body)
+
+    def done(self, person, *lines):
+        status, answer = self.batch(person, *lines)
+        self.assertEqual((status, answer.get("refused")), (200, None), answer)
+        return answer["answers"]
+
+    def refused(self, person, *lines):
+        status, answer = self.batch(person, *lines)
+        self.assertEqual(status, 200, answer)
+        refused = answer["refused"]
+        return refused["number"], refused["line"]
+
+    def shown(self, layer="p"):
+        return self.ann.line(f"show {layer}")["rows"]
+
+
+class Whole(BatchCase):
+    """All of a batch, or nothing of it."""
+
+    def test_lines_of_several_layers(self):
+        lines = [f"add p {SQUARE}", "set p last owner 'O''New'", "add w POINT (1 1)", "set p 1 number 7", "delete p 2"]
+        self.assertEqual(self.done(self.ann, *lines), ["ok 4", "ok", "ok 1", "ok", "ok"])
+        self.assertEqual(
+            self.shown(), [f"1 {SQUARE} owner='Dunn' number=7", f"3 {SQUARE}", f"4 {SQUARE} owner='O''New'"]
+        )
+        self.assertEqual(self.shown("w"), ["1 POINT (1 1)"])
+
+    def test_last_is_the_nearest_addition_before_it_to_the_same_layer(self):
+        lines = [
+            "add w POINT (1 1)",
+            f"add p {SQUARE}",
+            f"addhex p {self.ann.answer('hex p 1')}",
+            "set p last owner 'second'",
+            "delete w last",
+            "add w POINT (2 2)",
+            " vertex  move\tw  last 0 0 0 9 9 ",
+            f"add p {SQUARE}",
+            "set p last owner 'third'",
+            "unset p last owner",
+        ]
+        self.done(self.ann, *lines)
+        self.assertEqual(self.shown()[3:], [f"4 {SQUARE}", f"5 {SQUARE} owner='second'", f"6 {SQUARE}"])
+        self.assertEqual(self.shown("w"), ["2 POINT (9 9)"])
+
+    def test_nothing_is_done_where_a_line_is_refused(self):
+        before, window = self.shown(), self.serving.call("/map")["layers"]
+        for number, at, lines in (
+            (13, 1, ["delete p 3", f"add p {CROSSED}"]),
+            (13, 1, ["delete p 3", f"replace p 1 {CROSSED}"]),
+            (26, 1, ["delete p 3", "add p POINT (1 1)"]),
+            (22, 1, ["set p 1 owner 'x'", "set p 1 nix 'x'"]),
+            (24, 3, ["delete p 3", f"add p {SQUARE}", "set p 1 owner 'x'", "set p last owner 5"]),
+            (21, 0, ["set p 9 owner 'x'", "delete p 3"]),
+            (19, 2, ["column add p more int", "layer add q any", "layer add w any"]),
+            (31, 0, ["nonsense", "delete p 3"]),
+            (2, 1, ["layer drop w", "add p POLYGON"]),
+        ):
+            with self.subTest(lines=lines):
+                self.assertEqual(self.refused(self.ann, *lines), (number, at))
+                self.assertEqual(self.shown(), before)
+                self.assertEqual(self.serving.call("/map")["layers"], window)
+
+    def test_a_refused_geometry_is_told_with_its_place_and_leaves_no_trace(self):
+        self.ann.answer("set p 1 owner 'x'")
+        self.ann.answer("undo")
+        version = self.ann.version()
+        _, answer = self.batch(self.ann, "delete p 2", f"add p {CROSSED}")
+        self.assertEqual(answer["refused"]["place"]["points"], [[5, 5]])
+        self.assertEqual(answer["refused"]["members"], [[[0, 0, 10, 10, 10, 0, 0, 10, 0, 0]]])
+        self.assertEqual(self.ann.version(), version)
+        self.assertEqual(self.ann.answer("redo"), "ok")
+
+    def test_what_was_taken_back_can_not_be_redone(self):
+        before = self.shown()
+        self.refused(self.ann, "delete p 1", "set p 2 nix 1")
+        for _ in range(2):
+            self.ann.line("redo")
+            self.assertEqual(self.shown(), before)
+
+    def test_a_geometry_of_a_layer_that_the_batch_adds(self):
+        self.assertEqual(self.done(self.ann, "layer add q polygon", f"add q {SQUARE}"), ["ok", "ok 1"])
+        before = self.serving.call("/map")["layers"]
+        self.assertEqual(self.refused(self.ann, "layer add r polygon", f"add r {CROSSED}"), (13, 1))
+        self.assertEqual(self.serving.call("/map")["layers"], before)
+
+    def test_many_lines(self):
+        lines = [line for k in range(700) for line in (f"add w POINT ({k} 0)", "set w last n 5")]
+        self.assertEqual(self.refused(self.ann, *lines)[0], 22)
+        self.assertEqual(self.shown("w"), [])
+        self.done(self.ann, "column add w n int", *lines)
+        self.assertEqual(len(self.shown("w")), 700)
+        self.assertEqual(self.ann.answer("undo"), "ok")
+        self.assertEqual(self.shown("w"), [])
+        self.assertEqual(self.ann.line("columns w"), {"rows": [], "count": 0})
+
+
+class OneStep(BatchCase):
+    """A batch is one step, of who gave it."""
+
+    def test_a_batch_is_undone_and_redone_as_one(self):
+        before = self.shown()
+        self.ann.answer("set p 3 number 3")
+        self.done(self.ann, "set p 1 owner 'x'", f"add p {SQUARE}", "set p last owner 'y'")
+        after = self.shown()
+        self.assertEqual(self.ann.answer("undo"), "ok")
+        self.assertEqual(self.shown()[2], f"3 {SQUARE} number=3")
+        self.assertEqual(self.ann.answer("undo"), "ok")
+        self.assertEqual(self.shown(), before)
+        self.ann.answer("redo")
+        self.ann.answer("redo")
+        self.assertEqual(self.shown(), after)
+        self.assertEqual(self.ann.refused("redo")["number"], 30)
+
+    def test_nobody_else_undoes_a_batch(self):
+        self.done(self.ann, "set p 1 owner 'x'", "set p 2 owner 'x'")
+        before = self.shown()
+        self.assertEqual(self.ben.refused("undo")["whose"]["editor"], "Ann")
+        self.assertEqual(self.shown(), before)
+        self.ann.answer("undo")
+        self.assertEqual(self.ben.refused("redo")["number"], 36)
+
+    def test_two_batches_of_one_person_are_two_steps(self):
+        self.done(self.ann, "set p 1 owner 'x'", "set p 2 owner 'x'")
+        self.done(self.ann, "set p 1 owner 'y'", "set p 2 owner 'y'")
+        self.ann.answer("undo")
+        self.assertIn("owner='x'", self.shown()[0])
+        self.ann.answer("undo")
+        self.assertIn("owner='Dunn'", self.shown()[0])
+
+
+class Meanwhile(BatchCase):
+    """What somebody else has changed is not overwritten."""
+
+    def test_a_batch_that_has_not_seen_a_feature_is_not_carried_out(self):
+        seen = self.ben.version()
+        self.ann.answer("set p 2 owner 'Ann'")
+        before = self.shown()
+        status, answer = self.batch(self.ben, "set p 1 owner 'Ben'", "set p 2 owner 'Ben'", seen=seen)
+        self.assertEqual((status, answer), (409, {"error": "Ann changed p 2 meanwhile: look again."}))
+        self.assertEqual(self.shown(), before)
+        self.assertEqual(self.batch(self.ben, "set p 1 owner 'Ben'", seen=seen)[0], 200)
+
+    def test_an_undone_batch_counts_as_a_change_of_each_feature(self):
+        self.done(self.ann, "set p 1 owner 'Ann'", "set p 2 owner 'Ann'")
+        seen = self.ben.version()
+        self.ann.answer("undo")
+        for feature in (1, 2):
+            self.assertEqual(self.batch(self.ben, f"delete p {feature}", seen=seen)[0], 409)
+
+    def test_a_batch_that_was_refused_is_no_change(self):
+        seen = self.ben.version()
+        self.refused(self.ann, "set p 2 owner 'Ann'", "set p 2 nix 'Ann'")
+        self.assertEqual(self.batch(self.ben, "set p 2 owner 'Ben'", seen=seen)[0], 200)
+
+    def test_calls_that_are_none(self):
+        version = self.ann.version()
+        for lines, seen in (
+            ([], []),
+            ("delete p 1", [version]),
+            (["delete p 1"], [None]),
+            (["delete p 1"], []),
+            (["delete p 1"], [1.5]),
+            (["delete p 1"], [-1]),
+            (["delete p 1"], [True]),
+            (["delete p 1", 5], [version, version]),
+            (["delete p 1\ndelete p 2"], [version]),
+            (["delete p 1", "  "], [version, None]),
+            (["undo"], [None]),
+            ([" \tundo "], [None]),
+            (["@2 delete p 1"], [version]),
+            (["show p"], [None]),
+            (["set p last owner 'x'"], [None]),
+            (["set p last owner 'x'", f"add p {SQUARE}"], [None, None]),
+            (["add p \ud800"], [None]),
+        ):
+            with self.subTest(lines=lines, seen=seen):
+                body = json.dumps({"page": "page", "lines": lines, "seen": seen}).encode()
+                headers = {"Authorization": f"Bearer {self.ann.key}"}
+                self.assertEqual(self.serving.request("POST", "/batch", body, **headers)[0], 400)
+        self.assertEqual(self.ann.version(), version)
+
+
+class Told(BatchCase):
+    """What all hear."""
+
+    def setUp(self):
+        super().setUp()
+        self.page = Listening(self.serving)
+        self.addCleanup(self.page.close)
+        self.page.next()
+
+    def changed(self):
+        return [tuple(each.values()) for each in self.page.next()["changed"]]
+
+    def test_what_each_edit_has_changed(self):
+        for line, changed in (
+            ("add w POINT (1 1)", [("added", "w", 1)]),
+            ("undo", [("deleted", "w", 1)]),
+            ("redo", [("added", "w", 1)]),
+            ("replace w 1 POINT (2 2)", [("changed", "w", 1)]),
+            ("vertex move w 1 0 0 0 3 3", [("changed", "w", 1)]),
+            ("undo", [("changed", "w", 1)]),
+            ("set p 1 owner 'x'", [("changed", "p", 1)]),
+            ("unset p 1 owner", [("changed", "p", 1)]),
+            ("delete p 1", [("deleted", "p", 1)]),
+            ("undo", [("added", "p", 1)]),
+            ("column add w n int", [("columns", "w", None)]),
+            ("column drop w n", [("columns", "w", None)]),
+            ("layer add q any", [("layers", "q", None)]),
+            ("layer rename q r", [("layers", "q", None), ("layers", "r", None)]),
+            ("layer move r 0", [("layers", None, None)]),
+            ("layer drop r", [("layers", "r", None)]),
+            ("undo", [("layers", "r", None)]),
+        ):
+            with self.subTest(line=line):
+                self.ann.answer(line)
+                self.assertEqual(self.changed(), changed)
+
+    def test_a_batch_is_heard_once(self):
+        self.done(self.ann, f"add p {SQUARE}", "set p last owner 'x'", "set p 1 owner 'y'", "set p 1 number 4", "delete p 2")
+        told = self.page.next()
+        self.assertEqual((told["line"], told["step"], told["page"]), ("together 5", f"add p {SQUARE}", "page"))
+        changed = [tuple(each.values()) for each in told["changed"]]
+        self.assertEqual(sorted(changed), [("added", "p", 4), ("changed", "p", 1), ("deleted", "p", 2)])
+        self.assertEqual(told["version"], self.ann.version())
+        self.ann.answer("undo")
+        told = self.page.next()
+        self.assertEqual(told["line"], "undo")
+        changed = [tuple(each.values()) for each in told["changed"]]
+        self.assertEqual(sorted(changed), [("added", "p", 2), ("changed", "p", 1), ("deleted", "p", 4)])
+
+    def test_of_a_batch_that_was_taken_back_the_version_is_heard_and_no_change(self):
+        self.refused(self.ann, "delete p 1", "set p 2 nix 1")
+        told = self.page.next()
+        self.assertEqual((told["changed"], told["version"]), ([], self.ann.version()))
+
+    def test_changes_of_one_feature_are_told_as_one(self):
+        changes = [Changed("added", "p", 1), Changed("changed", "p", 1), Changed("changed", "p", 2), Changed("deleted", "p", 2)]
+        changes += [Changed("columns", "p", None), Changed("changed", "p", None)]
+        told = [tuple(each.values()) for each in merged(changes)]
+        expected = [("added", "p", 1), ("deleted", "p", 2), ("columns", "p", None), ("changed", "p", None)]
+        self.assertEqual(told, expected)
+
+    def test_an_addition_of_a_journal_may_have_been_any_feature(self):
+        step = Steps(["@1 add p POINT (1 1)"]).to_undo
+        self.assertEqual(step, Step(1, "add p POINT (1 1)", (Target("p", None),)))
+        self.assertEqual(changed_by("undo", step), [Changed("deleted", "p", None)])
+
+
+class Rows(BatchCase):
+    """Whole layers."""
+
+    def asked(self, path, **body):
+        return self.serving.posted(path, self.ann.key, **body)
+
+    def test_the_features_of_a_layer_and_of_a_box(self):
+        self.ann.answer("add w POINT (-8388608 8388607)")
+        self.ann.answer("add w POINT (5 5)")
+        version = self.ann.version()
+        for box, ids in ((None, [1, 2]), ([0, 0, 9, 9], [2]), ([6, 6, 9, 9], []), ([5, 5, 5, 5], [2])):
+            self.assertEqual(self.asked("/ids", layer="w", box=box), (200, {"ids": ids, "version": version}))
+        self.assertEqual(self.asked("/ids", layer="p")[1]["ids"], [1, 2, 3])
+        self.assertEqual(self.asked("/ids", layer="w", box=[9, 0, 0, 9])[0], 400)
+
+    def test_rows_of_those_that_are_there(self):
+        answer = {"rows": [f"3 {SQUARE}", f"1 {SQUARE} owner='Dunn'"], "version": self.ann.version()}
+        self.assertEqual(self.asked("/rows", layer="p", ids=[3, 9, 1]), (200, answer))
+        self.assertEqual(self.asked("/rows", layer="p", ids=[])[1]["rows"], [])
+
+    def test_an_answer_has_what_was_heard_of_before(self):
+        for k in range(20):
+            self.ann.answer(f"set p 1 number {k}")
+            self.assertIn(f"number={k}", self.asked("/rows", layer="p", ids=[1])[1]["rows"][0])
+
+    def test_calls_that_are_none(self):
+        for body in (
+            {"layer": "p", "ids": [1.0]},
+            {"layer": "p", "ids": [-1]},
+            {"layer": "p", "ids": [True]},
+            {"layer": "p", "ids": [2**32]},
+            {"layer": "p", "ids": list(range(ROWS_MAX + 1))},
+            {"layer": "p", "ids": "1"},
+            {"layer": "p"},
+            {"layer": "p 1\nundo", "ids": [1]},
+            {"layer": 5, "ids": [1]},
+        ):
+            self.assertEqual(self.asked("/rows", **body)[0], 400, str(body)[:60])
+        self.assertEqual(self.asked("/rows", layer="nix", ids=[1])[0], 503)
+        self.assertEqual(self.asked("/ids", layer="nix")[0], 503)
+
+    def test_more_than_one_line_asks_for(self):
+        with Store(program=PROGRAM) as store:
+            store.add_layer("w", "point")
+            store.run_all(f"add w POINT ({k} 0)" for k in range(2_500))
+            store.delete("w", 1_500)
+            wanted = list(range(2_500, 0, -1))
+            rows = rows_of(store, "w", wanted)
+            self.assertEqual([int(row.split(" ")[0]) for row in rows], [each for each in wanted if each != 1_500])
+            with self.assertRaises(Refused):
+                rows_of(store, "nix", [])
+
+
+class AtRandom(TestCase):
+    """Batches at random against a store that gets the lines of those that are accepted alone."""
+
+    def test_batches_by_a_seed(self):
+        for seed in range(6):
+            rng = random.Random(seed)
+            with self.subTest(seed=seed), Store(program=PROGRAM) as store, Store(program=PROGRAM) as plain:
+                for line in MADE.decode().splitlines():
+                    store.run(line)
+                    plain.run(line)
+                for _ in range(60):
+                    self.one(rng, store, plain)
+
+    def one(self, rng, store, plain):
+        """A batch: where it is accepted, its undoing and redoing too; both stores are alike then."""
+        lines = [self.line(rng) for _ in range(rng.randrange(1, 6))]
+        before = self.content(store)
+        outcome = carry_out(store.editor(1), batch_of(1, "page", lines, [1] * len(lines)).lines)
+        if outcome.refused is not None:
+            self.assertEqual(self.content(store), before, lines)
+            return
+        after = self.content(store)
+        store.editor(1).run_all(["undo"] * len(lines))
+        self.assertEqual(self.content(store), before, lines)
+        store.editor(1).run_all(["redo"] * len(lines))
+        self.assertEqual(self.content(store), after, lines)
+        plain.run_all(line for line, _ in outcome.accepted)
+        self.assertEqual(self.content(plain), after, lines)
+
+    def line(self, rng):
+        feature = rng.randrange(1, 8)
+        return rng.choice(
+            [
+                f"add p {SQUARE}",
+                f"add w POINT ({rng.randrange(99)} 5)",
+                f"set p {feature} owner 'x{rng.randrange(9)}'",
+                f"unset p {feature} owner",
+                f"set p {feature} number {rng.randrange(9)}",
+                f"delete p {feature}",
+                f"replace p {feature} {rng.choice([SQUARE, SQUARE, CROSSED])}",
+                f"set p {feature} nix 5" if rng.random() < 0.3 else f"set p {feature} number 1",
+            ]
+        )
+
+    def content(self, store):
+        return [store.show(layer) for layer in ("p", "w")]
+
+
+class AfterAnEnd(BatchCase):
+    """What was answered is there after the server was killed."""
+
+    def test_a_batch_that_was_answered(self):
+        self.done(self.ann, f"add p {SQUARE}", "set p last owner 'x'", "delete p 1")
+        after = self.shown()
+        self.serving.end(signal.SIGKILL)
+        self.serving = self.serve()
+        self.ann = self.serving.log_in("Ann")
+        self.assertEqual(self.shown(), after)
+
+
+if __name__ == "__main__":
+    unittest.main()
