@@ -9,7 +9,8 @@ import os
 import signal
 import sys
 import threading
-from collections.abc import Iterator
+import time
+from collections.abc import Callable, Iterator
 
 from sfstore.journal import JournalError
 from sfstore.store import ProgramEnded
@@ -20,6 +21,7 @@ from sfstore.web.keeper import Keeper
 from sfstore.web.logins import LINK_SECONDS
 from sfstore.web.opening import Opening, has_screen
 from sfstore.web.server import Server
+from sfstore.web.socketed import Door, SocketTaken
 
 __all__ = ["main"]
 
@@ -27,6 +29,11 @@ _TYPED = (
     "`link` gives a link that lets one person in, under a new name; `link NAME` one that lets "
     "somebody in as NAME. Ctrl-C ends it."
 )
+
+# How long `--while-used` waits for the first one who comes, and for another one behind the last.
+_FIRST_SECONDS = 60.0
+_UNUSED_SECONDS = 10.0
+_LOOK_SECONDS = 0.5
 
 
 def main(words: list[str] | None = None) -> int:
@@ -65,6 +72,9 @@ def _parser() -> argparse.ArgumentParser:
     )
     parser.add_argument("--no-browser", action="store_true", help="only print the address")
     parser.add_argument("--seconds", type=_seconds, default=10.0, help="how long a question may take (10)")
+    parser.add_argument(
+        "--while-used", action="store_true", help="end once the last page and the last program have left"
+    )
     parser.add_argument("--program", default="sfstore", help="the program sfstore")
     return parser
 
@@ -97,11 +107,39 @@ def _serve(asked: argparse.Namespace, keeper: Keeper) -> int:
                 signal.signal(number, signal.default_int_handler)
             # In the background nothing can be read, and trying it shall not stop the process.
             signal.signal(signal.SIGTTIN, signal.SIG_IGN)
-            with contextlib.suppress(KeyboardInterrupt), _told(server, keeper, asked):
+            with contextlib.suppress(KeyboardInterrupt), _socket(server, asked), _told(server, keeper, asked):
                 server.serve_forever()
     finally:
         calls.close()
     return 0
+
+
+@contextlib.contextmanager
+def _socket(server: Server, asked: argparse.Namespace) -> Iterator[None]:
+    """Answers programs at the socket beside the file, while the body serves pages. Without one pages are served."""
+    with contextlib.ExitStack() as stack:
+        count: Callable[[], int] = lambda: 0
+        try:
+            door = stack.enter_context(Door(server.calls, asked.file))
+        except (OSError, SocketTaken) as error:
+            print(f"sfstore-web: no program can connect: {error}", file=sys.stderr)
+        else:
+            count = lambda: door.count
+            threading.Thread(target=door.serve_forever, daemon=True).start()
+            stack.callback(door.shutdown)
+        if asked.while_used:
+            threading.Thread(target=_end_unused, args=[server, count], daemon=True).start()
+        yield
+
+
+def _end_unused(server: Server, programs: Callable[[], int]) -> None:
+    """Ends the server once nobody has been there for some seconds."""
+    until = time.monotonic() + _FIRST_SECONDS
+    while time.monotonic() < until:
+        if programs() or server.calls.events.count:
+            until = time.monotonic() + _UNUSED_SECONDS
+        time.sleep(_LOOK_SECONDS)
+    server.shutdown()
 
 
 @contextlib.contextmanager

@@ -38,6 +38,11 @@ class Events:
             self._queues.add(waiting)
         return waiting
 
+    @property
+    def count(self) -> int:
+        """How many listen."""
+        return len(self._queues)
+
     def leave(self, waiting: queue.Queue[str | None]) -> None:
         """Ends listening."""
         with self._lock:

@@ -98,6 +98,10 @@ class Logins:
         found.used()
         return Login(key, editor, chosen)
 
+    def number_of(self, name: str) -> int:
+        """The number of somebody who needs no link, known or new. `EditorsError` where there is no room."""
+        return self._editors.number_of(name)
+
     def editor_of(self, key: str) -> int | None:
         """The editor to whom a key was given, or none."""
         return self._editor_by_key.get(_digest(key))

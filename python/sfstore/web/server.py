@@ -13,7 +13,6 @@ import json
 import queue
 import socket
 import sys
-import time
 from collections.abc import Callable
 from functools import partial
 from http import HTTPStatus
@@ -22,12 +21,10 @@ from importlib.resources import files
 from typing import Any
 from urllib.parse import urlencode
 
-from sfstore.store import Refused
-from sfstore.web.calls import BadCall, Calls, Outdated
+from sfstore.web.calls import Calls
 from sfstore.web.connections import Connections
-from sfstore.web.editors import EditorsError
-from sfstore.web.keeper import Unavailable
-from sfstore.web.logins import LoginRefused
+from sfstore.web.incoming import Incoming
+from sfstore.web.outcomes import outcome_of
 
 __all__ = ["Server"]
 
@@ -116,28 +113,6 @@ class _Refusal(Exception):
         self.status = status
 
 
-class _Incoming(io.RawIOBase):
-    """What a connection sends, until a moment: however slowly it comes, it takes no longer."""
-
-    def __init__(self, connection: socket.socket) -> None:
-        self._connection = connection
-        self._until = 0.0
-
-    def allow(self, seconds: float) -> None:
-        """Gives what is read from now on so much time."""
-        self._until = time.monotonic() + seconds
-
-    def readable(self) -> bool:
-        return True
-
-    def readinto(self, buffer: Any) -> int:
-        left = self._until - time.monotonic()
-        if left <= 0:
-            raise socket.timeout("the request takes too long")
-        self._connection.settimeout(left)
-        return self._connection.recv_into(buffer)
-
-
 class _Handler(BaseHTTPRequestHandler):
     server: Server
     protocol_version = "HTTP/1.1"
@@ -147,7 +122,7 @@ class _Handler(BaseHTTPRequestHandler):
     def setup(self) -> None:
         super().setup()
         self.rfile.close()
-        self._incoming = _Incoming(self.connection)
+        self._incoming = Incoming(self.connection)
         self.rfile = self._requests = io.BufferedReader(self._incoming)
 
     def version_string(self) -> str:
@@ -203,18 +178,8 @@ class _Handler(BaseHTTPRequestHandler):
     def _post(self) -> None:
         if self.headers.get("Origin") is None:
             raise _Refusal(403, "the request does not say which page it is from")
-        answer = self._call()
-        body = self._body()
-        try:
-            self._reply_json(200, answer(body))
-        except (BadCall, EditorsError, ValueError) as error:
-            self._reply_json(400, {"error": str(error)})
-        except LoginRefused as error:
-            self._reply_json(403, {"error": str(error)})
-        except Outdated as error:
-            self._reply_json(409, {"error": str(error)})
-        except (Unavailable, Refused) as error:
-            self._reply_json(503, {"error": str(error)})
+        call = self._call()
+        self._reply_json(*outcome_of(call, self._body()))
 
     def _call(self) -> Callable[[dict[str, Any]], dict[str, Any]]:
         """The call that is asked for. All but a login want a key."""

@@ -1,0 +1,226 @@
+"""A program's connection to the server of a store, by the socket beside the file.
+
+    with Client("town.sfs", "Ann") as client:
+        client.call("batch", page="script", lines=["add wells POINT (3 4)"], seen=[None])
+
+Each call has a limit of time. docs/use/PAGE.md of the project has the calls.
+"""
+
+from __future__ import annotations
+
+import json
+import os
+import socket
+import subprocess  # nosec B404: the server is started, without a shell.
+import sys
+import tempfile
+import time
+from pathlib import Path
+from types import TracebackType
+from typing import IO, Any
+
+import sfstore
+from sfstore.web.socketed import address_of, socket_of
+
+__all__ = ["CallFailed", "Client", "Events", "ServerGone", "start_server"]
+
+_SECONDS = 10.0
+_STARTING_SECONDS = 60.0
+_READ_BYTES = 1 << 20
+
+
+class ServerGone(Exception):
+    """No server answers: there is none, it has ended, or it takes too long. The text says which."""
+
+
+class CallFailed(Exception):
+    """A call was not carried out. The text says why."""
+
+    def __init__(self, status: int, words: str) -> None:
+        super().__init__(words)
+        self.status = status
+        """As HTTP has it: 409 where somebody else was there before, 503 where it can't be done now."""
+
+
+class Client:
+    """A connection by which somebody makes calls, one at a time. `ServerGone` where no server is there."""
+
+    def __init__(self, store: str, name: str, seconds: float = _SECONDS) -> None:
+        self._store = store
+        self._seconds = seconds
+        self._connection = _connected(store, seconds)
+        try:
+            hello = self.call("hello", name=name)
+        except BaseException:
+            self.close()
+            raise
+        self.editor: int = hello["editor"]
+        self.name: str = hello["name"]
+
+    def __enter__(self) -> Client:
+        return self
+
+    def __exit__(
+        self,
+        error_type: type[BaseException] | None,
+        error: BaseException | None,
+        traceback: TracebackType | None,
+    ) -> None:
+        self.close()
+
+    def close(self) -> None:
+        """Ends the connection."""
+        self._connection.close()
+
+    def call(self, call: str, **body: Any) -> dict[str, Any]:
+        """The answer of a call. `CallFailed` where it is not carried out, `ServerGone` where it is not answered.
+
+        After `ServerGone` it is not known whether the call was carried out, and the connection is closed.
+        """
+        asked = json.dumps({"call": call, **body}, ensure_ascii=False).encode("utf-8", "surrogatepass")
+        try:
+            answer = json.loads(self._exchanged(asked + b"\n"))
+        except (OSError, ValueError) as error:
+            self.close()
+            raise ServerGone(f"The server of {self._store} does not answer: {error}.") from error
+        if answer["status"] != 200:
+            raise CallFailed(answer["status"], answer["error"])
+        found: dict[str, Any] = answer["answer"]
+        return found
+
+    def events(self) -> Events:
+        """A further connection that hears what happens."""
+        return Events(_connected(self._store, self._seconds))
+
+    def _exchanged(self, asked: bytes) -> bytes:
+        """Sends a line, and reads one, within the limit of time."""
+        until = time.monotonic() + self._seconds
+        self._connection.settimeout(self._seconds)
+        self._connection.sendall(asked)
+        parts: list[bytes] = []
+        while not parts or not parts[-1].endswith(b"\n"):
+            self._connection.settimeout(max(until - time.monotonic(), 0.001))
+            parts.append(self._connection.recv(_READ_BYTES))
+            if not parts[-1]:
+                raise ConnectionError("it has ended")
+        return b"".join(parts)
+
+
+class Events:
+    """A connection that hears what happens. It never waits, but for `wait`."""
+
+    def __init__(self, connection: socket.socket) -> None:
+        self._connection = connection
+        self._connection.sendall(b'{"call": "events"}\n')
+        self._rest = b""
+
+    def fileno(self) -> int:
+        """The open file, which can be read when something has happened."""
+        return self._connection.fileno()
+
+    def close(self) -> None:
+        """Ends the connection."""
+        self._connection.close()
+
+    def take(self) -> list[dict[str, Any]]:
+        """What has happened since. `ServerGone` where the server has ended."""
+        self._connection.settimeout(0)
+        try:
+            data = self._connection.recv(_READ_BYTES)
+        except BlockingIOError:
+            return []
+        except OSError:
+            data = b""
+        return self._told(data)
+
+    def wait(self, seconds: float) -> list[dict[str, Any]]:
+        """What happens next, within some seconds; nothing where it is silent so long."""
+        self._connection.settimeout(seconds)
+        try:
+            data = self._connection.recv(_READ_BYTES)
+        except socket.timeout:
+            return []
+        return self._told(data)
+
+    def _told(self, data: bytes) -> list[dict[str, Any]]:
+        if not data:
+            raise ServerGone("The server of the store has ended.")
+        *lines, self._rest = (self._rest + data).split(b"\n")
+        return [json.loads(line) for line in lines if line]
+
+
+def _connected(store: str, seconds: float) -> socket.socket:
+    """A connection to a store's server. `ServerGone` where there is none."""
+    connection = socket.socket(socket.AF_UNIX)
+    connection.settimeout(seconds)
+    try:
+        with address_of(socket_of(store)) as address:
+            _connect(connection, address, time.monotonic() + seconds)
+    except OSError as error:
+        connection.close()
+        raise ServerGone(f"No server of {store} is there: {error.strerror or error}.") from error
+    return connection
+
+
+def _connect(connection: socket.socket, address: str, until: float) -> None:
+    """Connects, and waits for that where many others do."""
+    while True:
+        try:
+            connection.connect(address)
+            return
+        except BlockingIOError:
+            if time.monotonic() > until:
+                raise
+        time.sleep(0.01)
+
+
+def start_server(store: str, program: str = "sfstore", seconds: float = _STARTING_SECONDS) -> None:
+    """Has a server of a store answer, where none does: it ends when nobody uses it any more.
+
+    `ServerGone` where it can't be had, with what it says.
+    """
+    if _is_there(store):
+        return
+    until = time.monotonic() + seconds
+    with tempfile.TemporaryFile() as said:
+        process = _started(store, program, said)
+        while not _is_there(store):
+            if process.poll() is not None:
+                raise ServerGone(_last_line(said) or f"The server of {store} has ended.")
+            if time.monotonic() > until:
+                raise ServerGone(f"A server of {store} was started, and does not answer.")
+            time.sleep(0.02)
+
+
+def _is_there(store: str) -> bool:
+    try:
+        _connected(store, _SECONDS).close()
+    except ServerGone:
+        return False
+    return True
+
+
+def _started(store: str, program: str, said: IO[bytes]) -> subprocess.Popen[bytes]:
+    """A server of a store, in a session of its own, which says to a file what is wrong."""
+    python = sys.executable if "python" in os.path.basename(sys.executable or "") else "python3"
+    words = [python, "-m", "sfstore.web.command", store, "--no-browser", "--while-used", f"--program={program}"]
+    package = str(Path(sfstore.__file__).resolve().parent.parent)
+    process = subprocess.Popen(  # nosec B603: a list of words, of which some are paths.
+        words,
+        env={**os.environ, "PYTHONPATH": package},
+        stdin=subprocess.DEVNULL,
+        stdout=subprocess.DEVNULL,
+        stderr=said,
+        start_new_session=True,
+    )
+    # Those that have ended are waited for here.
+    _servers[:] = [process, *(server for server in _servers if server.poll() is None)]
+    return process
+
+
+_servers: list[subprocess.Popen[bytes]] = []
+
+
+def _last_line(said: IO[bytes]) -> str:
+    said.seek(0)
+    return said.read().decode("utf-8", "replace").strip().rpartition("\n")[2]
