@@ -355,24 +355,22 @@ class Started(SocketCase):
     """A server that a program begins, and that ends by itself."""
 
     def start(self):
-        started = []
-
-        def noted(*words):
-            started.append(was_started(*words))
-            return started[-1]
-
-        was_started = client._started
-        with mock.patch.object(client, "_started", noted):
-            start_server(str(self.path), PROGRAM)
-        for process in started:
-            self.addCleanup(process.wait)
-            self.addCleanup(process.kill)
-        return started
+        """The process of a server that is begun."""
+        start_server(str(self.path), PROGRAM)
+        process = client._servers[str(self.path)].process
+        self.addCleanup(client._servers.clear)
+        self.addCleanup(process.wait)
+        self.addCleanup(process.kill)
+        return process
 
     def test_it_is_begun_once(self):
-        self.assertEqual(len(self.start()), 1)
+        process = self.start()
         self.assertEqual(len(self.rows(self.client())), 2)
-        self.assertEqual(self.start(), [])
+        self.assertIs(self.start(), process)
+        process.kill()
+        process.wait()
+        self.assertIsNot(self.start(), process)
+        self.assertEqual(len(self.rows(self.client())), 2)
 
     def test_it_ends_when_nobody_is_left(self):
         ended = threading.Event()
@@ -390,13 +388,14 @@ class Started(SocketCase):
 
     def test_why_there_is_none_is_told(self):
         with Store(self.path, journal=True, program=PROGRAM) as store:
+            self.addCleanup(client._servers.clear)
             with self.assertRaises(ServerGone) as caught:
                 start_server(str(self.path), PROGRAM)
             store.close(save=False)
         self.assertIn("is open in another session", str(caught.exception))
 
     def test_a_server_that_hangs_is_given_up(self):
-        [process] = self.start()
+        process = self.start()
         ann = self.client(seconds=1)
         process.send_signal(signal.SIGSTOP)
         self.addCleanup(process.send_signal, signal.SIGCONT)

@@ -103,6 +103,11 @@ class Grid:
             found.append(k)
         return found
 
+    @property
+    def fractions(self) -> tuple[int, int, int, int]:
+        """x and y of the origin and the step as whole numbers, and the denominator that they have in common."""
+        return self._origin[0], self._origin[1], self._step, self._denominator
+
     def exact(self, x: int | Fraction, y: int | Fraction) -> tuple[Fraction, Fraction]:
         """The place of a point on a step or between steps."""
         return (

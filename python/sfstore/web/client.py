@@ -17,7 +17,7 @@ import tempfile
 import time
 from pathlib import Path
 from types import TracebackType
-from typing import IO, Any
+from typing import IO, Any, NamedTuple
 
 import sfstore
 from sfstore.web.socketed import address_of, socket_of
@@ -47,7 +47,8 @@ class Client:
 
     def __init__(self, store: str, name: str, seconds: float = _SECONDS) -> None:
         self._store = store
-        self._seconds = seconds
+        self.seconds = seconds
+        """How long a call may take."""
         self._connection = _connected(store, seconds)
         try:
             hello = self.call("hello", name=name)
@@ -90,12 +91,12 @@ class Client:
 
     def events(self) -> Events:
         """A further connection that hears what happens."""
-        return Events(_connected(self._store, self._seconds))
+        return Events(_connected(self._store, self.seconds))
 
     def _exchanged(self, asked: bytes) -> bytes:
         """Sends a line, and reads one, within the limit of time."""
-        until = time.monotonic() + self._seconds
-        self._connection.settimeout(self._seconds)
+        until = time.monotonic() + self.seconds
+        self._connection.settimeout(self.seconds)
         self._connection.sendall(asked)
         parts: list[bytes] = []
         while not parts or not parts[-1].endswith(b"\n"):
@@ -177,19 +178,34 @@ def _connect(connection: socket.socket, address: str, until: float) -> None:
 def start_server(store: str, program: str = "sfstore", seconds: float = _STARTING_SECONDS) -> None:
     """Has a server of a store answer, where none does: it ends when nobody uses it any more.
 
-    `ServerGone` where it can't be had, with what it says.
+    `ServerGone` where it can't be had, with what it says, or is not there within some seconds.
     """
     if _is_there(store):
         return
     until = time.monotonic() + seconds
-    with tempfile.TemporaryFile() as said:
-        process = _started(store, program, said)
-        while not _is_there(store):
-            if process.poll() is not None:
-                raise ServerGone(_last_line(said) or f"The server of {store} has ended.")
-            if time.monotonic() > until:
-                raise ServerGone(f"A server of {store} was started, and does not answer.")
-            time.sleep(0.02)
+    server = _begun(store, program)
+    while not _is_there(store):
+        if server.process.poll() is not None:
+            raise ServerGone(server.last_line() or f"The server of {store} has ended.")
+        if time.monotonic() > until:
+            raise ServerGone(f"A server of {store} was started, and does not answer yet.")
+        time.sleep(0.02)
+
+
+class _Server(NamedTuple):
+    """A server that this process has begun."""
+
+    process: subprocess.Popen[bytes]
+    said: IO[bytes]
+    """What it says of faults."""
+
+    def last_line(self) -> str:
+        self.said.seek(0)
+        return self.said.read().decode("utf-8", "replace").strip().rpartition("\n")[2]
+
+
+# Those that this process has begun, by their stores: one that is still starting is not begun again.
+_servers: dict[str, _Server] = {}
 
 
 def _is_there(store: str) -> bool:
@@ -200,8 +216,14 @@ def _is_there(store: str) -> bool:
     return True
 
 
-def _started(store: str, program: str, said: IO[bytes]) -> subprocess.Popen[bytes]:
-    """A server of a store, in a session of its own, which says to a file what is wrong."""
+def _begun(store: str, program: str) -> _Server:
+    """A server of a store, in a session of its own."""
+    known = _servers.get(store)
+    if known is not None:
+        if known.process.poll() is None:
+            return known
+        known.said.close()
+    said = tempfile.TemporaryFile()
     python = sys.executable if "python" in os.path.basename(sys.executable or "") else "python3"
     words = [python, "-m", "sfstore.web.command", store, "--no-browser", "--while-used", f"--program={program}"]
     package = str(Path(sfstore.__file__).resolve().parent.parent)
@@ -213,14 +235,5 @@ def _started(store: str, program: str, said: IO[bytes]) -> subprocess.Popen[byte
         stderr=said,
         start_new_session=True,
     )
-    # Those that have ended are waited for here.
-    _servers[:] = [process, *(server for server in _servers if server.poll() is None)]
-    return process
-
-
-_servers: list[subprocess.Popen[bytes]] = []
-
-
-def _last_line(said: IO[bytes]) -> str:
-    said.seek(0)
-    return said.read().decode("utf-8", "replace").strip().rpartition("\n")[2]
+    _servers[store] = _Server(process, said)
+    return _servers[store]

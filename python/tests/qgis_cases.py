@@ -1,0 +1,667 @@
+"""Tests inside of QGIS, which `test_qgis` starts."""
+
+from __future__ import annotations
+
+import os
+import random
+import signal
+import time
+import unittest
+
+from qgis.core import (
+    QgsFeature,
+    QgsFeatureRequest,
+    QgsField,
+    QgsGeometry,
+    QgsPointXY,
+    QgsProject,
+    QgsRectangle,
+    QgsVectorLayer,
+    QgsVectorLayerUtils,
+)
+from qgis.PyQt.QtCore import NULL, QVariant
+from qgis_support import CROSSED, SQUARE, QgisCase
+
+from sfstore.web.client import CallFailed
+
+
+class Opening(QgisCase):
+    """What is shown of a store."""
+
+    def test_layers_in_drawing_order_with_their_reference_system(self):
+        names = [layer.name() for layer in QgsProject.instance().layerTreeRoot().layerOrder()]
+        self.assertEqual(names, ["wells", "streets", "parcels"])
+        parcels = self.layer()
+        self.assertEqual((parcels.featureCount(), parcels.crs().authid()), (200, "EPSG:25832"))
+        self.assertEqual(parcels.fields().names(), ["id", "number", "owner"])
+        self.assert_alike()
+
+    def test_a_window_and_an_expression(self):
+        parcels = self.layer()
+        box = QgsRectangle(500000, 5600000, 500020, 5600020)
+        found = {feature["id"] for feature in parcels.getFeatures(QgsFeatureRequest(box))}
+        self.assertEqual(found, {feature["id"] for feature in parcels.getFeatures() if feature.geometry().intersects(box)})
+        self.assertTrue(found)
+        owners = [feature["owner"] for feature in parcels.getFeatures("owner = 'Dunn'")]
+        self.assertEqual(set(owners), {"Dunn"})
+
+    def test_a_second_opening_adds_nothing(self):
+        self.plugin.open(str(self.path))
+        self.assertEqual(len(QgsProject.instance().mapLayers()), 3)
+
+    def test_what_is_no_layer_of_a_store(self):
+        for uri in (f"{self.path}|layername=nix", f"{self.path}", str(self.folder / "nix" / "town.sfs|layername=x")):
+            layer = QgsVectorLayer(uri, "nix", "sfstore")
+            self.assertFalse(layer.isValid())
+
+    def test_a_project_is_read_again(self):
+        file = str(self.folder / "town.qgs")
+        self.assertTrue(QgsProject.instance().write(file))
+        QgsProject.instance().clear()
+        self.assertEqual(len(self.plugin.editings), 0)
+        self.assertTrue(QgsProject.instance().read(file))
+        self.assertEqual(self.layer().featureCount(), 200)
+        self.assertEqual(len(self.plugin.editings), 3)
+
+    def test_a_side_car_of_another_file_is_told(self):
+        path = self.folder / "other.sfs"
+        self.make(b"layer add w point\nadd w POINT (1 1)\n", path)
+        self.place(path)
+        self.make(b"layer add w point\nadd w POINT (2 2)\n", path)
+        self.said()
+        self.plugin.open(str(path))
+        self.assertIn("belongs to another file", " ".join(self.said()))
+        [feature] = self.layer("w").getFeatures()
+        self.assertEqual(feature.geometry().asWkt(), "Point (2 2)")
+
+
+class Commits(QgisCase):
+    """Edits in QGIS' buffer, and commits of it."""
+
+    def test_a_commit_is_one_step_of_the_store(self):
+        parcels = self.layer()
+        parcels.startEditing()
+        self.draw(SQUARE, number=9001, owner="O'New")
+        self.set(1, "owner", "Changed")
+        parcels.deleteFeature(self.fid(3))
+        self.assertTrue(parcels.commitChanges(), parcels.commitErrors())
+        self.assertIn("number=9001 owner='O''New'", self.stored()[201])
+        self.assertNotIn(3, self.stored())
+        self.settle()
+        self.assert_alike()
+        self.plugin.move("undo")
+        self.settle()
+        self.assertEqual((parcels.featureCount(), self.feature(1)["owner"]), (200, "Dunn"))
+        self.assert_alike()
+        self.plugin.move("redo")
+        self.settle()
+        self.assertEqual((parcels.featureCount(), self.feature(1)["owner"]), (200, "Changed"))
+        self.assert_alike()
+
+    def test_a_refused_commit_leaves_all_in_the_buffer(self):
+        parcels = self.layer()
+        parcels.startEditing()
+        drawn = self.draw(CROSSED, number=9002)
+        parcels.deleteFeature(self.fid(3))
+        self.assertFalse(parcels.commitChanges())
+        self.turn()
+        said = " ".join(self.said())
+        self.assertIn("Refused (13 RingNotSimple): a ring meets itself", said)
+        self.assertIn("Here: edges 0 and 2 of ring 0 meet at (500523.3333 5600053.333).", said)
+        self.assertEqual(len(self.plugin.teller._markers), 1)
+        self.assertEqual(len(parcels.editBuffer().addedFeatures()), 1)
+        self.assertEqual(parcels.editBuffer().deletedFeatureIds(), [self.fid(3)])
+        self.assertIn(3, self.stored())
+        parcels.changeGeometry(drawn.id(), QgsGeometry.fromWkt(SQUARE))
+        self.assertTrue(parcels.commitChanges(), parcels.commitErrors())
+        self.assertEqual(len(self.plugin.teller._markers), 0)
+        self.settle()
+        self.assert_alike()
+
+    def test_what_is_drawn_wrongly_is_told_before_it_is_sent(self):
+        self.layer().startEditing()
+        self.draw(CROSSED)
+        self.turn()
+        self.assertIn("parcels, not sent yet: Refused (13 RingNotSimple)", " ".join(self.said()))
+        self.assertEqual(len(self.plugin.teller._markers), 1)
+        self.assertEqual(len(self.stored()), 200)
+
+    def test_features_get_numbers_in_the_order_in_which_they_were_drawn(self):
+        self.layer().startEditing()
+        for k in range(5):
+            self.draw(SQUARE, number=k)
+        self.assertTrue(self.layer().commitChanges())
+        stored = self.stored()
+        self.assertEqual([f"number={k}" in stored[201 + k] for k in range(5)], [True] * 5)
+        self.settle()
+        self.assert_alike()
+
+    def test_what_is_moved_by_the_grid_is_told(self):
+        parcels = self.layer()
+        # QGIS draws on the grid by itself.
+        self.assertAlmostEqual(parcels.geometryOptions().geometryPrecision(), 0.1)
+        parcels.geometryOptions().setGeometryPrecision(0)
+        parcels.startEditing()
+        self.draw("POLYGON((500510.013 5600000.02, 500540 5600000, 500540 5600030, 500510.013 5600000.02))")
+        self.assertTrue(parcels.commitChanges())
+        self.assertIn("4 coordinates were moved to the grid, by 0.02 at most.", " ".join(self.said()))
+        self.assertEqual(self.feature(201).geometry().asWkt(4)[:24], "Polygon ((500510 5600000")
+        parcels.startEditing()
+        self.draw(SQUARE)
+        parcels.commitChanges()
+        self.assertNotIn("moved to the grid", " ".join(self.said()))
+        self.settle()
+        self.assert_alike()
+
+    def test_what_the_store_can_not_take_is_told_in_words(self):
+        parcels = self.layer()
+        for wkt, words in (
+            ("POLYGON((9e9 0, 9e9 1, 8e9 1, 9e9 0))", "further from the origin"),
+            ("CURVEPOLYGON(CIRCULARSTRING(0 0, 1 1, 2 0, 1 -1, 0 0))", "a curve or surface"),
+            ("MULTIPOLYGON(((500510 5600000, 500540 5600000, 500540 5600030, 500510 5600000)), "
+             "((500610 5600000, 500640 5600000, 500640 5600030, 500610 5600000)))", "26 WrongKind"),
+            ("", "without a geometry"),
+        ):
+            with self.subTest(wkt=wkt[:20]):
+                parcels.startEditing()
+                self.said()
+                feature = QgsFeature(parcels.fields())
+                if wkt:
+                    feature.setGeometry(QgsGeometry.fromWkt(wkt))
+                parcels.addFeature(feature)
+                self.assertFalse(parcels.commitChanges())
+                self.turn()
+                self.assertIn(words, " ".join(self.said()))
+                parcels.rollBack()
+        self.assertEqual(len(self.stored()), 200)
+
+    def test_a_multi_polygon_of_one_part_is_a_polygon(self):
+        parcels = self.layer()
+        parcels.startEditing()
+        self.draw("MULTIPOLYGON(((500510 5600000, 500540 5600000, 500540 5600030, 500510 5600000)))")
+        self.assertTrue(parcels.commitChanges(), parcels.commitErrors())
+        self.assertIn("POLYGON ((100 0", self.stored()[201].replace("5100 0", "100 0"))
+
+    def test_texts_and_numbers(self):
+        parcels = self.layer()
+        parcels.startEditing()
+        values = ["it's $1 last", "ä" * 127, "", NULL]
+        for number, owner in enumerate(values, 1):
+            self.set(number, "owner", owner)
+        self.set(5, "number", -(2**63))
+        self.set(6, "number", 2**63 - 1)
+        self.assertTrue(parcels.commitChanges(), parcels.commitErrors())
+        self.settle()
+        self.assert_alike()
+        self.assertIn("owner='it''s $1 last'", self.stored()[1])
+        self.assertNotIn("owner", self.stored()[4])
+        for owner in ("ä" * 128, "two\nlines"):
+            parcels.startEditing()
+            self.set(1, "owner", owner)
+            self.assertFalse(parcels.commitChanges())
+            parcels.rollBack()
+
+    def test_edits_around_the_buffer_are_batches_of_their_own(self):
+        data = self.layer().dataProvider()
+        feature = QgsFeature(self.layer().fields())
+        feature.setGeometry(QgsGeometry.fromWkt(SQUARE))
+        feature["number"] = 5
+        self.assertTrue(data.addFeatures([feature])[0])
+        self.assertFalse(data.deleteFeatures([self.fid(1)]) and 1 in self.stored())
+        self.assertTrue(data.changeAttributeValues({self.fid(2): {2: "x"}}))
+        feature.setGeometry(QgsGeometry.fromWkt(CROSSED))
+        self.assertFalse(data.addFeatures([feature])[0])
+        self.assertIn("RingNotSimple", " ".join(data.errors()))
+        self.settle()
+        self.assert_alike()
+
+    def test_splitting_merging_and_duplicating(self):
+        parcels = self.layer()
+        parcels.startEditing()
+        box = self.feature(3).geometry().boundingBox()
+        parcels.selectByExpression("id = 3")
+        parcels.beginEditCommand("split")
+        y = box.center().y()
+        parcels.splitFeatures([QgsPointXY(box.xMinimum() - 1, y), QgsPointXY(box.xMaximum() + 1, y)], False)
+        parcels.endEditCommand()
+        self.assertTrue(parcels.commitChanges(), parcels.commitErrors())
+        self.assertEqual(len(self.stored()), 201)
+        parcels.startEditing()
+        whole = self.feature(3).geometry().combine(self.feature(201).geometry())
+        parcels.beginEditCommand("merge")
+        parcels.changeGeometry(self.fid(3), whole)
+        parcels.deleteFeature(self.fid(201))
+        parcels.endEditCommand()
+        self.assertTrue(parcels.commitChanges(), parcels.commitErrors())
+        self.assertEqual(len(self.stored()), 200)
+        parcels.startEditing()
+        QgsVectorLayerUtils.duplicateFeature(parcels, self.feature(1), QgsProject.instance())
+        self.assertTrue(parcels.commitChanges(), parcels.commitErrors())
+        self.settle()
+        self.assert_alike()
+
+
+class Columns(QgisCase):
+    """Columns and layers."""
+
+    def test_columns_are_added_with_values_and_dropped(self):
+        parcels = self.layer()
+        parcels.startEditing()
+        self.assertTrue(parcels.addAttribute(QgsField("area", QVariant.LongLong)))
+        self.assertTrue(parcels.deleteAttribute(parcels.fields().indexOf("number")))
+        self.set(1, "area", 77)
+        self.set(1, "owner", "x")
+        self.assertTrue(parcels.commitChanges(), parcels.commitErrors())
+        self.assertTrue(self.stored()[1].endswith("owner='x' area=77"), self.stored()[1])
+        self.assertEqual(parcels.fields().names(), ["id", "owner", "area"])
+        self.settle()
+        self.assert_alike()
+        self.plugin.move("undo")
+        self.settle()
+        self.assertEqual(sorted(parcels.fields().names()), ["id", "number", "owner"])
+        self.assert_alike()
+
+    def test_columns_that_the_store_does_not_have(self):
+        parcels = self.layer()
+        for field in (QgsField("x", QVariant.Double), QgsField("no name", QVariant.String)):
+            parcels.startEditing()
+            self.assertFalse(parcels.addAttribute(field) and parcels.commitChanges())
+            parcels.rollBack()
+        self.assertEqual(len(self.session.columns("parcels")), 2)
+        self.assertFalse(parcels.dataProvider().deleteAttributes([0]))
+
+    def test_a_column_that_another_one_drops_leaves_no_value_in_another_column(self):
+        ben, parcels = self.ben(), self.layer()
+        parcels.startEditing()
+        self.set(100, "owner", "Ann 100")
+        self.bens(ben, "column drop parcels number")
+        self.assertFalse(parcels.commitChanges())
+        self.assertNotIn("Ann", self.stored()[100])
+        parcels.rollBack()
+        self.turn()
+        self.assertEqual(parcels.fields().names(), ["id", "owner"])
+        self.assert_alike()
+
+    def test_a_column_that_another_one_adds(self):
+        ben, parcels = self.ben(), self.layer()
+        parcels.startEditing()
+        self.bens(ben, "column add parcels area int", "set parcels 5 area 7")
+        self.assertEqual(parcels.fields().names(), ["id", "number", "owner", "area"])
+        self.set(6, "area", 8)
+        self.assertTrue(parcels.commitChanges(), parcels.commitErrors())
+        self.settle()
+        self.assert_alike()
+
+    def test_layers_are_added_and_dropped(self):
+        self.plugin.add_layer("trees", "point")
+        trees = self.layer("trees")
+        trees.startEditing()
+        self.draw("POINT(500010 5600010)", trees)
+        self.assertTrue(trees.commitChanges(), trees.commitErrors())
+        self.assertEqual(len(self.stored("trees")), 1)
+        self.plugin.drop_layer(self.plugin.editings[trees.id()])
+        self.assertEqual(len(self.session.layers()), 3)
+        self.assertEqual(len(QgsProject.instance().mapLayers()), 3)
+        self.plugin.move("undo")
+        self.settle()
+        self.assertIn("New in the store: trees", " ".join(self.said()))
+        self.plugin.open(str(self.path))
+        self.assertEqual(self.layer("trees").featureCount(), 1)
+        self.assert_alike()
+
+    def test_a_layer_that_another_one_drops_and_brings_back(self):
+        ben = self.ben()
+        self.bens(ben, "layer drop wells")
+        self.assertIn("Not in the store any more: wells", " ".join(self.said()))
+        wells = self.layer("wells")
+        self.assertEqual(wells.featureCount(), 0)
+        wells.startEditing()
+        self.draw("POINT(500010 5600010)", wells)
+        self.assertFalse(wells.commitChanges())
+        wells.rollBack()
+        ben.call("line", page="ben", line="undo")
+        self.settle()
+        self.assertEqual(wells.featureCount(), 4)
+        self.assert_alike()
+
+
+class AnyKind(QgisCase):
+    """A layer that takes any kind of geometry."""
+
+    lines = (
+        b"layer add m any\ncolumn add m n int\nadd m POINT (1 1)\nadd m LINESTRING (0 0, 5 5)\n"
+        b"add m MULTIPOINT ((1 1), (2 2))\nset m 3 n 7\n"
+    )
+
+    def test_it_is_one_layer_for_each_kind(self):
+        names = sorted(layer.name() for layer in QgsProject.instance().mapLayers().values())
+        self.assertEqual(names, ["m (linestring)", "m (multipoint)", "m (point)", "m (polygon)"])
+        self.assertEqual([self.layer(name).featureCount() for name in names], [1, 1, 1, 0])
+        self.assert_alike()
+
+    def test_each_takes_its_own(self):
+        polygons, points = self.layer("m (polygon)"), self.layer("m (point)")
+        polygons.startEditing()
+        self.draw(SQUARE, polygons, n=5)
+        self.assertTrue(polygons.commitChanges(), polygons.commitErrors())
+        self.assertTrue(self.stored("m")[4].startswith("4 POLYGON"))
+        ben = self.ben()
+        self.bens(ben, "add m POINT (7 7)", "replace m 1 LINESTRING (0 0, 1 1)")
+        self.assertEqual((points.featureCount(), self.layer("m (linestring)").featureCount()), (1, 2))
+        self.assert_alike()
+        self.plugin.move("undo") if False else None
+        self.settle()
+        self.assert_alike()
+
+
+class AtOnce(QgisCase):
+    """Each edit is sent as it is made."""
+
+    at_once = True
+
+    def test_each_edit_is_in_the_store_as_it_is_made(self):
+        parcels = self.layer()
+        parcels.startEditing()
+        self.set(10, "owner", "At once")
+        self.turn()
+        self.assertIn("owner='At once'", self.stored()[10])
+        self.assertFalse(parcels.isModified())
+        self.assertTrue(parcels.isEditable())
+        self.draw(SQUARE, number=7)
+        self.turn()
+        self.assertIn("number=7", self.stored()[201])
+        parcels.deleteFeature(self.fid(201))
+        self.turn()
+        self.assertNotIn(201, self.stored())
+        self.settle()
+        self.assert_alike()
+
+    def test_one_that_is_refused_is_taken_back_and_told(self):
+        parcels = self.layer()
+        parcels.startEditing()
+        was = self.feature(10).geometry()
+        box = was.boundingBox()
+        corner = was.closestVertex(QgsPointXY(box.xMaximum(), box.yMinimum()))[1]
+        parcels.beginEditCommand("move a vertex")
+        parcels.moveVertex(box.xMinimum() - 5, box.center().y(), self.fid(10), corner)
+        parcels.endEditCommand()
+        self.turn()
+        self.assertIn("parcels: Refused (13 RingNotSimple)", " ".join(self.said()))
+        self.assertEqual(self.feature(10).geometry().asWkt(), was.asWkt())
+        self.assertFalse(parcels.isModified())
+        self.assertTrue(parcels.isEditable())
+        self.set(10, "owner", "still going")
+        self.turn()
+        self.assertIn("still going", self.stored()[10])
+        self.assertEqual(len(self.plugin.teller._markers), 0)
+
+    def test_layers_that_are_edited_in_one_turn_are_one_step(self):
+        parcels, wells = self.layer(), self.layer("wells")
+        parcels.startEditing()
+        wells.startEditing()
+        self.set(10, "owner", "both")
+        wells.deleteFeature(self.fid(1, wells))
+        self.turn()
+        self.assertNotIn(1, self.stored("wells"))
+        self.plugin.move("undo")
+        self.settle()
+        self.assertIn(1, self.stored("wells"))
+        self.assertNotIn("both", self.stored()[10])
+        self.assert_alike()
+
+    def test_of_layers_that_are_edited_in_one_turn_both_are_taken_back(self):
+        parcels, wells = self.layer(), self.layer("wells")
+        parcels.startEditing()
+        wells.startEditing()
+        wells.deleteFeature(self.fid(1, wells))
+        self.draw(CROSSED)
+        self.turn()
+        self.assertIn(1, self.stored("wells"))
+        self.assertFalse(parcels.isModified() or wells.isModified())
+        self.assert_alike()
+
+    def test_qgis_own_actions_move_the_stores_steps(self):
+        parcels = self.window.active = self.layer()
+        undo, redo = self.window.action("mActionUndo"), self.window.action("mActionRedo")
+        parcels.startEditing()
+        self.assertFalse(undo.isEnabled())
+        self.set(10, "owner", "At once")
+        self.turn()
+        self.settle()
+        self.assertTrue(undo.isEnabled())
+        undo.trigger()
+        self.settle()
+        self.assertNotIn("At once", self.stored()[10])
+        self.assertEqual(self.feature(10)["owner"] == "At once", False)
+        self.assertTrue(redo.isEnabled())
+        redo.trigger()
+        self.settle()
+        self.assertIn("At once", self.stored()[10])
+        self.assert_alike()
+
+    def test_what_was_not_sent_before_the_switch_is_not_taken_back(self):
+        self.plugin.switch.setChecked(False)
+        parcels = self.layer()
+        parcels.startEditing()
+        self.set(10, "owner", "before")
+        self.turn()
+        self.assertNotIn("before", self.stored()[10])
+        self.plugin.switch.setChecked(True)
+        self.draw(CROSSED)
+        self.turn()
+        self.assertEqual(self.feature(10)["owner"], "before")
+        self.assertNotIn("before", self.stored()[10])
+        self.set(11, "owner", "after")
+        self.turn()
+        self.assertIn("before", self.stored()[10])
+        self.assertIn("after", self.stored()[11])
+
+
+class Others(QgisCase):
+    """Edits of others."""
+
+    def test_they_are_seen_as_they_happen(self):
+        ben = self.ben()
+        self.bens(ben, "set parcels 7 owner 'Ben''s'", "add wells POINT (2000 2000)", "delete parcels 8")
+        self.assertEqual(self.feature(7)["owner"], "Ben's")
+        self.assertEqual(self.layer("wells").featureCount(), 5)
+        self.assertFalse(self.feature(9).id() == self.layer().getFeature(0).id())
+        self.assert_alike()
+        ben.call("line", page="ben", line="undo")
+        self.settle()
+        self.assert_alike()
+
+    def test_a_conflict_is_told_and_nothing_is_overwritten(self):
+        ben, parcels = self.ben(), self.layer()
+        parcels.startEditing()
+        self.set(7, "owner", "Ann's")
+        self.bens(ben, "set parcels 7 owner 'Ben''s'")
+        self.assertIn("Ben has changed what you are changing too: parcels 7", " ".join(self.said()))
+        self.assertFalse(parcels.commitChanges())
+        self.turn()
+        self.assertIn("Ben changed parcels 7 meanwhile", " ".join(self.said()))
+        self.assertIn("Ben''s", self.stored()[7])
+        parcels.rollBack()
+        parcels.startEditing()
+        self.set(7, "owner", "Ann's")
+        self.assertTrue(parcels.commitChanges())
+        self.assertIn("Ann''s", self.stored()[7])
+
+    def test_what_another_one_deletes_while_it_is_changed(self):
+        ben, parcels = self.ben(), self.layer()
+        parcels.startEditing()
+        self.set(50, "owner", "Ann 50")
+        self.bens(ben, "delete parcels 50")
+        self.assertFalse(parcels.commitChanges())
+        ben.call("line", page="ben", line="undo")
+        self.settle()
+        self.assertFalse(parcels.commitChanges())
+        parcels.rollBack()
+        parcels.startEditing()
+        self.set(50, "owner", "Ann 50")
+        self.assertTrue(parcels.commitChanges(), parcels.commitErrors())
+        self.settle()
+        self.assert_alike()
+
+    def test_nobody_undoes_anothers_step(self):
+        ben = self.ben()
+        self.bens(ben, "set parcels 7 owner 'Ben''s'")
+        self.plugin.tried(lambda: self.plugin.move("undo"))
+        self.assertIn("Refused (36 NotYours): the step is another editor's (Ben: set parcels 7", " ".join(self.said()))
+        self.assertIn("Ben''s", self.stored()[7])
+
+    def test_the_stores_undo_waits_for_what_was_not_sent(self):
+        self.layer().startEditing()
+        self.set(7, "owner", "x")
+        self.layer().commitChanges(False)
+        self.set(7, "owner", "y")
+        self.plugin.move("undo")
+        self.assertIn("has edits that the store has not", " ".join(self.said()))
+        self.assertIn("owner='x'", self.stored()[7])
+
+    def test_a_number_that_comes_again(self):
+        ben, parcels = self.ben(), self.layer()
+        version = ben.call("map")["version"]
+        ben.call("batch", page="ben", lines=["add parcels POLYGON ((0 9000, 9 9000, 9 9009, 0 9000))"], seen=[version])
+        self.settle()
+        ben.call("line", page="ben", line="undo")
+        # Ann's addition gets the number of Ben's, before she hears that his was undone.
+        parcels.startEditing()
+        self.draw(SQUARE, number=5)
+        self.assertTrue(parcels.commitChanges(), parcels.commitErrors())
+        self.settle()
+        self.assert_alike()
+        self.assertEqual(parcels.featureCount(), 201)
+
+
+class Lost(QgisCase):
+    """A server that hangs or ends."""
+
+    def test_one_that_was_killed_is_begun_again_with_all_that_was_answered(self):
+        parcels = self.layer()
+        parcels.startEditing()
+        self.set(51, "owner", "Ann 51")
+        self.assertTrue(parcels.commitChanges())
+        parcels.startEditing()
+        self.set(52, "owner", "waits")
+        self.server().kill()
+        self.wait_for(lambda: not self.session.is_connected)
+        self.assertFalse(parcels.commitChanges())
+        self.assertTrue(parcels.isModified())
+        self.wait_for(lambda: self.session.is_connected)
+        self.turn(0.3)
+        self.assertIn("answers again", " ".join(self.said()))
+        self.assertTrue(parcels.commitChanges(), parcels.commitErrors())
+        self.assertIn("Ann 51", self.stored()[51])
+        self.assertIn("waits", self.stored()[52])
+        self.settle()
+        self.assert_alike()
+
+    def test_what_was_changed_meanwhile_is_not_overwritten(self):
+        parcels = self.layer()
+        parcels.startEditing()
+        self.set(52, "owner", "Ann's")
+        self.session._again.setInterval(10**6)
+        ben = self.ben()
+        self.session._lose()
+        self.session._again.stop()
+        version = ben.call("map")["version"]
+        ben.call("batch", page="ben", lines=["set parcels 52 owner 'Ben''s'"], seen=[version])
+        self.session._try_again()
+        self.assertTrue(self.session.is_connected)
+        self.assertFalse(parcels.commitChanges())
+        self.assertIn("Ben''s", self.stored()[52])
+
+    def test_one_that_hangs_does_not_hang_qgis(self):
+        parcels = self.layer()
+        parcels.startEditing()
+        self.set(53, "owner", "in doubt")
+        os.killpg(self.server().pid, signal.SIGSTOP)
+        try:
+            begun = time.monotonic()
+            self.assertFalse(parcels.commitChanges())
+            self.assertLess(time.monotonic() - begun, 8)
+            self.turn()
+            self.assertIn("does not answer", " ".join(self.said()))
+            for _ in range(5):
+                begun = time.monotonic()
+                self.assertFalse(parcels.commitChanges())
+                self.assertLess(time.monotonic() - begun, 0.5)
+        finally:
+            os.killpg(self.server().pid, signal.SIGCONT)
+        self.wait_for(lambda: self.session.is_connected)
+        self.turn(0.2)
+        self.assertIn("save your last edit, or give it up", " ".join(self.said()))
+        parcels.rollBack()
+        self.settle()
+        self.assert_alike()
+
+
+class AtRandom(QgisCase):
+    """Edits at random, of this QGIS and of another editor, and the store's content at the end."""
+
+    def test_two_editors_by_a_seed(self):
+        rng = random.Random(53)
+        ben, parcels = self.ben(), self.layer()
+        for step in range(150):
+            self.bens_move(rng, ben)
+            if rng.random() < 0.3:
+                self.turn(0.01)
+            if rng.random() < 0.2:
+                self.plugin.tried(lambda: self.plugin.move(rng.choice(["undo", "redo"])))
+                continue
+            parcels.startEditing()
+            for _ in range(rng.randrange(1, 4)):
+                self.edit(rng, parcels)
+            if rng.random() < 0.5:
+                self.bens_move(rng, ben)
+            if rng.random() < 0.5:
+                self.turn(0.01)
+            if not parcels.commitChanges():
+                parcels.rollBack()
+        self.settle()
+        self.assert_alike()
+
+    def edit(self, rng, parcels):
+        mirror = self.plugin.editings[parcels.id()].provider.mirror
+        fid = rng.choice(list(mirror.fids.values()))
+        box = parcels.getGeometry(fid).boundingBox()
+        what = rng.choice(["value", "vertex", "bad", "delete", "add"])
+        if what == "value":
+            parcels.changeAttributeValue(fid, 2, f"Ann {rng.random():.4f} it's last")
+        elif what == "vertex":
+            parcels.moveVertex(box.xMaximum() - rng.random(), box.yMinimum() + rng.random(), fid, 1)
+        elif what == "bad" and rng.random() < 0.3:
+            parcels.moveVertex(box.xMinimum() - 5, box.center().y(), fid, 1)
+        elif what == "delete":
+            parcels.deleteFeature(fid)
+        elif what == "add":
+            x, y = 500000 + rng.random() * 900, 5600400 + rng.random() * 300
+            feature = QgsFeature(parcels.fields())
+            feature.setGeometry(QgsGeometry.fromRect(QgsRectangle(x, y, x + 9, y + 9)))
+            feature["number"] = rng.randrange(10**9)
+            parcels.addFeature(feature)
+
+    def bens_move(self, rng, ben):
+        number = rng.randrange(1, 205)
+        line = rng.choice(
+            [
+                f"set parcels {number} owner 'Ben {rng.random():.4f}'",
+                f"delete parcels {number}",
+                f"add parcels POLYGON ((0 {number}, 9 {number}, 9 {number + 9}, 0 {number}))",
+                "undo",
+                "redo",
+            ]
+        )
+        version = ben.call("map")["version"]
+        try:
+            if line in ("undo", "redo"):
+                ben.call("line", page="ben", line=line)
+            else:
+                ben.call("batch", page="ben", lines=[line], seen=[version])
+        except CallFailed:
+            pass
+
+
+if __name__ == "__main__":
+    unittest.main()

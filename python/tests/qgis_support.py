@@ -1,0 +1,232 @@
+"""What the tests inside of QGIS have in common: an application without a screen, a window, and the plugin in it.
+
+Only `test_qgis` starts them, in processes of their own: QGIS may end a process.
+"""
+
+from __future__ import annotations
+
+import json
+import os
+import sys
+import time
+
+from support import FOLDER, PROGRAM
+from web_support import TOWN, WebCase
+
+os.environ.setdefault("QT_QPA_PLATFORM", "offscreen")
+os.environ["SFSTORE"] = PROGRAM
+sys.path.insert(0, str(FOLDER.parent / "qgis"))
+
+from qgis.core import Qgis, QgsApplication, QgsFeature, QgsGeometry, QgsProject, QgsSettings  # noqa: E402
+from qgis.gui import QgsMapCanvas, QgsMessageBar  # noqa: E402
+from qgis.PyQt.QtCore import QCoreApplication  # noqa: E402
+from qgis.PyQt.QtWidgets import QAction, QMainWindow, QVBoxLayout, QWidget  # noqa: E402
+
+QCoreApplication.setOrganizationName("sfstore-tests")
+APP = QgsApplication([], True)
+APP.initQgis()
+
+
+def _told(*error):
+    """What a slot raises ends the process: no test may pass beside it."""
+    sys.__excepthook__(*error)
+    sys.stderr.flush()
+    os._exit(1)
+
+
+sys.excepthook = _told
+
+from sfstore_qgis import session  # noqa: E402
+from sfstore_qgis.plugin import Plugin  # noqa: E402
+from sfstore_qgis.session import Session  # noqa: E402
+
+from sfstore.web import client  # noqa: E402
+from sfstore.web.client import Client  # noqa: E402
+
+SIDECAR = {
+    "format": "sfstore side-car 1",
+    "grid": ["500000", "5600000", "0.1"],
+    "crs": {"authority": "EPSG", "code": "25832", "wkt": ""},
+    "layers": [],
+}
+CROSSED = "POLYGON((500510 5600040, 500540 5600070, 500540 5600040, 500510 5600064, 500510 5600040))"
+SQUARE = "POLYGON((500510 5600000, 500540 5600000, 500540 5600030, 500510 5600030, 500510 5600000))"
+
+
+class Window(QMainWindow):
+    """As much of QGIS' window as the plugin needs."""
+
+    def __init__(self):
+        super().__init__()
+        self.canvas, self.messages, box = QgsMapCanvas(), QgsMessageBar(), QWidget()
+        layout = QVBoxLayout(box)
+        layout.addWidget(self.messages)
+        layout.addWidget(self.canvas)
+        self.setCentralWidget(box)
+        self.resize(1000, 700)
+        self.active = None
+        for name in ("mActionUndo", "mActionRedo"):
+            action = QAction(name, self)
+            action.setObjectName(name)
+            action.setEnabled(False)
+
+    def mapCanvas(self):
+        return self.canvas
+
+    def messageBar(self):
+        return self.messages
+
+    def mainWindow(self):
+        return self
+
+    def activeLayer(self):
+        return self.active
+
+    def action(self, name):
+        return self.findChild(QAction, name)
+
+
+class QgisCase(WebCase):
+    """A test with the town open in QGIS, as Ann."""
+
+    SECONDS = 300
+    lines = TOWN.read_bytes()
+    at_once = False
+
+    def setUp(self):
+        super().setUp()
+        self.make(self.lines)
+        self.place(self.path)
+        QgsSettings().setValue("sfstore/name", "Ann")
+        QgsSettings().setValue("sfstore/at_once", self.at_once)
+        Session.program = PROGRAM
+        self.window = Window()
+        self.plugin = Plugin(self.window)
+        self.plugin.initGui()
+        self.addCleanup(self.end)
+        self.plugin.open(str(self.path))
+        self.session = Session.of(str(self.path))
+
+    def place(self, path):
+        """Writes the side-car of a store's file."""
+        from sfstore import files
+
+        told = {**SIDECAR, "digests": [files.digest(str(path))]}
+        path.with_name(path.name + ".json").write_text(json.dumps(told))
+
+    def end(self):
+        """Leaves the project and the store, and ends the server."""
+        QgsProject.instance().clear()
+        self.plugin.unload()
+        for each in list(Session.open.values()):
+            each.close()
+        for server in client._servers.values():
+            server.process.kill()
+            server.process.wait()
+            server.said.close()
+        client._servers.clear()
+        QgsApplication.processEvents()
+
+    def server(self):
+        """The process of the server."""
+        return client._servers[os.path.realpath(self.path)].process
+
+    def layer(self, name="parcels"):
+        [found] = QgsProject.instance().mapLayersByName(name)
+        return found
+
+    def ben(self):
+        """Another editor of the same store, at the socket."""
+        made = Client(str(self.path), "Ben", 30)
+        self.addCleanup(made.close)
+        return made
+
+    def bens(self, ben, *lines):
+        """Has Ben edit, who has seen all, and waits until it is seen here."""
+        version = ben.call("map")["version"]
+        ben.call("batch", page="ben", lines=list(lines), seen=[version] * len(lines))
+        self.settle()
+
+    def settle(self, seconds=30.0):
+        """Waits until all that the store has is seen here."""
+        version = self.session.call("map")["version"]
+        self.wait_for(lambda: self.session.version >= version, seconds)
+        self.turn()
+
+    def turn(self, seconds=0.05):
+        """Lets QGIS do what waits."""
+        until = time.monotonic() + seconds
+        while time.monotonic() < until:
+            QgsApplication.processEvents()
+            time.sleep(0.002)
+
+    def wait_for(self, is_so, seconds=30.0):
+        until = time.monotonic() + seconds
+        while not is_so():
+            if time.monotonic() > until:
+                self.fail("it does not come")
+            self.turn(0.01)
+
+    def fid(self, number, layer=None):
+        """QGIS' number of a feature of the store."""
+        return self.plugin.editings[(layer or self.layer()).id()].provider.mirror.fids[number]
+
+    def feature(self, number, layer=None):
+        return (layer or self.layer()).getFeature(self.fid(number, layer))
+
+    def draw(self, wkt, layer=None, **values):
+        """Draws a feature as a tool does, and gives it."""
+        layer = layer or self.layer()
+        feature = QgsFeature(layer.fields())
+        feature.setGeometry(QgsGeometry.fromWkt(wkt))
+        for name, value in values.items():
+            feature[name] = value
+        layer.beginEditCommand("draw")
+        self.assertTrue(layer.addFeature(feature))
+        layer.endEditCommand()
+        return feature
+
+    def set(self, number, column, value, layer=None):
+        layer = layer or self.layer()
+        self.assertTrue(layer.changeAttributeValue(self.fid(number, layer), layer.fields().indexOf(column), value))
+
+    def stored(self, layer="parcels"):
+        """The rows of a layer in the store, by their identifiers."""
+        rows = self.session.rows(layer, self.session.identifiers(layer))
+        return {int(row.split(" ")[0]): row for row in rows}
+
+    def said(self):
+        """What stands in the message bar, and takes it away."""
+        found = [item.text() for item in self.window.messages.items()]
+        self.window.messages.clearWidgets()
+        return found
+
+    def assert_alike(self):
+        """What QGIS shows is what the store has."""
+        for editing in self.plugin.editings.values():
+            mirror = editing.provider.mirror
+            rows = self.stored(mirror.name)
+            shown = {}
+            for feature in editing.layer.getFeatures():
+                values = feature.attributes()[1:]
+                told = {column.name: value for column, value in zip(mirror.columns, values) if value is not None and value != NULL}
+                shown[feature["id"]] = (editing.provider.wkt(feature.geometry()), told)
+            expected = {number: parts_of(row) for number, row in rows.items() if kind_of(row) == mirror.kind}
+            self.assertEqual(shown, expected)
+
+
+from qgis.PyQt.QtCore import NULL  # noqa: E402
+
+from sfstore.rows import feature_of  # noqa: E402
+
+
+def parts_of(row):
+    found = feature_of(row)
+    return found.wkt, found.values
+
+
+def kind_of(row):
+    return row.split(" ")[1].lower()
+
+
+__all__ = ["APP", "CROSSED", "SQUARE", "Client", "Qgis", "QgisCase", "session"]

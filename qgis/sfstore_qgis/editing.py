@@ -1,0 +1,145 @@
+"""The edits of a layer that is shown: what its user has seen and touched, and what it has not sent yet."""
+
+from __future__ import annotations
+
+from collections.abc import Sequence
+from typing import Any, NamedTuple
+
+from qgis.core import QgsVectorLayer
+
+from sfstore.exchange.grid import Rounding
+from sfstore.web.client import ServerGone
+
+from .provider import Outcome, Provider
+from .writing import Edits, Line, added_numbers
+
+__all__ = ["Editing", "commit", "prepare"]
+
+
+class _Seen(NamedTuple):
+    """What the user saw of a feature when they began to edit it."""
+
+    version: int
+    """The version of the store."""
+    content: tuple[Any, ...]
+
+
+class Editing:
+    """A layer of a store in QGIS."""
+
+    def __init__(self, layer: QgsVectorLayer) -> None:
+        self.layer = layer
+        self.key: str = layer.id()
+        self.provider: Provider = layer.dataProvider()
+        self.rounding = Rounding()
+        self.is_in_doubt = False
+        """Whether it is not known what has become of what was sent."""
+        self.is_sending = False
+        # The commands of QGIS' undo stack from here on were not sent.
+        self.base = 0
+        self._seen: dict[int, _Seen] = {}
+
+    @property
+    def session(self) -> Any:
+        return self.provider.session
+
+    @property
+    def is_pending(self) -> bool:
+        """Whether it has edits that can be sent now."""
+        layer = self.layer
+        return bool(layer.isEditable() and layer.isModified() and not layer.isEditCommandActive())
+
+    def begin(self) -> None:
+        """Begins anew, with nothing that was not sent."""
+        self._seen.clear()
+        self.is_in_doubt = False
+        self.base = 0
+
+    def touch(self, fid: int) -> None:
+        """Notes what the user sees of a feature that they edit."""
+        number = self.provider.mirror.numbers.get(fid)
+        if number is not None and number not in self._seen:
+            self._seen[number] = _Seen(self.session.version, self._content(number))
+
+    def renew(self) -> None:
+        """Compares with a store that was lost meanwhile: what is as the user saw it they have seen."""
+        for number, seen in self._seen.items():
+            version = self.session.version if self._content(number) == seen.content else 0
+            self._seen[number] = _Seen(version, seen.content)
+
+    def touched(self) -> set[int]:
+        """The identifiers of what has edits that were not sent."""
+        buffer = self.layer.editBuffer()
+        if buffer is None:
+            return set()
+        fids = [*buffer.changedGeometries(), *buffer.changedAttributeValues(), *buffer.deletedFeatureIds()]
+        return {self.provider.mirror.numbers[fid] for fid in fids if fid in self.provider.mirror.numbers}
+
+    def lines(self) -> list[Line]:
+        """What was not sent, as lines. `NotSent` where it has no such form."""
+        self.rounding = Rounding()
+        return self.provider.lines(self._edits(), self.layer.fields(), self.rounding)
+
+    def version_of(self, line: Line) -> int | None:
+        """The version of the store that the user has seen of what a line edits."""
+        if line.feature is None:
+            return None
+        seen = self._seen.get(self.provider.mirror.numbers[line.feature])
+        return seen.version if seen else int(self.session.version)
+
+    def settle(self) -> None:
+        """Shows the layer as the store has it, which has taken the edits, where QGIS could not take them over."""
+        self.layer.rollBack(False)
+        self.session.reload_soon(self.provider.mirror)
+
+    def _edits(self) -> Edits:
+        buffer, fields = self.layer.editBuffer(), self.provider.fields()
+        return Edits(
+            dropped=[fields[at].name() for at in buffer.deletedAttributeIds()],
+            columns=buffer.addedAttributes(),
+            geometries=buffer.changedGeometries(),
+            values=buffer.changedAttributeValues(),
+            deleted=buffer.deletedFeatureIds(),
+            # The one that was drawn last has the least number.
+            added=[added for _, added in sorted(buffer.addedFeatures().items(), reverse=True)],
+        )
+
+    def _content(self, number: int) -> tuple[Any, ...]:
+        feature = self.provider.mirror.memory_feature(number)
+        return bytes(feature.geometry().asWkb()), feature.attributes()
+
+
+def prepare(editings: Sequence[Editing]) -> None:
+    """Has the store carry out what some layers of it have not sent, as a whole: each layer knows the outcome then."""
+    try:
+        parts = [each.lines() for each in editings]
+        lines = [line.text for part in parts for line in part]
+        seen = [each.version_of(line) for each, part in zip(editings, parts) for line in part]
+        answers = editings[0].session.batch(lines, seen) if lines else []
+    except Exception as error:
+        for each in editings:
+            # Where it was sent, and not answered.
+            each.is_in_doubt |= isinstance(error, ServerGone) and bool(error.__cause__)
+            each.provider.outcome = Outcome(fault=error)
+        return
+    for each, part in zip(editings, parts):
+        given, answers = answers[: len(part)], answers[len(part) :]
+        each.provider.outcome = Outcome(added_numbers(part, given))
+        each.is_in_doubt = False
+
+
+def commit(editings: Sequence[Editing]) -> Exception | None:
+    """Commits layers of one store as a whole, and leaves them editable. Gives why nothing was done."""
+    for each in editings:
+        each.is_sending = True
+    try:
+        prepare(editings)
+        fault = editings[0].provider.outcome.fault if editings[0].provider.outcome else None
+        for each in editings if fault is None else ():
+            if not each.layer.commitChanges(False):
+                each.settle()
+        return fault
+    finally:
+        for each in editings:
+            each.is_sending = False
+            each.provider.outcome = None

@@ -1,0 +1,377 @@
+"""The plugin: layers of a store are opened, and what their users do becomes edits of the store."""
+
+from __future__ import annotations
+
+from collections.abc import Callable, Iterable
+from functools import partial
+from typing import Any
+
+from qgis.core import Qgis, QgsMapLayer, QgsProject, QgsSettings, QgsVectorLayer
+from qgis.PyQt.QtCore import QTimer
+from qgis.PyQt.QtWidgets import QAction, QFileDialog, QInputDialog, QLineEdit
+
+from sfstore.language import KINDS
+from sfstore.web.client import CallFailed, ServerGone
+
+from . import provider
+from .editing import Editing, commit, prepare
+from .history import History
+from .session import LayerRefused, Refusal, Session
+from .told import Teller, words_of
+from .writing import NotSent
+
+__all__ = ["Plugin"]
+
+# So many geometries are asked about at a time, while they are drawn and not sent.
+_ASKED_MAX = 20
+# A coordinate that was moved by a smaller part of a step was on the grid.
+_LEAST_PART = 1e-6
+
+
+class Plugin:
+    """What QGIS makes of the plugin."""
+
+    def __init__(self, iface: Any) -> None:
+        self._iface = iface
+        self.teller = Teller(iface)
+        self.editings: dict[str, Editing] = {}
+        self._sessions: set[str] = set()
+        self._is_waiting = False
+        self._drawn: list[tuple[str, int]] = []
+        self.at_once = QgsSettings().value("sfstore/at_once", True, type=bool)
+        provider.register()
+
+    # What QGIS calls.
+
+    def initGui(self) -> None:
+        """Shows the actions, and follows the layers of the project."""
+        self.bar = self._iface.addToolBar("sfstore")
+        self.bar.setObjectName("sfstore")
+        self._add("Open a store ..", self.choose)
+        self.undo = self._add("Undo in the store", partial(self.move, "undo"))
+        self.redo = self._add("Redo in the store", partial(self.move, "redo"))
+        self._add("Save the store", self.save)
+        self._add("Add a layer ..", self.choose_layer)
+        self._add("Drop the layer ..", self.drop_chosen)
+        self._add("My name ..", self.choose_name)
+        self.switch = QAction("Each edit at once", self.bar, checkable=True, checked=self.at_once)
+        self.switch.toggled.connect(self.set_at_once)
+        self.bar.addAction(self.switch)
+        self.history = History(self._iface.mainWindow(), self)
+        QgsProject.instance().layersAdded.connect(self.watch)
+        QgsProject.instance().layersWillBeRemoved.connect(self.forget)
+        self.watch(QgsProject.instance().mapLayers().values())
+
+    def unload(self) -> None:
+        """Takes the actions away. The provider stays."""
+        QgsProject.instance().layersAdded.disconnect(self.watch)
+        QgsProject.instance().layersWillBeRemoved.disconnect(self.forget)
+        self.history.leave()
+        self.teller.clear()
+        self.bar.deleteLater()
+
+    def _add(self, text: str, act: Callable[[], object]) -> QAction:
+        action = self.bar.addAction(text)
+        action.triggered.connect(lambda _=False: self.tried(act))
+        return action
+
+    def tried(self, act: Callable[[], object]) -> None:
+        """Does something, and says why where it can't be done."""
+        try:
+            act()
+        except (CallFailed, LayerRefused, OSError, Refusal, ServerGone) as error:
+            self.teller.tell(words_of(error), Qgis.Warning)
+
+    # Stores and layers.
+
+    def choose(self) -> None:
+        path = QFileDialog.getOpenFileName(self._iface.mainWindow(), "Open a store", "", "Stores (*.sfs)")[0]
+        if path:
+            self.open(path)
+
+    def open(self, path: str) -> None:
+        """Adds the layers of a store to the project that are not in it, in drawing order."""
+        session = Session.of(path)
+        if session.placing_fault:
+            self.teller.tell(session.placing_fault, Qgis.Warning)
+        known = {str(each.provider.source) for each in self.editings.values()}
+        sources = [each for each in self._sources(session) if str(each) not in known]
+        layers = [QgsVectorLayer(str(each), _title(each), provider.KEY) for each in sources]
+        QgsProject.instance().addMapLayers(layers[::-1])
+
+    def _sources(self, session: Session) -> list[provider.Source]:
+        """The layers as QGIS shows them: one of any kind as one for each kind."""
+        found = []
+        for layer in session.layers():
+            name = layer["name"]
+            kinds = session.kinds(name) if layer["kind"] == "any" else [""]
+            found += [provider.Source(session.path, name, kind) for kind in kinds]
+        return found
+
+    def choose_layer(self) -> None:
+        window = self._iface.mainWindow()
+        name, is_given = QInputDialog.getText(window, "Add a layer", "Name", QLineEdit.Normal, "")
+        if is_given:
+            kind, is_given = QInputDialog.getItem(window, "Add a layer", "Kind", KINDS, 0, False)
+        if is_given:
+            self.add_layer(name, kind)
+
+    def add_layer(self, name: str, kind: str) -> None:
+        """Adds a layer to the store."""
+        session = self._session()
+        session.line(f"layer add {name} {kind}")
+        self.open(session.path)
+
+    def drop_chosen(self) -> None:
+        editing = self.editings[self._iface.activeLayer().id()] if self.active() else None
+        if editing is not None:
+            self.drop_layer(editing)
+
+    def drop_layer(self, editing: Editing) -> None:
+        """Removes a layer from the store and from the project. Undo brings it back."""
+        editing.session.line(f"layer drop {editing.provider.source.layer}")
+        QgsProject.instance().removeMapLayer(editing.key)
+
+    def choose_name(self) -> None:
+        window = self._iface.mainWindow()
+        name, is_given = QInputDialog.getText(window, "My name", "Others see it", QLineEdit.Normal, Session.user())
+        if is_given:
+            QgsSettings().setValue("sfstore/name", name)
+
+    def watch(self, layers: Iterable[QgsMapLayer]) -> None:
+        """Follows those layers that are a store's."""
+        for layer in layers:
+            if layer.isValid() and layer.type() == QgsMapLayer.VectorLayer and layer.providerType() == provider.KEY:
+                if layer.id() not in self.editings:
+                    self.editings[layer.id()] = editing = Editing(layer)
+                    self._follow_layer(editing)
+                    self._follow_session(editing.session)
+
+    def forget(self, ids: Iterable[str]) -> None:
+        """Follows layers no more that leave the project."""
+        for each in ids:
+            editing = self.editings.pop(each, None)
+            if editing is not None:
+                editing.provider.mirror.held.discard(each)
+
+    def _follow_layer(self, editing: Editing) -> None:
+        layer, mirror = editing.layer, editing.provider.mirror
+        _set_precision(editing)
+        layer.editingStarted.connect(partial(self._begin, editing))
+        layer.editingStopped.connect(partial(self._end, editing))
+        layer.beforeCommitChanges.connect(partial(self._prepare, editing))
+        layer.afterCommitChanges.connect(partial(self._committed, editing))
+        layer.featureAdded.connect(partial(self._drew, editing))
+        layer.geometryChanged.connect(partial(self._drew, editing))
+        layer.attributeValueChanged.connect(lambda fid, *_: editing.touch(fid))
+        layer.featureDeleted.connect(editing.touch)
+        layer.undoStack().indexChanged.connect(partial(self._send_soon, editing))
+        mirror.changed.connect(layer.triggerRepaint)
+        mirror.columns_changed.connect(layer.updateFields)
+
+    def _follow_session(self, session: Session) -> None:
+        if session.path not in self._sessions:
+            self._sessions.add(session.path)
+            session.edited.connect(partial(self._heard, session))
+            session.lost.connect(partial(self._lost, session))
+            session.renewed.connect(partial(self._renewed, session))
+            session.layers_changed.connect(partial(self._tell_layers, session))
+
+    def _of(self, session: Session) -> list[Editing]:
+        return [each for each in self.editings.values() if each.session is session]
+
+    # Editing.
+
+    def _begin(self, editing: Editing) -> None:
+        editing.begin()
+        editing.provider.mirror.held.add(editing.key)
+
+    def _end(self, editing: Editing) -> None:
+        editing.begin()
+        mirror = editing.provider.mirror
+        mirror.held.discard(editing.key)
+        if not mirror.held and editing.session.is_connected:
+            self.tried(mirror.follow_columns)
+
+    def _prepare(self, editing: Editing, *_: object) -> None:
+        """Asks the store for a whole commit, before QGIS hands its pieces to the provider."""
+        if not editing.is_sending:
+            prepare([editing])
+            # Behind the commit, and above what QGIS itself says of it.
+            QTimer.singleShot(0, partial(self._prepared, editing))
+
+    def _prepared(self, editing: Editing) -> None:
+        """Ends a commit, of whatever outcome. The layer may be gone with it."""
+        if editing.key not in self.editings:
+            return
+        outcome, editing.provider.outcome = editing.provider.outcome, None
+        if outcome is not None and outcome.fault is not None:
+            self.teller.refuse(editing.layer.name(), outcome.fault, editing.session.grid)
+        elif outcome is not None and editing.layer.isEditable() and editing.layer.isModified():
+            editing.settle()
+
+    def _committed(self, editing: Editing) -> None:
+        if not editing.is_sending:
+            editing.provider.outcome = None
+        editing.begin()
+        self.teller.clear()
+        self._tell_moved(editing)
+
+    def _tell_moved(self, editing: Editing) -> None:
+        rounding, grid = editing.rounding, editing.session.grid
+        step = grid.fractions[2] / grid.fractions[3]
+        if rounding.most > step * _LEAST_PART:
+            moved = f"{rounding.moved} coordinates were moved to the grid, by {rounding.most:.3g} at most"
+            self.teller.tell(f"{editing.layer.name()}: {moved}.")
+
+    # Each edit at once: what was done in one turn of QGIS is sent together.
+
+    def set_at_once(self, is_so: bool) -> None:
+        """Whether each edit is sent as it is made. What was not sent before waits for a save."""
+        self.at_once = is_so
+        QgsSettings().setValue("sfstore/at_once", is_so)
+        for editing in self.editings.values():
+            editing.base = editing.layer.undoStack().index() if editing.layer.isEditable() else 0
+
+    def _send_soon(self, editing: Editing, *_: object) -> None:
+        if self.at_once and not editing.is_sending and not self._is_waiting:
+            self._is_waiting = True
+            QTimer.singleShot(0, self.send)
+
+    def send(self) -> None:
+        """Sends what all layers have not sent, those of one store together."""
+        self._is_waiting = False
+        pending = [each for each in self.editings.values() if each.is_pending and not each.is_in_doubt]
+        for session in {each.session for each in pending}:
+            self._send([each for each in pending if each.session is session])
+
+    def _send(self, editings: list[Editing]) -> None:
+        fault = commit(editings)
+        if fault is None:
+            return
+        self.teller.refuse(" and ".join(each.layer.name() for each in editings), fault, editings[0].session.grid)
+        if not isinstance(fault, ServerGone):
+            for each in editings:
+                _take_back(each)
+
+    # What is drawn and not sent yet is asked about.
+
+    def _drew(self, editing: Editing, fid: int, *_: object) -> None:
+        editing.touch(fid)
+        if not self.at_once and not editing.is_sending and editing.layer.isEditable():
+            self._drawn.append((editing.key, fid))
+            if len(self._drawn) == 1:
+                QTimer.singleShot(0, self._ask)
+
+    def _ask(self) -> None:
+        drawn, self._drawn = self._drawn[:_ASKED_MAX], []
+        for layer, fid in drawn:
+            editing = self.editings.get(layer)
+            if editing is not None and editing.layer.isEditable() and not self._is_taken(editing, fid):
+                return
+
+    def _is_taken(self, editing: Editing, fid: int) -> bool:
+        """Whether the store would take a geometry. Why it would not is told, with its place."""
+        feature = editing.layer.getFeature(fid)
+        try:
+            if feature.isValid():
+                wkt = editing.provider.wkt(feature.geometry())
+                editing.session.line(f"check {editing.provider.source.layer} {wkt}")
+            self.teller.clear()
+        except (NotSent, Refusal) as error:
+            self.teller.refuse(f"{editing.layer.name()}, not sent yet", error, editing.session.grid)
+            return False
+        except (CallFailed, ServerGone):
+            # It is asked again when it is sent.
+            pass
+        return True
+
+    # The store's history.
+
+    def active(self) -> Editing | None:
+        layer = self._iface.activeLayer()
+        return self.editings.get(layer.id()) if layer is not None else None
+
+    def _session(self) -> Session:
+        active = self.active()
+        if active is not None:
+            return active.session  # type: ignore[no-any-return]
+        for editing in self.editings.values():
+            return editing.session  # type: ignore[no-any-return]
+        raise LayerRefused("No layer of a store is in the project: open one first.")
+
+    def move(self, verb: str) -> None:
+        """Undo or redo in the store."""
+        session = self._session()
+        for each in self._of(session):
+            if each.layer.isModified():
+                self.teller.tell(
+                    f"{each.layer.name()} has edits that the store has not: save them, or take them back first.",
+                    Qgis.Warning,
+                )
+                return
+        session.line(verb)
+
+    def save(self) -> None:
+        """Saves the store: the history begins anew, for all."""
+        self.teller.tell(self._session().line("save")["text"])
+
+    # Others.
+
+    def _heard(self, session: Session, event: dict[str, Any]) -> None:
+        """Says where somebody else has changed what is being edited here."""
+        self.history.look()
+        if event["number"] == session.editor:
+            return
+        for editing in self._of(session):
+            if not editing.layer.isEditable():
+                continue
+            layer = editing.provider.source.layer
+            changed = {change["id"] for change in event["changed"] if change["layer"] == layer}
+            both = sorted(changed & editing.touched())
+            if both:
+                what = f"{event['editor']} has changed what you are changing too: {layer} {', '.join(map(str, both))}"
+                self.teller.tell(f"{what}. Give your change up, look at it, and do it again.", Qgis.Warning)
+
+    def _tell_layers(self, session: Session) -> None:
+        """Says which layers of the store are not in the project, and which ones of the project not in the store."""
+        names = {layer["name"] for layer in session.layers()}
+        shown = {each.provider.source.layer for each in self._of(session)}
+        if names - shown:
+            self.teller.tell(f"New in the store: {', '.join(sorted(names - shown))}. Open it again to show them.")
+        if shown - names:
+            self.teller.tell(f"Not in the store any more: {', '.join(sorted(shown - names))}.", Qgis.Warning)
+
+    def _lost(self, session: Session) -> None:
+        self.teller.tell("The store's server does not answer. It is tried again; your edits wait.", Qgis.Warning)
+
+    def _renewed(self, session: Session) -> None:
+        in_doubt = []
+        for editing in self._of(session):
+            editing.renew()
+            if editing.is_in_doubt and editing.layer.isModified():
+                in_doubt.append(editing.layer.name())
+        doubt = f" Look at {', '.join(in_doubt)}: save your last edit, or give it up if it is there." if in_doubt else ""
+        self.teller.tell(f"The store's server answers again.{doubt}", Qgis.Warning if in_doubt else Qgis.Info)
+
+
+def _title(source: provider.Source) -> str:
+    return f"{source.layer} ({source.kind})" if source.kind else source.layer
+
+
+def _set_precision(editing: Editing) -> None:
+    """Has QGIS draw on the grid, where the grid is one that QGIS can have: a step from 0 on."""
+    x, y, step, denominator = editing.session.grid.fractions
+    if x % step == 0 and y % step == 0:
+        editing.layer.geometryOptions().setGeometryPrecision(step / denominator)
+
+
+def _take_back(editing: Editing) -> None:
+    """Takes those edits of a layer back that were made since all before them was sent."""
+    editing.is_sending = True
+    try:
+        stack = editing.layer.undoStack()
+        while stack.index() > editing.base:
+            stack.undo()
+    finally:
+        editing.is_sending = False

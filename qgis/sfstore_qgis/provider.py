@@ -1,0 +1,280 @@
+"""The vector data provider `sfstore`: QgsVectorLayer("town.sfs|layername=parcels", "parcels", "sfstore").
+
+Edits are Python and go to the store's server. Reading is not: each layer is mirrored in a memory layer
+of QGIS, and the provider hands out that one's feature source. So threads which draw run no Python.
+"""
+
+from __future__ import annotations
+
+import traceback
+from collections.abc import Callable, Iterable, Mapping, Sequence
+from typing import Any, NamedTuple
+
+from qgis.core import (
+    QgsDataProvider,
+    QgsFeature,
+    QgsFeatureRequest,
+    QgsFeatureSink,
+    QgsField,
+    QgsFields,
+    QgsGeometry,
+    QgsMessageLog,
+    QgsProviderMetadata,
+    QgsProviderRegistry,
+    QgsVectorDataProvider,
+)
+from qgis.PyQt.QtCore import QVariant
+
+from sfstore.exchange.grid import Rounding
+from sfstore.results import Column
+from sfstore.web.client import CallFailed, ServerGone
+
+from .mirror import Mirror
+from .session import LayerRefused, Refusal, Session
+from .told import words_of
+from .writing import COLUMN_TYPES, Edits, Line, added_numbers, lines_of, wkt_of
+
+__all__ = ["KEY", "Outcome", "Provider", "Source", "names_of", "register", "source_of"]
+
+KEY = "sfstore"
+
+
+class Source(NamedTuple):
+    """Where a layer comes from."""
+
+    path: str
+    layer: str
+    kind: str
+    """The kind of geometries; empty where the layer of the store has one."""
+
+    def __str__(self) -> str:
+        kind = f"|geometrytype={self.kind}" if self.kind else ""
+        return f"{self.path}|layername={self.layer}{kind}"
+
+
+class Outcome(NamedTuple):
+    """What the store has said of all edits of a layer, before QGIS gives them piece by piece."""
+
+    numbers: Sequence[tuple[int, int]] = ()
+    """QGIS' numbers of the added features, each with that of the store."""
+    fault: Exception | None = None
+    """Why nothing was done."""
+
+
+def source_of(uri: str) -> Source:
+    """The source that an address names."""
+    path, *parts = uri.split("|")
+    named = dict(part.partition("=")[::2] for part in parts)
+    return Source(path, named.get("layername", ""), named.get("geometrytype", "").lower())
+
+
+def names_of(fields: QgsFields) -> list[str | None]:
+    """The columns of fields; none for the identifier, and for those that the store has not."""
+    others = (QgsFields.OriginJoin, QgsFields.OriginExpression)
+    return [
+        None if at == 0 or fields.fieldOrigin(at) in others else field.name() for at, field in enumerate(fields)
+    ]
+
+
+class Provider(QgsVectorDataProvider):
+    """A layer of a store, or one kind of geometries of it."""
+
+    def __init__(self, uri: str, options: Any = None, flags: Any = None) -> None:
+        super().__init__(
+            uri, options or QgsDataProvider.ProviderOptions(), flags or QgsDataProvider.ReadFlags()
+        )
+        native = QgsVectorDataProvider.NativeType
+        self.setNativeTypes(
+            [
+                native("Whole number (64 bit)", "int", QVariant.LongLong, 0, 0, 0, 0),
+                native("Text (255 bytes)", "text", QVariant.String, 0, 255),
+            ]
+        )
+        self.outcome: Outcome | None = None
+        self.source = source_of(uri)
+        self.mirror: Any = None
+        try:
+            self.session = Session.of(self.source.path)
+            self.mirror = self.session.mirror(self.source.layer, self.source.kind)
+            self.mirror.changed.connect(self._changed)
+        except (CallFailed, LayerRefused, OSError, ServerGone) as error:
+            self.pushError(str(error))
+
+    def _changed(self) -> None:
+        self.updateExtents()
+        self.clearMinMaxCache()
+        self.dataChanged.emit()
+
+    # Reading: all of it is C++, over the mirror.
+
+    def isValid(self) -> bool:
+        return self.mirror is not None
+
+    def name(self) -> str:
+        return KEY
+
+    def description(self) -> str:
+        return "A store of sfstore"
+
+    def storageType(self) -> str:
+        return KEY
+
+    def fields(self) -> QgsFields:
+        return self.mirror.memory.fields() if self.mirror else QgsFields()
+
+    def wkbType(self) -> Any:
+        return self.mirror.wkb_type if self.mirror else super().wkbType()
+
+    def featureCount(self) -> int:
+        return len(self.mirror.fids) if self.mirror else 0
+
+    def extent(self) -> Any:
+        return self.mirror.memory.extent() if self.mirror else super().extent()
+
+    def updateExtents(self) -> None:
+        self.mirror.memory.updateExtents()
+
+    def crs(self) -> Any:
+        return self.session.crs if self.mirror else super().crs()
+
+    def featureSource(self) -> Any:
+        return self.mirror.memory.featureSource()
+
+    def getFeatures(self, request: Any = None) -> Any:
+        return self.mirror.memory.getFeatures(request or QgsFeatureRequest())
+
+    def pkAttributeIndexes(self) -> list[int]:
+        return [0]
+
+    def defaultValueClause(self, index: int) -> str:
+        return "Autogenerate" if index == 0 else ""
+
+    def hasSpatialIndex(self) -> Any:
+        return QgsVectorDataProvider.SpatialIndexPresent
+
+    def doesStrictFeatureTypeCheck(self) -> bool:
+        return True
+
+    def capabilities(self) -> Any:
+        if self.mirror is None:
+            return QgsVectorDataProvider.NoCapabilities
+        can = QgsVectorDataProvider
+        features = can.AddFeatures | can.DeleteFeatures | can.ChangeFeatures | can.SelectAtId
+        values = can.ChangeGeometries | can.ChangeAttributeValues
+        return features | values | can.AddAttributes | can.DeleteAttributes
+
+    # Editing: what the store has not done yet is asked of it, and then the mirror follows.
+
+    def addFeatures(self, features: Sequence[QgsFeature], flags: Any = None) -> tuple[bool, Sequence[QgsFeature]]:
+        def follow(numbers: Sequence[tuple[int, int]]) -> None:
+            # QGIS may give them in another order than they were sent in; those around its buffer have one number.
+            by_fid = dict(numbers)
+            is_whole = len(by_fid) == len(features) and all(feature.id() in by_fid for feature in features)
+            for feature, (_, given) in zip(features, numbers):
+                number = by_fid[feature.id()] if is_whole else given
+                stored = self.mirror.add(number, feature, self.wkt(feature.geometry()))
+                feature.setId(stored.id())
+                feature.setAttributes(stored.attributes())
+                feature.setGeometry(stored.geometry())
+
+        return self._done(Edits(added=features), follow), features
+
+    def deleteFeatures(self, fids: Iterable[int]) -> bool:
+        wanted = list(fids)
+        return self._done(Edits(deleted=wanted), lambda _: self.mirror.drop(wanted))
+
+    def changeGeometryValues(self, geometries: Mapping[int, QgsGeometry]) -> bool:
+        return self.changeFeatures({}, geometries)
+
+    def changeAttributeValues(self, values: Mapping[int, Mapping[int, Any]]) -> bool:
+        return self.changeFeatures(values, {})
+
+    def changeFeatures(
+        self, values: Mapping[int, Mapping[int, Any]], geometries: Mapping[int, QgsGeometry]
+    ) -> bool:
+        def follow(_: object) -> None:
+            for fid, geometry in geometries.items():
+                self.mirror.change(fid, self.wkt(geometry))
+            own = {fid: {at: value for at, value in each.items() if at} for fid, each in values.items()}
+            self.mirror.memory.changeAttributeValues(own)
+
+        return self._done(Edits(values=values, geometries=geometries), follow)
+
+    def addAttributes(self, fields: Sequence[QgsField]) -> bool:
+        def follow(_: object) -> None:
+            self.mirror.add_columns([Column(each.name(), COLUMN_TYPES[each.type()]) for each in fields])  # type: ignore[arg-type]
+
+        return self._done(Edits(columns=fields), follow)
+
+    def deleteAttributes(self, indexes: Iterable[int]) -> bool:
+        wanted = set(indexes)
+        if 0 in wanted:
+            self.pushError("The identifier can't be taken away.")
+            return False
+        names = [self.fields()[at].name() for at in sorted(wanted)]
+        return self._done(Edits(dropped=names), lambda _: self.mirror.drop_columns(names))
+
+    def wkt(self, geometry: QgsGeometry) -> str:
+        """The text of a geometry in steps of the grid."""
+        return wkt_of(geometry, self.mirror.written([]), Rounding())
+
+    def lines(self, edits: Edits, fields: QgsFields, rounding: Rounding) -> list[Line]:
+        """The lines of edits of a layer with these fields. `NotSent` where an edit has none."""
+        return lines_of(self.mirror.written(names_of(fields)), edits, rounding)
+
+    def _done(self, edits: Edits, follow: Callable[[Sequence[tuple[int, int]]], object]) -> bool:
+        """Has the store carry edits out, where it has not yet, and then the mirror. No error leaves it: that ends QGIS."""
+        try:
+            numbers = self._numbers(edits)
+        except Exception as error:
+            self.pushError(words_of(error))
+            return False
+        try:
+            follow(numbers)
+        except Exception:
+            # The store has it: it is shown as it is there.
+            QgsMessageLog.logMessage(traceback.format_exc(), KEY)
+            self.session.reload_soon(self.mirror)
+        self.clearMinMaxCache()
+        return True
+
+    def _numbers(self, edits: Edits) -> Sequence[tuple[int, int]]:
+        """The numbers of added features, once the store has carried edits out."""
+        if self.outcome is not None:
+            if self.outcome.fault is not None:
+                raise self.outcome.fault
+            return self.outcome.numbers
+        lines = self.lines(edits, self.fields(), Rounding())
+        if not lines:
+            return []
+        version = self.session.version
+        answers = self.session.batch([line.text for line in lines], [version] * len(lines))
+        return added_numbers(lines, answers)
+
+
+class Metadata(QgsProviderMetadata):
+    """By which QGIS makes the provider."""
+
+    def __init__(self) -> None:
+        super().__init__(KEY, "Stores of sfstore")
+
+    def createProvider(self, uri: str, options: Any, flags: Any = None) -> Provider:
+        return Provider(uri, options, flags)
+
+    def decodeUri(self, uri: str) -> dict[str, str]:
+        source = source_of(uri)
+        kind = {"geometryType": source.kind} if source.kind else {}
+        return {"path": source.path, "layerName": source.layer, **kind}
+
+    def encodeUri(self, parts: Mapping[str, str]) -> str:
+        return str(Source(parts["path"], parts["layerName"], parts.get("geometryType", "")))
+
+
+_metadata: list[Metadata] = []
+
+
+def register() -> None:
+    """Has QGIS know the provider. It stays: there is no safe way to take it away while layers live."""
+    if not _metadata:
+        _metadata.append(Metadata())
+        QgsProviderRegistry.instance().registerProvider(_metadata[0])

@@ -1,0 +1,307 @@
+"""A store's file in this QGIS: the link to its server, grid and reference system, and the mirrors of its layers."""
+
+from __future__ import annotations
+
+import contextlib
+import os
+import secrets
+from collections.abc import Sequence
+from typing import Any, ClassVar
+
+from qgis.core import QgsCoordinateReferenceSystem, QgsMessageLog, QgsSettings
+from qgis.PyQt.QtCore import QObject, QSocketNotifier, QTimer, pyqtSignal
+
+from sfstore import sidecar
+from sfstore.exchange.grid import Grid
+from sfstore.results import Column
+from sfstore.web.client import CallFailed, Client, Events, ServerGone, start_server
+
+from .following import Followed, followed
+from .mirror import Mirror
+
+__all__ = ["LayerRefused", "Refusal", "Session"]
+
+# How long QGIS waits for a call at most, and for a server that is asked again whether it is there.
+CALL_SECONDS = 5.0
+_AGAIN_SECONDS = 0.5
+_STARTING_SECONDS = 20.0
+# How long after a loss the server is tried again.
+_AGAIN_MILLISECONDS = 1_000
+# How many features are asked for in one call.
+_ROWS = 5_000
+
+
+class Refusal(Exception):
+    """The store has refused something, and nothing was changed."""
+
+    def __init__(self, told: dict[str, Any]) -> None:
+        super().__init__(told["reason"])
+        self.told = told
+        """What the server says of it: number, name, reason, help, and where it is known the place."""
+
+
+class LayerRefused(Exception):
+    """A layer can't be shown. The text says why."""
+
+
+class Session(QObject):
+    """A store's file in this QGIS. `ServerGone` where no server of it can be had."""
+
+    edited = pyqtSignal(dict)
+    """An edit, or an undo, of whomever: as the server tells it."""
+    layers_changed = pyqtSignal()
+    """There are other layers than before."""
+    lost = pyqtSignal()
+    """The server does not answer any more. It is tried again."""
+    renewed = pyqtSignal()
+    """It answers again; all mirrors are as the store is now."""
+
+    open: ClassVar[dict[str, Session]] = {}
+    program: ClassVar[str] = os.environ.get("SFSTORE", "sfstore")
+
+    @staticmethod
+    def of(path: str) -> Session:
+        """The session of a store's file, one for each."""
+        path = os.path.realpath(path)
+        if path not in Session.open:
+            Session.open[path] = Session(path)
+        return Session.open[path]
+
+    @staticmethod
+    def user() -> str:
+        """The name under which this QGIS edits."""
+        name = QgsSettings().value("sfstore/name", "") or os.environ.get("USER", "")
+        return str(name).strip()[:40] or "somebody"
+
+    def __init__(self, path: str) -> None:
+        super().__init__()
+        self.path = path
+        self.placing_fault, self.grid, self.crs = _placed(path)
+        self.mirrors: dict[tuple[str, str], Mirror] = {}
+        self.steps: dict[str, dict[str, Any] | None] = {"undo": None, "redo": None}
+        self.version = 0
+        # The versions that this session's own batches have made: the mirrors have them.
+        self._own: set[int] = set()
+        self._client: Client | None = None
+        self._events: Events | None = None
+        self._notifier: Any = None
+        self._again = QTimer(self)
+        self._again.setSingleShot(True)
+        self._again.timeout.connect(self._try_again)
+        start_server(path, Session.program, _STARTING_SECONDS)
+        self._connect(CALL_SECONDS)
+
+    @property
+    def editor(self) -> int:
+        """The number under which this QGIS edits."""
+        return self._connected().editor
+
+    @property
+    def is_connected(self) -> bool:
+        return self._client is not None
+
+    def close(self) -> None:
+        """Leaves the server."""
+        self._again.stop()
+        self._disconnect()
+        Session.open.pop(self.path, None)
+
+    def layers(self) -> list[dict[str, Any]]:
+        """The layers in drawing order: name, kind and columns of each."""
+        found: list[dict[str, Any]] = self.call("map")["layers"]
+        return found
+
+    def columns(self, layer: str) -> list[Column]:
+        """The columns of a layer; none where it is not there any more."""
+        for each in self.layers():
+            if each["name"] == layer:
+                return [Column(column["name"], column["type"]) for column in each["columns"]]
+        return []
+
+    def kinds(self, layer: str) -> list[str]:
+        """The kinds of geometries that a layer of any kind is shown by: those of one part, and others that it has."""
+        rows = self.rows(layer, self.identifiers(layer))
+        found = {row.split(" ", 2)[1].lower() for row in rows}
+        return ["point", "linestring", "polygon", *sorted(kind for kind in found if kind.startswith("multi"))]
+
+    def identifiers(self, layer: str) -> list[int]:
+        """The features of a layer; none where it is not there any more."""
+        try:
+            found: list[int] = self.call("ids", layer=layer)["ids"]
+        except CallFailed as failed:
+            if failed.status != 503:
+                raise
+            return []
+        return found
+
+    def rows(self, layer: str, numbers: Sequence[int]) -> list[str]:
+        """The rows of features, of those that are there."""
+        found: list[str] = []
+        for begin in range(0, len(numbers), _ROWS):
+            part = list(numbers[begin : begin + _ROWS])
+            try:
+                found += self.call("rows", layer=layer, ids=part)["rows"]
+            except CallFailed as failed:
+                if failed.status != 503:
+                    raise
+        return found
+
+    def mirror(self, layer: str, kind: str = "") -> Mirror:
+        """The mirror of a layer, or of one kind of a layer that takes any. `LayerRefused` where there is none."""
+        for each in self.layers():
+            if each["name"] == layer:
+                shown = kind or each["kind"]
+                if shown == "any":
+                    raise LayerRefused(f"{layer} has geometries of any kind: name one, as by |geometrytype=polygon")
+                if (layer, shown) not in self.mirrors:
+                    columns = [Column(column["name"], column["type"]) for column in each["columns"]]
+                    self.mirrors[layer, shown] = Mirror(self, layer, shown, columns)
+                return self.mirrors[layer, shown]
+        raise LayerRefused(f"{self.path} has no layer {layer}")
+
+    def batch(self, lines: Sequence[str], seen: Sequence[int | None]) -> list[str]:
+        """Has lines carried out as a whole, and gives their answers. `Refusal` where one is refused."""
+        answer = self.call("batch", page=self._token, lines=list(lines), seen=list(seen))
+        if "refused" in answer:
+            raise Refusal(answer["refused"])
+        self._own.add(answer["version"])
+        found: list[str] = answer["answers"]
+        return found
+
+    def line(self, line: str) -> dict[str, Any]:
+        """The answer of a line of the console. `Refusal` where it is refused."""
+        answer = self.call("line", page=self._token, line=line, seen=self.version)
+        if "refused" in answer:
+            raise Refusal(answer["refused"])
+        return answer
+
+    def reload_soon(self, mirror: Mirror) -> None:
+        """Has a mirror read all anew, once what goes on now has ended."""
+
+        def reload() -> None:
+            with contextlib.suppress(CallFailed, ServerGone):
+                mirror.load_anew()
+
+        QTimer.singleShot(0, reload)
+
+    def call(self, name: str, **body: Any) -> dict[str, Any]:
+        """The answer of a call. `ServerGone` where there is none within some seconds, or none is waited for."""
+        try:
+            return self._connected().call(name, **body)
+        except ServerGone:
+            self._lose()
+            raise
+
+    def _connected(self) -> Client:
+        if self._client is None:
+            raise ServerGone(f"The server of {os.path.basename(self.path)} does not answer; it is tried again.")
+        return self._client
+
+    def _connect(self, seconds: float) -> None:
+        """Connects to the server that is there. `ServerGone` where it does not answer."""
+        client = Client(self.path, Session.user(), seconds)
+        try:
+            events = client.events()
+            told = client.call("map")
+        except BaseException:
+            client.close()
+            raise
+        client.seconds = CALL_SECONDS
+        # Of edits under another token it is not known here that they were this QGIS' own.
+        self._token = secrets.token_urlsafe(12)
+        self._client, self._events = client, events
+        self._own.clear()
+        self.version = told["version"]
+        self.steps = {"undo": told["undo"], "redo": told["redo"]}
+        self._notifier = QSocketNotifier(events.fileno(), QSocketNotifier.Read)
+        self._notifier.activated.connect(self._hear)
+
+    def _disconnect(self) -> None:
+        if self._notifier is not None:
+            self._notifier.setEnabled(False)
+            self._notifier = None
+        for connection in (self._client, self._events):
+            if connection is not None:
+                connection.close()
+        self._client = self._events = None
+
+    def _lose(self) -> None:
+        """Gives a server up that does not answer, and tries it again later."""
+        if self._client is not None:
+            self._disconnect()
+            self._again.start(_AGAIN_MILLISECONDS)
+            self.lost.emit()
+
+    def _try_again(self) -> None:
+        """Connects again, to another server where the last one has ended: all that was answered is there."""
+        try:
+            start_server(self.path, Session.program, 0.0)
+            self._connect(_AGAIN_SECONDS)
+            for mirror in self.mirrors.values():
+                mirror.load_anew()
+        except (CallFailed, ServerGone):
+            self._disconnect()
+            self._again.start(_AGAIN_MILLISECONDS)
+        else:
+            self.renewed.emit()
+
+    def _hear(self, *_: object) -> None:
+        """Takes over what others have changed, and undo and redo."""
+        if self._events is None:
+            return
+        try:
+            news = self._events.take()
+            self._follow(followed(news, self._own))
+        except (CallFailed, ServerGone) as error:
+            QgsMessageLog.logMessage(str(error), "sfstore")
+            self._lose()
+            return
+        for event in news:
+            self._note(event)
+
+    def _follow(self, news: Followed) -> None:
+        if news.is_anew:
+            for mirror in self.mirrors.values():
+                mirror.load_anew()
+            return
+        for (layer, _), mirror in self.mirrors.items():
+            if layer in news.whole:
+                mirror.load_anew()
+            elif layer in news.features:
+                mirror.follow(news.features[layer])
+
+    def _note(self, event: dict[str, Any]) -> None:
+        """Puts down what an event says of the history, and tells of it."""
+        if event.get("anew"):
+            told = self.call("map")
+            self.version, event = told["version"], {**event, **told}
+        for verb in self.steps:
+            if verb in event:
+                self.steps[verb] = event[verb]
+        if "changed" in event:
+            self.version = event["version"]
+            self._own.discard(self.version)
+            self.edited.emit(event)
+            if any(change["what"] == "layers" for change in event["changed"]):
+                self.layers_changed.emit()
+
+
+def _placed(path: str) -> tuple[str, Grid, Any]:
+    """The grid and the reference system of a store, as its side-car says: steps of 1 where it says nothing, and why."""
+    if not os.path.exists(sidecar.path_of(path)):
+        return "", Grid("0", "0", "1"), QgsCoordinateReferenceSystem()
+    try:
+        found = sidecar.read(path)
+    except (OSError, sidecar.SidecarError) as error:
+        return f"{error}. Coordinates are shown in steps.", Grid("0", "0", "1"), QgsCoordinateReferenceSystem()
+    return "", Grid(*found.grid), _system(found.crs)
+
+
+def _system(crs: sidecar.Crs | None) -> Any:
+    """QGIS' reference system, by its authority's code where QGIS knows it, else by its text."""
+    known = QgsCoordinateReferenceSystem()
+    if crs is not None and crs.authority:
+        known = QgsCoordinateReferenceSystem(f"{crs.authority}:{crs.code}")
+    if crs is not None and crs.wkt and not known.isValid():
+        known.createFromWkt(crs.wkt)
+    return known

@@ -1,0 +1,84 @@
+"""What is told to the person who edits: refusals in words, with their places in the units of the map."""
+
+from __future__ import annotations
+
+import re
+from collections.abc import Iterable
+from fractions import Fraction
+from typing import Any
+
+from qgis.core import Qgis, QgsPointXY
+from qgis.gui import QgsVertexMarker
+
+from sfstore.exchange.grid import Grid
+
+from .session import Refusal
+
+__all__ = ["Teller", "place_of", "points_of", "words_of"]
+
+_POINT = re.compile(r"\((-?[0-9]+(?:/[0-9]+)?) (-?[0-9]+(?:/[0-9]+)?)\)")
+_MARKER_PIXELS, _PEN_PIXELS = 18, 3
+_SHOWN_SECONDS = 10
+
+
+def words_of(error: Exception) -> str:
+    """Why something was not done, in words."""
+    if not isinstance(error, Refusal):
+        return str(error)
+    told = error.told
+    whose = f" ({told['whose']['editor']}: {told['whose']['line']})" if told.get("whose") else ""
+    return f"Refused ({told['number']} {told['name']}): {told['reason']}{whose}. {told['help']}"
+
+
+def place_of(error: Exception, grid: Grid) -> str:
+    """Where a refused geometry is wrong, in words with the coordinates of the map; empty where that is not known."""
+    place = error.told.get("place") if isinstance(error, Refusal) else None
+    if not place:
+        return ""
+
+    def in_map(found: re.Match[str]) -> str:
+        x, y = map(float, grid.exact(Fraction(found[1]), Fraction(found[2])))
+        return f"({x:.10g} {y:.10g})"
+
+    return _POINT.sub(in_map, place["words"])
+
+
+def points_of(error: Exception, grid: Grid) -> list[tuple[float, float]]:
+    """The points at which a refused geometry is wrong, in the units of the map."""
+    place = error.told.get("place") if isinstance(error, Refusal) else None
+    points = (grid.exact(Fraction(x), Fraction(y)) for x, y in place["points"]) if place else ()
+    return [(float(x), float(y)) for x, y in points]
+
+
+class Teller:
+    """The message bar, and marks on the map."""
+
+    def __init__(self, iface: Any) -> None:
+        self._iface = iface
+        self._markers: list[Any] = []
+
+    def tell(self, text: str, level: Any = Qgis.Info) -> None:
+        """Says something for some seconds; what is critical until it is closed."""
+        seconds = 0 if level == Qgis.Critical else _SHOWN_SECONDS
+        self._iface.messageBar().pushMessage("sfstore", text, level, seconds)
+
+    def refuse(self, layer: str, error: Exception, grid: Grid) -> None:
+        """Says why an edit was not taken, and marks the place."""
+        self.clear()
+        place = place_of(error, grid)
+        self.tell(f"{layer}: {words_of(error)}{f' Here: {place}.' if place else ''}", Qgis.Critical)
+        self._mark(points_of(error, grid))
+
+    def clear(self) -> None:
+        """Takes the marks away."""
+        for marker in self._markers:
+            self._iface.mapCanvas().scene().removeItem(marker)
+        self._markers.clear()
+
+    def _mark(self, points: Iterable[tuple[float, float]]) -> None:
+        for point in points:
+            marker = QgsVertexMarker(self._iface.mapCanvas())
+            marker.setCenter(QgsPointXY(*point))
+            marker.setIconSize(_MARKER_PIXELS)
+            marker.setPenWidth(_PEN_PIXELS)
+            self._markers.append(marker)
