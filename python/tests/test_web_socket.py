@@ -358,10 +358,15 @@ class Started(SocketCase):
         """The process of a server that is begun."""
         start_server(str(self.path), PROGRAM)
         process = client._servers[str(self.path)].process
-        self.addCleanup(client._servers.clear)
+        self.addCleanup(self.forget)
         self.addCleanup(process.wait)
         self.addCleanup(process.kill)
         return process
+
+    def forget(self):
+        for server in client._servers.values():
+            server.said.close()
+        client._servers.clear()
 
     def test_it_is_begun_once(self):
         process = self.start()
@@ -388,7 +393,7 @@ class Started(SocketCase):
 
     def test_why_there_is_none_is_told(self):
         with Store(self.path, journal=True, program=PROGRAM) as store:
-            self.addCleanup(client._servers.clear)
+            self.addCleanup(self.forget)
             with self.assertRaises(ServerGone) as caught:
                 start_server(str(self.path), PROGRAM)
             store.close(save=False)
