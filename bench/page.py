@@ -4,9 +4,10 @@
     bench/page.py PROGRAM [FEATURES]
 
 makes a store of so many square parcels with a number each (1,000,000 if not given), opens it by `sfstore-web`, and
-measures: how long the page takes to come and to count them all; windows of some 2,000 features, from the question to
-the server until they are drawn and painted, the map moved by more than a window each time; a click that is the first
-to ask for values, and further ones; an edit, until another page has drawn it.
+measures: how long the page takes to come and to count them all, and until its overview is drawn; the frames of a second
+in which the map is moved, over the overview and over some 2,000 features; windows of so many, from the question to the
+server until they are drawn and painted, the map moved by more than a window each time; a click, and further ones; an
+edit, until another page has drawn it.
 """
 
 from __future__ import annotations
@@ -43,6 +44,24 @@ const look = () => {
   requestAnimationFrame(() => requestAnimationFrame(() => done([last.duration, performance.now() - last.startTime, count])));
 };
 look();
+"""
+
+
+# Moves the map by a pixel at each frame, for two seconds, and tells how many frames there were a second.
+FRAMES = """
+const done = arguments[0], map = document.getElementById("map");
+const at = (k) => ({ pointerId: 1, button: 0, clientX: 400 + k, clientY: 300, bubbles: true, isPrimary: true });
+map.setPointerCapture = () => {};
+map.dispatchEvent(new PointerEvent("pointerdown", at(0)));
+const start = performance.now();
+let count = 0;
+const step = () => {
+  map.dispatchEvent(new PointerEvent("pointermove", at(++count)));
+  if (performance.now() - start < 2000) return requestAnimationFrame(step);
+  map.dispatchEvent(new PointerEvent("pointerup", at(count)));
+  done(count * 1000 / (performance.now() - start));
+};
+requestAnimationFrame(step);
 """
 
 
@@ -102,8 +121,12 @@ def measure(driver, serving, count: int) -> None:
     pages = []
     print(f"page, all counted: {spent(lambda: pages.append(open_page(driver, serving, 'Ann'))):.1f} s")
     ann = pages[0]
-    print(f"a feature found, selected and shown: {spent(lambda: zoom_in(ann, count // 2 + 50)):.1f} s (with values)")
     driver.set_script_timeout(60)
+    seen = 'return performance.getEntriesByName("overview").length'
+    print(f"its overview drawn: {spent(lambda: ann.until(lambda: ann.script(seen), 300)):.1f} s later")
+    print(f"the map moved over it: {driver.execute_async_script(FRAMES):.0f} frames a second")
+    print(f"a feature found, selected and shown: {spent(lambda: zoom_in(ann, count // 2 + 50)):.1f} s")
+    print(f"the map moved over features: {driver.execute_async_script(FRAMES):.0f} frames a second")
     times = [driver.execute_async_script(MOVE) for _ in range(WINDOWS)]
     drawn, painted, counts = ([round(one) for one in kind] for kind in zip(*times))
     print(f"windows of {min(counts)} to {max(counts)} features:", end=" ")

@@ -33,6 +33,14 @@ rows 4
 4 POINT (4500 150) depth=8"""
 
 
+# How opaque the overview is at places of the window.
+OPACITIES = """
+const canvas = document.getElementById("overview"), frame = canvas.getBoundingClientRect();
+const pen = canvas.getContext("2d", { willReadFrequently: true });
+return arguments[0].map(([left, top]) => pen.getImageData(left - frame.left, top - frame.top, 1, 1).data[3]);
+"""
+
+
 @unittest.skipIf(browser.IS_MISSING, browser.MISSING)
 class PageCase(WebCase):
     SECONDS = 300
@@ -429,9 +437,11 @@ class Large(PageCase):
     def test_a_map_that_is_too_large_is_counted_and_drawn_where_it_is_zoomed(self):
         points = "".join(f"add w POINT ({k % 200 * 10} {k // 200 * 10})\n" for k in range(30_000))
         self.make(f"layer add w point\n{points}layer add v point\nadd v POINT (5 5)\n".encode())
-        page = self.page(self.serve(), "Ann", known=("v-1", (5, 5)))
+        self.serving = self.serve()
+        page = self.page(self.serving, "Ann", known=("v-1", (5, 5)))
         self.assertIn("w has 30,000 here: zoom in to see them.", page.text("#status"))
         self.assertEqual(page.drawn(), 1)
+        self.look_at_the_overview(page)
         page.choose((5, 5), "v 1, a point")
         page.use("#go")
         page.until(lambda: page.drawn("w") > 0)
@@ -440,6 +450,23 @@ class Large(PageCase):
         page.until(lambda: 1_000 < page.drawn("w") < 20_000)
         spans = page.script("return performance.getEntriesByName('window').map(e => e.duration)")
         self.assertLess(min(spans), 2_000)
+
+    def look_at_the_overview(self, page):
+        """Points of a layer that is counted are seen; nothing is between them, and what is deleted goes."""
+        points = [(k % 200 * 10, k // 200 * 10) for k in range(0, 30_000, 997)]
+        between = [(x + 5, y + 5) for x, y in points]
+        page.until(lambda: all(self.opacities(page, points)))
+        self.assertEqual(set(self.opacities(page, between)), {0})
+        ben = self.serving.log_in("Ben")
+        ben.line(f"delete w {997 * 7 + 1}")
+        page.until(lambda: self.opacities(page, points).count(0) == 1)
+        self.assertEqual(self.opacities(page, points)[7], 0)
+        ben.line("undo")
+        page.until(lambda: all(self.opacities(page, points)))
+
+    def opacities(self, page, points):
+        """How opaque the overview is at points of the plane."""
+        return page.script(OPACITIES, [page.place(point) for point in points])
 
 
 class Reading(TestCase):

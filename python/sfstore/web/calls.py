@@ -3,6 +3,8 @@
 from __future__ import annotations
 
 import os
+import time
+from base64 import b64encode
 from collections.abc import Callable, Sequence
 from typing import Any, TypeVar
 
@@ -13,7 +15,7 @@ from sfstore.geometry import Shape, read_wkb, write_wkt
 from sfstore.language import GRID_MAX, GRID_MIN, QUESTIONS
 from sfstore.lines import geometry_of
 from sfstore.refusals import words_of
-from sfstore.store import Answer, Column, Refused, Store, Value
+from sfstore.store import Answer, Refused, Store
 from sfstore.web.batches import LineRefused, batch_of
 from sfstore.web.changed import changed_by, merged
 from sfstore.web.changes import Change, Target, feature_of
@@ -22,9 +24,11 @@ from sfstore.web.events import Events
 from sfstore.web.keeper import Asked, ChangedMeanwhile, Edit, Keeper, Unavailable
 from sfstore.web.logins import Logins
 from sfstore.web.mirror import Mirror
+from sfstore.web.pictures import LEVEL_MAX, Picture, Pictures, Tile
+from sfstore.web.raster import png
 from sfstore.web.rows import identifiers_of, ids_of, rows_of
 from sfstore.web.steps import Step
-from sfstore.web.windows import ELEMENTS_MAX, Box, extent_of, window_of
+from sfstore.web.windows import ELEMENTS_MAX, Box, extent_of, shapes_of, window_of
 
 __all__ = ["BadCall", "Calls", "Outdated"]
 
@@ -39,8 +43,9 @@ OWN = [
 ]
 """The commands of the page beside those of the program."""
 
-# How many times as long as a question the values of a large layer may take, when they are first read.
-_VALUES_TIMES = 6
+# How many tiles of an overview are given at a time, and how long it is drawn on before what there is is given.
+_TILES_MAX = 64
+_DRAWING_SECONDS = 0.5
 
 # How much of a long answer is sent.
 _ROWS_MAX = ELEMENTS_MAX
@@ -60,9 +65,9 @@ class Outdated(Exception):
 class Calls:
     """The calls of pages over one store. Each is given the number of the editor who has logged in.
 
-    Lines that change something go to the keeper, all else to second programs: what windows show to
-    one, values to another, and what people ask to a third, so that a question that takes long
-    delays no map.
+    Lines that change something go to the keeper, all else to second programs: what windows show and
+    single features to one, pictures of large layers to another, and what people ask to a third, so
+    that a question that takes long delays no map.
     """
 
     def __init__(self, path: str, keeper: Keeper, program: str, seconds: float) -> None:
@@ -73,7 +78,8 @@ class Calls:
         self._editors = Editors(path)
         self.logins = Logins(self._editors)
         self._looks = Mirror(keeper, program, seconds)
-        self._values = Mirror(keeper, program, _VALUES_TIMES * seconds)
+        self._pictures = Pictures()
+        self._drawer = Mirror(keeper, program, seconds, self._pictures)
         self._questions = Mirror(keeper, program, seconds)
         keeper.follow.append(self._tell_edits)
         keeper.anew.append(lambda: self.events.tell({"anew": True}))
@@ -81,6 +87,8 @@ class Calls:
             "/me": self._me,
             "/map": self._map,
             "/window": self._window,
+            "/pictures": self._pictures_of,
+            "/shapes": self._shapes,
             "/feature": self._feature,
             "/line": self._line,
             "/batch": self._batch,
@@ -90,7 +98,7 @@ class Calls:
 
     def close(self) -> None:
         """Ends the second programs."""
-        for mirror in (self._looks, self._values, self._questions):
+        for mirror in (self._looks, self._drawer, self._questions):
             mirror.close()
 
     def log_in(self, body: Body) -> Body:
@@ -129,47 +137,47 @@ class Calls:
 
         return self._looks.ask(editor, question)
 
+    def _pictures_of(self, editor: int, body: Body) -> Body:
+        """Tiles of a layer, as far as they are drawn; those that the page has are not sent again."""
+        layer, tiles = spelling.name(_text(body, "layer")), _tiles(body)
+        pictures = self._pictures
+
+        def question(store: Store) -> list[Body]:
+            until = time.monotonic() + _DRAWING_SECONDS
+            return [
+                _told_tile(tile, pictures.of(store, layer, tile, until), seen) for tile, seen in tiles.items()
+            ]
+
+        return {"tiles": self._drawer.ask(editor, question)}
+
+    def _shapes(self, editor: int, body: Body) -> Body:
+        """Features of a layer as windows have them, of those that are there."""
+        layer, features = spelling.name(_text(body, "layer")), ids_of(body.get("ids"))
+        return {"features": self._looks.ask(editor, lambda store: shapes_of(store, layer, features))}
+
     def _feature(self, editor: int, body: Body) -> Body:
         """A feature with its text, its coordinates and its values, and who has changed it last.
 
-        It is that of a version of the store, which edits of it have to name.
+        It is that of a version of the store, which edits of it have to name. Values are texts, as a
+        browser's numbers have 53 bits.
         """
-        layer, feature = _text(body, "layer"), _number(body, "id", 0, 2**32 - 1)
+        layer, feature = spelling.name(_text(body, "layer")), _number(body, "id", 0, 2**32 - 1)
 
-        def look(store: Store) -> tuple[Shape, list[Column], int]:
+        def look(store: Store) -> Body:
             shape = read_wkb(bytes.fromhex(store.hex(layer, feature)))
-            return shape, store.columns(layer), self._looks.version
+            values = store.get(layer, feature)[0].values
+            told = [
+                {**column._asdict(), "value": str(values[name]) if (name := column.name) in values else None}
+                for column in store.columns(layer)
+            ]
+            return {"wkt": write_wkt(shape), **_shape(shape), "values": told, "version": self._looks.version}
 
         try:
-            shape, columns, version = self._looks.ask(editor, look)
+            told = {"layer": layer, "id": feature, **self._looks.ask(editor, look)}
         except Refused as refused:
-            told: Body = {"refused": self._refusal(refused, f"hex {layer} {feature}")}
-        else:
-            told = {"layer": layer, "id": feature, "wkt": write_wkt(shape), **_shape(shape)}
-            told.update(self._values_of(editor, layer, feature, columns, version))
+            told = {"refused": self._refusal(refused, f"hex {layer} {feature}")}
         change = self._keeper.last_change(Target(layer, feature))
         return {**told, "by": change and self._editors.name_of(change.editor)}
-
-    def _values_of(
-        self, editor: int, layer: str, feature: int, columns: list[Column], version: int
-    ) -> Body:
-        """The values of a feature, as texts, as a browser's numbers have 53 bits.
-
-        Of the version that they are of, and the one of the rest, the lower one is told.
-        """
-        asked = self._values
-
-        def question(store: Store) -> tuple[dict[str, Value], int]:
-            return asked.values.of(store, layer, feature), asked.version
-
-        if not columns:
-            return {"values": [], "version": version}
-        values, values_version = asked.ask(editor, question)
-        told = [
-            {**column._asdict(), "value": str(values[name]) if (name := column.name) in values else None}
-            for column in columns
-        ]
-        return {"values": told, "version": min(version, values_version)}
 
     def _line(self, editor: int, body: Body) -> Body:
         """Carries out a line of the console, as the editor who has logged in."""
@@ -337,6 +345,33 @@ def _number(body: Body, name: str, least: int, most: int) -> int:
     if type(number) is not int or not least <= number <= most:
         raise BadCall(f"{name} has to be a whole number from {least} to {most}")
     return number
+
+
+def _tiles(body: Body) -> dict[Tile, int]:
+    """The tiles of a level that a call names, each with the version of it that the page has."""
+    level = _number(body, "level", 0, LEVEL_MAX)
+    tiles = body.get("tiles")
+    if not isinstance(tiles, list) or len(tiles) > _TILES_MAX:
+        raise BadCall(f"tiles has to be a list of {_TILES_MAX} at most")
+    return {Tile(level, x, y): seen for x, y, seen in map(_tile, tiles)}
+
+
+def _tile(tile: object) -> tuple[int, int, int]:
+    """Where a tile stands, and the version of it that the page has."""
+    if not isinstance(tile, list) or len(tile) != 3 or not all(type(part) is int for part in tile):
+        raise BadCall("a tile has to be three whole numbers")
+    x, y, seen = tile
+    if max(abs(x), abs(y)) > GRID_MAX:
+        raise BadCall("a tile has to be near the grid")
+    return x, y, seen
+
+
+def _told_tile(tile: Tile, picture: Picture, seen: int) -> Body:
+    """A tile for a page that has seen a version of it."""
+    told = {"x": tile.x, "y": tile.y, "count": picture.features, "whole": picture.is_whole, "version": picture.version}
+    if picture.version == seen:
+        return told
+    return {**told, "png": b64encode(png(picture.cells)).decode() if picture.cells else None}
 
 
 def _names(body: Body) -> set[str]:

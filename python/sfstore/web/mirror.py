@@ -10,13 +10,12 @@ import threading
 from collections.abc import Callable, Iterator, Sequence
 from concurrent.futures import ThreadPoolExecutor
 from contextlib import contextmanager
-from typing import TypeVar
+from typing import Protocol, TypeVar
 
 from sfstore.store import ProgramEnded, Refused, Store
 from sfstore.web.keeper import Edit, Keeper, Snapshot, Unavailable
-from sfstore.web.values import Values
 
-__all__ = ["Mirror"]
+__all__ = ["Mirror", "Watcher"]
 
 _T = TypeVar("_T")
 
@@ -33,21 +32,34 @@ class _Turn:
         self.places = threading.BoundedSemaphore(_OF_ONE_EDITOR_MAX)
 
 
+class Watcher(Protocol):
+    """Something that is kept beside a mirror's program, in its thread, and goes along with its content."""
+
+    def before(self, store: Store, edits: Sequence[Edit]) -> None:
+        """Hears of edits that are about to be done."""
+
+    def after(self, store: Store, edits: Sequence[Edit]) -> None:
+        """Hears that they were done."""
+
+    def forget(self) -> None:
+        """Hears that the content is another one."""
+
+
 class Mirror:
     """A program that is only asked, and the thread that asks it.
 
     Of each editor one question waits for it at a time: those of others wait for no more than that.
-    `values` and `version` may be used by questions alone, which have this thread.
+    `version`, and what watches it, may be used by questions alone, which have this thread.
     """
 
-    def __init__(self, keeper: Keeper, program: str, seconds: float) -> None:
+    def __init__(self, keeper: Keeper, program: str, seconds: float, watcher: Watcher | None = None) -> None:
         self._keeper = keeper
         self._program = program
         self._seconds = seconds
         self._store: Store | None = None
         self._version = 0
         self._closed = False
-        self.values = Values()
+        self._watcher = watcher
         self._thread = ThreadPoolExecutor(1, "mirror")
         self._places = threading.BoundedSemaphore(_WAITING_MAX)
         self._turns: dict[int, _Turn] = {}
@@ -120,7 +132,11 @@ class Mirror:
         editor = news[0].editor
         speaker = self._store.editor(editor) if editor else self._store
         try:
+            if self._watcher is not None:
+                self._watcher.before(self._store, news)
             answers = speaker.run_all(edit.line for edit in news)
+            if self._watcher is not None:
+                self._watcher.after(self._store, news)
         except ProgramEnded:
             self._drop()
             return
@@ -128,8 +144,6 @@ class Mirror:
             self._drop()
             return
         self._version = news[-1].version
-        for edit in news:
-            self.values.follow(edit)
 
     def _current(self) -> Store:
         """The program with the content of the store."""
@@ -149,7 +163,8 @@ class Mirror:
         if self._store is not None:
             self._store.close(save=False)
             self._store = None
-            self.values.forget()
+            if self._watcher is not None:
+                self._watcher.forget()
 
 
 @contextmanager

@@ -13,7 +13,7 @@ from sfstore.geometry import read_wkb
 from sfstore.language import GRID_MAX, GRID_MIN
 from sfstore.store import Editor, Refused
 
-__all__ = ["ELEMENTS_MAX", "Box", "extent_of", "window_of"]
+__all__ = ["ELEMENTS_MAX", "Box", "extent_of", "rectangle", "shapes_of", "window_of"]
 
 Box = tuple[int, int, int, int]
 """Least x and y, greatest x and y."""
@@ -49,6 +49,16 @@ def window_of(store: Editor, layers: Sequence[str], box: Box) -> list[dict[str, 
     return [
         {"name": layer, "count": len(found[layer]), "features": drawn.get(layer)}
         for layer in layers
+    ]
+
+
+def shapes_of(store: Editor, layer: str, features: Sequence[int]) -> list[list[Any]]:
+    """Features of a layer as a window has them, of those that are there."""
+    answers = store.run_all(f"hex {layer} {feature}" for feature in features)
+    return [
+        _feature(feature, answer)
+        for feature, answer in zip(features, answers)
+        if isinstance(answer, str)
     ]
 
 

@@ -12,8 +12,9 @@ const REST_MILLISECONDS = 120;
 const FAR_PIXELS = 50_000;
 
 export class FeatureMap {
-  constructor(world, view, onShown) {
+  constructor(world, overview, view, onShown) {
     this.world = world;
+    this.overview = overview;
     this.view = view;
     this.onShown = onShown;
     this.layers = [];
@@ -21,6 +22,8 @@ export class FeatureMap {
     this.seen = null;
     this.chosen = null;
     this.hits = new Map();
+    // More features than this are not drawn one by one, as the server says with each window.
+    this.most = Infinity;
   }
 
   /** Takes the layers of the store; those that were hidden stay so. */
@@ -47,6 +50,7 @@ export class FeatureMap {
   /** Moves what is drawn along with the view, and asks for what is not there yet. */
   follow() {
     this.#place();
+    this.overview.place();
     clearTimeout(this.rest);
     this.rest = setTimeout(() => this.layers.length && !this.#hasAll() && this.refresh(), REST_MILLISECONDS);
   }
@@ -62,15 +66,72 @@ export class FeatureMap {
     while (this.wanted) {
       this.wanted = false;
       const start = performance.now();
-      const shown = this.layers.filter((layer) => layer.shown).map((layer) => layer.name);
       const asked = { box: this.#box(), scale: this.view.scale, view: this.#viewed() };
       this.coming = asked;
-      const answer = await call("window", { box: asked.box, layers: shown }).finally(() => (this.coming = null));
-      this.#show(answer.layers);
+      const layers = await this.#window(asked.box).finally(() => (this.coming = null));
+      this.#show(layers);
       this.seen = asked;
       this.onShown(this.#words());
       performance.measure("window", { start });
     }
+  }
+
+  /** What a box has. Layers that are known to have too much there are not asked for. */
+  async #window(box) {
+    const shown = this.layers.filter((layer) => layer.shown).map((layer) => layer.name);
+    const crowded = shown.map((name) => ({ name, count: this.overview.least(name, box), features: null, isLeast: true }));
+    const known = crowded.filter(({ count }) => count > this.most);
+    const asked = shown.filter((name) => !known.some((layer) => layer.name === name));
+    const answer = await call("window", { box, layers: asked });
+    this.most = answer.most;
+    return [...answer.layers, ...known];
+  }
+
+  /** Draws features anew that were changed, where nothing else was. */
+  redraw(places) {
+    const drawing = () => this.#redraw(places);
+    // One after another, behind a window that is on its way: what comes later is newer.
+    this.redrawing = Promise.allSettled([this.redrawing, this.running]).then(drawing);
+    return this.redrawing;
+  }
+
+  async #redraw(places) {
+    const byLayer = new Map();
+    for (const { layer, id } of places) byLayer.set(layer, [...(byLayer.get(layer) ?? []), id]);
+    for (const [name, ids] of byLayer) {
+      const layer = this.layer(name);
+      if (layer?.shown && !layer.isCounted) await this.#redrawSome(layer, ids);
+    }
+    if (this.layers.some((layer) => layer.isCounted)) this.overview.refresh();
+  }
+
+  async #redrawSome(layer, ids) {
+    const { features } = await call("shapes", { layer: layer.name, ids });
+    if (layer.isCounted) return;
+    for (const id of ids) this.#takeOut(layer, id);
+    for (const [id, code, members] of features) {
+      const [left, bottom, right, top] = boxOf(members);
+      const [l, b, r, t] = this.seen.box;
+      if (left <= r && right >= l && bottom <= t && top >= b) this.#putIn(layer, id, code, members);
+    }
+    this.onShown(this.#words());
+  }
+
+  #takeOut(layer, id) {
+    layer.features.get(id)?.path.remove();
+    if (layer.features.delete(id)) layer.count--;
+  }
+
+  /** Puts a feature where it belongs among those of its layer, which are drawn in the order of identifiers. */
+  #putIn(layer, id, code, members) {
+    const feature = this.#feature(layer, id, code, members);
+    feature.path.setAttribute("d", feature.d);
+    const later = [...layer.features.values()].filter((other) => other.id > id);
+    layer.group.insertBefore(feature.path, later[0]?.path ?? null);
+    for (const other of later) layer.features.delete(other.id);
+    for (const each of [feature, ...later]) layer.features.set(each.id, each);
+    layer.count++;
+    this.#mark(layer, feature);
   }
 
   #box() {
@@ -96,14 +157,20 @@ export class FeatureMap {
 
   #show(layers) {
     const moved = this.#moveOrigin();
-    for (const { name, count, features } of layers) {
+    for (const { name, count, features, isLeast = false } of layers) {
       const layer = this.layer(name);
       if (!layer) continue;
-      layer.count = count;
-      layer.isCounted = features === null;
+      Object.assign(layer, { count, isLeast, isCounted: features === null });
       this.#showFeatures(layer, features ?? [], moved);
     }
     this.#place();
+    this.#showCounted();
+  }
+
+  /** Has the overview show the layers that are not drawn feature by feature. */
+  #showCounted() {
+    const crowded = this.layers.filter((layer) => layer.shown && layer.isCounted);
+    this.overview.show(crowded.map((layer) => ({ name: layer.name, colour: () => getComputedStyle(layer.group).color })));
   }
 
   #showFeatures(layer, features, moved) {
@@ -112,14 +179,18 @@ export class FeatureMap {
     for (const [id, code, members] of features) {
       const known = before.get(id);
       before.delete(id);
-      const path = known?.path ?? drawn("path", { id: `${layer.name}-${id}` });
-      const feature = { id, code, members, path, box: boxOf(members) };
-      feature.d = pathOf(code, members, (x, y) => [x - this.origin[0], this.origin[1] - y]);
-      if (moved || feature.d !== known?.d) path.setAttribute("d", feature.d);
+      const feature = this.#feature(layer, id, code, members, known?.path);
+      if (moved || feature.d !== known?.d) feature.path.setAttribute("d", feature.d);
       layer.features.set(id, feature);
       this.#mark(layer, feature);
     }
     setChildren(layer.group, [...layer.features.values()].map((feature) => feature.path));
+  }
+
+  /** A feature with its path, whose form is not set yet. */
+  #feature(layer, id, code, members, path = drawn("path", { id: `${layer.name}-${id}` })) {
+    const d = pathOf(code, members, (x, y) => [x - this.origin[0], this.origin[1] - y]);
+    return { id, code, members, path, d, box: boxOf(members) };
   }
 
   /** Has paths count from the middle of the window, where that is far from where they counted from. */
@@ -192,7 +263,7 @@ export class FeatureMap {
     const drawnCount = shown.reduce((sum, layer) => sum + layer.features.size, 0);
     const parts = [`${counted(drawnCount)} features are drawn.`];
     for (const layer of shown.filter((layer) => layer.isCounted)) {
-      parts.push(`${layer.name} has ${counted(layer.count)} here: zoom in to see them.`);
+      parts.push(`${layer.name} has ${layer.isLeast ? "over " : ""}${counted(layer.count)} here: zoom in to see them.`);
     }
     return parts.join(" ");
   }

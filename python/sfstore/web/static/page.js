@@ -7,12 +7,18 @@ import { Log } from "./log.js";
 import { Login } from "./login.js";
 import { FeatureMap } from "./map.js";
 import { Overlay } from "./overlay.js";
+import { Overview } from "./overview.js";
 import { Selection } from "./selection.js";
 import { call, CallFailed, listen } from "./server.js";
 import { followPointers, View } from "./view.js";
 
 // Edits of these change nothing that is drawn.
 const UNDRAWN = /^[ \t]*(set|unset|column)[ \t]/;
+// Edits of one feature, which they name or their answer does.
+const OF_FEATURE = /^[ \t]*(?:delete|replace|vertex[ \t]+[a-z]+)[ \t]+([^ \t]+)[ \t]+([0-9]+)/;
+// So many changed features are drawn anew one by one.
+const CHANGED_MAX = 1_000;
+const ADDITION = /^[ \t]*(?:add|addhex)[ \t]+([^ \t]+)/;
 const PAN_PIXELS = 60;
 const LOST = "The connection is lost. Where sfstore-web was started again, open its new link.";
 const SAVING = "Save for all? The history begins anew: nobody can undo what was done before.";
@@ -29,7 +35,7 @@ class App {
     this.steps = { undo: null, redo: null };
     this.view = new View(svg, () => this.#follow());
     this.overlay = new Overlay(byId("overlay"), this.view);
-    this.map = new FeatureMap(byId("world"), this.view, (words) => this.#shown(words));
+    this.map = new FeatureMap(byId("world"), new Overview(byId("overview"), this.view), this.view, (words) => this.#shown(words));
     this.selection = new Selection(this);
     this.asking = new Asking(this);
     this.hand = new Hand(this);
@@ -102,7 +108,7 @@ class App {
     else {
       this.#closeRefusal();
       if (answer.rows && /^[ \t]*(query|match)[ \t]/.test(line)) this.asking.take(line.trim(), answer, isFurther);
-      else if (answer.answer) await this.#redraw(line);
+      else if (answer.answer) await this.#redraw(line, changedBy(line, answer.answer));
     }
     return answer;
   }
@@ -137,7 +143,7 @@ class App {
     else if (event.number !== this.editor || event.page !== this.page) {
       const moved = event.line === event.step ? "ok" : event.step;
       this.log.add(event.line, moved, "other", event.editor);
-      await this.#redraw(event.line);
+      await this.#redraw(event.line, event.changed);
     }
     this.version = Math.max(this.version, event.version ?? 0);
   }
@@ -152,11 +158,16 @@ class App {
     this.version = Math.max(this.version, version);
   }
 
-  /** Draws what an edit may have changed. */
-  async #redraw(line) {
+  /** Draws what an edit has changed: single features, or what is not known so exactly. */
+  async #redraw(line, changed) {
     const first = line.trim().split(/[ \t]+/)[0];
-    if (["layer", "column", "undo", "redo", "together"].includes(first)) await this.#readMap(false);
-    if (!UNDRAWN.test(line)) await this.map.refresh();
+    const isKnown = ({ what, layer, id }) => layer && id !== null && what !== "columns" && what !== "layers";
+    const isOfFeatures = changed?.length <= CHANGED_MAX && changed.every(isKnown);
+    if (isOfFeatures) await this.map.redraw(changed);
+    else if (!UNDRAWN.test(line)) {
+      await this.#readMap(false);
+      await this.map.refresh();
+    } else if (first === "column") await this.#readMap(false);
     await this.selection.refresh();
   }
 
@@ -282,6 +293,12 @@ class App {
     event.preventDefault();
     this.run(line);
   }
+}
+
+/** The feature that an accepted line has changed; nothing where it is not told so exactly. */
+function changedBy(line, answer) {
+  const [, layer, id] = OF_FEATURE.exec(line) ?? [null, ADDITION.exec(line)?.[1], /^ok ([0-9]+)$/.exec(answer)?.[1]];
+  return layer && id ? [{ what: "changed", layer, id: Number(id) }] : undefined;
 }
 
 const app = new App();

@@ -1,0 +1,271 @@
+"""Tests of pictures of layers that have more features than a page can draw."""
+
+from __future__ import annotations
+
+import random
+import time
+import unittest
+import unittest.mock
+import zlib
+
+from support import PROGRAM, TestCase
+from web_support import WebCase
+
+from sfstore import Store
+from sfstore.geometry import Shape, read_wkb
+from sfstore.web import pictures, raster
+from sfstore.web.changes import targets_of
+from sfstore.web.keeper import Edit
+from sfstore.web.pictures import Pictures, Tile
+from sfstore.web.steps import Step
+
+SIDE = raster.SIDE
+SQUARE = Shape(3, [[[10, 10, 30, 10, 30, 30, 10, 30, 10, 10]]])
+
+
+def drawn(shape, size=1, left=0, bottom=0):
+    """The cells of a picture of one geometry that are not empty, by column and row from the south."""
+    cells = raster.blank()
+    raster.draw(cells, shape, left, bottom, size)
+    return marked(cells)
+
+
+def marked(cells):
+    return {(at % SIDE, SIDE - 1 - at // SIDE): value for at, value in enumerate(cells) if value}
+
+
+def reached(begin, cells):
+    """The cells that are reached from one by steps to neighbours."""
+    found, edge = {begin}, [begin]
+    while edge:
+        x, y = edge.pop()
+        further = {(x + a, y + b) for a in (-1, 0, 1) for b in (-1, 0, 1)} & cells - found
+        found |= further
+        edge += further
+    return found
+
+
+class Raster(unittest.TestCase):
+    """Geometries as cells."""
+
+    def test_an_area_has_edges_and_an_inside(self):
+        found = drawn(SQUARE)
+        self.assertEqual(set(found), {(x, y) for x in range(10, 31) for y in range(10, 31)})
+        on_edge = {(x, y) for x, y in found if x in (10, 30) or y in (10, 30)}
+        self.assertEqual({at for at, value in found.items() if value == raster.EDGE}, on_edge)
+        self.assertEqual({found[at] for at in set(found) - on_edge}, {raster.INSIDE})
+
+    def test_a_hole_is_empty(self):
+        hole = [15, 15, 15, 25, 25, 25, 25, 15, 15, 15]
+        self.assertNotIn((20, 20), drawn(Shape(3, [[SQUARE.members[0][0], hole]])))
+
+    def test_an_edge_that_only_crosses_is_drawn(self):
+        found = drawn(Shape(2, [[[-1000, -1000, 5000, 5000]]]))
+        self.assertEqual(set(found), {(at, at) for at in range(SIDE)})
+
+    def test_what_is_outside_is_not_drawn(self):
+        for line in ([-9, 5, -1, 5], [5, SIDE, 9, SIDE], [300, -300, 300, 300], [-300, 1, 1, -300]):
+            with self.subTest(line=line):
+                self.assertEqual(drawn(Shape(2, [[line]])), {})
+
+    def test_each_vertex_of_any_geometry_is_drawn(self):
+        chance = random.Random(5)
+        for _ in range(300):
+            line = [chance.randrange(-400, 700) for _ in range(2 * chance.randrange(2, 12))]
+            size = chance.choice([1, 2, 8])
+            found = drawn(Shape(2, [[line]]), size)
+            inside = {(x // size, y // size) for x, y in zip(line[::2], line[1::2])}
+            inside = {(x, y) for x, y in inside if 0 <= x < SIDE and 0 <= y < SIDE}
+            self.assertLessEqual(inside, set(found), line)
+
+    def test_edges_have_no_gaps(self):
+        chance = random.Random(6)
+        for _ in range(300):
+            ax, ay, bx, by = (chance.randrange(0, SIDE) for _ in range(4))
+            found = set(drawn(Shape(2, [[[ax, ay, bx, by]]])))
+            self.assertEqual(reached((ax, ay), found), found, (ax, ay, bx, by))
+
+    def test_nothing_vanishes_as_a_picture_is_coarsened(self):
+        chance = random.Random(7)
+        fine = raster.blank()
+        for _ in range(40):
+            fine[chance.randrange(SIDE * SIDE)] = raster.EDGE
+        for place in range(4):
+            parts = [bytes(fine) if place == other else b"" for other in range(4)]
+            right, up = place % 2 * SIDE // 2, place // 2 * SIDE // 2
+            wanted = {(right + x // 2, up + y // 2) for x, y in marked(fine)}
+            self.assertEqual(set(marked(raster.coarsened(parts))), wanted)
+
+    def test_the_graphic_has_the_cells_as_its_opacity(self):
+        chance = random.Random(8)
+        cells = bytes(chance.randrange(256) for _ in range(SIDE * SIDE))
+        data = raster.png(cells)
+        self.assertEqual(data[:8], b"\x89PNG\r\n\x1a\n")
+        begin = data.index(b"IDAT") + 4
+        rows = zlib.decompress(data[begin : data.index(b"IEND") - 8])
+        self.assertEqual(len(rows), SIDE * (1 + 2 * SIDE))
+        opaque = b"".join(rows[at + 2 : at + 1 + 2 * SIDE : 2] for at in range(0, len(rows), 1 + 2 * SIDE))
+        self.assertEqual(opaque, cells)
+
+
+class Tiles(unittest.TestCase):
+    """Where tiles are."""
+
+    def test_quarters_are_what_a_tile_is_made_of(self):
+        tile = Tile(3, -2, 5)
+        west, south = tile.x * tile.size, tile.y * tile.size
+        half = tile.size // 2
+        corners = [(part.x * part.size, part.y * part.size) for part in tile.quarters]
+        self.assertEqual(corners, [(west, south), (west + half, south), (west, south + half), (west + half, south + half)])
+
+    def test_the_grid_is_in_four_tiles_of_the_highest_level(self):
+        boxes = [Tile(pictures.LEVEL_MAX, x, y).box for x in range(-3, 3) for y in range(-3, 3)]
+        found = [box for box in boxes if box and box[0] < box[2] and box[1] < box[3]]
+        self.assertEqual(len(found), 4)
+        self.assertEqual(min(found)[:2], (-8388608, -8388608))
+        self.assertEqual(max(found)[2:], (8388607, 8388607))
+
+
+class KeptPictures(TestCase):
+    """Pictures of a store, as it is edited."""
+
+    def setUp(self):
+        super().setUp()
+        self.store = Store(program=PROGRAM)
+        self.addCleanup(self.store.close, False)
+        self.store.add_layer("w")
+        self.pictures = Pictures()
+        self.few = unittest.mock.patch.object(pictures, "_FEATURES_MAX", 20)
+        self.few.start()
+        self.addCleanup(self.few.stop)
+
+    def picture(self, tile, kept=None):
+        return (kept or self.pictures).of(self.store, "w", tile, time.monotonic() + 60)
+
+    def edit(self, line):
+        """Does a line as a mirror does it."""
+        targets = targets_of(line)
+        if line.startswith("add"):
+            targets = targets_of(line, f"ok {self.next_id()}")
+        edits = [Edit(1, 0, "page", line, Step(0, line, targets), None, None)]
+        self.pictures.before(self.store, edits)
+        self.store.run(line)
+        self.pictures.after(self.store, edits)
+
+    def next_id(self):
+        answer = self.store.run("add w POINT (0 0)").split()[1]
+        self.store.undo()
+        return int(answer)
+
+    def square(self, chance):
+        x, y, side = chance.randrange(-3000, 3000), chance.randrange(-3000, 3000), chance.randrange(1, 400)
+        return f"POLYGON (({x} {y}, {x + side} {y}, {x + side} {y + side}, {x} {y + side}, {x} {y}))"
+
+    def test_each_feature_is_seen_and_nothing_else_at_each_level(self):
+        chance = random.Random(9)
+        self.store.run_all(f"add w {self.square(chance)}" for _ in range(300))
+        shapes = [read_wkb(bytes.fromhex(self.store.hex("w", feature))) for feature in range(1, 301)]
+        for level in (1, 3, 5):
+            size = 1 << level
+            seen = {}
+            for x in range(-3200 // (SIDE * size) - 1, 3500 // (SIDE * size) + 1):
+                for y in range(-3200 // (SIDE * size) - 1, 3500 // (SIDE * size) + 1):
+                    picture = self.picture(Tile(level, x, y))
+                    self.assertTrue(picture.is_whole)
+                    seen.update({(x * SIDE + a, y * SIDE + b): v for (a, b), v in marked(picture.cells).items()})
+            wanted = set()
+            for shape in shapes:
+                ring = shape.members[0][0]
+                left, right = int(min(ring[::2])) // size, int(max(ring[::2])) // size
+                bottom, top = int(min(ring[1::2])) // size, int(max(ring[1::2])) // size
+                wanted |= {(a, b) for a in range(left, right + 1) for b in range(bottom, top + 1)}
+            self.assertLessEqual(set(seen), wanted)
+            # A square's inside is drawn where it has a middle of a cell: its edges always are.
+            self.assertGreater(len(seen), 0.95 * len(wanted))
+
+    def test_pictures_are_as_those_drawn_anew_after_each_edit(self):
+        chance = random.Random(10)
+        tiles = [Tile(level, x, y) for level in (1, 3, 4) for x in (-1, 0) for y in (-1, 0)]
+        for turn in range(120):
+            count = turn + 1
+            line = chance.choice(
+                [
+                    f"add w {self.square(chance)}",
+                    f"add w {self.square(chance)}",
+                    f"delete w {chance.randrange(1, count + 1)}",
+                    f"replace w {chance.randrange(1, count + 1)} {self.square(chance)}",
+                ]
+            )
+            try:
+                self.edit(line)
+            except Exception as refused:
+                self.assertIn("21 NoFeature", str(refused))
+            for tile in chance.sample(tiles, 4):
+                self.assertEqual(self.picture(tile).cells, self.picture(tile, Pictures()).cells, (turn, line, tile))
+
+    def test_a_part_is_drawn_where_there_is_no_time_for_more(self):
+        chance = random.Random(11)
+        self.store.run_all(f"add w {self.square(chance)}" for _ in range(300))
+        tile = Tile(4, -1, -1)
+        parts = []
+        while not parts or not parts[-1].is_whole:
+            parts.append(self.pictures.of(self.store, "w", tile, time.monotonic() + 0.001))
+            self.assertLess(len(parts), 1_000)
+        self.assertEqual(parts[-1].cells, self.picture(tile, Pictures()).cells)
+
+    def test_a_layer_that_is_gone_is_refused(self):
+        from sfstore import Refused
+
+        self.picture(Tile(1, 0, 0))
+        self.edit("layer drop w")
+        with self.assertRaises(Refused):
+            self.picture(Tile(1, 0, 0))
+
+
+class PictureCalls(WebCase):
+    """What a page is given."""
+
+    def test_a_picture_is_given_once_for_each_version(self):
+        self.make_town()
+        serving = self.serve()
+        asked = {"layer": "parcels", "level": 2, "tiles": [[0, 0, 0]]}
+        [first] = serving.call("/pictures", **asked)["tiles"]
+        self.assertTrue(first["whole"] and first["png"] and first["count"])
+        asked["tiles"] = [[0, 0, first["version"]]]
+        [again] = serving.call("/pictures", **asked)["tiles"]
+        self.assertEqual((again["version"], "png" in again), (first["version"], False))
+        serving.log_in("Ann").line("add parcels POLYGON ((1 1, 5 1, 5 5, 1 5, 1 1))")
+        [after] = serving.call("/pictures", **asked)["tiles"]
+        self.assertNotEqual(after["version"], first["version"])
+        self.assertTrue(after["png"])
+
+    def test_calls_that_are_none_are_refused(self):
+        self.make_town()
+        serving = self.serve()
+        serving.log_in("Ann")
+        good = {"layer": "parcels", "level": 0, "tiles": [[0, 0, 0]]}
+        for wrong in (
+            {"layer": 1},
+            {"level": -1},
+            {"level": 17},
+            {"level": 1.5},
+            {"tiles": [[0, 0]]},
+            {"tiles": [[0, 0, "0"]]},
+            {"tiles": [[2**40, 0, 0]]},
+            {"tiles": [[0, 0, 0]] * 65},
+            {"tiles": "all"},
+        ):
+            with self.subTest(wrong=wrong):
+                self.assertEqual(serving.posted("/pictures", **{**good, **wrong})[0], 400)
+        self.assertEqual(serving.posted("/pictures", **{**good, "layer": "nope"})[0], 503)
+
+    def test_shapes_of_features_that_are_there_are_given(self):
+        self.make_town()
+        serving = self.serve()
+        told = serving.call("/shapes", layer="parcels", ids=[2, 999_999])
+        self.assertEqual([feature[0] for feature in told["features"]], [2])
+        self.assertEqual(serving.posted("/shapes", layer="parcels", ids=["2"])[0], 400)
+
+
+if __name__ == "__main__":
+    unittest.main()
