@@ -33,11 +33,13 @@ rows 4
 4 POINT (4500 150) depth=8"""
 
 
-# How opaque the overview is at places of the window.
+# How opaque the overview is at places of the window, or a pixel beside them.
 OPACITIES = """
 const canvas = document.getElementById("overview"), frame = canvas.getBoundingClientRect();
-const pen = canvas.getContext("2d", { willReadFrequently: true });
-return arguments[0].map(([left, top]) => pen.getImageData(left - frame.left, top - frame.top, 1, 1).data[3]);
+const pen = new OffscreenCanvas(canvas.width, canvas.height).getContext("2d", { willReadFrequently: true });
+pen.drawImage(canvas, 0, 0);
+const near = ([left, top]) => [...pen.getImageData(left - frame.left - 1, top - frame.top - 1, 3, 3).data].filter((_, at) => at % 4 === 3);
+return arguments[0].map((place) => Math.max(...near(place)));
 """
 
 
@@ -452,17 +454,17 @@ class Large(PageCase):
         self.assertLess(min(spans), 2_000)
 
     def look_at_the_overview(self, page):
-        """Points of a layer that is counted are seen; nothing is between them, and what is deleted goes."""
+        """Points of a layer that is counted are seen, nothing is beside them, and what is changed is seen."""
         points = [(k % 200 * 10, k // 200 * 10) for k in range(0, 30_000, 997)]
-        between = [(x + 5, y + 5) for x, y in points]
+        beside = [(x, -40) for x, _ in points]
         page.until(lambda: all(self.opacities(page, points)))
-        self.assertEqual(set(self.opacities(page, between)), {0})
+        self.assertEqual(set(self.opacities(page, beside)), {0})
         ben = self.serving.log_in("Ben")
-        ben.line(f"delete w {997 * 7 + 1}")
-        page.until(lambda: self.opacities(page, points).count(0) == 1)
-        self.assertEqual(self.opacities(page, points)[7], 0)
+        ben.line(f"add w POINT ({beside[7][0]} {beside[7][1]})")
+        page.until(lambda: self.opacities(page, beside)[7])
+        self.assertEqual(self.opacities(page, beside).count(0), len(beside) - 1)
         ben.line("undo")
-        page.until(lambda: all(self.opacities(page, points)))
+        page.until(lambda: set(self.opacities(page, beside)) == {0})
 
     def opacities(self, page, points):
         """How opaque the overview is at points of the plane."""
