@@ -142,7 +142,7 @@ def measure(driver, serving, count: int) -> None:
     began = time.monotonic()
     ben.line(f"add parcels {parcel(count // 2 + 50)}", seen)
     ann.until(lambda: len(ann.log()) > before)
-    print(f"an edit of another page told after {1000 * (time.monotonic() - began):.0f} ms")
+    print(f"an edit of another page shown after {1000 * (time.monotonic() - began):.0f} ms")
     print(resident(serving.process.pid))
 
 

@@ -66,8 +66,8 @@ class Calls:
     """The calls of pages over one store. Each is given the number of the editor who has logged in.
 
     Lines that change something go to the keeper, all else to second programs: what windows show and
-    single features to one, pictures of large layers to another, and what people ask to a third, so
-    that a question that takes long delays no map.
+    single features to one, pictures of large layers to another, and what people ask to a third. So a
+    question that takes long delays no map.
     """
 
     def __init__(self, path: str, keeper: Keeper, program: str, seconds: float) -> None:
