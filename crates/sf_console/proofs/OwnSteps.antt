@@ -3,8 +3,12 @@ use Rattle.std.proofs.Common.{◌≡◌, ◌⊎◌, ℕ, inl, inr, List, [], ◌
 use Rattle.std.specs.List.{cons_option}
 use Rattle.sf_refusals.specs.declared.refusal.Refusal.{Refusal}
 use Rattle.sf_steps.specs.declared.answer.Answer.{Answer}
-use Rattle.sf_history.specs.History.{Machine, fresh, edited, undone, redone}
+use Rattle.sf_steps.specs.declared.edit.Edit.{Edit}
+use Rattle.sf_steps.specs.Steps.{step}
+use Rattle.sf_changes.specs.Changes.{OfEdit}
+use Rattle.sf_history.specs.History.{Machine, fresh, changed, edited, undone, redone}
 use Rattle.sf_history.specs.Laws.{Turn, Leads, LeadInTurn}
+use Rattle.sf_history.proofs.LawProofs.{edited-changed}
 use Rattle.sf_history.proofs.OwnSteps.{own_steps_law}
 use Rattle.sf_commands.specs.declared.command.Command.TheVariants as commands
 use Rattle.sf_console.specs.Answers.{edit_reply, history_reply}
@@ -17,10 +21,11 @@ abbrev LeadsOrStays : Option Turn → Machine → Machine → Type 0
 LeadsOrStays None old new = new ≡ old
 LeadsOrStays (Some turn) old new = Leads old turn new ⊎ (new ≡ old)
 
-edit_turn : (old new : Machine) (text : List ℕ) (r e : Result (Machine × Answer) Refusal) → e ≡ r → edit_reply old r ≡ (new, text)
-    → ((answer : Answer) × (e ≡ Ok (new, answer))) ⊎ (new ≡ old)
-edit_turn old new text (Ok done) e is h = inl (done.1, is ∙ ap (λ (m : Machine). let r : Result (Machine × Answer) Refusal = Ok (m, done.1) in r) (ap (λ p. p.0) h))
-edit_turn old new text (Err refusal) e is h = inr (sym (ap (λ p. p.0) h))
+edit_turn : (editor : ℕ) (edit : Edit) (old new : Machine) (text : List ℕ) (r : Result (Machine × Answer) Refusal) → edited editor old edit ≡ r → edit_reply old r ≡ (new, text)
+    → (changed editor old (OfEdit edit) ≡ Some new) ⊎ (new ≡ old)
+edit_turn editor edit old new text (Ok done) is h =
+    inl (edited-changed editor old new done.1 (step old.now edit) (is ∙ ap (λ (m : Machine). let r : Result (Machine × Answer) Refusal = Ok (m, done.1) in r) (ap (λ p. p.0) h)))
+edit_turn editor edit old new text (Err refusal) is h = inr (sym (ap (λ p. p.0) h))
 
 move_turn : (old new : Machine) (text : List ℕ) (r e : Result Machine Refusal) → e ≡ r → history_reply old r ≡ (new, text) → (e ≡ Ok new) ⊎ (new ≡ old)
 move_turn old new text (Ok other) e is h = inl (is ∙ ap (λ (m : Machine). let r : Result Machine Refusal = Ok m in r) (ap (λ p. p.0) h))
@@ -31,7 +36,7 @@ line_turn old new Blank text answered = answered.1
 line_turn old new (Unreadable refusal) text answered = answered.1
 line_turn old new (Asked takes (Err refusal)) text (inl replied) = sym (ap (λ p. p.0) replied)
 line_turn old new (Asked takes (Err refusal)) text (inr refused) = refused.1
-line_turn old new (Asked takes (Ok (editor, commands.Edit edit))) text (inl replied) = edit_turn old new text (edited editor old edit) (edited editor old edit) refl replied
+line_turn old new (Asked takes (Ok (editor, commands.Edit edit))) text (inl replied) = edit_turn editor edit old new text (edited editor old edit) refl replied
 line_turn old new (Asked takes (Ok (editor, commands.Edit edit))) text (inr refused) = inr refused.1
 line_turn old new (Asked takes (Ok (editor, commands.Undo))) text (inl replied) = move_turn old new text (undone editor old) (undone editor old) refl replied
 line_turn old new (Asked takes (Ok (editor, commands.Undo))) text (inr refused) = inr refused.1

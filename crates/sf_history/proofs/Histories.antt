@@ -1,4 +1,4 @@
--- Past contents along inverses, and future contents along edits.
+-- Past contents along what takes changes back, and future contents along what makes them again.
 use Rattle.std.proofs.Common.{◌≡◌, ◌≢◌, ℕ, ◌+◌, ◌-◌, ◌<◌, ◌≤◌, suc, Bool, true, false, List, [], ◌∷◌, ◌++◌, length, get_or, reverse, take, drop, Result, Ok, Err, IsOk, nat_eq, if◌then◌else◌, refl, sym, ap, ◌∙◌, subst, arith}
 use Rattle.std.proofs.lemmas.Bool.{eqb-true, eq-eqb}
 use Rattle.std.proofs.lemmas.Grind.{common_steps}
@@ -6,36 +6,35 @@ use Rattle.std.proofs.lemmas.List.{reverse-append, length-reverse, length-take, 
 use Rattle.sf_refusals.specs.declared.refusal.Refusal.{Refusal}
 use Rattle.sf_refusals.specs.declared.refusal.Refusal.TheVariants.{NotYours}
 use Rattle.sf_layers.specs.Content.{Content}
-use Rattle.sf_steps.specs.declared.edit.Edit.{Edit}
-use Rattle.sf_steps.specs.declared.inverse.Inverse.{Inverse}
-use Rattle.sf_steps.specs.Steps.{step}
-use Rattle.sf_steps.specs.Inverses.{described}
-use Rattle.sf_history.specs.History.{Machine, Kept, kept, past_of, future_of, led_to, if_own, back_to, forth_to, undone, redone}
+use Rattle.sf_changes.specs.declared.undo.Undo.{Undo}
+use Rattle.sf_changes.specs.declared.redo.Redo.{Redo}
+use Rattle.sf_changes.specs.Changes.{redone_by, undone_by}
+use Rattle.sf_history.specs.History.{Machine, Kept, kept, past_of, future_of, if_own, back_to, forth_to, undone, redone}
 use Rattle.sf_history.proofs.LawProofs.{own_allowed}
 
-length-past_of : (content : Content) (inverses : List Inverse) (editors : List ℕ) → length inverses ≡ length editors
-    → length (past_of content inverses editors) ≡ length inverses
+length-past_of : (content : Content) (undos : List Undo) (editors : List ℕ) → length undos ≡ length editors
+    → length (past_of content undos editors) ≡ length undos
 length-past_of content [] editors same = refl
-length-past_of content (inverse ∷ inverses) [] same = absurd (omega arith)
-length-past_of content (inverse ∷ inverses) (editor ∷ editors) same =
-    ap (λ n. suc n) (length-past_of (described content inverse) inverses editors (omega arith))
+length-past_of content (undo ∷ undos) [] same = absurd (omega arith)
+length-past_of content (undo ∷ undos) (editor ∷ editors) same =
+    ap (λ n. suc n) (length-past_of (undone_by content undo) undos editors (omega arith))
 
-length-future_of : (content : Content) (edits : List Edit) (editors : List ℕ) → length edits ≡ length editors
-    → length (future_of content edits editors) ≡ length edits
+length-future_of : (content : Content) (redos : List Redo) (editors : List ℕ) → length redos ≡ length editors
+    → length (future_of content redos editors) ≡ length redos
 length-future_of content [] editors same = refl
-length-future_of content (edit ∷ edits) [] same = absurd (omega arith)
-length-future_of content (edit ∷ edits) (editor ∷ editors) same =
-    ap (λ n. suc n) (length-future_of (led_to content (step content edit)) edits editors (omega arith))
+length-future_of content (redo ∷ redos) [] same = absurd (omega arith)
+length-future_of content (redo ∷ redos) (editor ∷ editors) same =
+    ap (λ n. suc n) (length-future_of (redone_by content redo) redos editors (omega arith))
 
--- as many past contents as inverses, whose editors stand first
-pub length-past : (content : Content) (done : List Inverse) (later : ℕ) (editors : List ℕ) → length editors ≡ length done + later
+-- as many past contents as undos, whose editors stand first
+pub length-past : (content : Content) (done : List Undo) (later : ℕ) (editors : List ℕ) → length editors ≡ length done + later
     → length (past_of content (reverse done) (reverse (take (length done) editors))) ≡ length done
 length-past content done later editors all =
     let first : length (reverse (take (length done) editors)) ≡ length done = grind (arith, length-reverse, length-take) in
     length-past_of content (reverse done) (reverse (take (length done) editors)) (length-reverse done ∙ sym first) ∙ length-reverse done
 
--- as many future contents as edits, whose editors stand behind the others
-pub length-future : (content : Content) (undone : List Edit) (earlier : ℕ) (editors : List ℕ) → length editors ≡ earlier + length undone
+-- as many future contents as redos, whose editors stand behind the others
+pub length-future : (content : Content) (undone : List Redo) (earlier : ℕ) (editors : List ℕ) → length editors ≡ earlier + length undone
     → length (future_of content (reverse undone) (drop earlier editors)) ≡ length undone
 length-future content undone earlier editors all =
     let rest : length (drop earlier editors) ≡ length undone = grind (arith, length-drop) in
@@ -47,22 +46,22 @@ length-future content undone earlier editors all =
 abbrev pub BeginsWith : ℕ → List Kept → Type 0
 BeginsWith editor contents = (beside : Kept) × (more : List Kept) × (contents ≡ beside ∷ more) × (beside.editor ≡ editor)
 
-past-first : (content : Content) (inverses : List Inverse) (editors : List ℕ) (d : ℕ) → 0 < length inverses → length inverses ≡ length editors
-    → BeginsWith (get_or editors 0 d) (past_of content inverses editors)
+past-first : (content : Content) (undos : List Undo) (editors : List ℕ) (d : ℕ) → 0 < length undos → length undos ≡ length editors
+    → BeginsWith (get_or editors 0 d) (past_of content undos editors)
 past-first content [] editors d some same = absurd (omega arith)
-past-first content (inverse ∷ inverses) [] d some same = absurd (omega arith)
-past-first content (inverse ∷ inverses) (editor ∷ editors) d some same =
-    (kept editor (described content inverse), past_of (described content inverse) inverses editors, refl, refl)
+past-first content (undo ∷ undos) [] d some same = absurd (omega arith)
+past-first content (undo ∷ undos) (editor ∷ editors) d some same =
+    (kept editor (undone_by content undo), past_of (undone_by content undo) undos editors, refl, refl)
 
-future-first : (content : Content) (edits : List Edit) (editors : List ℕ) (d : ℕ) → 0 < length edits → length edits ≡ length editors
-    → BeginsWith (get_or editors 0 d) (future_of content edits editors)
+future-first : (content : Content) (redos : List Redo) (editors : List ℕ) (d : ℕ) → 0 < length redos → length redos ≡ length editors
+    → BeginsWith (get_or editors 0 d) (future_of content redos editors)
 future-first content [] editors d some same = absurd (omega arith)
-future-first content (edit ∷ edits) [] d some same = absurd (omega arith)
-future-first content (edit ∷ edits) (editor ∷ editors) d some same =
-    let next = led_to content (step content edit) in (kept editor next, future_of next edits editors, refl, refl)
+future-first content (redo ∷ redos) [] d some same = absurd (omega arith)
+future-first content (redo ∷ redos) (editor ∷ editors) d some same =
+    let next = redone_by content redo in (kept editor next, future_of next redos editors, refl, refl)
 
 -- the last step done is of the editor who stands before those of the steps undone
-pub past-begins : (content : Content) (done : List Inverse) (editors : List ℕ) (last d : ℕ) → last + 1 ≡ length done → length done ≤ length editors
+pub past-begins : (content : Content) (done : List Undo) (editors : List ℕ) (last d : ℕ) → last + 1 ≡ length done → length done ≤ length editors
     → BeginsWith (get_or editors last d) (past_of content (reverse done) (reverse (take (length done) editors)))
 past-begins content done editors last d is within =
     let first = take (length done) editors in
@@ -76,7 +75,7 @@ past-begins content done editors last d is within =
     (past-first content (reverse done) (reverse first) d some same)
 
 -- the next step to be done again is of the editor who stands behind those of the steps done
-pub future-begins : (content : Content) (undone : List Edit) (editors : List ℕ) (earlier d : ℕ) → 0 < length undone → length editors ≡ earlier + length undone
+pub future-begins : (content : Content) (undone : List Redo) (editors : List ℕ) (earlier d : ℕ) → 0 < length undone → length editors ≡ earlier + length undone
     → BeginsWith (get_or editors earlier d) (future_of content (reverse undone) (drop earlier editors))
 future-begins content undone editors earlier d some all =
     let rest : length (drop earlier editors) ≡ length undone = grind (arith, length-drop) in
@@ -110,14 +109,14 @@ redone-not_own editor owner machine (after, later, is, whose) apart = ap (forth_
 pub redone-own : (editor owner : ℕ) (machine : Machine) → BeginsWith owner machine.future → owner ≡ editor → IsOk (redone editor machine)
 redone-own editor owner machine (after, later, is, whose) same = subst (λ future. IsOk (forth_to editor machine future)) (sym is) (own editor owner after _ whose same)
 
--- one more inverse and one more editor, where the others are cut off: one more past content
-pub past-advanced : (content before : Content) (done more : List Inverse) (inverse : Inverse) (editors whose : List ℕ) (editor : ℕ) → length done ≤ length editors
-    → more ≡ done ++ inverse ∷ [] → whose ≡ take (length done) editors ++ editor ∷ [] → before ≡ described content inverse
+-- one more undo and one more editor, where the others are cut off: one more past content
+pub past-advanced : (content before : Content) (done more : List Undo) (undo : Undo) (editors whose : List ℕ) (editor : ℕ) → length done ≤ length editors
+    → more ≡ done ++ undo ∷ [] → whose ≡ take (length done) editors ++ editor ∷ [] → before ≡ undone_by content undo
     → past_of content (reverse more) (reverse (take (length more) whose)) ≡ kept editor before ∷ past_of before (reverse done) (reverse (take (length done) editors))
-past-advanced content before done more inverse editors whose editor within longer cut is =
+past-advanced content before done more undo editors whose editor within longer cut is =
     let first = take (length done) editors in
     let long : length whose ≡ length more = grind (arith, common_steps) in
     let all : take (length more) whose ≡ whose = grind (arith, common_steps) in
-    ap (λ xs. past_of content xs (reverse (take (length more) whose))) (ap reverse longer ∙ reverse-append done (inverse ∷ []))
-    ∙ ap (λ es. past_of content (inverse ∷ reverse done) es) (ap reverse (all ∙ cut) ∙ reverse-append first (editor ∷ []))
+    ap (λ xs. past_of content xs (reverse (take (length more) whose))) (ap reverse longer ∙ reverse-append done (undo ∷ []))
+    ∙ ap (λ es. past_of content (undo ∷ reverse done) es) (ap reverse (all ∙ cut) ∙ reverse-append first (editor ∷ []))
     ∙ ap (λ c. kept editor c ∷ past_of c (reverse done) (reverse first)) (sym is)

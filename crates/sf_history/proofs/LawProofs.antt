@@ -1,16 +1,16 @@
 -- The laws of the history.
-use Rattle.std.proofs.Common.{◌≡◌, ℕ, Bool, true, false, List, [], ◌∷◌, ◌++◌, map, reverse, fold, Result, Ok, Err, IsOkAnd, nat_eq, if◌then◌else◌, refl, sym, ap, ◌∙◌, subst}
+use Rattle.std.proofs.Common.{◌≡◌, ℕ, Bool, true, false, List, [], ◌∷◌, ◌++◌, map, reverse, fold, Option, None, Some, option_map, Result, Ok, Err, IsOkAnd, nat_eq, if◌then◌else◌, refl, sym, ap, ◌∙◌, subst}
 use Rattle.std.proofs.lemmas.Bool.{eq-eqb}
 use Rattle.std.proofs.lemmas.List.{reverse-append}
 use Rattle.sf_layers.specs.Content.{Content}
 use Rattle.sf_steps.specs.declared.answer.Answer.{Answer}
-use Rattle.sf_steps.specs.declared.inverse.Inverse.{Inverse}
 use Rattle.sf_steps.specs.declared.refusal.Refusal.{Refusal as EditRefusal}
-use Rattle.sf_steps.specs.Inverses.{described, Restores}
+use Rattle.sf_changes.specs.declared.undo.Undo.{Undo}
+use Rattle.sf_changes.specs.Changes.{FitsUndo, edit_led, led_by, undone_by}
 use Rattle.sf_refusals.specs.declared.refusal.Refusal.{Refusal}
 use Rattle.sf_refusals.specs.declared.refusal.Refusal.TheVariants.{NotYours}
-use Rattle.sf_history.specs.History.{Machine, Kept, kept, after_step, if_own, back_to, forth_to, FitInTurn}
-use Rattle.sf_history.specs.Laws.{undone_after, undone_in_turn, UndoLaw, RedoLaw, InversesLaw}
+use Rattle.sf_history.specs.History.{Machine, Kept, kept, advanced, after_step, if_own, back_to, forth_to, FitInTurn}
+use Rattle.sf_history.specs.Laws.{undone_after, undone_in_turn, LeadsBack, UndoLaw, RedoLaw, InversesLaw}
 
 -- a step's own editor may move it
 pub own_allowed : (editor : ℕ) (beside : Kept) (machine : Machine) → nat_eq beside.editor editor ≡ true → if_own editor beside machine ≡ Ok machine
@@ -26,22 +26,33 @@ pub allowed_own : (editor : ℕ) (beside : Kept) (machine last : Machine) → if
     → (nat_eq beside.editor editor ≡ true) × (machine ≡ last)
 allowed_own editor beside machine last h = allowed_if (nat_eq beside.editor editor) machine last (NotYours beside.editor) h
 
--- the past of what is accepted, and nothing where it is refused
-abbrev past_in : Result (Machine × Answer) Refusal → List Kept
-past_in (Ok done) = done.0.past
-past_in (Err refusal) = []
+-- the machine of an accepted edit
+abbrev machine_of : Result (Machine × Answer) Refusal → Option Machine
+machine_of (Ok done) = Some done.0
+machine_of (Err refusal) = None
 
--- an accepted step puts the content on the past
-past-after_step : (editor : ℕ) (machine mid : Machine) (answer : Answer) (r : Result (Content × Answer) EditRefusal)
-    → after_step editor machine r ≡ Ok (mid, answer) → mid.past ≡ kept editor machine.now ∷ machine.past
-past-after_step editor machine mid answer (Ok done) h = sym (ap past_in h)
-past-after_step editor machine mid answer (Err refusal) h = cc
+-- an accepted edit is an accepted change
+pub edited-changed : (editor : ℕ) (old new : Machine) (answer : Answer) (r : Result (Content × Answer) EditRefusal) → after_step editor old r ≡ Ok (new, answer)
+    → option_map (advanced editor old) (edit_led r) ≡ Some new
+edited-changed editor old new answer (Ok done) h = ap machine_of h
+edited-changed editor old new answer (Err refusal) h = cc
+
+-- the past of what is accepted, and nothing where it is refused
+abbrev past_in : Option Machine → List Kept
+past_in (Some machine) = machine.past
+past_in None = []
+
+-- an accepted change puts the content on the past
+past-changed : (editor : ℕ) (machine mid : Machine) (next : Option Content) → option_map (advanced editor machine) next ≡ Some mid
+    → mid.past ≡ kept editor machine.now ∷ machine.past
+past-changed editor machine mid (Some content) h = sym (ap past_in h)
+past-changed editor machine mid None h = cc
 
 -- the content and the past are those of the machine
 abbrev IsBackAt : Machine → Machine → Type 0
 IsBackAt machine back = (back.now ≡ machine.now) × (back.past ≡ machine.past)
 
--- one more undo goes back over one more edit of its editor
+-- one more undo goes back over one more change of its editor
 undone_after-back : (editor : ℕ) (first mid : Machine) (r : Result Machine Refusal) → mid.past ≡ kept editor first.now ∷ first.past
     → IsOkAnd r (IsBackAt mid) → IsOkAnd (undone_after editor r) (IsBackAt first)
 undone_after-back editor first mid (Ok back) e h =
@@ -52,39 +63,34 @@ undone_after-back editor first mid (Err refusal) e h = absurd h
 
 pub undo_law : UndoLaw
 undo_law first last [] h = (ap (λ m. m.now) h, ap (λ m. m.past) h)
-undo_law first last (asked ∷ more) (mid, answer, accepted, rest) =
-    undone_after-back asked.editor first mid (undone_in_turn last more) (past-after_step asked.editor first mid answer _ accepted) (undo_law mid last more rest)
+undo_law first last (asked ∷ more) (mid, accepted, rest) =
+    undone_after-back asked.editor first mid (undone_in_turn last more) (past-changed asked.editor first mid (led_by first.now asked.change) accepted) (undo_law mid last more rest)
 
--- one more inverse fits after others, where it fits the content that they restored
-FitInTurn-append : (content mid : Content) (inverses : List Inverse) (inverse : Inverse) → FitInTurn content inverses → fold described content inverses ≡ mid
-    → Restores mid inverse (described mid inverse) → FitInTurn content (inverses ++ inverse ∷ [])
-FitInTurn-append content mid [] inverse fit e restores = (subst (λ c. Restores c inverse (described c inverse)) (sym e) restores, tt)
-FitInTurn-append content mid (one ∷ inverses) inverse fit e restores =
-    (fit.0, FitInTurn-append (described content one) mid inverses inverse fit.1 e restores)
+-- one more fits behind others, where it fits the content that they restored
+FitInTurn-append : (content mid : Content) (undos : List Undo) (undo : Undo) → FitInTurn content undos → fold undone_by content undos ≡ mid → FitsUndo mid undo
+    → FitInTurn content (undos ++ undo ∷ [])
+FitInTurn-append content mid [] undo fit e fits = (subst (λ c. FitsUndo c undo) (sym e) fits, tt)
+FitInTurn-append content mid (one ∷ undos) undo fit e fits = (fit.0, FitInTurn-append (undone_by content one) mid undos undo fit.1 e fits)
 
-fold-append_one : (content : Content) (inverses : List Inverse) (inverse : Inverse)
-    → fold described content (inverses ++ inverse ∷ []) ≡ described (fold described content inverses) inverse
-fold-append_one content [] inverse = refl
-fold-append_one content (one ∷ inverses) inverse = fold-append_one (described content one) inverses inverse
+fold-append_one : (content : Content) (undos : List Undo) (undo : Undo) → fold undone_by content (undos ++ undo ∷ []) ≡ undone_by (fold undone_by content undos) undo
+fold-append_one content [] undo = refl
+fold-append_one content (one ∷ undos) undo = fold-append_one (undone_by content one) undos undo
 
--- the inverses fit in turn, and restore the first content
-abbrev TakesBack : Content → Content → List Inverse → Type 0
-TakesBack first last inverses = FitInTurn last inverses × (fold described last inverses ≡ first)
+-- they fit in turn, and restore the first content
+abbrev TakeBack : Content → Content → List Undo → Type 0
+TakeBack first last undos = FitInTurn last undos × (fold undone_by last undos ≡ first)
 
-takes_back_one_more : (first mid last : Content) (inverse : Inverse) (inverses : List Inverse)
-    → Restores mid inverse first → TakesBack mid last inverses → TakesBack first last (inverses ++ inverse ∷ [])
-takes_back_one_more first mid last inverse inverses back h =
-    let restores : Restores mid inverse (described mid inverse) = subst (Restores mid inverse) back.described_by back in (
-      FitInTurn-append last mid inverses inverse h.0 h.1 restores,
-      fold-append_one last inverses inverse ∙ ap (λ c. described c inverse) h.1 ∙ sym back.described_by,
-    )
+take_back-one_more : (first mid last : Content) (undo : Undo) (undos : List Undo) → LeadsBack mid undo first → TakeBack mid last undos
+    → TakeBack first last (undos ++ undo ∷ [])
+take_back-one_more first mid last undo undos back h =
+    (FitInTurn-append last mid undos undo h.0 h.1 back.1, fold-append_one last undos undo ∙ ap (λ c. undone_by c undo) h.1 ∙ back.0)
 
 pub inverses_law : InversesLaw
 inverses_law first last [] h = (tt, h)
-inverses_law first last (pair ∷ pairs) (mid, answer, led, back, rest) =
-    let inverses = map (λ p. p.1) pairs in
-    subst (TakesBack first last) (sym (reverse-append (pair.1 ∷ []) inverses))
-    (takes_back_one_more first mid last pair.1 (reverse inverses) back (inverses_law mid last pairs rest))
+inverses_law first last (pair ∷ pairs) (mid, led, back, rest) =
+    let undos = map (λ p. p.1) pairs in
+    subst (TakeBack first last) (sym (reverse-append (pair.1 ∷ []) undos))
+    (take_back-one_more first mid last pair.1 (reverse undos) back (inverses_law mid last pairs rest))
 
 redone_back : (editor : ℕ) (first last : Machine) (past : List Kept) → first.past ≡ past → back_to editor first past ≡ Ok last
     → forth_to editor last last.future ≡ Ok first

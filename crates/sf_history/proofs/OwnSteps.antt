@@ -1,14 +1,12 @@
 -- Whose steps an undo and a redo move.
-use Rattle.std.proofs.Common.{◌≡◌, ◌≢◌, ◌⊎◌, ℕ, suc, Bool, true, false, inl, inr, List, [], ◌∷◌, cond, Result, Ok, Err, nat_eq, refl, sym, ap, ◌∙◌, subst, arith}
+use Rattle.std.proofs.Common.{◌≡◌, ◌≢◌, ◌⊎◌, ℕ, suc, Bool, true, false, inl, inr, List, [], ◌∷◌, cond, Option, None, Some, option_map, Result, Ok, Err, nat_eq, refl, sym, ap, ◌∙◌, subst, arith}
 use Rattle.std.specs.Prelude.{Contains}
 use Rattle.std.proofs.lemmas.Bool.{eqb-true}
 use Rattle.sf_layers.specs.Content.{Content}
-use Rattle.sf_steps.specs.declared.answer.Answer.{Answer}
-use Rattle.sf_steps.specs.declared.refusal.Refusal.{Refusal as EditRefusal}
-use Rattle.sf_steps.specs.Steps.{step}
+use Rattle.sf_changes.specs.Changes.{led_by}
 use Rattle.sf_refusals.specs.declared.refusal.Refusal.{Refusal}
-use Rattle.sf_history.specs.History.{Machine, Kept, fresh, after_step, back_to, forth_to}
-use Rattle.sf_history.specs.Laws.{Asked, Turn, Edits, Undoes, Redoes, Leads, LeadInTurn, IsMadeBy, steps_of, KeepsOthers, OwnStepsLaw}
+use Rattle.sf_history.specs.History.{Machine, Kept, fresh, advanced, back_to, forth_to}
+use Rattle.sf_history.specs.Laws.{Asked, Turn, Changes, Undoes, Redoes, Leads, LeadInTurn, IsMadeBy, steps_of, KeepsOthers, OwnStepsLaw}
 use Rattle.sf_history.proofs.LawProofs.{allowed_own}
 
 -- ---- what was made in some of the turns
@@ -75,20 +73,19 @@ redone_own turns editor past now (after ∷ later) new h made =
       ),
     )
 
--- the machine that a step leads to
-abbrev machine_in : Result (Machine × Answer) Refusal → Machine → Machine
-machine_in (Ok done) machine = done.0
-machine_in (Err refusal) machine = machine
+-- the machine that a change leads to
+abbrev machine_in : Option Machine → Machine → Machine
+machine_in (Some next) machine = next
+machine_in None machine = machine
 
-edit_made : (turns : List Turn) (asked : Asked) (old new : Machine) (answer : Answer) (r : Result (Content × Answer) EditRefusal)
-    → Contains turns (Edits asked) → step old.now asked.edit ≡ r → after_step asked.editor old r ≡ Ok (new, answer) → AllMade turns old → AllMade turns new
-edit_made turns asked old new answer (Err refusal) among is h made = cc
-edit_made turns asked old new answer (Ok done) among is h made =
-    subst (AllMade turns) (ap (λ r. machine_in r old) h)
-    ((record { edit = asked.edit; answer = done.1; asked = among; leads = is }, made.0), tt)
+change_made : (turns : List Turn) (asked : Asked) (old new : Machine) (next : Option Content) → Contains turns (Changes asked) → led_by old.now asked.change ≡ next
+    → option_map (advanced asked.editor old) next ≡ Some new → AllMade turns old → AllMade turns new
+change_made turns asked old new None among is h made = cc
+change_made turns asked old new (Some content) among is h made =
+    subst (AllMade turns) (ap (λ o. machine_in o old) h) ((record { change = asked.change; asked = among; leads = is }, made.0), tt)
 
 turn_made : (turns : List Turn) (turn : Turn) (old new : Machine) → Contains turns turn → Leads old turn new → AllMade turns old → AllMade turns new
-turn_made turns (Edits asked) old new among (answer, h) made = edit_made turns asked old new answer (step old.now asked.edit) among refl h made
+turn_made turns (Changes asked) old new among h made = change_made turns asked old new (led_by old.now asked.change) among refl h made
 turn_made turns (Undoes editor) old new among h made = (undone_own turns editor old.past old.now old.future new h made).0
 turn_made turns (Redoes editor) old new among h made = (redone_own turns editor old.past old.now old.future new h made).0
 

@@ -1,17 +1,22 @@
--- The history of the edits of several editors. It keeps whole contents.
-use Rattle.std.specs.Prelude.{ℕ, List, [], ◌∷◌, Result, Ok, Err, IsOk, nat_eq, if◌then◌else◌}
+-- The history of the changes of several editors, of which each is one step: an edit, or several edits of features. It keeps
+-- whole contents.
+use Rattle.std.specs.Prelude.{ℕ, List, [], ◌∷◌, Option, Result, Ok, Err, nat_eq, if◌then◌else◌}
+use Rattle.std.specs.Option.{option_map}
 use Rattle.sf_layers.specs.Content.{Content}
 use Rattle.sf_steps.specs.declared.answer.Answer.{Answer}
 use Rattle.sf_steps.specs.declared.edit.Edit.{Edit}
-use Rattle.sf_steps.specs.declared.inverse.Inverse.{Inverse}
 use Rattle.sf_steps.specs.declared.refusal.Refusal.{Refusal as EditRefusal}
 use Rattle.sf_steps.specs.Refusals.{refusal_of}
 use Rattle.sf_steps.specs.Steps.{step}
-use Rattle.sf_steps.specs.Inverses.{described, Fits}
+use Rattle.sf_groups.specs.declared.member.Member.{Member}
+use Rattle.sf_groups.specs.Members.{Refused, together}
+use Rattle.sf_changes.specs.declared.undo.Undo.{Undo}
+use Rattle.sf_changes.specs.declared.redo.Redo.{Redo}
+use Rattle.sf_changes.specs.Changes.{Change, FitsRedo, FitsUndo, led_by, redone_by, undone_by}
 use Rattle.sf_refusals.specs.declared.refusal.Refusal.{Refusal}
 use Rattle.sf_refusals.specs.declared.refusal.Refusal.TheVariants.{NothingToUndo, NothingToRedo, NotYours}
 
--- a past or future content, with the editor whose edit made the step beside it
+-- a past or future content, with the editor whose change made the step beside it
 pub record Kept : Type 0 where
   pub content : Content
   pub editor : ℕ
@@ -30,7 +35,7 @@ kept editor content = record { content = content; editor = editor }
 abbrev pub fresh : Content → Machine
 fresh content = record { past = []; now = content; future = [] }
 
--- the machine after an accepted edit of the editor that leads to the content: the future is emptied
+-- the machine after an accepted change of the editor that leads to the content: the future is emptied
 abbrev pub advanced : ℕ → Machine → Content → Machine
 advanced editor machine content =
     record { past = kept editor machine.now ∷ machine.past; now = content; future = [] }
@@ -43,6 +48,19 @@ after_step editor machine (Err refusal) = Err (refusal_of refusal)
 -- what an edit of the editor makes of the machine, if memory does not run out
 abbrev pub edited : ℕ → Machine → Edit → Result (Machine × Answer) Refusal
 edited editor machine edit = after_step editor machine (step machine.now edit)
+
+-- the same with the identifiers that a group gave
+abbrev pub after_group : ℕ → Machine → Result (Content × List ℕ) Refused → Result (Machine × List ℕ) Refused
+after_group editor machine (Ok done) = Ok (advanced editor machine done.0, done.1)
+after_group editor machine (Err refused) = Err refused
+
+-- what several edits of the editor make of the machine as one step, if memory does not run out
+abbrev pub grouped : ℕ → Machine → List Member → Result (Machine × List ℕ) Refused
+grouped editor machine members = after_group editor machine (together machine.now members)
+
+-- the machine after a change of either kind; none where it is refused
+abbrev pub changed : ℕ → Machine → Change → Option Machine
+changed editor machine change = option_map (advanced editor machine) (led_by machine.now change)
 
 -- the machine where the step is the editor's; else it is refused, and the refusal names the one whose it is
 abbrev pub if_own : ℕ → Kept → Machine → Result Machine Refusal
@@ -74,31 +92,24 @@ undone editor machine = back_to editor machine machine.past
 abbrev pub redone : ℕ → Machine → Result Machine Refusal
 redone editor machine = forth_to editor machine machine.future
 
--- the contents that the inverses describe, one after another, each with the editor of its step
-abbrev pub past_of : Content → List Inverse → List ℕ → List Kept
-past_of content (inverse ∷ inverses) (editor ∷ editors) =
-    kept editor (described content inverse) ∷ past_of (described content inverse) inverses editors
-past_of content inverses editors = []
+-- the contents that are led back to, one after another, each with the editor of its step
+abbrev pub past_of : Content → List Undo → List ℕ → List Kept
+past_of content (undo ∷ undos) (editor ∷ editors) =
+    let before = undone_by content undo in kept editor before ∷ past_of before undos editors
+past_of content undos editors = []
 
--- each inverse takes the content that the ones before it restored back to one before
-abbrev pub FitInTurn : Content → List Inverse → Type 0
+-- each of these can be carried out from the content that the ones before it led back to
+abbrev pub FitInTurn : Content → List Undo → Type 0
 FitInTurn content [] = Unit {0}
-FitInTurn content (inverse ∷ inverses) =
-    Fits content inverse × FitInTurn (described content inverse) inverses
+FitInTurn content (undo ∷ undos) = FitsUndo content undo × FitInTurn (undone_by content undo) undos
 
--- the content that a step leads to, or the one before where it is refused
-abbrev pub led_to : Content → Result (Content × Answer) EditRefusal → Content
-led_to content (Ok done) = done.0
-led_to content (Err refusal) = content
+-- the contents that are led to again, one after another, each with the editor of its step
+abbrev pub future_of : Content → List Redo → List ℕ → List Kept
+future_of content (redo ∷ redos) (editor ∷ editors) =
+    let next = redone_by content redo in kept editor next ∷ future_of next redos editors
+future_of content redos editors = []
 
--- the contents that the edits lead to, one after another, each with the editor of its step
-abbrev pub future_of : Content → List Edit → List ℕ → List Kept
-future_of content (edit ∷ edits) (editor ∷ editors) =
-    let next = led_to content (step content edit) in kept editor next ∷ future_of next edits editors
-future_of content edits editors = []
-
--- each edit is accepted by the content that the ones before it led to
-abbrev pub AcceptedInTurn : Content → List Edit → Type 0
-AcceptedInTurn content [] = Unit {0}
-AcceptedInTurn content (edit ∷ edits) =
-    IsOk (step content edit) × AcceptedInTurn (led_to content (step content edit)) edits
+-- each of these can be carried out from the content that the ones before it led to
+abbrev pub LeadOnInTurn : Content → List Redo → Type 0
+LeadOnInTurn content [] = Unit {0}
+LeadOnInTurn content (redo ∷ redos) = FitsRedo content redo × LeadOnInTurn (redone_by content redo) redos

@@ -1,27 +1,29 @@
 ghost use Rattle.std.specs.Prelude.{◌≡◌, ◌⊎◌, [], length, Ok, Err, IsOk, OnOk, OnErr, IfOk, IfErr};
 ghost use Rattle.sf_history.specs.History.{fresh, edited, undone, redone};
 
-use sf_edits::{Answer, Edit, Inverse, Reverted, apply, reapply, revert};
+use sf_changes::{Redo, Undo, make_again, take_back};
+use sf_edits::apply;
 use sf_layers::Store;
 use sf_refusals::Refusal;
+use sf_steps::{Answer, Edit};
 use std::alloc::Global;
 use std::marker::Model;
 
-/// A store with the history of its edits, which several editors make in turn, each known by a number. Contracts
+/// A store with the history of its changes, which several editors make in turn, each known by a number. Contracts
 /// see the content now with the past and future contents, and whose step stands beside each.
 #[derive(Drop)]
 pub struct Editor {
     store: Store,
-    // The last one is that of the last edit.
-    done: Vec<Inverse>,
+    // The last one is that of the last change.
+    done: Vec<Undo>,
     // The last one is the next to be redone.
-    undone: Vec<Reverted>,
+    undone: Vec<Redo>,
     // Whose steps these are: of those done the first one first, then of those undone the next one first. So
     // undo and redo leave them as they are.
     editors: Vec<u8>,
 }
 
-/// How many edits can be undone, and how many redone.
+/// How many changes can be undone, and how many redone.
 #[derive(Clone, Copy, Debug, PartialEq, Eq)]
 pub struct Depths {
     pub past: usize,
@@ -30,7 +32,7 @@ pub struct Depths {
 
 impl Model for Editor {
     ghost use Rattle.std.specs.Prelude.{◌≡◌, ◌+◌, length, reverse, take, drop};
-    ghost use Rattle.sf_history.specs.History.{Machine, past_of, future_of, FitInTurn, AcceptedInTurn};
+    ghost use Rattle.sf_history.specs.History.{Machine, past_of, future_of, FitInTurn, LeadOnInTurn};
 
     ghost Value = { Machine };
 
@@ -41,7 +43,7 @@ impl Model for Editor {
     } };
 
     ghost invariant = { λ a.
-        FitInTurn a.store (reverse a.done.items) × AcceptedInTurn a.store (reverse a.undone.items)
+        FitInTurn a.store (reverse a.done.items) × LeadOnInTurn a.store (reverse a.undone.items)
         × (length a.editors.items ≡ length a.done.items + length a.undone.items) };
 }
 
@@ -98,7 +100,7 @@ impl Editor {
                 let answer = inverse.answer();
                 self.editors.truncate(self.done.len());
                 self.editors.push(editor).unwrap();
-                self.done.push(inverse).unwrap();
+                self.done.push(Undo::Edit(inverse)).unwrap();
                 self.undone.clear();
                 Ok(answer)
             }
@@ -106,7 +108,7 @@ impl Editor {
         }
     }
 
-    /// Takes the last edit back, where it was editor 0's.
+    /// Takes the last change back, where it was editor 0's.
     pub fn undo(&mut self, alloc: Global) -> Result<(), Refusal>
         ensures done { OnOk result (undone 0 self.old ≡ Ok self.new) }
         ensures refused { IfErr result (λ refusal. (undone 0 self.old ≡ Err refusal)
@@ -116,7 +118,7 @@ impl Editor {
         self.undo_as(alloc, 0)
     }
 
-    /// Takes the last edit back, where it was the editor's: `NothingToUndo` without a past, `NotYours` where it
+    /// Takes the last change back, where it was the editor's: `NothingToUndo` without a past, `NotYours` where it
     /// was another's. A refused undo changes nothing, and but for `Memory` it takes no memory.
     pub fn undo_as(&mut self, alloc: Global, editor: u8) -> Result<(), Refusal>
         ensures done { OnOk result (undone editor self.old ≡ Ok self.new) }
@@ -131,24 +133,24 @@ impl Editor {
         if owner != editor {
             return Err(Refusal::NotYours(owner));
         }
-        // The place among the edits to be redone comes first.
+        // The place among the changes to be redone comes first.
         if self.undone.reserve(1).is_err() {
             return Err(Refusal::Memory);
         }
-        let inverse = self.done.pop().unwrap();
-        match revert(alloc, &mut self.store, inverse) {
-            Ok(reverted) => {
-                self.undone.push(reverted).unwrap();
+        let undo = self.done.pop().unwrap();
+        match take_back(alloc, &mut self.store, undo) {
+            Ok(redo) => {
+                self.undone.push(redo).unwrap();
                 Ok(())
             }
-            Err(inverse) => {
-                self.done.push(inverse).unwrap();
+            Err(undo) => {
+                self.done.push(undo).unwrap();
                 Err(Refusal::Memory)
             }
         }
     }
 
-    /// Redoes the last edit that was taken back, where it was editor 0's.
+    /// Redoes the last change that was taken back, where it was editor 0's.
     pub fn redo(&mut self, alloc: Global) -> Result<(), Refusal>
         ensures done { OnOk result (redone 0 self.old ≡ Ok self.new) }
         ensures refused { IfErr result (λ refusal. (redone 0 self.old ≡ Err refusal)
@@ -158,7 +160,7 @@ impl Editor {
         self.redo_as(alloc, 0)
     }
 
-    /// Redoes the last edit that was taken back, where it was the editor's: `NothingToRedo` without a
+    /// Redoes the last change that was taken back, where it was the editor's: `NothingToRedo` without a
     /// future, `NotYours` where it was another's. A refused redo changes nothing, and but for `Memory` it takes
     /// no memory.
     pub fn redo_as(&mut self, alloc: Global, editor: u8) -> Result<(), Refusal>
@@ -177,15 +179,15 @@ impl Editor {
         if self.done.reserve(1).is_err() {
             return Err(Refusal::Memory);
         }
-        let reverted = self.undone.pop().unwrap();
-        match reapply(alloc, &mut self.store, reverted) {
-            Ok(inverse) => {
-                self.done.push(inverse).unwrap();
+        let redo = self.undone.pop().unwrap();
+        match make_again(alloc, &mut self.store, redo) {
+            Ok(undo) => {
+                self.done.push(undo).unwrap();
                 Ok(())
             }
             // It was accepted once, from this very content: only memory can run out.
-            Err(reverted) => {
-                self.undone.push(reverted).unwrap();
+            Err(redo) => {
+                self.undone.push(redo).unwrap();
                 Err(Refusal::Memory)
             }
         }
@@ -205,7 +207,7 @@ impl Editor {
         self.store
     }
 
-    /// How many edits can be undone, and how many redone.
+    /// How many changes can be undone, and how many redone.
     pub fn depths(&self) -> Depths
         ensures { result ≡ record { past = length self.now.past; future = length self.now.future } }
     {

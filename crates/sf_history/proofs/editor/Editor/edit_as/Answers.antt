@@ -2,7 +2,8 @@ use Rattle.std.proofs.Common.{◌≡◌, ◌≤◌, ◌++◌, ◌∷◌, List, [
 use Rattle.std.proofs.lemmas.Grind.{common_steps}
 use Rattle.sf_refusals.specs.declared.refusal.Refusal.{Refusal}
 use Rattle.sf_steps.specs.declared.answer.Answer.{Answer}
-use Rattle.sf_steps.specs.declared.edit.Edit.{Edit}
+use Rattle.sf_changes.specs.declared.undo.Undo.TheVariants as undos
+use Rattle.sf_changes.specs.declared.redo.Redo.{Redo}
 use Rattle.sf_history.specs.History.{Machine, Kept, past_of, future_of, kept, after_step, edited}
 use Rattle.sf_history.proofs.Histories.{past-advanced}
 use Rattle.sf_history.proofs.editor.Editor.edit_as.Goals as goal
@@ -16,7 +17,7 @@ returns-in-Ok-clause-accepted c =
     let editors = c.push.new.self.items in
     let accepts = c.in-Ok.ensures.carried_out.accepted in
     let within : length inside.done.items ≤ length inside.editors.items = grind (arith, common_steps) in
-    let longer : done ≡ inside.done.items ++ c.in-Ok.inverse ∷ [] = grind (arith, common_steps) in
+    let longer : done ≡ inside.done.items ++ undos.Edit c.in-Ok.inverse ∷ [] = grind (arith, common_steps) in
     let whose : editors ≡ take (length inside.done.items) inside.editors.items ++ c.args.editor ∷ [] = grind (arith, common_steps) in
     let earlier = past_of inside.store (reverse inside.done.items) (reverse (take (length inside.done.items) inside.editors.items)) in
     let old : Machine = record {
@@ -24,8 +25,8 @@ returns-in-Ok-clause-accepted c =
       now = inside.store;
       future = future_of inside.store (reverse inside.undone.items) (drop (length inside.done.items) inside.editors.items);
     } in
-    let past = past-advanced content inside.store inside.done.items done c.in-Ok.inverse inside.editors.items editors c.args.editor within longer whose accepts.restores.described_by in
-    let reached : List Kept → List Edit → Result (Machine × Answer) Refusal = λ past undone. Ok (
+    let past = past-advanced content inside.store inside.done.items done (undos.Edit c.in-Ok.inverse) inside.editors.items editors c.args.editor within longer whose accepts.restores.described_by in
+    let reached : List Kept → List Redo → Result (Machine × Answer) Refusal = λ past undone. Ok (
       record {
         past = past;
         now = content;

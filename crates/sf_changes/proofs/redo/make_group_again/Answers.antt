@@ -1,0 +1,17 @@
+use Rattle.std.proofs.Common.{◌≡◌, List, sym, subst}
+use Rattle.sf_layers.specs.Content.{Content}
+use Rattle.sf_patches.specs.declared.slot.Slot.{Slot}
+use Rattle.sf_patches.specs.Patches.{patched}
+use Rattle.sf_changes.specs.declared.undo.Undo.TheVariants as undos
+use Rattle.sf_changes.specs.declared.redo.Redo.TheVariants as redos
+use Rattle.sf_changes.specs.Changes.{MakesAgain}
+use Rattle.sf_changes.proofs.ChangeLaws.{group-made_again}
+use Rattle.sf_changes.proofs.redo.make_group_again.Goals as goal
+
+pub returns-in-Ok-clause-made : goal.returns-in-Ok-clause-made
+returns-in-Ok-clause-made c =
+    let old = c.args.store.now in
+    let slots = c.args.patch in
+    let by : List Slot → Content → Type 0 = λ left new. MakesAgain old (redos.Group slots) (undos.Group left) new in
+    subst (λ left. by left c.exchange.new.store) (sym c.in-Ok.ensures.back)
+    (subst (by _) (sym c.in-Ok.ensures.exchanged) (group-made_again old slots c.requires))
