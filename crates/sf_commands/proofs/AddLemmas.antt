@@ -12,8 +12,9 @@ use Rattle.sf_features.specs.declared.attr_value.AttrValue.{AttrValue}
 use Rattle.sf_steps.specs.declared.edit.Edit.TheVariants as edits
 use Rattle.sf_commands.specs.declared.command.Command.{Command}
 use Rattle.sf_commands.specs.declared.command.Command.TheVariants.{Edit}
+use Rattle.sf_commands.specs.declared.naming.Naming.{Naming}
 use Rattle.sf_commands.specs.Words.{words, skip_blanks, skip_word, trimmed_end}
-use Rattle.sf_commands.specs.Commands.{id_of, given, of_text, layer_and_text, replace_arguments, set_arguments, OrMemory}
+use Rattle.sf_commands.specs.Commands.{id_named, given, of_text, layer_and_text, replace_arguments, set_arguments, OrMemory}
 use Rattle.sf_commands.specs.Values.{value_of}
 
 with_text : (command : List ℕ → Geometry → Command) (layer text : List ℕ) (more : List (List ℕ)) → more ≢ []
@@ -35,44 +36,44 @@ layer_and_text-text command line next layer text first rest some behind =
 abbrev pub replaced_by : List ℕ → Option ℕ → Result Geometry WktFault → Result Command Refusal
 replaced_by layer id geometry = given id (λ id. of_text geometry (λ geometry. Edit (edits.ReplaceGeometry layer id geometry)))
 
-with_id_and_text : (layer id text : List ℕ) (more : List (List ℕ)) → more ≢ []
-    → replace_arguments (layer ∷ id ∷ more) text ≡ replaced_by layer (id_of id) (read text)
-with_id_and_text layer id text [] some = absurd (some refl)
-with_id_and_text layer id text (word ∷ more) some = refl
+with_id_and_text : (naming : Naming) (layer id text : List ℕ) (more : List (List ℕ)) → more ≢ []
+    → replace_arguments naming (layer ∷ id ∷ more) text ≡ replaced_by layer (id_named naming id) (read text)
+with_id_and_text naming layer id text [] some = absurd (some refl)
+with_id_and_text naming layer id text (word ∷ more) some = refl
 
 -- what the words after `replace` give, where a text stands behind the second of them
-pub replace_arguments-text : (line next last layer id text : List ℕ) → words line ≡ layer ∷ words next → next ≡ skip_word line
+pub replace_arguments-text : (naming : Naming) (line next last layer id text : List ℕ) → words line ≡ layer ∷ words next → next ≡ skip_word line
     → words next ≡ id ∷ words last → last ≡ skip_word next → words last ≢ [] → text ≡ skip_blanks last
-    → replace_arguments (words line) (skip_blanks (skip_word (skip_word line))) ≡ replaced_by layer (id_of id) (read text)
-replace_arguments-text line next last layer id text first rest second end some behind =
+    → replace_arguments naming (words line) (skip_blanks (skip_word (skip_word line))) ≡ replaced_by layer (id_named naming id) (read text)
+replace_arguments-text naming line next last layer id text first rest second end some behind =
     let all : words line ≡ layer ∷ id ∷ words last = first ∙ ap (λ w. layer ∷ w) second in
     let left : last ≡ skip_word (skip_word line) = end ∙ ap skip_word rest in
-    ap (λ w. replace_arguments w (skip_blanks (skip_word (skip_word line)))) all
-    ∙ ap (λ n. replace_arguments (layer ∷ id ∷ words last) (skip_blanks n)) (sym left)
-    ∙ ap (λ t. replace_arguments (layer ∷ id ∷ words last) t) (sym behind)
-    ∙ with_id_and_text layer id text (words last) some
+    ap (λ w. replace_arguments naming w (skip_blanks (skip_word (skip_word line)))) all
+    ∙ ap (λ n. replace_arguments naming (layer ∷ id ∷ words last) (skip_blanks n)) (sym left)
+    ∙ ap (λ t. replace_arguments naming (layer ∷ id ∷ words last) t) (sym behind)
+    ∙ with_id_and_text naming layer id text (words last) some
 
 -- `set` in a layer of an identifier if it could be read, in a column to a value if it could be read
 abbrev pub set_by : List ℕ → Option ℕ → List ℕ → Option AttrValue → Result Command Refusal
 set_by layer id column value = given id (λ id. given value (λ value. Ok (Edit (edits.SetValue layer id column value))))
 
-with_column_and_text : (layer id column text : List ℕ) (more : List (List ℕ)) → more ≢ []
-    → set_arguments (layer ∷ id ∷ column ∷ more) text ≡ set_by layer (id_of id) column (value_of (trimmed_end text))
-with_column_and_text layer id column text [] some = absurd (some refl)
-with_column_and_text layer id column text (word ∷ more) some = refl
+with_column_and_text : (naming : Naming) (layer id column text : List ℕ) (more : List (List ℕ)) → more ≢ []
+    → set_arguments naming (layer ∷ id ∷ column ∷ more) text ≡ set_by layer (id_named naming id) column (value_of (trimmed_end text))
+with_column_and_text naming layer id column text [] some = absurd (some refl)
+with_column_and_text naming layer id column text (word ∷ more) some = refl
 
 -- what the words after `set` give, where a text stands behind the third of them
-pub set_arguments-text : (line next middle last layer id column text : List ℕ) → words line ≡ layer ∷ words next → next ≡ skip_word line
+pub set_arguments-text : (naming : Naming) (line next middle last layer id column text : List ℕ) → words line ≡ layer ∷ words next → next ≡ skip_word line
     → words next ≡ id ∷ words middle → middle ≡ skip_word next → words middle ≡ column ∷ words last → last ≡ skip_word middle
     → words last ≢ [] → text ≡ skip_blanks last
-    → set_arguments (words line) (skip_blanks (skip_word (skip_word (skip_word line)))) ≡ set_by layer (id_of id) column (value_of (trimmed_end text))
-set_arguments-text line next middle last layer id column text first rest second more third end some behind =
+    → set_arguments naming (words line) (skip_blanks (skip_word (skip_word (skip_word line)))) ≡ set_by layer (id_named naming id) column (value_of (trimmed_end text))
+set_arguments-text naming line next middle last layer id column text first rest second more third end some behind =
     let all : words line ≡ layer ∷ id ∷ column ∷ words last = first ∙ ap (λ w. layer ∷ w) (second ∙ ap (λ w. id ∷ w) third) in
     let left : last ≡ skip_word (skip_word (skip_word line)) = end ∙ ap skip_word (more ∙ ap skip_word rest) in
-    ap (λ w. set_arguments w (skip_blanks (skip_word (skip_word (skip_word line))))) all
-    ∙ ap (λ n. set_arguments (layer ∷ id ∷ column ∷ words last) (skip_blanks n)) (sym left)
-    ∙ ap (λ t. set_arguments (layer ∷ id ∷ column ∷ words last) t) (sym behind)
-    ∙ with_column_and_text layer id column text (words last) some
+    ap (λ w. set_arguments naming w (skip_blanks (skip_word (skip_word (skip_word line))))) all
+    ∙ ap (λ n. set_arguments naming (layer ∷ id ∷ column ∷ words last) (skip_blanks n)) (sym left)
+    ∙ ap (λ t. set_arguments naming (layer ∷ id ∷ column ∷ words last) t) (sym behind)
+    ∙ with_column_and_text naming layer id column text (words last) some
 
 pub OrMemory-same : {T : Type 0} (expected r : Result T Refusal) → r ≡ expected → OrMemory expected r
 OrMemory-same expected (Err Memory) h = tt

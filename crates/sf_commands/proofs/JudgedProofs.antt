@@ -32,6 +32,7 @@ use Rattle.sf_wkb.specs.Grammar.{read as read_bytes}
 use Rattle.sf_steps.specs.declared.edit.Edit.TheVariants as edits
 use Rattle.sf_commands.specs.declared.command.Command.{Command}
 use Rattle.sf_commands.specs.declared.command.Command.TheVariants.{Edit, Undo, Redo, Layers, Columns, Show, Hex, Simple, Extent, Relate, Match, Query}
+use Rattle.sf_commands.specs.declared.naming.Naming.TheVariants.{ById}
 use Rattle.sf_commands.specs.declared.verb.Verb.{Verb}
 use Rattle.sf_commands.specs.declared.verb.Verb.TheVariants as verbs
 use Rattle.sf_commands.specs.declared.verb.Action.{Action}
@@ -123,7 +124,7 @@ given_other : {X Y : Type 0} (o : Option X) (make : X → Result Y Refusal) → 
 given_other None make others = refl
 given_other (Some x) make others = others x
 
-place_other : (id part ring index : List ℕ) → IfErr (vertex_place id part ring index) IsOther
+place_other : (id part ring index : List ℕ) → IfErr (vertex_place ById id part ring index) IsOther
 place_other id part ring index =
     given_other (id_of id) _ (λ id. given_other (id_of part) _ (λ part. given_other (id_of ring) _ (λ ring. given_other (id_of index) _ (λ index. tt))))
 
@@ -238,27 +239,27 @@ column_judged : (t : List ℕ) (arguments : List (List ℕ)) → Judged t (colum
 column_judged t [] = bad t
 column_judged t (action ∷ arguments) = column_command_judged t (action_of action) arguments
 
-insert_vertex_judged : (t : List ℕ) (arguments : List (List ℕ)) → Judged t (insert_vertex arguments)
+insert_vertex_judged : (t : List ℕ) (arguments : List (List ℕ)) → Judged t (insert_vertex ById arguments)
 insert_vertex_judged t (layer ∷ id ∷ part ∷ ring ∷ index ∷ x ∷ y ∷ []) =
-    made_judged t (vertex_place id part ring index) _ (place_other id part ring index) (λ v. made_judged t (point_of x y) _ (point_by_other (coordinate_of x) (coordinate_of y)) (λ point. tt))
+    made_judged t (vertex_place ById id part ring index) _ (place_other id part ring index) (λ v. made_judged t (point_of x y) _ (point_by_other (coordinate_of x) (coordinate_of y)) (λ point. tt))
 insert_vertex_judged t arguments = bad t
 
-move_vertex_judged : (t : List ℕ) (arguments : List (List ℕ)) → Judged t (move_vertex arguments)
+move_vertex_judged : (t : List ℕ) (arguments : List (List ℕ)) → Judged t (move_vertex ById arguments)
 move_vertex_judged t (layer ∷ id ∷ part ∷ ring ∷ index ∷ x ∷ y ∷ []) =
-    made_judged t (vertex_place id part ring index) _ (place_other id part ring index) (λ v. made_judged t (point_of x y) _ (point_by_other (coordinate_of x) (coordinate_of y)) (λ point. tt))
+    made_judged t (vertex_place ById id part ring index) _ (place_other id part ring index) (λ v. made_judged t (point_of x y) _ (point_by_other (coordinate_of x) (coordinate_of y)) (λ point. tt))
 move_vertex_judged t arguments = bad t
 
-remove_vertex_judged : (t : List ℕ) (arguments : List (List ℕ)) → Judged t (remove_vertex arguments)
-remove_vertex_judged t (layer ∷ id ∷ part ∷ ring ∷ index ∷ []) = made_judged t (vertex_place id part ring index) _ (place_other id part ring index) (λ v. tt)
+remove_vertex_judged : (t : List ℕ) (arguments : List (List ℕ)) → Judged t (remove_vertex ById arguments)
+remove_vertex_judged t (layer ∷ id ∷ part ∷ ring ∷ index ∷ []) = made_judged t (vertex_place ById id part ring index) _ (place_other id part ring index) (λ v. tt)
 remove_vertex_judged t arguments = bad t
 
-vertex_command_judged : (t : List ℕ) (action : Option Action) (arguments : List (List ℕ)) → Judged t (vertex_command action arguments)
+vertex_command_judged : (t : List ℕ) (action : Option Action) (arguments : List (List ℕ)) → Judged t (vertex_command ById action arguments)
 vertex_command_judged t (Some actions.Insert) arguments = insert_vertex_judged t arguments
 vertex_command_judged t (Some actions.Move) arguments = move_vertex_judged t arguments
 vertex_command_judged t (Some actions.Remove) arguments = remove_vertex_judged t arguments
 vertex_command_judged t action arguments = bad t
 
-vertex_judged : (t : List ℕ) (arguments : List (List ℕ)) → Judged t (vertex_arguments arguments)
+vertex_judged : (t : List ℕ) (arguments : List (List ℕ)) → Judged t (vertex_arguments ById arguments)
 vertex_judged t [] = bad t
 vertex_judged t (action ∷ arguments) = vertex_command_judged t (action_of action) arguments
 
@@ -284,27 +285,27 @@ with_id_other : (layer : List ℕ) (id : Option ℕ) → IfErr (with_id layer id
 with_id_other layer None = refl
 with_id_other layer (Some id) = tt
 
-named_other : (arguments : List (List ℕ)) → IfErr (feature_named arguments) IsOther
+named_other : (arguments : List (List ℕ)) → IfErr (feature_named ById arguments) IsOther
 named_other (layer ∷ id ∷ []) = with_id_other layer (id_of id)
 named_other arguments = refl
 
 feature_judged : (t : List ℕ) (command : List ℕ → ℕ → Command) (arguments : List (List ℕ)) → ((layer : List ℕ) (id : ℕ) → HasValidGiven t (command layer id)) → Judged t (feature_arguments command arguments)
-feature_judged t command arguments judged = about_judged t command (feature_named arguments) (named_other arguments) judged
+feature_judged t command arguments judged = about_judged t command (feature_named ById arguments) (named_other arguments) judged
 
-delete_judged : (t : List ℕ) (arguments : List (List ℕ)) → Judged t (delete_arguments arguments)
+delete_judged : (t : List ℕ) (arguments : List (List ℕ)) → Judged t (delete_arguments ById arguments)
 delete_judged t arguments = feature_judged t (λ layer id. Edit (edits.DeleteFeature layer id)) arguments (λ layer id. tt)
 
-replace_judged : (t : List ℕ) (arguments : List (List ℕ)) (text : List ℕ) → Judged t (replace_arguments arguments text)
+replace_judged : (t : List ℕ) (arguments : List (List ℕ)) (text : List ℕ) → Judged t (replace_arguments ById arguments text)
 replace_judged t (layer ∷ id ∷ first ∷ more) text =
     given_judged t (id_of id) _ (λ id. text_judged t (read text) _ (λ geometry. tt))
 replace_judged t arguments text = bad t
 
-set_judged : (t : List ℕ) (arguments : List (List ℕ)) (text : List ℕ) → Judged t (set_arguments arguments text)
+set_judged : (t : List ℕ) (arguments : List (List ℕ)) (text : List ℕ) → Judged t (set_arguments ById arguments text)
 set_judged t (layer ∷ id ∷ column ∷ first ∷ more) text =
     given_judged t (id_of id) _ (λ id. given_judged t (value_of (trimmed_end text)) _ (λ value. tt))
 set_judged t arguments text = bad t
 
-unset_judged : (t : List ℕ) (arguments : List (List ℕ)) → Judged t (unset_arguments arguments)
+unset_judged : (t : List ℕ) (arguments : List (List ℕ)) → Judged t (unset_arguments ById arguments)
 unset_judged t (layer ∷ id ∷ column ∷ []) = given_judged t (id_of id) _ (λ id. tt)
 unset_judged t arguments = bad t
 

@@ -25,6 +25,7 @@ use Rattle.sf_steps.specs.declared.edit.Edit.TheVariants as edits
 use Rattle.sf_steps.specs.Laws.{BringsGridPoints}
 use Rattle.sf_commands.specs.declared.command.Command.{Command}
 use Rattle.sf_commands.specs.declared.command.Command.TheVariants.{Edit, Undo, Redo, Layers, Columns, Show, Hex, Simple, Extent, Relate, Match, Query}
+use Rattle.sf_commands.specs.declared.naming.Naming.TheVariants.{ById}
 use Rattle.sf_commands.specs.declared.verb.Verb.{Verb}
 use Rattle.sf_commands.specs.declared.verb.Verb.TheVariants as verbs
 use Rattle.sf_commands.specs.declared.verb.Action.{Action}
@@ -129,27 +130,27 @@ column_brings : (arguments : List (List ℕ)) → Brings (column_arguments argum
 column_brings [] = tt
 column_brings (action ∷ arguments) = column_command_brings (action_of action) arguments
 
-insert_vertex_brings : (arguments : List (List ℕ)) → Brings (insert_vertex arguments)
+insert_vertex_brings : (arguments : List (List ℕ)) → Brings (insert_vertex ById arguments)
 insert_vertex_brings (layer ∷ id ∷ part ∷ ring ∷ index ∷ x ∷ y ∷ []) =
-    made_brings (vertex_place id part ring index) _ (λ v. point_brings (point_of x y) _ (point_on_grid x y) (λ point on_grid. on_grid))
+    made_brings (vertex_place ById id part ring index) _ (λ v. point_brings (point_of x y) _ (point_on_grid x y) (λ point on_grid. on_grid))
 insert_vertex_brings arguments = tt
 
-move_vertex_brings : (arguments : List (List ℕ)) → Brings (move_vertex arguments)
+move_vertex_brings : (arguments : List (List ℕ)) → Brings (move_vertex ById arguments)
 move_vertex_brings (layer ∷ id ∷ part ∷ ring ∷ index ∷ x ∷ y ∷ []) =
-    made_brings (vertex_place id part ring index) _ (λ v. point_brings (point_of x y) _ (point_on_grid x y) (λ point on_grid. on_grid))
+    made_brings (vertex_place ById id part ring index) _ (λ v. point_brings (point_of x y) _ (point_on_grid x y) (λ point on_grid. on_grid))
 move_vertex_brings arguments = tt
 
-remove_vertex_brings : (arguments : List (List ℕ)) → Brings (remove_vertex arguments)
-remove_vertex_brings (layer ∷ id ∷ part ∷ ring ∷ index ∷ []) = made_brings (vertex_place id part ring index) _ (λ v. tt)
+remove_vertex_brings : (arguments : List (List ℕ)) → Brings (remove_vertex ById arguments)
+remove_vertex_brings (layer ∷ id ∷ part ∷ ring ∷ index ∷ []) = made_brings (vertex_place ById id part ring index) _ (λ v. tt)
 remove_vertex_brings arguments = tt
 
-vertex_command_brings : (action : Option Action) (arguments : List (List ℕ)) → Brings (vertex_command action arguments)
+vertex_command_brings : (action : Option Action) (arguments : List (List ℕ)) → Brings (vertex_command ById action arguments)
 vertex_command_brings (Some actions.Insert) arguments = insert_vertex_brings arguments
 vertex_command_brings (Some actions.Move) arguments = move_vertex_brings arguments
 vertex_command_brings (Some actions.Remove) arguments = remove_vertex_brings arguments
 vertex_command_brings action arguments = tt
 
-vertex_brings : (arguments : List (List ℕ)) → Brings (vertex_arguments arguments)
+vertex_brings : (arguments : List (List ℕ)) → Brings (vertex_arguments ById arguments)
 vertex_brings [] = tt
 vertex_brings (action ∷ arguments) = vertex_command_brings (action_of action) arguments
 
@@ -171,22 +172,22 @@ about_brings command (Ok feature) brings = brings feature.0 feature.1
 about_brings command (Err refusal) brings = tt
 
 feature_brings : (command : List ℕ → ℕ → Command) (arguments : List (List ℕ)) → ((layer : List ℕ) (id : ℕ) → BringsOnGrid (command layer id)) → Brings (feature_arguments command arguments)
-feature_brings command arguments brings = about_brings command (feature_named arguments) brings
+feature_brings command arguments brings = about_brings command (feature_named ById arguments) brings
 
-delete_brings : (arguments : List (List ℕ)) → Brings (delete_arguments arguments)
+delete_brings : (arguments : List (List ℕ)) → Brings (delete_arguments ById arguments)
 delete_brings arguments = feature_brings (λ layer id. Edit (edits.DeleteFeature layer id)) arguments (λ layer id. tt)
 
-replace_brings : (arguments : List (List ℕ)) (text : List ℕ) → Brings (replace_arguments arguments text)
+replace_brings : (arguments : List (List ℕ)) (text : List ℕ) → Brings (replace_arguments ById arguments text)
 replace_brings (layer ∷ id ∷ first ∷ more) text =
     given_brings (id_of id) _ (λ id. text_brings (read text) _ (read_is_sized text) (λ geometry on_grid. on_grid))
 replace_brings arguments text = tt
 
-set_brings : (arguments : List (List ℕ)) (text : List ℕ) → Brings (set_arguments arguments text)
+set_brings : (arguments : List (List ℕ)) (text : List ℕ) → Brings (set_arguments ById arguments text)
 set_brings (layer ∷ id ∷ column ∷ first ∷ more) text =
     given_brings (id_of id) _ (λ id. given_brings (value_of (trimmed_end text)) _ (λ value. tt))
 set_brings arguments text = tt
 
-unset_brings : (arguments : List (List ℕ)) → Brings (unset_arguments arguments)
+unset_brings : (arguments : List (List ℕ)) → Brings (unset_arguments ById arguments)
 unset_brings (layer ∷ id ∷ column ∷ []) = given_brings (id_of id) _ (λ id. tt)
 unset_brings arguments = tt
 

@@ -9,6 +9,8 @@ pub mod QueryLemmas
 pub mod LookupLemmas
 pub mod Computed
 pub mod ComputedQueries
+pub mod MemberLemmas
+pub mod ComputedMembers
 pub mod LawProofs
 pub mod JudgedProofs
 pub mod AddressLemmas

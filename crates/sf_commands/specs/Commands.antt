@@ -38,6 +38,8 @@ use Rattle.sf_commands.specs.declared.verb.Action.TheVariants as actions
 use Rattle.sf_commands.specs.declared.command.Command.{Command}
 use Rattle.sf_commands.specs.declared.command.Command.TheVariants.{Edit, Undo, Redo, Layers, Columns, Show, Get, Find, Check, Hex, Simple, Extent, Relate, Match, Query, JoinMatching, JoinNamed}
 use Rattle.sf_commands.specs.declared.vertex_place.VertexPlace.{VertexPlace}
+use Rattle.sf_commands.specs.declared.naming.Naming.{Naming}
+use Rattle.sf_commands.specs.declared.naming.Naming.TheVariants.{ById, OrLast}
 use Rattle.sf_commands.specs.Words.{words, skip_blanks, skip_word, trimmed_end}
 use Rattle.sf_commands.specs.Values.{point_of, value_of}
 
@@ -79,6 +81,10 @@ predicate_of word = lookup (bytes_eq word) ((codes "equals", predicates.Equals) 
     ∷ (codes "touches", predicates.Touches) ∷ (codes "crosses", predicates.Crosses) ∷ (codes "within", predicates.Within)
     ∷ (codes "contains", predicates.Contains) ∷ (codes "overlaps", predicates.Overlaps) ∷ (codes "intersects", predicates.Intersects) ∷ [])
 
+-- whether a word stands for the feature that a layer was given last
+abbrev pub is_last : List ℕ → Bool
+is_last word = bytes_eq word (codes "last")
+
 -- how many digits an identifier has at most
 abbrev pub id_digits_max : ℕ
 id_digits_max = 10
@@ -87,6 +93,11 @@ id_digits_max = 10
 abbrev pub id_of : List ℕ → Option ℕ
 id_of word = let id = digits_value word in
     if (nat_le (length word) id_digits_max && list_all is_ascii_digit word) && (nat_lt 0 (length word) && nat_lt id (2 ^ 32)) then Some id else None
+
+-- the feature that a word names: by its identifier; or, where that may be, as the last one, whose identifier is not known yet
+abbrev pub id_named : Naming → List ℕ → Option ℕ
+id_named ById word = id_of word
+id_named OrLast word = if is_last word then Some 0 else id_of word
 
 -- what is made of each of a list, where something is made of all of them
 abbrev pub each : {X Y : Type 0} → (X → Option Y) → List X → Option (List Y)
@@ -182,40 +193,40 @@ column_arguments [] = Err BadCommand
 column_arguments (action ∷ arguments) = column_command (action_of action) arguments
 
 -- the vertex that four words name
-abbrev pub vertex_place : List ℕ → List ℕ → List ℕ → List ℕ → Result VertexPlace Refusal
-vertex_place id part ring index =
-    given (id_of id) (λ id. given (id_of part) (λ part. given (id_of ring) (λ ring. given (id_of index) (λ index.
+abbrev pub vertex_place : Naming → List ℕ → List ℕ → List ℕ → List ℕ → Result VertexPlace Refusal
+vertex_place naming id part ring index =
+    given (id_named naming id) (λ id. given (id_of part) (λ part. given (id_of ring) (λ ring. given (id_of index) (λ index.
     Ok (record { id = id; part = part; ring = ring; index = index })))))
 
 -- the words after `vertex insert`: a layer, the numbers of a vertex, x and y
-abbrev pub insert_vertex : List (List ℕ) → Result Command Refusal
-insert_vertex (layer ∷ id ∷ part ∷ ring ∷ index ∷ x ∷ y ∷ []) =
-    made (vertex_place id part ring index) (λ v. made (point_of x y) (λ point. Ok (Edit (edits.InsertVertex layer v.id v.part v.ring v.index point))))
-insert_vertex arguments = Err BadCommand
+abbrev pub insert_vertex : Naming → List (List ℕ) → Result Command Refusal
+insert_vertex naming (layer ∷ id ∷ part ∷ ring ∷ index ∷ x ∷ y ∷ []) =
+    made (vertex_place naming id part ring index) (λ v. made (point_of x y) (λ point. Ok (Edit (edits.InsertVertex layer v.id v.part v.ring v.index point))))
+insert_vertex naming arguments = Err BadCommand
 
 -- the words after `vertex move`: the same
-abbrev pub move_vertex : List (List ℕ) → Result Command Refusal
-move_vertex (layer ∷ id ∷ part ∷ ring ∷ index ∷ x ∷ y ∷ []) =
-    made (vertex_place id part ring index) (λ v. made (point_of x y) (λ point. Ok (Edit (edits.MoveVertex layer v.id v.part v.ring v.index point))))
-move_vertex arguments = Err BadCommand
+abbrev pub move_vertex : Naming → List (List ℕ) → Result Command Refusal
+move_vertex naming (layer ∷ id ∷ part ∷ ring ∷ index ∷ x ∷ y ∷ []) =
+    made (vertex_place naming id part ring index) (λ v. made (point_of x y) (λ point. Ok (Edit (edits.MoveVertex layer v.id v.part v.ring v.index point))))
+move_vertex naming arguments = Err BadCommand
 
 -- the words after `vertex remove`: a layer and the numbers of a vertex
-abbrev pub remove_vertex : List (List ℕ) → Result Command Refusal
-remove_vertex (layer ∷ id ∷ part ∷ ring ∷ index ∷ []) =
-    made (vertex_place id part ring index) (λ v. Ok (Edit (edits.RemoveVertex layer v.id v.part v.ring v.index)))
-remove_vertex arguments = Err BadCommand
+abbrev pub remove_vertex : Naming → List (List ℕ) → Result Command Refusal
+remove_vertex naming (layer ∷ id ∷ part ∷ ring ∷ index ∷ []) =
+    made (vertex_place naming id part ring index) (λ v. Ok (Edit (edits.RemoveVertex layer v.id v.part v.ring v.index)))
+remove_vertex naming arguments = Err BadCommand
 
 -- what is done with a vertex, and the words after it
-abbrev pub vertex_command : Option Action → List (List ℕ) → Result Command Refusal
-vertex_command (Some actions.Insert) arguments = insert_vertex arguments
-vertex_command (Some actions.Move) arguments = move_vertex arguments
-vertex_command (Some actions.Remove) arguments = remove_vertex arguments
-vertex_command action arguments = Err BadCommand
+abbrev pub vertex_command : Naming → Option Action → List (List ℕ) → Result Command Refusal
+vertex_command naming (Some actions.Insert) arguments = insert_vertex naming arguments
+vertex_command naming (Some actions.Move) arguments = move_vertex naming arguments
+vertex_command naming (Some actions.Remove) arguments = remove_vertex naming arguments
+vertex_command naming action arguments = Err BadCommand
 
 -- the command of the words after `vertex`
-abbrev pub vertex_arguments : List (List ℕ) → Result Command Refusal
-vertex_arguments [] = Err BadCommand
-vertex_arguments (action ∷ arguments) = vertex_command (action_of action) arguments
+abbrev pub vertex_arguments : Naming → List (List ℕ) → Result Command Refusal
+vertex_arguments naming [] = Err BadCommand
+vertex_arguments naming (action ∷ arguments) = vertex_command naming (action_of action) arguments
 
 -- `addhex` of what bytes were read as
 abbrev pub bytes_command : List ℕ → Result Geometry WkbFault → Result Command Refusal
@@ -233,9 +244,9 @@ with_id layer (Some id) = Ok (layer, id)
 with_id layer None = Err BadCommand
 
 -- the feature that two words name: its layer and its identifier
-abbrev pub feature_named : List (List ℕ) → Result (List ℕ × ℕ) Refusal
-feature_named (layer ∷ id ∷ []) = with_id layer (id_of id)
-feature_named arguments = Err BadCommand
+abbrev pub feature_named : Naming → List (List ℕ) → Result (List ℕ × ℕ) Refusal
+feature_named naming (layer ∷ id ∷ []) = with_id layer (id_named naming id)
+feature_named naming arguments = Err BadCommand
 
 -- a command about the feature that was named
 abbrev pub feature_command : (List ℕ → ℕ → Command) → Result (List ℕ × ℕ) Refusal → Result Command Refusal
@@ -262,28 +273,28 @@ addhex_arguments arguments = Err BadCommand
 
 -- the command of the words after `hex`, `box` or `simple`: a layer and an identifier
 abbrev pub feature_arguments : (List ℕ → ℕ → Command) → List (List ℕ) → Result Command Refusal
-feature_arguments command arguments = feature_command command (feature_named arguments)
+feature_arguments command arguments = feature_command command (feature_named ById arguments)
 
 -- the command of the words after `delete`: a layer and an identifier
-abbrev pub delete_arguments : List (List ℕ) → Result Command Refusal
-delete_arguments arguments = feature_arguments (λ layer id. Edit (edits.DeleteFeature layer id)) arguments
+abbrev pub delete_arguments : Naming → List (List ℕ) → Result Command Refusal
+delete_arguments naming arguments = feature_command (λ layer id. Edit (edits.DeleteFeature layer id)) (feature_named naming arguments)
 
 -- the command of the words after `replace`; the text is the rest of the line from the third of them on
-abbrev pub replace_arguments : List (List ℕ) → List ℕ → Result Command Refusal
-replace_arguments (layer ∷ id ∷ first ∷ more) text =
-    given (id_of id) (λ id. of_text (read text) (λ geometry. Edit (edits.ReplaceGeometry layer id geometry)))
-replace_arguments arguments text = Err BadCommand
+abbrev pub replace_arguments : Naming → List (List ℕ) → List ℕ → Result Command Refusal
+replace_arguments naming (layer ∷ id ∷ first ∷ more) text =
+    given (id_named naming id) (λ id. of_text (read text) (λ geometry. Edit (edits.ReplaceGeometry layer id geometry)))
+replace_arguments naming arguments text = Err BadCommand
 
 -- the command of the words after `set`; the value is the rest of the line from the fourth of them on
-abbrev pub set_arguments : List (List ℕ) → List ℕ → Result Command Refusal
-set_arguments (layer ∷ id ∷ column ∷ first ∷ more) text =
-    given (id_of id) (λ id. given (value_of (trimmed_end text)) (λ value. Ok (Edit (edits.SetValue layer id column value))))
-set_arguments arguments text = Err BadCommand
+abbrev pub set_arguments : Naming → List (List ℕ) → List ℕ → Result Command Refusal
+set_arguments naming (layer ∷ id ∷ column ∷ first ∷ more) text =
+    given (id_named naming id) (λ id. given (value_of (trimmed_end text)) (λ value. Ok (Edit (edits.SetValue layer id column value))))
+set_arguments naming arguments text = Err BadCommand
 
 -- the command of the words after `unset`: a layer, an identifier and a column
-abbrev pub unset_arguments : List (List ℕ) → Result Command Refusal
-unset_arguments (layer ∷ id ∷ column ∷ []) = given (id_of id) (λ id. Ok (Edit (edits.ClearValue layer id column)))
-unset_arguments arguments = Err BadCommand
+abbrev pub unset_arguments : Naming → List (List ℕ) → Result Command Refusal
+unset_arguments naming (layer ∷ id ∷ column ∷ []) = given (id_named naming id) (λ id. Ok (Edit (edits.ClearValue layer id column)))
+unset_arguments naming arguments = Err BadCommand
 
 -- the command of the words after `get`: a layer and identifiers
 abbrev pub get_arguments : List (List ℕ) → Result Command Refusal
@@ -367,11 +378,11 @@ by_verb (Some verbs.Layer) rest = layer_arguments (words rest)
 by_verb (Some verbs.Column) rest = column_arguments (words rest)
 by_verb (Some verbs.Add) rest = add_arguments (words rest) (skip_blanks (skip_word rest))
 by_verb (Some verbs.AddHex) rest = addhex_arguments (words rest)
-by_verb (Some verbs.Delete) rest = delete_arguments (words rest)
-by_verb (Some verbs.Replace) rest = replace_arguments (words rest) (skip_blanks (skip_word (skip_word rest)))
-by_verb (Some verbs.Vertex) rest = vertex_arguments (words rest)
-by_verb (Some verbs.Set) rest = set_arguments (words rest) (skip_blanks (skip_word (skip_word (skip_word rest))))
-by_verb (Some verbs.Unset) rest = unset_arguments (words rest)
+by_verb (Some verbs.Delete) rest = delete_arguments ById (words rest)
+by_verb (Some verbs.Replace) rest = replace_arguments ById (words rest) (skip_blanks (skip_word (skip_word rest)))
+by_verb (Some verbs.Vertex) rest = vertex_arguments ById (words rest)
+by_verb (Some verbs.Set) rest = set_arguments ById (words rest) (skip_blanks (skip_word (skip_word (skip_word rest))))
+by_verb (Some verbs.Unset) rest = unset_arguments ById (words rest)
 by_verb (Some verbs.Undo) rest = alone Undo (words rest)
 by_verb (Some verbs.Redo) rest = alone Redo (words rest)
 by_verb (Some verbs.Layers) rest = alone Layers (words rest)

@@ -2,3 +2,4 @@ pub mod Words
 pub mod Values
 pub mod Commands
 pub mod Laws
+pub mod Members

@@ -5,7 +5,8 @@ ghost use Rattle.sf_commands.specs.declared.command.Command.TheVariants.{Show, H
 ghost use Rattle.sf_commands.specs.Words.{words as words_of, skip_blanks, skip_word};
 
 use super::command::Command;
-use super::spelling::{bytes_of, id_of, text_of};
+use super::naming::Naming;
+use super::spelling::{bytes_of, id_named, text_of};
 use super::value::value_of;
 use super::words::{Words, trimmed_end};
 use sf_layers::Text;
@@ -47,21 +48,29 @@ pub(crate) fn addhex_arguments(alloc: Global, mut words: Words<'_>) -> Result<Co
 }
 
 /// The command of the words after `delete`.
-pub(crate) fn delete_arguments(alloc: Global, words: Words<'_>) -> Result<Command, Refusal>
-    ensures { OrMemory (delete_command_of (words_of words.entry)) result }
+pub(crate) fn delete_arguments(
+    alloc: Global,
+    naming: Naming,
+    words: Words<'_>,
+) -> Result<Command, Refusal>
+    ensures { OrMemory (delete_command_of naming (words_of words.entry)) result }
 {
-    let (layer, id) = feature_of(alloc, words)?;
+    let (layer, id) = feature_of(alloc, naming, words)?;
     Ok(Command::Edit(Edit::DeleteFeature { layer, id }))
 }
 
 /// The text is the rest of the line from the third word after `replace` on.
-pub(crate) fn replace_arguments(alloc: Global, mut words: Words<'_>) -> Result<Command, Refusal>
-    ensures { OrMemory (replace_command_of (words_of words.entry) (skip_blanks (skip_word (skip_word words.entry)))) result }
+pub(crate) fn replace_arguments(
+    alloc: Global,
+    naming: Naming,
+    mut words: Words<'_>,
+) -> Result<Command, Refusal>
+    ensures { OrMemory (replace_command_of naming (words_of words.entry) (skip_blanks (skip_word (skip_word words.entry)))) result }
 {
     let layer = words.next()?;
     let id = words.next()?;
     let text = words.rest()?;
-    let id = id_of(id).ok_or(Refusal::BadCommand)?;
+    let id = id_named(naming, id).ok_or(Refusal::BadCommand)?;
     let geometry = sf_wkt::read(alloc, text)?;
     let layer = text_of(alloc, layer)?;
     Ok(Command::Edit(Edit::ReplaceGeometry {
@@ -72,14 +81,18 @@ pub(crate) fn replace_arguments(alloc: Global, mut words: Words<'_>) -> Result<C
 }
 
 /// The value is the rest of the line from the fourth word after `set` on, without blanks at its end.
-pub(crate) fn set_arguments(alloc: Global, mut words: Words<'_>) -> Result<Command, Refusal>
-    ensures { OrMemory (set_command_of (words_of words.entry) (skip_blanks (skip_word (skip_word (skip_word words.entry))))) result }
+pub(crate) fn set_arguments(
+    alloc: Global,
+    naming: Naming,
+    mut words: Words<'_>,
+) -> Result<Command, Refusal>
+    ensures { OrMemory (set_command_of naming (words_of words.entry) (skip_blanks (skip_word (skip_word (skip_word words.entry))))) result }
 {
     let layer = words.next()?;
     let id = words.next()?;
     let column = words.next()?;
     let text = words.rest()?;
-    let id = id_of(id).ok_or(Refusal::BadCommand)?;
+    let id = id_named(naming, id).ok_or(Refusal::BadCommand)?;
     let value = value_of(alloc, trimmed_end(text))?;
     let value = value.ok_or(Refusal::BadCommand)?;
     let layer = text_of(alloc, layer)?;
@@ -93,14 +106,18 @@ pub(crate) fn set_arguments(alloc: Global, mut words: Words<'_>) -> Result<Comma
 }
 
 /// The command of the words after `unset`.
-pub(crate) fn unset_arguments(alloc: Global, mut words: Words<'_>) -> Result<Command, Refusal>
-    ensures { OrMemory (unset_command_of (words_of words.entry)) result }
+pub(crate) fn unset_arguments(
+    alloc: Global,
+    naming: Naming,
+    mut words: Words<'_>,
+) -> Result<Command, Refusal>
+    ensures { OrMemory (unset_command_of naming (words_of words.entry)) result }
 {
     let layer = words.next()?;
     let id = words.next()?;
     let column = words.next()?;
     words.finish()?;
-    let id = id_of(id).ok_or(Refusal::BadCommand)?;
+    let id = id_named(naming, id).ok_or(Refusal::BadCommand)?;
     let layer = text_of(alloc, layer)?;
     let column = text_of(alloc, column)?;
     Ok(Command::Edit(Edit::ClearValue { layer, id, column }))
@@ -119,7 +136,7 @@ pub(crate) fn show_arguments(alloc: Global, mut words: Words<'_>) -> Result<Comm
 pub(crate) fn hex_arguments(alloc: Global, words: Words<'_>) -> Result<Command, Refusal>
     ensures { OrMemory (feature_command_of Hex (words_of words.entry)) result }
 {
-    let (layer, id) = feature_of(alloc, words)?;
+    let (layer, id) = feature_of(alloc, Naming::ById, words)?;
     Ok(Command::Hex(layer, id))
 }
 
@@ -127,7 +144,7 @@ pub(crate) fn hex_arguments(alloc: Global, words: Words<'_>) -> Result<Command, 
 pub(crate) fn box_arguments(alloc: Global, words: Words<'_>) -> Result<Command, Refusal>
     ensures { OrMemory (feature_command_of Extent (words_of words.entry)) result }
 {
-    let (layer, id) = feature_of(alloc, words)?;
+    let (layer, id) = feature_of(alloc, Naming::ById, words)?;
     Ok(Command::Extent(layer, id))
 }
 
@@ -135,17 +152,17 @@ pub(crate) fn box_arguments(alloc: Global, words: Words<'_>) -> Result<Command, 
 pub(crate) fn simple_arguments(alloc: Global, words: Words<'_>) -> Result<Command, Refusal>
     ensures { OrMemory (feature_command_of Simple (words_of words.entry)) result }
 {
-    let (layer, id) = feature_of(alloc, words)?;
+    let (layer, id) = feature_of(alloc, Naming::ById, words)?;
     Ok(Command::Simple(layer, id))
 }
 
 /// The layer and the identifier that are all words of a line.
-fn feature_of(alloc: Global, mut words: Words<'_>) -> Result<(Text, u32), Refusal>
-    ensures { OrMemory (feature_named (words_of words.entry)) result }
+fn feature_of(alloc: Global, naming: Naming, mut words: Words<'_>) -> Result<(Text, u32), Refusal>
+    ensures { OrMemory (feature_named naming (words_of words.entry)) result }
 {
     let layer = words.next()?;
     let id = words.next()?;
     words.finish()?;
-    let id = id_of(id).ok_or(Refusal::BadCommand)?;
+    let id = id_named(naming, id).ok_or(Refusal::BadCommand)?;
     Ok((text_of(alloc, layer)?, id))
 }

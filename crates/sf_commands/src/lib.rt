@@ -10,6 +10,8 @@ mod join_commands;
 pub mod laws;
 mod layer_commands;
 mod lookup_commands;
+mod members;
+mod naming;
 mod parsing;
 mod point;
 mod query_commands;
@@ -22,6 +24,7 @@ mod words;
 
 pub use command::Command;
 pub use identifiers::Identifiers;
+pub use members::parse_member;
 pub use parsing::parse;
 pub use sf_refusals::Refusal;
 pub use words::is_blank_text;

@@ -15,6 +15,7 @@ use super::feature_commands::{
 use super::join_commands::join_arguments;
 use super::layer_commands::{layer_arguments, layers_arguments};
 use super::lookup_commands::{find_arguments, get_arguments};
+use super::naming::Naming;
 use super::query_commands::{match_arguments, query_arguments, relate_arguments};
 use super::verb::{Verb, verb_of};
 use super::vertex_commands::vertex_arguments;
@@ -59,11 +60,11 @@ fn arguments_of(alloc: Global, verb: Option<Verb>, words: Words<'_>) -> Result<C
         Some(Verb::Column) => column_arguments(alloc, words),
         Some(Verb::Add) => add_arguments(alloc, words),
         Some(Verb::AddHex) => addhex_arguments(alloc, words),
-        Some(Verb::Delete) => delete_arguments(alloc, words),
-        Some(Verb::Replace) => replace_arguments(alloc, words),
-        Some(Verb::Vertex) => vertex_arguments(alloc, words),
-        Some(Verb::Set) => set_arguments(alloc, words),
-        Some(Verb::Unset) => unset_arguments(alloc, words),
+        Some(Verb::Delete) => delete_arguments(alloc, Naming::ById, words),
+        Some(Verb::Replace) => replace_arguments(alloc, Naming::ById, words),
+        Some(Verb::Vertex) => vertex_arguments(alloc, Naming::ById, words),
+        Some(Verb::Set) => set_arguments(alloc, Naming::ById, words),
+        Some(Verb::Unset) => unset_arguments(alloc, Naming::ById, words),
         Some(Verb::Undo) => undo_arguments(words),
         Some(Verb::Redo) => redo_arguments(words),
         Some(Verb::Layers) => layers_arguments(words),

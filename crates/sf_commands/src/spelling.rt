@@ -3,8 +3,9 @@ ghost use Rattle.std.specs.Prelude.{◌≡◌, ◌⊎◌, ◌&&◌, nat_le, leng
 ghost use Rattle.std.specs.Char.{is_ascii_digit};
 ghost use Rattle.std.specs.List.{list_all};
 ghost use Rattle.hex.specs.Hex.{decode_of};
-ghost use Rattle.sf_commands.specs.Commands.{id_of as id_spelled, layer_kind_of as layer_kind_named, column_type_of as column_type_named, predicate_of as predicate_named};
+ghost use Rattle.sf_commands.specs.Commands.{id_of as id_spelled, layer_kind_of as layer_kind_named, column_type_of as column_type_named, predicate_of as predicate_named, id_named, is_last};
 
+use super::naming::Naming;
 use hex::FromHexError;
 use sf_geometry::Kind;
 use sf_layers::{ColumnType, LayerKind, Text};
@@ -84,6 +85,23 @@ pub(crate) fn id_of(word: &str) -> Option<u32>
         return None;
     }
     word.parse().ok()
+}
+
+/// The identifier of the feature that a word names; 0 where it is the last one, which is not known yet.
+pub(crate) fn id_named(naming: Naming, word: &str) -> Option<u32>
+    ensures { result ≡ id_named naming word.now }
+{
+    match naming {
+        Naming::OrLast if is_last(word) => Some(0),
+        _ => id_of(word),
+    }
+}
+
+/// Whether a word stands for the feature that a layer was given last.
+pub(crate) fn is_last(word: &str) -> bool
+    ensures { result ≡ is_last word.now }
+{
+    word == "last"
 }
 
 /// Whether a word has ASCII digits alone, at most so many of them.

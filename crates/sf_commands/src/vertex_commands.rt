@@ -4,8 +4,9 @@ ghost use Rattle.sf_commands.specs.Commands.{vertex_arguments as vertex_command_
 ghost use Rattle.sf_commands.specs.Words.{words as words_of};
 
 use super::command::Command;
+use super::naming::Naming;
 use super::point::point_of;
-use super::spelling::{id_of, text_of};
+use super::spelling::{id_named, id_of, text_of};
 use super::verb::{Action, action_of};
 use super::vertex_place::VertexPlace;
 use super::words::Words;
@@ -14,19 +15,23 @@ use sf_steps::Edit;
 use std::alloc::Global;
 
 /// The command of the words after `vertex`.
-pub(crate) fn vertex_arguments(alloc: Global, mut words: Words<'_>) -> Result<Command, Refusal>
-    ensures { OrMemory (vertex_command_of (words_of words.entry)) result }
+pub(crate) fn vertex_arguments(
+    alloc: Global,
+    naming: Naming,
+    mut words: Words<'_>,
+) -> Result<Command, Refusal>
+    ensures { OrMemory (vertex_command_of naming (words_of words.entry)) result }
 {
     match action_of(words.next()?) {
-        Some(Action::Insert) => insert_vertex(alloc, words),
-        Some(Action::Move) => move_vertex(alloc, words),
-        Some(Action::Remove) => remove_vertex(alloc, words),
+        Some(Action::Insert) => insert_vertex(alloc, naming, words),
+        Some(Action::Move) => move_vertex(alloc, naming, words),
+        Some(Action::Remove) => remove_vertex(alloc, naming, words),
         _ => Err(Refusal::BadCommand),
     }
 }
 
-fn insert_vertex(alloc: Global, mut words: Words<'_>) -> Result<Command, Refusal>
-    ensures { OrMemory (insert_vertex_of (words_of words.entry)) result }
+fn insert_vertex(alloc: Global, naming: Naming, mut words: Words<'_>) -> Result<Command, Refusal>
+    ensures { OrMemory (insert_vertex_of naming (words_of words.entry)) result }
 {
     let layer = words.next()?;
     let id = words.next()?;
@@ -36,7 +41,7 @@ fn insert_vertex(alloc: Global, mut words: Words<'_>) -> Result<Command, Refusal
     let x = words.next()?;
     let y = words.next()?;
     words.finish()?;
-    let place = place_of(id, part, ring, index)?;
+    let place = place_of(naming, id, part, ring, index)?;
     let point = point_of(x, y)?;
     Ok(Command::Edit(Edit::InsertVertex {
         layer: text_of(alloc, layer)?,
@@ -48,8 +53,8 @@ fn insert_vertex(alloc: Global, mut words: Words<'_>) -> Result<Command, Refusal
     }))
 }
 
-fn move_vertex(alloc: Global, mut words: Words<'_>) -> Result<Command, Refusal>
-    ensures { OrMemory (move_vertex_of (words_of words.entry)) result }
+fn move_vertex(alloc: Global, naming: Naming, mut words: Words<'_>) -> Result<Command, Refusal>
+    ensures { OrMemory (move_vertex_of naming (words_of words.entry)) result }
 {
     let layer = words.next()?;
     let id = words.next()?;
@@ -59,7 +64,7 @@ fn move_vertex(alloc: Global, mut words: Words<'_>) -> Result<Command, Refusal>
     let x = words.next()?;
     let y = words.next()?;
     words.finish()?;
-    let place = place_of(id, part, ring, index)?;
+    let place = place_of(naming, id, part, ring, index)?;
     let point = point_of(x, y)?;
     Ok(Command::Edit(Edit::MoveVertex {
         layer: text_of(alloc, layer)?,
@@ -71,8 +76,8 @@ fn move_vertex(alloc: Global, mut words: Words<'_>) -> Result<Command, Refusal>
     }))
 }
 
-fn remove_vertex(alloc: Global, mut words: Words<'_>) -> Result<Command, Refusal>
-    ensures { OrMemory (remove_vertex_of (words_of words.entry)) result }
+fn remove_vertex(alloc: Global, naming: Naming, mut words: Words<'_>) -> Result<Command, Refusal>
+    ensures { OrMemory (remove_vertex_of naming (words_of words.entry)) result }
 {
     let layer = words.next()?;
     let id = words.next()?;
@@ -80,7 +85,7 @@ fn remove_vertex(alloc: Global, mut words: Words<'_>) -> Result<Command, Refusal
     let ring = words.next()?;
     let index = words.next()?;
     words.finish()?;
-    let place = place_of(id, part, ring, index)?;
+    let place = place_of(naming, id, part, ring, index)?;
     Ok(Command::Edit(Edit::RemoveVertex {
         layer: text_of(alloc, layer)?,
         id: place.id,
@@ -91,10 +96,16 @@ fn remove_vertex(alloc: Global, mut words: Words<'_>) -> Result<Command, Refusal
 }
 
 /// The vertex that four words name.
-fn place_of(id: &str, part: &str, ring: &str, index: &str) -> Result<VertexPlace, Refusal>
-    ensures { result ≡ vertex_place id.now part.now ring.now index.now }
+fn place_of(
+    naming: Naming,
+    id: &str,
+    part: &str,
+    ring: &str,
+    index: &str,
+) -> Result<VertexPlace, Refusal>
+    ensures { result ≡ vertex_place naming id.now part.now ring.now index.now }
 {
-    let id = id_of(id).ok_or(Refusal::BadCommand)?;
+    let id = id_named(naming, id).ok_or(Refusal::BadCommand)?;
     let part = id_of(part).ok_or(Refusal::BadCommand)?;
     let ring = id_of(ring).ok_or(Refusal::BadCommand)?;
     let index = id_of(index).ok_or(Refusal::BadCommand)?;

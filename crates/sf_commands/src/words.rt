@@ -30,6 +30,13 @@ impl<'a> Words<'a> {
         Words { rest: line }
     }
 
+    /// The same words, to be looked at beforehand.
+    pub(crate) fn again(&self) -> Words<'a>
+        ensures { result ≡ self.now }
+    {
+        Words { rest: self.rest }
+    }
+
     /// The next word.
     pub(crate) fn next(&mut self) -> Result<&'a str, Refusal>
         ensures { MatchResult result
