@@ -27,14 +27,14 @@ use Rattle.sf_groups.proofs.LocalLaws.{steps-local}
 
 -- ---- what is found after a writing
 
-nat_eq-turned : (m n : ℕ) → nat_eq m n ≡ false → nat_eq n m ≡ false
+pub nat_eq-turned : (m n : ℕ) → nat_eq m n ≡ false → nat_eq n m ≡ false
 nat_eq-turned m n h = by (nat_eq n m) refl
   where
     by : (b : Bool) → nat_eq n m ≡ b → b ≡ false
     by true is = let yes : nat_eq m n ≡ true = eq-eqb m n (sym (eqb-true n m is)) in cc
     by false is = refl
 
-lookup-change_value : {X : Type 0} (k j : ℕ) (es : List (ℕ × X)) (f : X → X)
+pub lookup-change_value : {X : Type 0} (k j : ℕ) (es : List (ℕ × X)) (f : X → X)
     → lookup (nat_eq k) (change_value (nat_eq j) es f) ≡ (if nat_eq j k then option_map f (lookup (nat_eq k) es) else lookup (nat_eq k) es)
 lookup-change_value {X} k j [] f = at None (nat_eq j k)
   where

@@ -28,24 +28,24 @@ use Rattle.sf_groups.proofs.ShownLaws.{LooksAtShown, StepsAlike, BothRefused, Bo
 
 -- ---- tests
 
-bytes_same : (a : List ℕ) → bytes_eq a a ≡ true
+pub bytes_same : (a : List ℕ) → bytes_eq a a ≡ true
 bytes_same a = (bytes_eq-Decides a a).1 refl
 
-or_right : (a b : Bool) → b ≡ true → a || b ≡ true
+pub or_right : (a b : Bool) → b ≡ true → a || b ≡ true
 or_right true b h = refl
 or_right false b h = h
 
-or_left : (a b : Bool) → a ≡ true → a || b ≡ true
+pub or_left : (a b : Bool) → a ≡ true → a || b ≡ true
 or_left true b h = refl
 or_left false b h = cc
 
-and_true : (a b : Bool) → a && b ≡ true → (a ≡ true) × (b ≡ true)
+pub and_true : (a b : Bool) → a && b ≡ true → (a ≡ true) × (b ≡ true)
 and_true true true h = (refl, refl)
 and_true true false h = cc
 and_true false b h = cc
 
 -- a test that one of several passes
-any-at : {X : Type 0} (test : X → Bool) (a b : List X) (x : X) → test x ≡ true → list_any test (a ++ x ∷ b) ≡ true
+pub any-at : {X : Type 0} (test : X → Bool) (a b : List X) (x : X) → test x ≡ true → list_any test (a ++ x ∷ b) ≡ true
 any-at test [] b x h = or_left (test x) (list_any test b) h
 any-at test (y ∷ a) b x h = or_right (test y) (list_any test (a ++ x ∷ b)) (any-at test a b x h)
 
@@ -168,7 +168,7 @@ into-counter content name w other = by (bytes_eq name other) refl
         subst (λ o. next_id_of content other ≤ option_map_or (λ layer. layer.next_id) o 0) (sym (layer_of-change_layer-other content name other (written w) is)) (omega arith)
 
 -- no accepted edit of features lowers one
-step-counter : (content new : Content) (edit : Edit) (answer : Answer) → IsTrue (is_of_features edit) → step content edit ≡ Ok (new, answer) → (other : List ℕ) → next_id_of content other ≤ next_id_of new other
+pub step-counter : (content new : Content) (edit : Edit) (answer : Answer) → IsTrue (is_of_features edit) → step content edit ≡ Ok (new, answer) → (other : List ℕ) → next_id_of content other ≤ next_id_of new other
 step-counter content new edit answer is_one led other = by (layer_of content (edit_layer edit)) (sym (steps-local content edit is_one) ∙ led)
   where
     at : (r : Result (Writing × Answer) Refusal) → into_layer content (edit_layer edit) r ≡ Ok (new, answer) → next_id_of content other ≤ next_id_of new other
@@ -206,9 +206,9 @@ adding-counter content new (SetValue layer id column value) answer name is led =
 adding-counter content new (ClearValue layer id column) answer name is led = cc
 
 -- what is known of the counters behind some members
-record HaveGrown (start now : Content) (earlier : List Member) : Type 0 where
-  least : (name : List ℕ) → next_id_of start name ≤ next_id_of now name
-  more : (name : List ℕ) → list_any (adds_to name) earlier ≡ true → next_id_of start name < next_id_of now name
+pub record HaveGrown (start now : Content) (earlier : List Member) : Type 0 where
+  pub least : (name : List ℕ) → next_id_of start name ≤ next_id_of now name
+  pub more : (name : List ℕ) → list_any (adds_to name) earlier ≡ true → next_id_of start name < next_id_of now name
 
 -- ---- a member
 
@@ -216,7 +216,7 @@ le_true : (m n : ℕ) → m ≤ n → nat_le m n ≡ true
 le_true m n h = grind (arith, nat_tests)
 
 -- what a member looks at is shown
-member-looks : (start now : Content) (earlier rest : List Member) (member : Member) → IsTrue (may_follow earlier member) → HaveGrown start now earlier
+pub member-looks : (start now : Content) (earlier rest : List Member) (member : Member) → IsTrue (may_follow earlier member) → HaveGrown start now earlier
     → LooksAtShown (is_looked_at start (earlier ++ member ∷ rest) (edit_layer member.edit)) (resolved now member)
 member-looks start now earlier rest member may grown = by member.of_last refl
   where
@@ -240,14 +240,14 @@ member-looks start now earlier rest member may grown = by member.of_last refl
         (ap (λ b. not b && bytes_eq (edit_layer member.edit) (edit_layer member.edit) && nat_eq (edit_id member.edit) (edit_id member.edit)) is
         ∙ ap (λ b. true && b && nat_eq (edit_id member.edit) (edit_id member.edit)) (bytes_same (edit_layer member.edit)) ∙ eq-eqb (edit_id member.edit) (edit_id member.edit) refl)))
 
-layer-resolved : (content : Content) (member : Member) → edit_layer (resolved content member) ≡ edit_layer member.edit
+pub layer-resolved : (content : Content) (member : Member) → edit_layer (resolved content member) ≡ edit_layer member.edit
 layer-resolved content member = by member.of_last
   where
     by : (b : Bool) → edit_layer (if b then with_id (next_id_of content (edit_layer member.edit) - 1) member.edit else member.edit) ≡ edit_layer member.edit
     by true = layer-with_id (next_id_of content (edit_layer member.edit) - 1) member.edit
     by false = refl
 
-features-resolved : (content : Content) (member : Member) → is_of_features (resolved content member) ≡ is_of_features member.edit
+pub features-resolved : (content : Content) (member : Member) → is_of_features (resolved content member) ≡ is_of_features member.edit
 features-resolved content member = by member.of_last
   where
     by : (b : Bool) → is_of_features (if b then with_id (next_id_of content (edit_layer member.edit) - 1) member.edit else member.edit) ≡ is_of_features member.edit
@@ -307,7 +307,7 @@ in_front-alike : (layers : List ℕ → Bool) (test : List ℕ → ℕ → Bool)
 in_front-alike layers test ids a b (AllRefused refused a_is b_is) = AllRefused refused (ap (in_front ids) a_is) (ap (in_front ids) b_is)
 in_front-alike layers test ids a b (AllCarried whole part more a_is b_is shows) = AllCarried whole part (ids ++ more) (ap (in_front ids) a_is) (ap (in_front ids) b_is) shows
 
-grown-next : (start now new : Content) (earlier : List Member) (member : Member) (answer : Answer) → is_of_features member.edit ≡ true → HaveGrown start now earlier → step now (resolved now member) ≡ Ok (new, answer)
+pub grown-next : (start now new : Content) (earlier : List Member) (member : Member) (answer : Answer) → is_of_features member.edit ≡ true → HaveGrown start now earlier → step now (resolved now member) ≡ Ok (new, answer)
     → HaveGrown start new (earlier ++ member ∷ [])
 grown-next start now new earlier member answer one grown led = record {
   least = λ name. omega (arith, grown.least name, step-counter now new (resolved now member) answer (features-resolved now member ∙ one) led name);
@@ -360,7 +360,7 @@ members-alike start number whole part earlier (member ∷ rest) all parts follow
         (subst (λ r. MembersAlike (is_of_layer all) (is_looked_at start all) (in_front (ids_given answer) (members_from (number + 1) new rest)) (and_behind number r (λ next. members_from (number + 1) next rest))) (sym b)
         (in_front-alike (is_of_layer all) (is_looked_at start all) (ids_given answer) (members_from (number + 1) new rest) (members_from (number + 1) new' rest) (next_alike later new new' answer a b shown)))
 
-grown-start : (start : Content) → HaveGrown start start []
+pub grown-start : (start : Content) → HaveGrown start start []
 grown-start start = record { least = λ name. omega arith; more = λ name h. cc }
 
 pub scratches-do_alike : ScratchesDoAlike

@@ -74,7 +74,7 @@ impl Group {
     pub fn brings_grid_points(&self)
         ensures { AllByRecursion (λ member. BringsGridPoints member.edit) self.now }
     {
-        for member in self.members.as_slice() {
+        for member in self.members() {
             member.brings_grid_points();
         }
     }
