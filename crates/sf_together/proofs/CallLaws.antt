@@ -9,9 +9,9 @@ use Rattle.std.specs.Map.{keys_of, lookup}
 use Rattle.sf_features.specs.Columns.{IsDistinct}
 use Rattle.sf_features.specs.Features.{FeatureContent}
 use Rattle.sf_features.specs.Names.{is_name}
-use Rattle.sf_layers.specs.Content.{Content, LayerContent, change_at, feature_at, feature_of, has_layer, head_of, layer_at, layer_of, place_of, with_feature}
+use Rattle.sf_layers.specs.Content.{Content, LayerContent, change_at, change_layer, feature_in, feature_of, has_layer, head_of, layer_at, layer_of, place_of, with_feature}
 use Rattle.sf_layers.specs.WellFormed.{IsFeature, IsLayer, IsIssued, IsWellFormed, layers_max}
-use Rattle.sf_layers.proofs.Changes.{IsLayer-layer_of, IsLayer-slice_get}
+use Rattle.sf_layers.proofs.Changes.{IsLayer-layer_of, IsLayer-slice_get, change_at-place_of, layer_of-place_of}
 use Rattle.sf_layers.proofs.ChangedAt.{IsFeature-feature_of, IsWellFormed-at, some_of}
 use Rattle.sf_layers.proofs.Fine.{IsWellFormed-insert}
 use Rattle.sf_layers.proofs.Kept.{all-weaker, none_or, none-from}
@@ -19,7 +19,7 @@ use Rattle.sf_together.specs.Copies.{HasHeadOf, IsPart, IsPartOf, with_copy, wit
 use Rattle.sf_together.specs.Exchanges.{AllThere}
 use Rattle.sf_together.proofs.ListLaws.{all-at_name, all-found, all-map, bytes_eq-turned}
 use Rattle.sf_together.proofs.FitLaws.{Entry, IsLayer-with_feature, issued-there}
-use Rattle.sf_together.proofs.ChangeLaws.{keys-one_order}
+use Rattle.sf_together.proofs.CopyLaws.{layer_of-push}
 
 -- ---- no more layers than there are
 
@@ -76,7 +76,7 @@ found-any {X} (e ∷ es) name there = by (λ later. found-any es name later) (by
     by later true h = refl
     by later false h = later h
 
-none-any : {X : Type 0} (es : List (List ℕ × X)) (name : List ℕ) → lookup (bytes_eq name) es ≡ None → list_any (bytes_eq name) (keys_of es) ≡ false
+pub none-any : {X : Type 0} (es : List (List ℕ × X)) (name : List ℕ) → lookup (bytes_eq name) es ≡ None → list_any (bytes_eq name) (keys_of es) ≡ false
 none-any [] name none = refl
 none-any {X} (e ∷ es) name none = by (λ later. none-any es name later) (bytes_eq name e.0) none
   where
@@ -101,7 +101,7 @@ room-for : (whole scratch : Content) (name : List ℕ) → IsWellFormed whole �
 room-for whole scratch name fine fine' part there none =
     let among : length (name ∷ keys_of scratch) ≤ length (keys_of whole) =
     length-among (name ∷ keys_of scratch) (keys_of whole) (none-any scratch name none, fine'.distinct)
-        (found-any whole name there, all-weaker (λ n. has_layer whole n ≡ true) (λ n. list_any (bytes_eq n) (keys_of whole) ≡ true) (λ n is. found-any whole n is) (keys_of scratch) (AllThere-part whole scratch fine' part)) in
+    (found-any whole name there, all-weaker (λ n. has_layer whole n ≡ true) (λ n. list_any (bytes_eq n) (keys_of whole) ≡ true) (λ n is. found-any whole n is) (keys_of scratch) (AllThere-part whole scratch fine' part)) in
     omega (arith, among, length-keys scratch, length-keys whole, fine.few)
   where
     length-keys : (es : Content) → length (keys_of es) ≡ length es
@@ -142,20 +142,22 @@ head-shown scratch name w head none is =
 pub head-there_already : (scratch : Content) (name : List ℕ) (w : LayerContent) → has_layer scratch name ≡ true → scratch ≡ with_head name w scratch
 head-there_already scratch name w there = sym (ap (λ b. if b then scratch else scratch ++ (name, head_of w) ∷ []) there)
 
-place_of-push : (scratch : Content) (name : List ℕ) (layer : LayerContent) → layer_of scratch name ≡ None → place_of (scratch ++ (name, layer) ∷ []) name ≡ length scratch
-place_of-push [] name layer none = ap (λ b. cond (not b) (1 + 0) 0) ((bytes_eq-Decides name name).1 refl)
-place_of-push (e ∷ es) name layer none = by (λ later. place_of-push es name layer later) (bytes_eq name e.0) none
+-- the layer has the head then
+pub head-alike : (whole scratch : Content) (name : List ℕ) (w : LayerContent) → IsPart whole scratch → layer_of whole name ≡ Some w → IsSomeAnd (layer_of (with_head name w scratch) name) (λ there. HasHeadOf w there)
+head-alike whole scratch name w part found = by (layer_of scratch name) refl (subst (λ o. IsPartOf o (layer_of scratch name)) found (part name))
   where
-    by : (layer_of es name ≡ None → place_of (es ++ (name, layer) ∷ []) name ≡ length es) → (b : Bool) → cond b (Some e.1) (layer_of es name) ≡ None
-        → cond (not b) (1 + place_of (es ++ (name, layer) ∷ []) name) 0 ≡ suc (length es)
-    by later true h = cc
-    by later false h = let is : place_of (es ++ (name, layer) ∷ []) name ≡ length es = later h in omega (arith, is)
-
-pub head-place : (scratch : Content) (name : List ℕ) (w : LayerContent) → layer_of scratch name ≡ None → length scratch ≡ place_of (with_head name w scratch) name
-head-place scratch name w none =
-    sym (ap (λ o. place_of (if is_some o then scratch else scratch ++ (name, head_of w) ∷ []) name) none ∙ place_of-push scratch name (head_of w) none)
+    by : (q : Option LayerContent) → layer_of scratch name ≡ q → IsPartOf (Some w) q → IsSomeAnd (layer_of (with_head name w scratch) name) (λ there. HasHeadOf w there)
+    by (Some p) is h =
+        subst (λ o. IsSomeAnd o (λ there. HasHeadOf w there)) (sym (ap (λ o. layer_of (if is_some o then scratch else scratch ++ (name, head_of w) ∷ []) name) is ∙ is)) h
+    by None is h =
+        subst (λ o. IsSomeAnd o (λ there. HasHeadOf w there)) (sym (ap (λ o. layer_of (if is_some o then scratch else scratch ++ (name, head_of w) ∷ []) name) is ∙ layer_of-push scratch name (head_of w) is))
+        (record { kind = refl; next_id = refl; columns = refl })
 
 -- ---- a feature copied
+
+-- the layer of a name at its place
+pub at-place_of : (scratch : Content) (name : List ℕ) (part : ℕ) (P : LayerContent → Type 0) → part ≡ place_of scratch name → IsSomeAnd (layer_of scratch name) P → IsSomeAnd (layer_at scratch part) P
+at-place_of scratch name part P is h = subst (λ o. IsSomeAnd o P) (sym (ap (layer_at scratch) is ∙ layer_of-place_of scratch name)) h
 
 pub record ThereAt (content : Content) (place : ℕ) : Type 0 where
   pub entry : List ℕ × LayerContent
@@ -179,3 +181,21 @@ copy-fits w scratch part id feature fine found fine' there =
     (IsLayer-with_feature t.0.entry.1 id feature (subst (λ n. IsIssued n id) (sym t.1.next_id) (issued-there w id feature fine found))
     (subst (λ k. IsFeature k t.0.entry.1.columns feature) (sym t.1.kind) (subst (λ cs. IsFeature w.kind cs feature) (sym t.1.columns) (IsFeature-feature_of w id feature found fine)))
     (IsLayer-slice_get scratch part t.0.entry t.0.is fine'.layers)) fine'
+
+pub copy-free : (scratch : Content) (name : List ℕ) (part id : ℕ) (P : LayerContent → Type 0) → part ≡ place_of scratch name → IsSomeAnd (layer_of scratch name) P → is_some (feature_in scratch name id) ≡ false
+    → IsSomeAnd (slice_get scratch part) (λ entry. feature_of entry.1 id ≡ None)
+copy-free scratch name part id P is there free =
+    let t = there-at scratch part P (at-place_of scratch name part P is there) in
+    let layer_is : layer_of scratch name ≡ Some t.0.entry.1 = sym (layer_of-place_of scratch name) ∙ sym (ap (layer_at scratch) is) ∙ ap (option_map (λ entry. entry.1)) t.0.is in
+    subst (λ o. IsSomeAnd o (λ entry. feature_of entry.1 id ≡ None)) (sym t.0.is) (none (feature_of t.0.entry.1 id) (ap is_some (sym (ap (option_and_then (λ layer. feature_of layer id)) layer_is)) ∙ free))
+  where
+    none : (o : Option FeatureContent) → is_some o ≡ false → o ≡ None
+    none None h = refl
+    none (Some feature) h = cc
+
+pub copy-put : (scratch : Content) (name : List ℕ) (part id : ℕ) (copy feature : FeatureContent) → part ≡ place_of scratch name → copy ≡ feature → is_some (feature_in scratch name id) ≡ false
+    → change_at part (with_feature id copy) scratch ≡ with_copy name id feature scratch
+copy-put scratch name part id copy feature is same free =
+    ap (λ p. change_at p (with_feature id copy) scratch) is ∙ ap (λ f. change_at (place_of scratch name) (with_feature id f) scratch) same
+    ∙ change_at-place_of scratch name (with_feature id feature)
+    ∙ sym (ap (λ b. if b then scratch else change_layer scratch name (with_feature id feature)) free)

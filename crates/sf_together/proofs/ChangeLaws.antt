@@ -61,7 +61,7 @@ none-above layer id fine above = by (feature_of layer id) refl
 pub le_from : (m n : ℕ) → nat_le m n ≡ true → m ≤ n
 le_from m n h = grind (arith, nat_tests)
 
-feature-in : (content : Content) (name : List ℕ) (id : ℕ) (layer : LayerContent) → layer_of content name ≡ Some layer → feature_in content name id ≡ feature_of layer id
+pub feature-in : (content : Content) (name : List ℕ) (id : ℕ) (layer : LayerContent) → layer_of content name ≡ Some layer → feature_in content name id ≡ feature_of layer id
 feature-in content name id layer is = ap (option_and_then (λ l. feature_of l id)) is
 
 pub next_id-of : (content : Content) (name : List ℕ) (layer : LayerContent) → layer_of content name ≡ Some layer → next_id_of content name ≡ layer.next_id
@@ -97,7 +97,7 @@ tell members whole scratch new after name c l = record {
     unseen id none =
         sym (feature-in after name id l.a l.a_is)
         ∙ c.leaves_scratch.features name id
-            (ap (λ m. list_any (names name id) members || nat_le m id) (next_id-of scratch name l.p l.p_is ∙ l.copies.head.next_id ∙ sym (next_id-of whole name l.w l.w_is)) ∙ none)
+        (ap (λ m. list_any (names name id) members || nat_le m id) (next_id-of scratch name l.p l.p_is ∙ l.copies.head.next_id ∙ sym (next_id-of whole name l.w l.w_is)) ∙ none)
         ∙ feature-in scratch name id l.p l.p_is ∙ not_named id (none_or (list_any (names name id) members) (nat_le (next_id_of whole name) id) none).0
 
     kept : (id : ℕ) → is_looked_at whole members name id ≡ false → feature_of l.n id ≡ feature_of l.w id
@@ -180,7 +180,7 @@ layers-of members whole scratch new after name part c part_is = by (layer_of who
 
 -- ---- places
 
-pub keys-one_order : (c d : Content) → HaveOneOrder c d → keys_of c ≡ keys_of d
+keys-one_order : (c d : Content) → HaveOneOrder c d → keys_of c ≡ keys_of d
 keys-one_order [] [] h = refl
 keys-one_order [] (b ∷ d) h = absurd h
 keys-one_order (a ∷ c) [] h = absurd h
@@ -233,10 +233,12 @@ module _ (members : List Member) (whole scratch new after : Content) (c : AreCar
   }
 
   layer-taken : (name : List ℕ) (l : Layers members whole scratch new after name) → AllByRecursion (IsTakenFrom new) (layer_slots (place_of whole name) l.a)
-  layer-taken name l =
-      (counter-taken name l, all-map (IsTakenFrom new) (put_at (place_of whole name)) l.a.features
-      (all-weaker (λ e. feature_of l.a e.0 ≡ Some e.1) (λ e. IsTakenFrom new (put_at (place_of whole name) e)) (state-taken name l) l.a.features
-      (all-found_rising l.a.features (IsLayer-layer_of after name l.a l.a_is c.after_fine.layers).rising)))
+  layer-taken name l = (
+    counter-taken name l,
+    all-map (IsTakenFrom new) (put_at (place_of whole name)) l.a.features
+        (all-weaker (λ e. feature_of l.a e.0 ≡ Some e.1) (λ e. IsTakenFrom new (put_at (place_of whole name) e)) (state-taken name l) l.a.features
+        (all-found_rising l.a.features (IsLayer-layer_of after name l.a l.a_is c.after_fine.layers).rising)),
+  )
 
   entry-taken : (e : List ℕ × LayerContent) → layer_of after e.0 ≡ Some e.1 → AllByRecursion (IsTakenFrom new) (layer_slots (place_of whole e.0) e.1)
   entry-taken e is =
@@ -443,8 +445,8 @@ module _ (members : List Member) (whole scratch new after : Content) (c : AreCar
       by-place (λ p. next_id_at whole p ≤ next_id_at new p)
       (λ p here there. subst (λ n. n ≤ next_id_at new p) (sym (ap (λ o. option_map_or (λ layer. layer.next_id) o 0) here)) (omega arith))
       (λ name w is.
-          subst (λ n. n ≤ next_id_at new (place_of whole name)) (sym (ap (λ o. option_map_or (λ layer. layer.next_id) o 0) (layer_of-place_of whole name)))
-          (subst (λ n. next_id_of whole name ≤ n) (sym (ap (λ o. option_map_or (λ layer. layer.next_id) o 0) (layer-at_place whole new name c.leaves.order))) (c.leaves.counters name)))
+      subst (λ n. n ≤ next_id_at new (place_of whole name)) (sym (ap (λ o. option_map_or (λ layer. layer.next_id) o 0) (layer_of-place_of whole name)))
+      (subst (λ n. next_id_of whole name ≤ n) (sym (ap (λ o. option_map_or (λ layer. layer.next_id) o 0) (layer-at_place whole new name c.leaves.order))) (c.leaves.counters name)))
 
   pub all-changes : HasAllChanges whole new (slots_between whole after (keys_in whole scratch))
   all-changes = record {

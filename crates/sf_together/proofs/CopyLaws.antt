@@ -9,9 +9,9 @@ use Rattle.std.specs.Option.{option_map_or}
 use Rattle.sf_features.specs.Columns.{IsDistinct}
 use Rattle.sf_features.specs.Features.{FeatureContent}
 use Rattle.sf_features.specs.Names.{is_name}
-use Rattle.sf_layers.specs.Content.{Content, LayerContent, change_at, change_layer, feature_at, feature_of, has_layer, head_of, layer_at, layer_of, place_of, with_feature}
+use Rattle.sf_layers.specs.Content.{Content, LayerContent, change_layer, feature_in, feature_of, has_layer, head_of, layer_of, with_feature}
 use Rattle.sf_layers.specs.WellFormed.{IsFeature, IsLayer, IsWellFormed, layers_max}
-use Rattle.sf_layers.proofs.Changes.{IsLayer-layer_of, change_at-place_of, layer_of-change_layer, layer_of-place_of}
+use Rattle.sf_layers.proofs.Changes.{IsLayer-layer_of, layer_of-change_layer}
 use Rattle.sf_layers.proofs.ChangedAt.{IsFeature-feature_of, IsWellFormed-at, some_of}
 use Rattle.sf_layers.proofs.Changes.{IsLayer-slice_get}
 use Rattle.sf_layers.proofs.Fine.{IsWellFormed-insert}
@@ -31,7 +31,7 @@ use Rattle.sf_together.specs.Copies.{CopiesLayer, HasHeadOf, IsCopied, IsPart, I
 use Rattle.sf_together.specs.Exchanges.{AllThere}
 use Rattle.sf_together.proofs.ListLaws.{all-at_name, all-found, all-map, all-none, all-of_map, bytes_eq-turned}
 use Rattle.sf_together.proofs.FitLaws.{IsLayer-with_feature, issued-there}
-use Rattle.sf_together.proofs.ChangeLaws.{keys-one_order, le_from, next_id-of, none-above}
+use Rattle.sf_together.proofs.ChangeLaws.{feature-in, le_from, next_id-of, none-above}
 
 -- ---- what a scratch content is
 
@@ -63,7 +63,7 @@ IsScratchFor-scratch whole scratch members fine copied name is_in = by (layer_of
     shown w p w_is copies id looked false is =
         copies.features id ∙ ap (λ b. if b then feature_of w id else None) is
         ∙ sym (none-above w id (IsLayer-layer_of whole name w w_is fine.layers)
-            (subst (λ m. m ≤ id) (next_id-of whole name w w_is) (le_from (next_id_of whole name) id (sym (ap (λ b. b || nat_le (next_id_of whole name) id) is) ∙ looked))))
+        (subst (λ m. m ≤ id) (next_id-of whole name w w_is) (le_from (next_id_of whole name) id (sym (ap (λ b. b || nat_le (next_id_of whole name) id) is) ∙ looked))))
 
     by : (o q : Option LayerContent) → layer_of whole name ≡ o → IsCopied members name o q → ShowsThere (is_looked_at whole members name) o q
     by None None w_is h = tt
@@ -78,7 +78,7 @@ IsScratchFor-scratch whole scratch members fine copied name is_in = by (layer_of
 
 -- ---- one layer more
 
-layer_of-push : (content : Content) (name : List ℕ) (layer : LayerContent) → layer_of content name ≡ None → layer_of (content ++ (name, layer) ∷ []) name ≡ Some layer
+pub layer_of-push : (content : Content) (name : List ℕ) (layer : LayerContent) → layer_of content name ≡ None → layer_of (content ++ (name, layer) ∷ []) name ≡ Some layer
 layer_of-push [] name layer none = ap (λ b. cond b (Some layer) None) (bytes_same name)
 layer_of-push (e ∷ es) name layer none = by (λ later. layer_of-push es name layer later) (bytes_eq name e.0) none
   where
@@ -94,10 +94,10 @@ layer_of-push-other (e ∷ es) name other layer apart = ap (λ o. cond (bytes_eq
 -- ---- a layer with its head
 
 -- a layer is there, and copies what members name
-record HasCopy (members : List Member) (name : List ℕ) (w : LayerContent) (scratch : Content) : Type 0 where
-  p : LayerContent
-  is : layer_of scratch name ≡ Some p
-  copies : CopiesLayer members name w p
+pub record HasCopy (members : List Member) (name : List ℕ) (w : LayerContent) (scratch : Content) : Type 0 where
+  pub p : LayerContent
+  pub is : layer_of scratch name ≡ Some p
+  pub copies : CopiesLayer members name w p
 
 -- where none is of the layer, none names a feature of it
 none-named : (members : List Member) (name : List ℕ) (id : ℕ) → is_of_layer members name ≡ false → list_any (names name id) members ≡ false
@@ -111,7 +111,7 @@ none-named (m ∷ ms) name id none =
     by true c = refl
     by false c = refl
 
-head-copied : (whole scratch : Content) (members : List Member) (name : List ℕ) (w : LayerContent) → IsScratchOf whole members scratch → layer_of whole name ≡ Some w → HasCopy members name w (with_head name w scratch)
+pub head-copied : (whole scratch : Content) (members : List Member) (name : List ℕ) (w : LayerContent) → IsScratchOf whole members scratch → layer_of whole name ≡ Some w → HasCopy members name w (with_head name w scratch)
 head-copied whole scratch members name w copied w_is = by (layer_of scratch name) refl (subst (λ o. IsCopied members name o (layer_of scratch name)) w_is (copied name))
   where
     by : (q : Option LayerContent) → layer_of scratch name ≡ q → IsCopied members name (Some w) q → HasCopy members name w (with_head name w scratch)
@@ -143,7 +143,7 @@ record Gains (member : Member) (w p q : LayerContent) : Type 0 where
   head : HasHeadOf p q
   features : (id : ℕ) → feature_of q id ≡ (if names (edit_layer member.edit) id member then feature_of w id else feature_of p id)
 
-names-own : (member : Member) (id : ℕ) → names (edit_layer member.edit) id member ≡ (not member.of_last && nat_eq (edit_id member.edit) id)
+pub names-own : (member : Member) (id : ℕ) → names (edit_layer member.edit) id member ≡ (not member.of_last && nat_eq (edit_id member.edit) id)
 names-own member id = ap (λ b. not member.of_last && b && nat_eq (edit_id member.edit) id) (bytes_same (edit_layer member.edit)) ∙ by (not member.of_last)
   where
     by : (a : Bool) → a && true && nat_eq (edit_id member.edit) id ≡ (a && nat_eq (edit_id member.edit) id)
@@ -209,9 +209,6 @@ Gains-feature member w p feature not_last found = record {
         lookup-insert_entry-other id (edit_id member.edit) feature p.features (nat_eq-turned (edit_id member.edit) id is)
         ∙ sym (ap (λ b. if b then feature_of w id else feature_of p id) is)
 
--- the feature at the place of a name
-feature-at_place : (scratch : Content) (name : List ℕ) (p : LayerContent) (id : ℕ) → layer_of scratch name ≡ Some p → feature_at scratch (place_of scratch name) id ≡ feature_of p id
-feature-at_place scratch name p id is = ap (option_and_then (λ layer. feature_of layer id)) (layer_of-place_of scratch name ∙ is)
 
 feature-copied : (members : List Member) (member : Member) (w : LayerContent) (scratch : Content) → HasCopy members (edit_layer member.edit) w scratch
     → HasCopy (members ++ member ∷ []) (edit_layer member.edit) w (with_feature_shown (edit_layer member.edit) (edit_id member.edit) (named_feature w member) scratch)
@@ -222,12 +219,11 @@ feature-copied members member w scratch has = by member.of_last refl (feature_of
 
     put : (feature : FeatureContent) → member.of_last ≡ false → feature_of w (edit_id member.edit) ≡ Some feature → (b : Bool) → is_some (feature_of has.p (edit_id member.edit)) ≡ b
         → HasCopy (members ++ member ∷ []) (edit_layer member.edit) w
-        (if b then scratch else change_at (place_of scratch (edit_layer member.edit)) (with_feature (edit_id member.edit) feature) scratch)
+        (if b then scratch else change_layer scratch (edit_layer member.edit) (with_feature (edit_id member.edit) feature))
     put feature not_last found true there = same (Gains-none member w has.p (λ h. there-already members (edit_layer member.edit) w has.p (edit_id member.edit) has.copies there))
     put feature not_last found false there = record {
       p = with_feature (edit_id member.edit) feature has.p;
-      is = ap (λ c. layer_of c (edit_layer member.edit)) (change_at-place_of scratch (edit_layer member.edit) (with_feature (edit_id member.edit) feature))
-          ∙ layer_of-change_layer scratch (edit_layer member.edit) (with_feature (edit_id member.edit) feature) ∙ ap (option_map (with_feature (edit_id member.edit) feature)) has.is;
+      is = layer_of-change_layer scratch (edit_layer member.edit) (with_feature (edit_id member.edit) feature) ∙ ap (option_map (with_feature (edit_id member.edit) feature)) has.is;
       copies = gained members member w has.p (with_feature (edit_id member.edit) feature has.p) has.copies (Gains-feature member w has.p feature not_last found);
     }
 
@@ -244,17 +240,17 @@ feature-copied members member w scratch has = by member.of_last refl (feature_of
         subst (λ a. HasCopy (members ++ member ∷ []) (edit_layer member.edit) w (with_feature_shown (edit_layer member.edit) (edit_id member.edit) (if a then None else feature_of w (edit_id member.edit)) scratch)) (sym a_is)
         (subst (λ o. HasCopy (members ++ member ∷ []) (edit_layer member.edit) w (with_feature_shown (edit_layer member.edit) (edit_id member.edit) o scratch)) (sym o_is)
         (subst (λ o. HasCopy (members ++ member ∷ []) (edit_layer member.edit) w
-        (if is_some o then scratch else change_at (place_of scratch (edit_layer member.edit)) (with_feature (edit_id member.edit) feature) scratch))
-        (sym (feature-at_place scratch (edit_layer member.edit) has.p (edit_id member.edit) has.is))
+        (if is_some o then scratch else change_layer scratch (edit_layer member.edit) (with_feature (edit_id member.edit) feature)))
+        (sym (feature-in scratch (edit_layer member.edit) (edit_id member.edit) has.p has.is))
         (put feature a_is o_is (is_some (feature_of has.p (edit_id member.edit))) refl)))
 
 copy-others : (scratch : Content) (name other : List ℕ) (id : ℕ) (o : Option FeatureContent) → bytes_eq name other ≡ false → layer_of (with_feature_shown name id o scratch) other ≡ layer_of scratch other
 copy-others scratch name other id None apart = refl
-copy-others scratch name other id (Some feature) apart = by (is_some (feature_at scratch (place_of scratch name) id))
+copy-others scratch name other id (Some feature) apart = by (is_some (feature_in scratch name id))
   where
-    by : (b : Bool) → layer_of (if b then scratch else change_at (place_of scratch name) (with_feature id feature) scratch) other ≡ layer_of scratch other
+    by : (b : Bool) → layer_of (if b then scratch else change_layer scratch name (with_feature id feature)) other ≡ layer_of scratch other
     by true = refl
-    by false = ap (λ c. layer_of c other) (change_at-place_of scratch name (with_feature id feature)) ∙ layer_of-change_layer-other scratch name other (with_feature id feature) apart
+    by false = layer_of-change_layer-other scratch name other (with_feature id feature) apart
 
 -- ---- one member more
 
@@ -264,12 +260,12 @@ copied-other members member name None None apart h = tt
 copied-other members member name None (Some p) apart h = absurd h
 copied-other members member name (Some w) None apart h = any-push (λ m. bytes_eq (edit_layer m.edit) name) members member ∙ none-from (is_of_layer members name) (bytes_eq (edit_layer member.edit) name) h apart
 copied-other members member name (Some w) (Some p) apart h = (
-    any-push (λ m. bytes_eq (edit_layer m.edit) name) members member ∙ ap (λ b. b || bytes_eq (edit_layer member.edit) name) h.0,
-    record {
-      head = h.1.head;
-      features = λ id. h.1.features id ∙ ap (λ b. if b then feature_of w id else None) (sym (any-push (names name id) members member ∙ none id));
-    },
-  )
+  any-push (λ m. bytes_eq (edit_layer m.edit) name) members member ∙ ap (λ b. b || bytes_eq (edit_layer member.edit) name) h.0,
+  record {
+    head = h.1.head;
+    features = λ id. h.1.features id ∙ ap (λ b. if b then feature_of w id else None) (sym (any-push (names name id) members member ∙ none id));
+  },
+)
   where
     unnamed : (a b c : Bool) → b ≡ false → a && b && c ≡ false
     unnamed true true c is = cc

@@ -5,3 +5,4 @@ pub mod ChangeLaws
 pub mod CopyLaws
 pub mod PlanLaws
 pub mod CallLaws
+pub mod WeightLaws

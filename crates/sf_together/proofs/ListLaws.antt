@@ -84,11 +84,13 @@ bytes_eq-turned a b h = by (bytes_eq b a) refl
 -- each entry is found under its name
 pub all-found : {X : Type 0} (es : List (List ℕ × X)) → IsDistinct bytes_eq (keys_of es) → AllByRecursion (λ e. lookup (bytes_eq e.0) es ≡ Some e.1) es
 all-found [] distinct = tt
-all-found {X} (e ∷ es) distinct =
-    (lookup-name e es, all-weaker (λ f. (lookup (bytes_eq f.0) es ≡ Some f.1) × (bytes_eq e.0 f.0 ≡ false)) (λ f. lookup (bytes_eq f.0) (e ∷ es) ≡ Some f.1)
-        (λ f h. ap (λ b. cond b (Some e.1) (lookup (bytes_eq f.0) es)) (bytes_eq-turned e.0 f.0 h.1) ∙ h.0) es
-        (all-both (λ f. lookup (bytes_eq f.0) es ≡ Some f.1) (λ f. bytes_eq e.0 f.0 ≡ false) es (all-found es distinct.1)
-        (all-of_map (λ n. bytes_eq e.0 n ≡ false) (λ f. f.0) es (all-none (bytes_eq e.0) (keys_of es) distinct.0))))
+all-found {X} (e ∷ es) distinct = (
+  lookup-name e es,
+  all-weaker (λ f. (lookup (bytes_eq f.0) es ≡ Some f.1) × (bytes_eq e.0 f.0 ≡ false)) (λ f. lookup (bytes_eq f.0) (e ∷ es) ≡ Some f.1)
+      (λ f h. ap (λ b. cond b (Some e.1) (lookup (bytes_eq f.0) es)) (bytes_eq-turned e.0 f.0 h.1) ∙ h.0) es
+      (all-both (λ f. lookup (bytes_eq f.0) es ≡ Some f.1) (λ f. bytes_eq e.0 f.0 ≡ false) es (all-found es distinct.1)
+      (all-of_map (λ n. bytes_eq e.0 n ≡ false) (λ f. f.0) es (all-none (bytes_eq e.0) (keys_of es) distinct.0))),
+)
 
 -- what holds of each entry holds of the one that is found
 pub all-at_name : {X : Type 0} (P : List ℕ × X → Type 0) (es : List (List ℕ × X)) (name : List ℕ) (x : X) → AllByRecursion P es → lookup (bytes_eq name) es ≡ Some x → P (name, x)
@@ -107,12 +109,13 @@ module _ {X : Type 0} where
   pub all-found_rising : (es : List (ℕ × X)) → IsStrictlySortedBy nat_cmp (keys_of es) → AllByRecursion (λ e. lookup (nat_eq e.0) es ≡ Some e.1) es
   unfolding IsStrictlySortedBy
   all-found_rising [] rising = tt
-  all-found_rising (e ∷ es) rising =
-      (ap (λ b. cond b (Some e.1) (lookup (nat_eq e.0) es)) (eq-eqb e.0 e.0 refl),
-      all-weaker (λ f. (lookup (nat_eq f.0) es ≡ Some f.1) × (nat_cmp e.0 f.0 ≡ Less)) (λ f. lookup (nat_eq f.0) (e ∷ es) ≡ Some f.1)
-          (λ f h. ap (λ b. cond b (Some e.1) (lookup (nat_eq f.0) es)) (nat_eq-apart-above f.0 e.0 (less-below e.0 f.0 h.1)) ∙ h.0) es
-          (all-both (λ f. lookup (nat_eq f.0) es ≡ Some f.1) (λ f. nat_cmp e.0 f.0 ≡ Less) es (all-found_rising es rising.1)
-          (all-of_map (λ n. nat_cmp e.0 n ≡ Less) (λ f. f.0) es rising.0)))
+  all-found_rising (e ∷ es) rising = (
+    ap (λ b. cond b (Some e.1) (lookup (nat_eq e.0) es)) (eq-eqb e.0 e.0 refl),
+    all-weaker (λ f. (lookup (nat_eq f.0) es ≡ Some f.1) × (nat_cmp e.0 f.0 ≡ Less)) (λ f. lookup (nat_eq f.0) (e ∷ es) ≡ Some f.1)
+        (λ f h. ap (λ b. cond b (Some e.1) (lookup (nat_eq f.0) es)) (nat_eq-apart-above f.0 e.0 (less-below e.0 f.0 h.1)) ∙ h.0) es
+        (all-both (λ f. lookup (nat_eq f.0) es ≡ Some f.1) (λ f. nat_cmp e.0 f.0 ≡ Less) es (all-found_rising es rising.1)
+        (all-of_map (λ n. nat_cmp e.0 n ≡ Less) (λ f. f.0) es rising.0)),
+  )
 
 -- what holds of each entry holds of the one that is found
 pub all-at_number : {X : Type 0} (P : ℕ × X → Type 0) (es : List (ℕ × X)) (number : ℕ) (x : X) → AllByRecursion P es → lookup (nat_eq number) es ≡ Some x → P (number, x)

@@ -39,7 +39,7 @@ use Rattle.sf_together.specs.Exchanges.{has_key, keys_in, layer_slots, put_at, p
 use Rattle.sf_together.proofs.ListLaws.{all-both, all-found, all-found_rising, all-none, all-of_map}
 use Rattle.sf_together.proofs.FitLaws.{Entry, entry-there, layer-there}
 use Rattle.sf_together.proofs.CallLaws.{none-any}
-use Rattle.sf_together.proofs.CopyLaws.{HasCopy, feature-at_place, head-copied, names-own}
+use Rattle.sf_together.proofs.CopyLaws.{HasCopy, head-copied, names-own}
 
 -- ---- one exchange
 
@@ -85,15 +85,15 @@ slot-moves content (State place id None) at rising =
     ap (λ n. content_weight (change_at place (put_state id None) content) + n)
     (state-weight place id (feature_at content place id) ∙ ap (λ o. state_weight (option_and_then (λ layer. feature_of layer id) o)) (layer-there content place there))
     ∙ one-out (content_weight (change_at place (put_state id None) content)) (content_weight content) (features_weight there.entry.1.features) (features_weight (remove_entry (nat_eq id) there.entry.1.features))
-        (state_weight (feature_of there.entry.1 id)) (at-weight content place (put_state id None) there.entry there.is) (remove-weight id there.entry.1.features)
+    (state_weight (feature_of there.entry.1 id)) (at-weight content place (put_state id None) there.entry there.is) (remove-weight id there.entry.1.features)
 slot-moves content (State place id (Some feature)) at rising =
     let there = entry-there content place at in
     ap (λ n. content_weight (change_at place (put_state id (Some feature)) content) + n)
     (state-weight place id (feature_at content place id) ∙ ap (λ o. state_weight (option_and_then (λ layer. feature_of layer id) o)) (layer-there content place there))
     ∙ one-in (content_weight (change_at place (put_state id (Some feature)) content)) (content_weight content) (features_weight there.entry.1.features)
-        (features_weight (insert_entry nat_cmp there.entry.1.features id feature)) (state_weight (feature_of there.entry.1 id)) (feature_weight feature)
-        (at-weight content place (put_state id (Some feature)) there.entry there.is)
-        (insert-weight id there.entry.1.features feature (layer_at-rising content place there.entry.1 rising (layer-there content place there)))
+    (features_weight (insert_entry nat_cmp there.entry.1.features id feature)) (state_weight (feature_of there.entry.1 id)) (feature_weight feature)
+    (at-weight content place (put_state id (Some feature)) there.entry there.is)
+    (insert-weight id there.entry.1.features feature (layer_at-rising content place there.entry.1 rising (layer-there content place there)))
 
 -- ---- all exchanges
 
@@ -164,8 +164,8 @@ pub undoing-weight : (whole new scratch after : Content) (slots : List Slot) →
 undoing-weight whole new scratch after slots fine stay leads holds gains =
     reverse-weight (befores whole slots)
     ∙ cancelled (content_weight new) (content_weight whole) (content_weight scratch) (content_weight after) (patch_weight (befores whole slots))
-        (subst (λ c. content_weight c + patch_weight (befores whole slots) ≡ content_weight whole + content_weight after) leads
-        (slots-move whole slots (AreRising-fine whole fine) stay ∙ ap (λ n. content_weight whole + n) holds)) gains
+    (subst (λ c. content_weight c + patch_weight (befores whole slots) ≡ content_weight whole + content_weight after) leads
+    (slots-move whole slots (AreRising-fine whole fine) stay ∙ ap (λ n. content_weight whole + n) holds)) gains
 
 pub slots_between-weight : (whole after : Content) (keys : List Key) → patch_weight (slots_between whole after keys) ≡ content_weight after
 slots_between-weight whole after keys = slots-weigh whole after keys

@@ -3,7 +3,7 @@
 use Rattle.std.specs.Prelude.{◌≡◌, ℕ, false, List, [], ◌∷◌, ◌++◌, Option, None, Some, is_some, IsTrue, if◌then◌else◌}
 use Rattle.std.specs.List.{list_any}
 use Rattle.sf_features.specs.Features.{FeatureContent}
-use Rattle.sf_layers.specs.Content.{Content, LayerContent, change_at, feature_at, feature_of, has_layer, head_of, layer_of, place_of, with_feature}
+use Rattle.sf_layers.specs.Content.{Content, LayerContent, change_layer, feature_in, feature_of, has_layer, head_of, layer_of, with_feature}
 use Rattle.sf_steps.specs.Steps.{edit_layer}
 use Rattle.sf_groups.specs.declared.member.Member.{Member}
 use Rattle.sf_groups.specs.Local.{edit_id}
@@ -48,9 +48,9 @@ IsPart whole scratch = (name : List ℕ) → IsPartOf (layer_of whole name) (lay
 abbrev pub with_head : List ℕ → LayerContent → Content → Content
 with_head name layer scratch = if has_layer scratch name then scratch else scratch ++ (name, head_of layer) ∷ []
 
--- a feature put under its identifier into the layer at a place, where there is none
-abbrev pub with_copy : ℕ → ℕ → FeatureContent → Content → Content
-with_copy part id feature scratch = if is_some (feature_at scratch part id) then scratch else change_at part (with_feature id feature) scratch
+-- a feature put under its identifier into the layer of a name, where there is none
+abbrev pub with_copy : List ℕ → ℕ → FeatureContent → Content → Content
+with_copy name id feature scratch = if is_some (feature_in scratch name id) then scratch else change_layer scratch name (with_feature id feature)
 
 -- the feature of its layer that a member names
 abbrev pub named_feature : LayerContent → Member → Option FeatureContent
@@ -58,7 +58,7 @@ named_feature layer member = if member.of_last then None else feature_of layer (
 
 abbrev pub with_feature_shown : List ℕ → ℕ → Option FeatureContent → Content → Content
 with_feature_shown name id None scratch = scratch
-with_feature_shown name id (Some feature) scratch = with_copy (place_of scratch name) id feature scratch
+with_feature_shown name id (Some feature) scratch = with_copy name id feature scratch
 
 abbrev pub with_layer_shown : Member → Option LayerContent → Content → Content
 with_layer_shown member None scratch = scratch

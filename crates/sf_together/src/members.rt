@@ -1,8 +1,8 @@
 //! Members carried out on a scratch store, one after another.
-ghost use Rattle.std.specs.Prelude.{◌≡◌, ◌⊎◌, ◌++◌, ◌-◌, Err, IfErr, IfOk, Ok, OnOk};
+ghost use Rattle.std.specs.Prelude.{◌≡◌, ◌++◌, ◌-◌, IfErr, IfOk, Ok, OnOk};
 ghost use Rattle.sf_steps.specs.Steps.{next_id_of, step};
 ghost use Rattle.sf_groups.specs.Members.{ids_given, resolved, together as together_of, with_id as edit_with_id};
-ghost use Rattle.sf_together.specs.Outcomes.{IsRefusedAs};
+ghost use Rattle.sf_together.specs.Outcomes.{IsCarriedOut, IsRefusedAs, IsStepRefused, refused_as};
 
 use super::outcome::Refusal;
 use sf_edits::carry_out;
@@ -30,39 +30,42 @@ pub(crate) fn carry_out_all(
     let mut number = 0;
     for member in members {
         number += 1;
-        match carry_out_member(alloc, scratch, member) {
-            Ok(answer) => push_id(&mut ids, answer)?,
-            Err(refusal) => return Err(refused(number, refusal)),
-        }
+        carry_out_one(alloc, scratch, number, member, &mut ids)?;
     }
     Ok(ids)
 }
 
-/// Carries one member out.
+/// Carries one member out, and puts the identifier that it gave behind the others.
 ///
 /// # Errors
 ///
-/// The refusal of its edit, or want of memory.
-fn carry_out_member(
+/// That the member of this number is refused, or want of memory.
+fn carry_out_one(
     alloc: Global,
     scratch: &mut Store,
+    number: usize,
     member: Member,
-) -> Result<Answer, sf_steps::Refusal>
-    ensures carried { IfOk result (λ answer.
-        step scratch.old (resolved scratch.old member) ≡ Ok (scratch.new, answer)) }
-    ensures refused { IfErr result (λ refusal.
-        (step scratch.old (resolved scratch.old member) ≡ Err refusal)
-        ⊎ (refusal ≡ sf_steps.Refusal.Memory)) }
+    ids: &mut Vec<u32>,
+) -> Result<(), Refusal>
+    ensures carried { OnOk result
+        (IsCarriedOut scratch.old member scratch.new ids.old.items ids.new.items) }
+    ensures refused { IfErr result
+        (IsStepRefused number (step scratch.old (resolved scratch.old member))) }
 {
     let edit = resolve(scratch, member);
     match carry_out(alloc, scratch, edit) {
-        Ok(inverse) => Ok(inverse.answer()),
-        Err((_, refusal)) => Err(refusal),
+        Ok(inverse) => {
+            push_id(ids, inverse.answer())?;
+            Ok(())
+        }
+        Err((_, refusal)) => Err(refused(number, refusal)),
     }
 }
 
 /// Why a group is refused whose member of this number is refused so.
-fn refused(number: usize, refusal: sf_steps::Refusal) -> Refusal {
+fn refused(number: usize, refusal: sf_steps::Refusal) -> Refusal
+    ensures { result ≡ refused_as number refusal }
+{
     match refusal {
         sf_steps::Refusal::Memory => Refusal::Memory,
         refusal => Refusal::Member { number, refusal },

@@ -3,9 +3,11 @@ ghost use Rattle.std.specs.Prelude.{IfErr, IfOk};
 ghost use Rattle.sf_together.specs.Outcomes.{IsRefusedAs};
 ghost use Rattle.sf_together.specs.Plans.{IsPlan};
 
+use super::members::carry_out_all;
 use super::outcome::{Refusal, Together};
-use super::scratch::{carry_out_all, scratch_for};
-use super::slots::{keys_of, patch_to};
+use super::removals::keys_of;
+use super::scratch::scratch_for;
+use super::slots::patch_to;
 use sf_groups::Group;
 use sf_layers::Store;
 use std::alloc::Global;

@@ -2,6 +2,7 @@
 ghost use Rattle.std.specs.Prelude.{◌≡◌, ◌++◌, IfOk, OnOk, map};
 ghost use Rattle.sf_together.specs.Exchanges.{AllThere, has_key, key_at, keys_in, removals_of};
 
+use super::scratch::has_feature;
 use sf_layers::{Layer, Store};
 use sf_patches::Slot;
 use std::alloc::{AllocError, Global};
@@ -56,7 +57,7 @@ pub(crate) fn removals(
 {
     let mut slots = Vec::new(alloc);
     for key in keys {
-        if !has_feature(store, scratch, *key) {
+        if !is_left(store, scratch, *key) {
             slots.push(Slot::State {
                 place: key.place,
                 id: key.id,
@@ -68,14 +69,11 @@ pub(crate) fn removals(
 }
 
 // Whether the scratch store has a feature of the store.
-fn has_feature(store: &Store, scratch: &Store, key: Key) -> bool
+fn is_left(store: &Store, scratch: &Store, key: Key) -> bool
     ensures { result ≡ has_key store.now scratch.now key }
 {
-    let Some((name, _)) = store.layer_at(key.place) else {
-        return false;
-    };
-    match scratch.layer(name) {
-        Some(layer) => layer.feature(key.id).is_some(),
+    match store.layer_at(key.place) {
+        Some((name, _)) => has_feature(scratch, name, key.id),
         None => false,
     }
 }

@@ -1,8 +1,7 @@
 //! A scratch store: what the members of a group look at.
-ghost use Rattle.std.specs.Prelude.{◌≡◌, ◌<◌, IfOk, IsSomeAnd, IsTrue, None, OnOk, Some, option_copied};
-ghost use Rattle.sf_layers.specs.Content.{feature_of, has_layer, layer_at, layer_of, place_of};
+ghost use Rattle.std.specs.Prelude.{◌≡◌, IfOk, IsSomeAnd, OnOk, Some, is_some, option_copied};
+ghost use Rattle.sf_layers.specs.Content.{feature_in, feature_of, layer_of};
 ghost use Rattle.sf_layers.specs.WellFormed.{IsLayer, IsWellFormed};
-ghost use Rattle.sf_steps.specs.Steps.{edit_layer};
 ghost use Rattle.sf_groups.specs.Local.{edit_id as id_of_edit};
 ghost use Rattle.sf_together.specs.Copies.{HasHeadOf, IsPart, IsScratchOf, named_feature, with_copy, with_head, with_shown};
 
@@ -39,50 +38,55 @@ fn show(
     scratch: &mut Store,
 ) -> Result<(), AllocError>
     requires { IsPart store.now scratch.old }
-    ensures shown { OnOk result (scratch.new ≡ with_shown store.now member.now scratch.old) }
-    ensures well_formed { IsWellFormed store.now }
+    ensures { OnOk result (scratch.new ≡ with_shown store.now member.now scratch.old) }
 {
     let name = member.edit.layer_name();
     let Some(layer) = store.layer(name.as_str()) else {
         return Ok(());
     };
-    let part = show_head(alloc, store, name, layer, scratch)?;
+    show_head(alloc, store, name, layer, scratch)?;
     let Some(feature) = feature_named(layer, member) else {
         return Ok(());
     };
-    show_feature(alloc, part, layer, edit_id(&member.edit), feature, scratch)
+    show_feature(
+        alloc,
+        name.as_str(),
+        layer,
+        edit_id(&member.edit),
+        feature,
+        scratch,
+    )
 }
 
-/// The place of the layer of a name in the scratch store, where it is put last if it is not there.
+/// Puts the head of a layer last into the scratch store, where no layer there has its name.
 fn show_head(
     alloc: Global,
     store: &Store,
     name: &Text,
     layer: &Layer,
     scratch: &mut Store,
-) -> Result<usize, AllocError>
+) -> Result<(), AllocError>
     requires of_name { layer_of store.now name.now ≡ Some layer.now }
+    requires fine { IsWellFormed store.now }
     requires part { IsPart store.now scratch.old }
-    ensures place { IfOk result (λ part. part ≡ place_of scratch.new name.now) }
-    ensures shown { OnOk result (scratch.new ≡ with_head name.now layer.now scratch.old) }
+    ensures { OnOk result (scratch.new ≡ with_head name.now layer.now scratch.old) }
 {
-    if let Some(part) = scratch.place(name.as_str()) {
-        return Ok(part);
+    if scratch.place(name.as_str()).is_some() {
+        return Ok(());
     }
-    store.layer_count();
-    let part = scratch.layer_count();
+    let last = scratch.layer_count();
     let copy = name.copy(alloc)?;
     let head = layer.head(alloc)?;
-    let Ok(()) = scratch.put_layer(alloc, part, copy, head) else {
+    let Ok(()) = scratch.put_layer(alloc, last, copy, head) else {
         return Err(AllocError);
     };
-    Ok(part)
+    Ok(())
 }
 
-/// Copies a feature of a layer into the layer at a place of the scratch store, where none is there under its identifier.
+/// Copies a feature of a layer into the scratch store's layer of the same name, where none is there under its identifier.
 fn show_feature(
     alloc: Global,
-    part: usize,
+    name: &str,
     layer: &Layer,
     id: u32,
     feature: &Feature,
@@ -90,18 +94,28 @@ fn show_feature(
 ) -> Result<(), AllocError>
     requires of_id { feature_of layer.now id ≡ Some feature.now }
     requires fine { IsLayer layer.now }
-    requires head { IsSomeAnd (layer_at scratch.old part) (λ there. HasHeadOf layer.now there) }
-    ensures { OnOk result (scratch.new ≡ with_copy part id feature.now scratch.old) }
+    requires head { IsSomeAnd (layer_of scratch.old name.now) (λ there. HasHeadOf layer.now there) }
+    ensures { OnOk result (scratch.new ≡ with_copy name.now id feature.now scratch.old) }
 {
-    let (_, there) = scratch.layer_at(part).unwrap();
-    if there.feature(id).is_some() {
+    if has_feature(scratch, name, id) {
         return Ok(());
     }
     let copy = feature.copy(alloc)?;
+    let part = scratch.place(name).unwrap();
     let Ok(()) = scratch.put_feature(alloc, part, id, copy) else {
         return Err(AllocError);
     };
     Ok(())
+}
+
+/// Whether the layer of a name has a feature under an identifier.
+pub(crate) fn has_feature(scratch: &Store, name: &str, id: u32) -> bool
+    ensures { result ≡ is_some (feature_in scratch.now name.now id) }
+{
+    match scratch.layer(name) {
+        Some(layer) => layer.feature(id).is_some(),
+        None => false,
+    }
 }
 
 /// The feature of a layer that a member of this layer names, where it names one that is there.
