@@ -1,6 +1,7 @@
 -- What calls on a scratch store ask, and what they leave.
-use Rattle.std.proofs.Common.{◌≡◌, ℕ, zero, suc, ◌+◌, ◌<◌, ◌≤◌, Bool, true, false, not, cond, ◌||◌, if◌then◌else◌, List, [], ◌∷◌, ◌++◌, length, insert, map, Option, None, Some, is_some, option_map, option_and_then, IsTrue, nat_eq, bytes_eq, slice_get, refl, ap, sym, subst, ◌∙◌, arith}
+use Rattle.std.proofs.Common.{◌≡◌, ℕ, zero, suc, ◌+◌, ◌<◌, ◌≤◌, Bool, true, false, not, cond, ◌||◌, if◌then◌else◌, List, [], ◌∷◌, ◌++◌, append_assoc, length, insert, map, remove, slice_index_or, take, Option, None, Some, is_some, option_map, option_and_then, IsTrue, nat_eq, bytes_eq, slice_get, refl, ap, sym, subst, ◌∙◌, arith}
 use Rattle.std.specs.Prelude.{IsSome, IsSomeAnd}
+use Rattle.std.proofs.lemmas.List.{append-nil, take_more}
 use Rattle.std.proofs.lemmas.List.Edits.{insert_end}
 use Rattle.std.proofs.lemmas.Slice.Eq.{bytes_eq-Decides}
 use Rattle.std.specs.List.{AllByRecursion, list_any}
@@ -14,11 +15,13 @@ use Rattle.sf_layers.specs.WellFormed.{IsFeature, IsLayer, IsIssued, IsWellForme
 use Rattle.sf_layers.proofs.Changes.{IsLayer-layer_of, IsLayer-slice_get, change_at-place_of, layer_of-place_of}
 use Rattle.sf_layers.proofs.ChangedAt.{IsFeature-feature_of, IsWellFormed-at, some_of}
 use Rattle.sf_layers.proofs.Fine.{IsWellFormed-insert}
-use Rattle.sf_layers.proofs.Kept.{all-weaker, none_or, none-from}
+use Rattle.sf_layers.proofs.Kept.{all-remove, all-weaker, none_or}
+use Rattle.sf_layers.proofs.Places.{slice_get-below}
 use Rattle.sf_together.specs.Copies.{HasHeadOf, IsPart, IsPartOf, with_copy, with_head}
-use Rattle.sf_together.specs.Exchanges.{AllThere}
-use Rattle.sf_together.proofs.ListLaws.{all-at_name, all-found, all-map, bytes_eq-turned}
+use Rattle.sf_together.specs.Exchanges.{AllThere, key_at, keys_in, layer_slots, puts}
+use Rattle.sf_together.proofs.ListLaws.{all-at_name, all-found, all-map, all-of_map, bytes_eq-turned}
 use Rattle.sf_together.proofs.FitLaws.{Entry, IsLayer-with_feature, issued-there}
+use Rattle.sf_together.proofs.ChangeLaws.{all-at_place}
 use Rattle.sf_together.proofs.CopyLaws.{layer_of-push}
 
 -- ---- no more layers than there are
@@ -199,3 +202,42 @@ copy-put scratch name part id copy feature is same free =
     ap (λ p. change_at p (with_feature id copy) scratch) is ∙ ap (λ f. change_at (place_of scratch name) (with_feature id f) scratch) same
     ∙ change_at-place_of scratch name (with_feature id feature)
     ∙ sym (ap (λ b. if b then scratch else change_layer scratch name (with_feature id feature)) free)
+
+-- ---- the layers of a scratch store, one after another
+
+pub has-there : (whole scratch : Content) (part : ℕ) (entry : List ℕ × LayerContent) → AllThere whole scratch → slice_get scratch part ≡ Some entry → has_layer whole entry.0 ≡ true
+has-there whole scratch part entry all is = all-at_place (λ e. has_layer whole e.0 ≡ true) scratch part entry (all-of_map (λ name. has_layer whole name ≡ true) (λ e. e.0) scratch all) is
+
+pub AllThere-remove : (whole scratch : Content) (part : ℕ) → AllThere whole scratch → AllThere whole (remove scratch part)
+AllThere-remove whole scratch part all = all-remove (λ name. has_layer whole name ≡ true) (λ e. e.0) scratch part all
+
+-- the last layer is put first
+pub puts-last : (whole es : Content) (last : ℕ) (entry : List ℕ × LayerContent) → slice_get es last ≡ Some entry → length es ≡ last + 1
+    → layer_slots (place_of whole entry.0) entry.1 ++ puts whole (remove es last) ≡ puts whole es
+puts-last whole [] last entry is long = cc
+puts-last whole (e ∷ []) zero entry is long =
+    let same : e ≡ entry = cc in
+    append-nil (layer_slots (place_of whole entry.0) entry.1) ∙ ap (λ x. layer_slots (place_of whole x.0) x.1) (sym same)
+puts-last whole (e ∷ []) (suc last) entry is long = cc
+puts-last whole (e ∷ (x ∷ es)) zero entry is long = absurd (omega (arith, long))
+puts-last whole (e ∷ (x ∷ es)) (suc last) entry is long =
+    sym (append_assoc (layer_slots (place_of whole entry.0) entry.1) (puts whole (remove (x ∷ es) last)) (layer_slots (place_of whole e.0) e.1))
+    ∙ ap (λ s. s ++ layer_slots (place_of whole e.0) e.1) (puts-last whole (x ∷ es) last entry is (omega (arith, long)))
+
+-- the keys of one layer more
+pub keys-more : (whole scratch : Content) (part : ℕ) (entry : List ℕ × LayerContent) → slice_get scratch part ≡ Some entry
+    → keys_in whole (take (part + 1) scratch) ≡ keys_in whole (take part scratch) ++ map (key_at (place_of whole entry.0)) entry.1.features
+keys-more whole scratch part entry is =
+    ap (keys_in whole) (take_more scratch part entry (slice_get-below scratch part entry is) ∙ ap (λ e. take part scratch ++ e ∷ []) (got scratch part is))
+    ∙ pushed (take part scratch)
+  where
+    got : (xs : Content) (i : ℕ) → slice_get xs i ≡ Some entry → slice_index_or xs i entry ≡ entry
+    got [] i h = cc
+    got (x ∷ xs) zero h = let same : x ≡ entry = cc in same
+    got (x ∷ xs) (suc i) h = got xs i h
+
+    pushed : (xs : Content) → keys_in whole (xs ++ entry ∷ []) ≡ keys_in whole xs ++ map (key_at (place_of whole entry.0)) entry.1.features
+    pushed [] = append-nil (map (key_at (place_of whole entry.0)) entry.1.features)
+    pushed (x ∷ xs) =
+        ap (λ ks. map (key_at (place_of whole x.0)) x.1.features ++ ks) (pushed xs)
+        ∙ sym (append_assoc (map (key_at (place_of whole x.0)) x.1.features) (keys_in whole xs) (map (key_at (place_of whole entry.0)) entry.1.features))
