@@ -110,12 +110,13 @@ fn place_after_undo(store: &Store, reverted: &Reverted) -> Option<usize> {
     }
 }
 
-/// Carries out an edit, whatever becomes of indexes.
-pub(crate) fn carry_out(
-    alloc: Global,
-    store: &mut Store,
-    edit: Edit,
-) -> Result<Inverse, (Edit, Refusal)>
+/// Carries out an edit as `apply` does, whatever becomes of indexes: for a store whose layers have none, as one that is
+/// soon dropped.
+///
+/// # Errors
+///
+/// Those of `apply`.
+pub fn carry_out(alloc: Global, store: &mut Store, edit: Edit) -> Result<Inverse, (Edit, Refusal)>
     ensures { Carries store.old edit result store.new }
 {
     match edit {

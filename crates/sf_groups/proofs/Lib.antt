@@ -1,4 +1,5 @@
 pub mod LocalLaws
+pub mod WeightLaws
 pub mod ShownLaws
 pub mod TogetherLaws
 pub mod GroupsFine

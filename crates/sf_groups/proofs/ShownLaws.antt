@@ -12,29 +12,33 @@ use Rattle.sf_steps.specs.declared.edit.Edit.{Edit}
 use Rattle.sf_steps.specs.declared.edit.Edit.TheVariants.{AddLayer, DropLayer, RenameLayer, MoveLayer, AddColumn, DropColumn, AddFeature, DeleteFeature, ReplaceGeometry, InsertVertex, MoveVertex, RemoveVertex, SetValue, ClearValue}
 use Rattle.sf_geometry.specs.Kinds.{kind_of}
 use Rattle.sf_layers.specs.Content.{admits, Content, LayerContent, layer_of, change_layer, change_value, feature_of, with_next_feature, without_feature}
-use Rattle.sf_layers.specs.WellFormed.{id_end}
-use Rattle.sf_features.specs.Features.{plain_feature}
+use Rattle.sf_layers.specs.WellFormed.{IsLayer, IsWellFormed, id_end}
+use Rattle.sf_layers.proofs.Issued.{lookup-next}
+use Rattle.sf_features.specs.Features.{FeatureContent, plain_feature}
 use Rattle.sf_steps.specs.declared.answer.Answer.TheVariants.{Id}
 use Rattle.sf_geometry.specs.declared.geometry.Geometry.{Geometry}
+use Rattle.sf_patches.proofs.ExchangeLaws.{AreRising-fine}
 use Rattle.sf_patches.proofs.Rising.{AreRising}
 use Rattle.sf_steps.specs.Steps.{edit_layer, step, unless, first_refusal, size_check, validity_check}
-use Rattle.sf_groups.specs.Local.{is_of_features, edit_id, Sight, sight, Writing, Adds, Puts, Removes, written, outcome, outcome_of, into_layer, step_seen}
+use Rattle.sf_groups.specs.Local.{is_of_features, edit_id, Sight, sight, Writing, Adds, Puts, Removes, written, checks_seen, puts, writing, answer_seen, outcome, outcome_of, into_layer, step_seen}
+use Rattle.sf_groups.specs.Groups.{content_weight}
 use Rattle.sf_groups.specs.Scratches.{ShowsLayer, ShowsThere, Shows}
-use Rattle.sf_layers.proofs.Changes.{layer_of-change_layer}
+use Rattle.sf_layers.proofs.Changes.{IsLayer-layer_of, layer_of-change_layer}
 use Rattle.sf_layers.proofs.Values.{lookup-insert_entry}
 use Rattle.sf_patches.proofs.MergedLaws.{lookup-insert_entry-other, lookup-remove_entry-other, lookup-remove_entry-same}
 use Rattle.sf_groups.proofs.LocalLaws.{steps-local}
+use Rattle.sf_groups.proofs.WeightLaws.{WritesAlike, into-weight}
 
 -- ---- what is found after a writing
 
-nat_eq-turned : (m n : ℕ) → nat_eq m n ≡ false → nat_eq n m ≡ false
+pub nat_eq-turned : (m n : ℕ) → nat_eq m n ≡ false → nat_eq n m ≡ false
 nat_eq-turned m n h = by (nat_eq n m) refl
   where
     by : (b : Bool) → nat_eq n m ≡ b → b ≡ false
     by true is = let yes : nat_eq m n ≡ true = eq-eqb m n (sym (eqb-true n m is)) in cc
     by false is = refl
 
-lookup-change_value : {X : Type 0} (k j : ℕ) (es : List (ℕ × X)) (f : X → X)
+pub lookup-change_value : {X : Type 0} (k j : ℕ) (es : List (ℕ × X)) (f : X → X)
     → lookup (nat_eq k) (change_value (nat_eq j) es f) ≡ (if nat_eq j k then option_map f (lookup (nat_eq k) es) else lookup (nat_eq k) es)
 lookup-change_value {X} k j [] f = at None (nat_eq j k)
   where
@@ -187,27 +191,56 @@ Shows-written layers test name w whole part rising rising' shows other is_in = b
 
 -- ---- a step on both
 
--- what a step gives on the one it gives on the other, and the one that comes of it shows the other
-pub data StepsAlike (layers : List ℕ → Bool) (test : List ℕ → ℕ → Bool) (of_whole of_part : Result (Content × Answer) Refusal) : Type 0 where
-  BothRefused : (refusal : Refusal) → of_whole ≡ Err refusal → of_part ≡ Err refusal → StepsAlike layers test of_whole of_part
-  BothCarried : (whole part : Content) (answer : Answer) → of_whole ≡ Ok (whole, answer) → of_part ≡ Ok (part, answer) → Shows layers test whole part → StepsAlike layers test of_whole of_part
+-- where the one shows the other what an edit looks at, it writes where both have the same
+puts-alike : (id : ℕ) (change : FeatureContent → FeatureContent) (o : Option FeatureContent) (a b : LayerContent) → feature_of a id ≡ feature_of b id → WritesAlike (puts id change o) a b
+puts-alike id change None a b same = same
+puts-alike id change (Some feature) a b same = same
+
+writes-alike : (edit : Edit) (test : ℕ → Bool) (whole part : LayerContent) → IsTrue (is_of_features edit) → IsLayer whole → IsLayer part → ShowsLayer test whole part → LooksAtShown test edit
+    → WritesAlike (writing (sight (edit_id edit) whole) edit) whole part
+writes-alike (AddFeature name geometry) test whole part one fine fine' shows looks = lookup-next whole.next_id whole.features fine.ids ∙ sym (lookup-next part.next_id part.features fine'.ids)
+writes-alike (AddLayer name kind) test whole part one fine fine' shows looks = cc
+writes-alike (DropLayer name) test whole part one fine fine' shows looks = cc
+writes-alike (RenameLayer name new_name) test whole part one fine fine' shows looks = cc
+writes-alike (MoveLayer name place) test whole part one fine fine' shows looks = cc
+writes-alike (AddColumn name column column_type) test whole part one fine fine' shows looks = cc
+writes-alike (DropColumn name column) test whole part one fine fine' shows looks = cc
+writes-alike (DeleteFeature name id) test whole part one fine fine' shows looks = sym (shows.features id looks)
+writes-alike (ReplaceGeometry name id geometry) test whole part one fine fine' shows looks = puts-alike id _ (feature_of whole id) whole part (sym (shows.features id looks))
+writes-alike (InsertVertex name id part' ring index point) test whole part one fine fine' shows looks = puts-alike id _ (feature_of whole id) whole part (sym (shows.features id looks))
+writes-alike (MoveVertex name id part' ring index point) test whole part one fine fine' shows looks = puts-alike id _ (feature_of whole id) whole part (sym (shows.features id looks))
+writes-alike (RemoveVertex name id part' ring index) test whole part one fine fine' shows looks = puts-alike id _ (feature_of whole id) whole part (sym (shows.features id looks))
+writes-alike (SetValue name id column value) test whole part one fine fine' shows looks = puts-alike id _ (feature_of whole id) whole part (sym (shows.features id looks))
+writes-alike (ClearValue name id column) test whole part one fine fine' shows looks = puts-alike id _ (feature_of whole id) whole part (sym (shows.features id looks))
+
+-- what a step gives on the one it gives on the other, and the one that comes of it shows the other and has gained as much
+pub data StepsAlike (layers : List ℕ → Bool) (test : List ℕ → ℕ → Bool) (old_whole old_part : Content) (of_whole of_part : Result (Content × Answer) Refusal) : Type 0 where
+  BothRefused : (refusal : Refusal) → of_whole ≡ Err refusal → of_part ≡ Err refusal → StepsAlike layers test old_whole old_part of_whole of_part
+  BothCarried : (whole part : Content) (answer : Answer) → of_whole ≡ Ok (whole, answer) → of_part ≡ Ok (part, answer) → Shows layers test whole part
+      → content_weight whole + content_weight old_part ≡ content_weight old_whole + content_weight part → StepsAlike layers test old_whole old_part of_whole of_part
 
 pub steps-alike : (layers : List ℕ → Bool) (test : List ℕ → ℕ → Bool) (edit : Edit) (whole part : Content) → IsTrue (is_of_features edit) → IsTrue (layers (edit_layer edit)) → LooksAtShown (test (edit_layer edit)) edit
-    → AreRising whole → AreRising part → Shows layers test whole part → StepsAlike layers test (step whole edit) (step part edit)
-steps-alike layers test edit whole part is_one is_in looks rising rising' shows =
-    subst (λ r. StepsAlike layers test r (step part edit)) (sym (steps-local whole edit is_one))
-    (subst (λ r. StepsAlike layers test (step_seen whole edit (layer_of whole (edit_layer edit))) r) (sym (steps-local part edit is_one))
-    (by (layer_of whole (edit_layer edit)) (layer_of part (edit_layer edit)) (shows (edit_layer edit) is_in)))
+    → IsWellFormed whole → IsWellFormed part → Shows layers test whole part → StepsAlike layers test whole part (step whole edit) (step part edit)
+steps-alike layers test edit whole part is_one is_in looks fine fine' shows =
+    subst (λ r. StepsAlike layers test whole part r (step part edit)) (sym (steps-local whole edit is_one))
+    (subst (λ r. StepsAlike layers test whole part (step_seen whole edit (layer_of whole (edit_layer edit))) r) (sym (steps-local part edit is_one))
+    (by (layer_of whole (edit_layer edit)) (layer_of part (edit_layer edit)) refl refl (shows (edit_layer edit) is_in)))
   where
-    judged : (r : Result (Writing × Answer) Refusal) → StepsAlike layers test (into_layer whole (edit_layer edit) r) (into_layer part (edit_layer edit) r)
-    judged (Err refusal) = BothRefused refusal refl refl
-    judged (Ok done) = BothCarried (change_layer whole (edit_layer edit) (written done.0)) (change_layer part (edit_layer edit) (written done.0)) done.1 refl refl
-        (Shows-written layers test (edit_layer edit) done.0 whole part rising rising' shows)
+    judged : (l q : LayerContent) → layer_of whole (edit_layer edit) ≡ Some l → layer_of part (edit_layer edit) ≡ Some q → (w : Writing) (answer : Answer) → WritesAlike w l q → (o : Option Refusal)
+        → StepsAlike layers test whole part (into_layer whole (edit_layer edit) (outcome_of o (w, answer))) (into_layer part (edit_layer edit) (outcome_of o (w, answer)))
+    judged l q l_is q_is w answer alike (Some refusal) = BothRefused refusal refl refl
+    judged l q l_is q_is w answer alike None = BothCarried (change_layer whole (edit_layer edit) (written w)) (change_layer part (edit_layer edit) (written w)) answer refl refl
+        (Shows-written layers test (edit_layer edit) w whole part (AreRising-fine whole fine) (AreRising-fine part fine') shows)
+        (into-weight whole part (edit_layer edit) w l q l_is q_is (IsLayer-layer_of whole (edit_layer edit) l l_is fine.layers).rising (IsLayer-layer_of part (edit_layer edit) q q_is fine'.layers).rising alike)
 
-    by : (o p : Option LayerContent) → ShowsThere (test (edit_layer edit)) o p → StepsAlike layers test (step_seen whole edit o) (step_seen part edit p)
-    by None None h = BothRefused NoLayer refl refl
-    by None (Some q) h = absurd h
-    by (Some l) None h = absurd h
-    by (Some l) (Some q) h =
-        subst (λ r. StepsAlike layers test (into_layer whole (edit_layer edit) (outcome (sight (edit_id edit) l) edit)) (into_layer part (edit_layer edit) r))
-        (sym (outcome-shown edit (test (edit_layer edit)) l q h looks)) (judged (outcome (sight (edit_id edit) l) edit))
+    by : (o p : Option LayerContent) → layer_of whole (edit_layer edit) ≡ o → layer_of part (edit_layer edit) ≡ p → ShowsThere (test (edit_layer edit)) o p
+        → StepsAlike layers test whole part (step_seen whole edit o) (step_seen part edit p)
+    by None None o_is p_is h = BothRefused NoLayer refl refl
+    by None (Some q) o_is p_is h = absurd h
+    by (Some l) None o_is p_is h = absurd h
+    by (Some l) (Some q) o_is p_is h =
+        subst (λ r. StepsAlike layers test whole part (into_layer whole (edit_layer edit) (outcome (sight (edit_id edit) l) edit)) (into_layer part (edit_layer edit) r))
+        (sym (outcome-shown edit (test (edit_layer edit)) l q h looks))
+        (judged l q o_is p_is (writing (sight (edit_id edit) l) edit) (answer_seen (sight (edit_id edit) l) edit)
+        (writes-alike edit (test (edit_layer edit)) l q is_one (IsLayer-layer_of whole (edit_layer edit) l o_is fine.layers) (IsLayer-layer_of part (edit_layer edit) q p_is fine'.layers) h looks)
+        (first_refusal (checks_seen (sight (edit_id edit) l) edit)))

@@ -17,9 +17,9 @@ use Rattle.sf_steps.specs.Steps.{edit_layer, next_id_of, step, add_feature}
 use Rattle.sf_steps.specs.Laws.{BringsGridPoints}
 use Rattle.sf_steps.proofs.Passes.{Accepted-step, passed, there_from_test}
 use Rattle.sf_steps.proofs.StepsFine.{IsWellFormed-step}
-use Rattle.sf_patches.proofs.ExchangeLaws.{AreRising-fine}
 use Rattle.sf_groups.specs.declared.member.Member.{Member}
 use Rattle.sf_groups.specs.Local.{is_of_features, edit_id, sight, Writing, Adds, Puts, Removes, written, outcome, into_layer, step_seen}
+use Rattle.sf_groups.specs.Groups.{content_weight}
 use Rattle.sf_groups.specs.Members.{with_id, resolved, edit_adds_to, adds_to, may_follow, FollowInTurn, Refused, ids_given, in_front, and_behind, members_from, together, names}
 use Rattle.sf_groups.specs.Scratches.{is_of_layer, is_looked_at, ShowsThere, Shows}
 use Rattle.sf_groups.specs.Laws.{DoesAlike, ScratchesDoAlike}
@@ -28,24 +28,24 @@ use Rattle.sf_groups.proofs.ShownLaws.{LooksAtShown, StepsAlike, BothRefused, Bo
 
 -- ---- tests
 
-bytes_same : (a : List ℕ) → bytes_eq a a ≡ true
+pub bytes_same : (a : List ℕ) → bytes_eq a a ≡ true
 bytes_same a = (bytes_eq-Decides a a).1 refl
 
-or_right : (a b : Bool) → b ≡ true → a || b ≡ true
+pub or_right : (a b : Bool) → b ≡ true → a || b ≡ true
 or_right true b h = refl
 or_right false b h = h
 
-or_left : (a b : Bool) → a ≡ true → a || b ≡ true
+pub or_left : (a b : Bool) → a ≡ true → a || b ≡ true
 or_left true b h = refl
 or_left false b h = cc
 
-and_true : (a b : Bool) → a && b ≡ true → (a ≡ true) × (b ≡ true)
+pub and_true : (a b : Bool) → a && b ≡ true → (a ≡ true) × (b ≡ true)
 and_true true true h = (refl, refl)
 and_true true false h = cc
 and_true false b h = cc
 
 -- a test that one of several passes
-any-at : {X : Type 0} (test : X → Bool) (a b : List X) (x : X) → test x ≡ true → list_any test (a ++ x ∷ b) ≡ true
+pub any-at : {X : Type 0} (test : X → Bool) (a b : List X) (x : X) → test x ≡ true → list_any test (a ++ x ∷ b) ≡ true
 any-at test [] b x h = or_left (test x) (list_any test b) h
 any-at test (y ∷ a) b x h = or_right (test y) (list_any test (a ++ x ∷ b)) (any-at test a b x h)
 
@@ -168,7 +168,7 @@ into-counter content name w other = by (bytes_eq name other) refl
         subst (λ o. next_id_of content other ≤ option_map_or (λ layer. layer.next_id) o 0) (sym (layer_of-change_layer-other content name other (written w) is)) (omega arith)
 
 -- no accepted edit of features lowers one
-step-counter : (content new : Content) (edit : Edit) (answer : Answer) → IsTrue (is_of_features edit) → step content edit ≡ Ok (new, answer) → (other : List ℕ) → next_id_of content other ≤ next_id_of new other
+pub step-counter : (content new : Content) (edit : Edit) (answer : Answer) → IsTrue (is_of_features edit) → step content edit ≡ Ok (new, answer) → (other : List ℕ) → next_id_of content other ≤ next_id_of new other
 step-counter content new edit answer is_one led other = by (layer_of content (edit_layer edit)) (sym (steps-local content edit is_one) ∙ led)
   where
     at : (r : Result (Writing × Answer) Refusal) → into_layer content (edit_layer edit) r ≡ Ok (new, answer) → next_id_of content other ≤ next_id_of new other
@@ -206,9 +206,9 @@ adding-counter content new (SetValue layer id column value) answer name is led =
 adding-counter content new (ClearValue layer id column) answer name is led = cc
 
 -- what is known of the counters behind some members
-record HaveGrown (start now : Content) (earlier : List Member) : Type 0 where
-  least : (name : List ℕ) → next_id_of start name ≤ next_id_of now name
-  more : (name : List ℕ) → list_any (adds_to name) earlier ≡ true → next_id_of start name < next_id_of now name
+pub record HaveGrown (start now : Content) (earlier : List Member) : Type 0 where
+  pub least : (name : List ℕ) → next_id_of start name ≤ next_id_of now name
+  pub more : (name : List ℕ) → list_any (adds_to name) earlier ≡ true → next_id_of start name < next_id_of now name
 
 -- ---- a member
 
@@ -216,7 +216,7 @@ le_true : (m n : ℕ) → m ≤ n → nat_le m n ≡ true
 le_true m n h = grind (arith, nat_tests)
 
 -- what a member looks at is shown
-member-looks : (start now : Content) (earlier rest : List Member) (member : Member) → IsTrue (may_follow earlier member) → HaveGrown start now earlier
+pub member-looks : (start now : Content) (earlier rest : List Member) (member : Member) → IsTrue (may_follow earlier member) → HaveGrown start now earlier
     → LooksAtShown (is_looked_at start (earlier ++ member ∷ rest) (edit_layer member.edit)) (resolved now member)
 member-looks start now earlier rest member may grown = by member.of_last refl
   where
@@ -240,14 +240,14 @@ member-looks start now earlier rest member may grown = by member.of_last refl
         (ap (λ b. not b && bytes_eq (edit_layer member.edit) (edit_layer member.edit) && nat_eq (edit_id member.edit) (edit_id member.edit)) is
         ∙ ap (λ b. true && b && nat_eq (edit_id member.edit) (edit_id member.edit)) (bytes_same (edit_layer member.edit)) ∙ eq-eqb (edit_id member.edit) (edit_id member.edit) refl)))
 
-layer-resolved : (content : Content) (member : Member) → edit_layer (resolved content member) ≡ edit_layer member.edit
+pub layer-resolved : (content : Content) (member : Member) → edit_layer (resolved content member) ≡ edit_layer member.edit
 layer-resolved content member = by member.of_last
   where
     by : (b : Bool) → edit_layer (if b then with_id (next_id_of content (edit_layer member.edit) - 1) member.edit else member.edit) ≡ edit_layer member.edit
     by true = layer-with_id (next_id_of content (edit_layer member.edit) - 1) member.edit
     by false = refl
 
-features-resolved : (content : Content) (member : Member) → is_of_features (resolved content member) ≡ is_of_features member.edit
+pub features-resolved : (content : Content) (member : Member) → is_of_features (resolved content member) ≡ is_of_features member.edit
 features-resolved content member = by member.of_last
   where
     by : (b : Bool) → is_of_features (if b then with_id (next_id_of content (edit_layer member.edit) - 1) member.edit else member.edit) ≡ is_of_features member.edit
@@ -298,16 +298,24 @@ resolved-shown layers test whole part member is_in shows =
 
 -- ---- members, one after another
 
--- what they give on the one they give on the other
-data MembersAlike (layers : List ℕ → Bool) (test : List ℕ → ℕ → Bool) (of_whole of_part : Result (Content × List ℕ) Refused) : Type 0 where
-  AllRefused : (refused : Refused) → of_whole ≡ Err refused → of_part ≡ Err refused → MembersAlike layers test of_whole of_part
-  AllCarried : (whole part : Content) (ids : List ℕ) → of_whole ≡ Ok (whole, ids) → of_part ≡ Ok (part, ids) → Shows layers test whole part → MembersAlike layers test of_whole of_part
+-- what they give on the one they give on the other, which gains as much
+data MembersAlike (layers : List ℕ → Bool) (test : List ℕ → ℕ → Bool) (old_whole old_part : Content) (of_whole of_part : Result (Content × List ℕ) Refused) : Type 0 where
+  AllRefused : (refused : Refused) → of_whole ≡ Err refused → of_part ≡ Err refused → MembersAlike layers test old_whole old_part of_whole of_part
+  AllCarried : (whole part : Content) (ids : List ℕ) → of_whole ≡ Ok (whole, ids) → of_part ≡ Ok (part, ids) → Shows layers test whole part
+      → content_weight whole + content_weight old_part ≡ content_weight old_whole + content_weight part → MembersAlike layers test old_whole old_part of_whole of_part
 
-in_front-alike : (layers : List ℕ → Bool) (test : List ℕ → ℕ → Bool) (ids : List ℕ) (a b : Result (Content × List ℕ) Refused) → MembersAlike layers test a b → MembersAlike layers test (in_front ids a) (in_front ids b)
-in_front-alike layers test ids a b (AllRefused refused a_is b_is) = AllRefused refused (ap (in_front ids) a_is) (ap (in_front ids) b_is)
-in_front-alike layers test ids a b (AllCarried whole part more a_is b_is shows) = AllCarried whole part (ids ++ more) (ap (in_front ids) a_is) (ap (in_front ids) b_is) shows
+gains-then : (a a' b b' c c' : ℕ) → b + a' ≡ a + b' → c + b' ≡ b + c' → c + a' ≡ a + c'
+gains-then a a' b b' c c' first second = omega (arith, first, second)
 
-grown-next : (start now new : Content) (earlier : List Member) (member : Member) (answer : Answer) → is_of_features member.edit ≡ true → HaveGrown start now earlier → step now (resolved now member) ≡ Ok (new, answer)
+-- what comes behind a step
+behind-alike : (layers : List ℕ → Bool) (test : List ℕ → ℕ → Bool) (whole part next next' : Content) (ids : List ℕ) (a b : Result (Content × List ℕ) Refused)
+    → content_weight next + content_weight part ≡ content_weight whole + content_weight next' → MembersAlike layers test next next' a b → MembersAlike layers test whole part (in_front ids a) (in_front ids b)
+behind-alike layers test whole part next next' ids a b gains (AllRefused refused a_is b_is) = AllRefused refused (ap (in_front ids) a_is) (ap (in_front ids) b_is)
+behind-alike layers test whole part next next' ids a b gains (AllCarried new new' more a_is b_is shows more_gains) =
+    AllCarried new new' (ids ++ more) (ap (in_front ids) a_is) (ap (in_front ids) b_is) shows
+    (gains-then (content_weight whole) (content_weight part) (content_weight next) (content_weight next') (content_weight new) (content_weight new') gains more_gains)
+
+pub grown-next : (start now new : Content) (earlier : List Member) (member : Member) (answer : Answer) → is_of_features member.edit ≡ true → HaveGrown start now earlier → step now (resolved now member) ≡ Ok (new, answer)
     → HaveGrown start new (earlier ++ member ∷ [])
 grown-next start now new earlier member answer one grown led = record {
   least = λ name. omega (arith, grown.least name, step-counter now new (resolved now member) answer (features-resolved now member ∙ one) led name);
@@ -320,17 +328,17 @@ grown-next start now new earlier member answer one grown led = record {
 
 members-alike : (start : Content) (number : ℕ) (whole part : Content) (earlier rest all : List Member) → all ≡ earlier ++ rest → FollowInTurn earlier rest → AllByRecursion (λ member. BringsGridPoints member.edit) rest
     → IsWellFormed whole → IsWellFormed part → HaveGrown start whole earlier → Shows (is_of_layer all) (is_looked_at start all) whole part
-    → MembersAlike (is_of_layer all) (is_looked_at start all) (members_from number whole rest) (members_from number part rest)
-members-alike start number whole part earlier [] all parts follow brings fine fine' grown shows = AllCarried whole part [] refl refl shows
+    → MembersAlike (is_of_layer all) (is_looked_at start all) whole part (members_from number whole rest) (members_from number part rest)
+members-alike start number whole part earlier [] all parts follow brings fine fine' grown shows = AllCarried whole part [] refl refl shows refl
 members-alike start number whole part earlier (member ∷ rest) all parts follow brings fine fine' grown shows =
-    subst (λ e. MembersAlike (is_of_layer all) (is_looked_at start all) (and_behind number (step whole (resolved whole member)) (λ next. members_from (number + 1) next rest))
+    subst (λ e. MembersAlike (is_of_layer all) (is_looked_at start all) whole part (and_behind number (step whole (resolved whole member)) (λ next. members_from (number + 1) next rest))
     (and_behind number (step part e) (λ next. members_from (number + 1) next rest))) (sym (resolved-shown (is_of_layer all) (is_looked_at start all) whole part member is_in shows))
     (by (λ new new' grown' f f' shown. members-alike start (number + 1) new new' (earlier ++ member ∷ []) rest all (parts ∙ sym (append_assoc earlier (member ∷ []) rest)) follow.1 brings.1 f f' grown' shown)
     (steps-alike (is_of_layer all) (is_looked_at start all) (resolved whole member) whole part (features-resolved whole member ∙ one)
     (ap (is_of_layer all) (layer-resolved whole member) ∙ is_in)
     (subst (λ n. LooksAtShown (is_looked_at start all n) (resolved whole member)) (sym (layer-resolved whole member))
     (subst (λ ms. LooksAtShown (is_looked_at start ms (edit_layer member.edit)) (resolved whole member)) (sym parts) (member-looks start whole earlier rest member follow.0 grown)))
-    (AreRising-fine whole fine) (AreRising-fine part fine') shows))
+    fine fine' shows))
   where
     one : is_of_features member.edit ≡ true
     one = (and_true (is_of_features member.edit) (not member.of_last || list_any (adds_to (edit_layer member.edit)) earlier) follow.0).0
@@ -339,9 +347,9 @@ members-alike start number whole part earlier (member ∷ rest) all parts follow
     is_in = ap (λ ms. is_of_layer ms (edit_layer member.edit)) parts ∙ any-at (λ m. bytes_eq (edit_layer m.edit) (edit_layer member.edit)) earlier rest member (bytes_same (edit_layer member.edit))
 
     next_alike : ((new new' : Content) → HaveGrown start new (earlier ++ member ∷ []) → IsWellFormed new → IsWellFormed new' → Shows (is_of_layer all) (is_looked_at start all) new new'
-        → MembersAlike (is_of_layer all) (is_looked_at start all) (members_from (number + 1) new rest) (members_from (number + 1) new' rest))
+        → MembersAlike (is_of_layer all) (is_looked_at start all) new new' (members_from (number + 1) new rest) (members_from (number + 1) new' rest))
         → (new new' : Content) (answer : Answer) → step whole (resolved whole member) ≡ Ok (new, answer) → step part (resolved whole member) ≡ Ok (new', answer)
-        → Shows (is_of_layer all) (is_looked_at start all) new new' → MembersAlike (is_of_layer all) (is_looked_at start all) (members_from (number + 1) new rest) (members_from (number + 1) new' rest)
+        → Shows (is_of_layer all) (is_looked_at start all) new new' → MembersAlike (is_of_layer all) (is_looked_at start all) new new' (members_from (number + 1) new rest) (members_from (number + 1) new' rest)
     next_alike later new new' answer led led' shown =
         later new new' (grown-next start whole new earlier member answer one grown led)
         (IsWellFormed-step whole new (resolved whole member) answer (brings-resolved whole member brings.0) fine led)
@@ -349,30 +357,30 @@ members-alike start number whole part earlier (member ∷ rest) all parts follow
         shown
 
     by : ((new new' : Content) → HaveGrown start new (earlier ++ member ∷ []) → IsWellFormed new → IsWellFormed new' → Shows (is_of_layer all) (is_looked_at start all) new new'
-        → MembersAlike (is_of_layer all) (is_looked_at start all) (members_from (number + 1) new rest) (members_from (number + 1) new' rest))
-        → StepsAlike (is_of_layer all) (is_looked_at start all) (step whole (resolved whole member)) (step part (resolved whole member))
-        → MembersAlike (is_of_layer all) (is_looked_at start all) (and_behind number (step whole (resolved whole member)) (λ next. members_from (number + 1) next rest))
+        → MembersAlike (is_of_layer all) (is_looked_at start all) new new' (members_from (number + 1) new rest) (members_from (number + 1) new' rest))
+        → StepsAlike (is_of_layer all) (is_looked_at start all) whole part (step whole (resolved whole member)) (step part (resolved whole member))
+        → MembersAlike (is_of_layer all) (is_looked_at start all) whole part (and_behind number (step whole (resolved whole member)) (λ next. members_from (number + 1) next rest))
         (and_behind number (step part (resolved whole member)) (λ next. members_from (number + 1) next rest))
     by later (BothRefused refusal a b) =
         AllRefused (record { member = number; refusal = refusal }) (ap (λ r. and_behind number r (λ next. members_from (number + 1) next rest)) a) (ap (λ r. and_behind number r (λ next. members_from (number + 1) next rest)) b)
-    by later (BothCarried new new' answer a b shown) =
-        subst (λ r. MembersAlike (is_of_layer all) (is_looked_at start all) (and_behind number r (λ next. members_from (number + 1) next rest)) (and_behind number (step part (resolved whole member)) (λ next. members_from (number + 1) next rest))) (sym a)
-        (subst (λ r. MembersAlike (is_of_layer all) (is_looked_at start all) (in_front (ids_given answer) (members_from (number + 1) new rest)) (and_behind number r (λ next. members_from (number + 1) next rest))) (sym b)
-        (in_front-alike (is_of_layer all) (is_looked_at start all) (ids_given answer) (members_from (number + 1) new rest) (members_from (number + 1) new' rest) (next_alike later new new' answer a b shown)))
+    by later (BothCarried new new' answer a b shown gains) =
+        subst (λ r. MembersAlike (is_of_layer all) (is_looked_at start all) whole part (and_behind number r (λ next. members_from (number + 1) next rest)) (and_behind number (step part (resolved whole member)) (λ next. members_from (number + 1) next rest))) (sym a)
+        (subst (λ r. MembersAlike (is_of_layer all) (is_looked_at start all) whole part (in_front (ids_given answer) (members_from (number + 1) new rest)) (and_behind number r (λ next. members_from (number + 1) next rest))) (sym b)
+        (behind-alike (is_of_layer all) (is_looked_at start all) whole part new new' (ids_given answer) (members_from (number + 1) new rest) (members_from (number + 1) new' rest) gains (next_alike later new new' answer a b shown)))
 
-grown-start : (start : Content) → HaveGrown start start []
+pub grown-start : (start : Content) → HaveGrown start start []
 grown-start start = record { least = λ name. omega arith; more = λ name h. cc }
 
 pub scratches-do_alike : ScratchesDoAlike
 scratches-do_alike whole scratch members group brings fine fine' shows =
     by (together whole members) (together scratch members) refl refl (members-alike whole 1 whole scratch [] members members refl group brings fine fine' (grown-start whole) shows)
   where
-    by : (a b : Result (Content × List ℕ) Refused) → together whole members ≡ a → together scratch members ≡ b → MembersAlike (is_of_layer members) (is_looked_at whole members) a b → DoesAlike whole members scratch
+    by : (a b : Result (Content × List ℕ) Refused) → together whole members ≡ a → together scratch members ≡ b → MembersAlike (is_of_layer members) (is_looked_at whole members) whole scratch a b → DoesAlike whole members scratch
     by a b a_is b_is (AllRefused refused x y) = record {
       refused = λ r h. a_is ∙ x ∙ sym (sym h ∙ b_is ∙ y);
       carried = λ after ids h. let no : ◌≡◌ {A = Result (Content × List ℕ) Refused} (Err refused) (Ok (after, ids)) = sym (b_is ∙ y) ∙ h in cc;
     }
-    by a b a_is b_is (AllCarried new new' ids x y shown) = record {
+    by a b a_is b_is (AllCarried new new' ids x y shown gains) = record {
       refused = λ r h. let no : ◌≡◌ {A = Result (Content × List ℕ) Refused} (Ok (new', ids)) (Err r) = sym (b_is ∙ y) ∙ h in cc;
       carried = λ after given h.
           let same : ◌≡◌ {A = Result (Content × List ℕ) Refused} (Ok (new', ids)) (Ok (after, given)) = sym (b_is ∙ y) ∙ h in
@@ -380,5 +388,6 @@ scratches-do_alike whole scratch members group brings fine fine' shows =
             new,
             a_is ∙ x ∙ ap (λ p. let r : Result (Content × List ℕ) Refused = Ok (new, p.1) in r) both,
             subst (Shows (is_of_layer members) (is_looked_at whole members) new) (ap (λ p. p.0) both) shown,
+            subst (λ c. content_weight new + content_weight scratch ≡ content_weight whole + content_weight c) (ap (λ p. p.0) both) gains,
           );
     }

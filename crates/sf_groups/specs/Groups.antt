@@ -2,6 +2,7 @@
 -- What carrying a group out does, and how much its patch holds.
 use Rattle.std.specs.Prelude.{◌≡◌, ℕ, false, List, IsTrue, sum_by, None, Some, Ok, if◌then◌else◌}
 use Rattle.std.specs.List.{list_any}
+use Rattle.sf_features.specs.Features.{FeatureContent}
 use Rattle.sf_layers.specs.Content.{Content}
 use Rattle.sf_steps.specs.Inverses.{feature_weight}
 use Rattle.sf_patches.specs.declared.slot.Slot.{Slot}
@@ -26,6 +27,13 @@ patch_weight slots = sum_by slot_weight slots
 abbrev pub together_touched : Content → List Member → ℕ
 together_touched content members =
     sum_by (λ entry. sum_by (λ f. if list_any (names entry.0 f.0) members then feature_weight f.1 else 0) entry.1.features) content
+
+-- the grid points and values that the features of a layer and of a content hold
+abbrev pub features_weight : List (ℕ × FeatureContent) → ℕ
+features_weight features = sum_by (λ entry. feature_weight entry.1) features
+
+abbrev pub content_weight : Content → ℕ
+content_weight content = sum_by (λ entry. features_weight entry.1.features) content
 
 -- a group is accepted: it leads from old to new and gives these identifiers, and the patch takes new back to old and holds what
 -- the group named, and no more

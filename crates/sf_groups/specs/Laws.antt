@@ -1,6 +1,6 @@
 -- Internal: who wants to trust the program need not read this file.
 -- Laws of groups.
-use Rattle.std.specs.Prelude.{◌≡◌, ◌∷◌, [], ℕ, false, List, Ok, Err}
+use Rattle.std.specs.Prelude.{◌≡◌, ◌+◌, ◌∷◌, [], ℕ, false, List, Ok, Err}
 use Rattle.std.specs.List.{AllByRecursion}
 use Rattle.sf_layers.specs.Content.{Content}
 use Rattle.sf_layers.specs.WellFormed.{IsWellFormed}
@@ -9,6 +9,7 @@ use Rattle.sf_steps.specs.declared.edit.Edit.{Edit}
 use Rattle.sf_steps.specs.Steps.{step}
 use Rattle.sf_steps.specs.Laws.{BringsGridPoints}
 use Rattle.sf_groups.specs.declared.member.Member.{Member}
+use Rattle.sf_groups.specs.Groups.{content_weight}
 use Rattle.sf_groups.specs.Members.{IsGroup, Refused, ids_given, together}
 use Rattle.sf_groups.specs.Scratches.{IsScratchFor, Shows, is_of_layer, is_looked_at}
 
@@ -18,11 +19,12 @@ GroupsKeepWellFormed =
     (old new : Content) (members : List Member) (ids : List ℕ) → AllByRecursion (λ member. BringsGridPoints member.edit) members → IsWellFormed old
     → together old members ≡ Ok (new, ids) → IsWellFormed new
 
--- what a group does on a scratch content it does on the whole one
+-- what a group does on a scratch content it does on the whole one, which gains as much as the scratch content does
 pub record DoesAlike (whole : Content) (members : List Member) (scratch : Content) : Type 0 where
   pub refused : (refused : Refused) → together scratch members ≡ Err refused → together whole members ≡ Err refused
   pub carried : (after : Content) (ids : List ℕ) → together scratch members ≡ Ok (after, ids)
       → (new : Content) × (together whole members ≡ Ok (new, ids)) × Shows (is_of_layer members) (is_looked_at whole members) new after
+      × (content_weight new + content_weight scratch ≡ content_weight whole + content_weight after)
 
 abbrev pub ScratchesDoAlike : Type 0
 ScratchesDoAlike =

@@ -1,7 +1,8 @@
 ghost use Rattle.std.specs.Prelude.{◌≡◌, ◌++◌, ◌||◌, ◌∷◌, ℕ, List, [], IfErr, IsTrue, OnErr, OnOk, is_some};
 ghost use Rattle.std.specs.BTreeMap.{get_by_text};
-ghost use Rattle.std.specs.List.{list_any};
-ghost use Rattle.sf_groups.specs.Members.{adds_to as adds_to_layer, may_follow as may_stand_behind};
+ghost use Rattle.std.specs.List.{AllByRecursion, list_any};
+ghost use Rattle.sf_steps.specs.Laws.{BringsGridPoints};
+ghost use Rattle.sf_groups.specs.Members.{IsGroup, adds_to as adds_to_layer, may_follow as may_stand_behind};
 ghost use Rattle.sf_groups.specs.Groups.{IsNotTaken};
 
 use super::member::Member;
@@ -58,6 +59,24 @@ impl Group {
         ensures { result.now ≡ self.now }
     {
         self.members.as_slice()
+    }
+
+    /// The members, in order, each of which may stand behind those before it.
+    pub fn into_members(self) -> Vec<Member>
+        ensures members { result.items ≡ self }
+        ensures group { IsGroup result.items }
+    {
+        self.members
+    }
+
+    /// Shows a proof that the points that members bring are on the grid. It reads the points and does nothing with
+    /// them, so a compiler may leave it out.
+    pub fn brings_grid_points(&self)
+        ensures { AllByRecursion (λ member. BringsGridPoints member.edit) self.now }
+    {
+        for member in self.members() {
+            member.brings_grid_points();
+        }
     }
 
     /// Whether a member may stand behind these: it is of features, and where it is of the last one, one of these adds

@@ -1,5 +1,6 @@
 ghost use Rattle.std.specs.Prelude.{◌≡◌, ℕ, List, bytes_eq, false};
 ghost use Rattle.std.specs.Option.{option_map_or};
+ghost use Rattle.sf_steps.specs.Laws.{BringsGridPoints};
 ghost use Rattle.sf_groups.specs.Members.{adds_to};
 ghost use Rattle.sf_groups.specs.Local.{is_of_features as is_edit_of_features};
 
@@ -33,6 +34,22 @@ impl Member {
             | Edit::RemoveVertex { .. }
             | Edit::SetValue { .. }
             | Edit::ClearValue { .. } => true,
+        }
+    }
+
+    /// Shows a proof that the points that the edit brings are on the grid. It reads the points and does nothing with
+    /// them, so a compiler may leave it out.
+    pub(crate) fn brings_grid_points(&self)
+        ensures { BringsGridPoints self.now.edit }
+    {
+        match &self.edit {
+            Edit::AddFeature { geometry, .. } | Edit::ReplaceGeometry { geometry, .. } => {
+                geometry.lies_on_grid();
+            }
+            Edit::InsertVertex { point, .. } | Edit::MoveVertex { point, .. } => {
+                point.x();
+            }
+            _ => {}
         }
     }
 

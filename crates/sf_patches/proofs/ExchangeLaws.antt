@@ -32,7 +32,7 @@ KeepRising-fine content (slot ∷ slots) stay = (AreRising-fine (with_slot slot 
 
 -- ---- what was put is read back
 
-there : (content : Content) (place : ℕ) → place < length content → (layer : LayerContent) × (layer_at content place ≡ Some layer)
+pub there : (content : Content) (place : ℕ) → place < length content → (layer : LayerContent) × (layer_at content place ≡ Some layer)
 there [] place within = absurd (omega (arith, within))
 there (e ∷ es) zero within = (e.1, refl)
 there (e ∷ es) (suc place) within = there es place (omega (arith, within))

@@ -121,12 +121,12 @@ put_state-head : (id : ℕ) (state : Option FeatureContent) (layer : LayerConten
 put_state-head id None layer = (refl, refl, refl)
 put_state-head id (Some feature) layer = (refl, refl, refl)
 
-HaveOneOrder-with_slot : (c d : Content) (slot : Slot) → HaveOneOrder c d → HaveOneOrder (with_slot slot c) d
+pub HaveOneOrder-with_slot : (c d : Content) (slot : Slot) → HaveOneOrder c d → HaveOneOrder (with_slot slot c) d
 HaveOneOrder-with_slot c d (Counter place next_id) h = HaveOneOrder-change_at c d place (with_next_id next_id) (λ layer. (refl, refl, refl)) h
 HaveOneOrder-with_slot c d (State place id state) h = HaveOneOrder-change_at c d place (put_state id state) (put_state-head id state) h
 
 -- where the one has no layer the other has none
-none-there : (c d : Content) (place : ℕ) → HaveOneOrder c d → layer_at c place ≡ None → layer_at d place ≡ None
+pub none-there : (c d : Content) (place : ℕ) → HaveOneOrder c d → layer_at c place ≡ None → layer_at d place ≡ None
 none-there [] [] place h none = refl
 none-there [] (b ∷ d) place h none = absurd h
 none-there (a ∷ c) [] place h none = absurd h
@@ -199,7 +199,7 @@ feature_at-counter c place id p n = by (nat_eq p place) refl
         there None = refl
         there (Some layer) = refl
 
-next_id_at-state : (c : Content) (place p i : ℕ) (state : Option FeatureContent) → next_id_at (with_slot (State p i state) c) place ≡ next_id_at c place
+pub next_id_at-state : (c : Content) (place p i : ℕ) (state : Option FeatureContent) → next_id_at (with_slot (State p i state) c) place ≡ next_id_at c place
 next_id_at-state c place p i state = by (nat_eq p place) refl
   where
     by : (b : Bool) → nat_eq p place ≡ b → next_id_at (with_slot (State p i state) c) place ≡ next_id_at c place
@@ -214,10 +214,10 @@ next_id_at-state c place p i state = by (nat_eq p place) refl
         there (Some layer) None = refl
         there (Some layer) (Some feature) = refl
 
-next_id_at-other : (c : Content) (place p n : ℕ) → nat_eq p place ≡ false → next_id_at (with_slot (Counter p n) c) place ≡ next_id_at c place
+pub next_id_at-other : (c : Content) (place p n : ℕ) → nat_eq p place ≡ false → next_id_at (with_slot (Counter p n) c) place ≡ next_id_at c place
 next_id_at-other c place p n apart = ap (λ o. option_map_or (λ layer. layer.next_id) o 0) (layer_at-change_at-other c p place (with_next_id n) apart)
 
-next_id_at-counter : (c d : Content) (place n : ℕ) → HaveOneOrder c d → n ≡ next_id_at d place → next_id_at (with_slot (Counter place n) c) place ≡ next_id_at d place
+pub next_id_at-counter : (c d : Content) (place n : ℕ) → HaveOneOrder c d → n ≡ next_id_at d place → next_id_at (with_slot (Counter place n) c) place ≡ next_id_at d place
 next_id_at-counter c d place n h is = ap (λ o. option_map_or (λ layer. layer.next_id) o 0) (layer_at-change_at c place (with_next_id n)) ∙ by (layer_at c place) refl
   where
     by : (o : Option LayerContent) → layer_at c place ≡ o → option_map_or (λ layer. layer.next_id) (option_map (with_next_id n) o) 0 ≡ next_id_at d place

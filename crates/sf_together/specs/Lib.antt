@@ -1,0 +1,4 @@
+pub mod Outcomes
+pub mod Copies
+pub mod Exchanges
+pub mod Plans

@@ -1,0 +1,27 @@
+//! A group carried out beside the store, and the patch that leads from the store to what came of it.
+ghost use Rattle.std.specs.Prelude.{IfErr, IfOk};
+ghost use Rattle.sf_together.specs.Outcomes.{IsRefusedAs};
+ghost use Rattle.sf_together.specs.Plans.{IsPlan};
+
+use super::members::carry_out_all;
+use super::outcome::{Refusal, Together};
+use super::removals::keys_of;
+use super::scratch::scratch_for;
+use super::slots::patch_to;
+use sf_groups::Group;
+use sf_layers::Store;
+use std::alloc::Global;
+
+/// What a group gives, and the patch that leads there. The store is read alone: members are carried out on a scratch store.
+pub(crate) fn plan(alloc: Global, store: &Store, group: Group) -> Result<Together, Refusal>
+    ensures planned { IfOk result (λ plan. IsPlan store.now group plan.patch plan.ids.items) }
+    ensures refused { IfErr result (IsRefusedAs store.now group) }
+{
+    group.brings_grid_points();
+    let members = group.into_members();
+    let mut scratch = scratch_for(alloc, store, members.as_slice())?;
+    let keys = keys_of(alloc, store, &scratch)?;
+    let ids = carry_out_all(alloc, &mut scratch, members)?;
+    let patch = patch_to(alloc, store, scratch, keys.as_slice())?;
+    Ok(Together { ids, patch })
+}
