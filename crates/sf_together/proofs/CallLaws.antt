@@ -145,6 +145,14 @@ head-shown scratch name w head none is =
 pub head-there_already : (scratch : Content) (name : List ℕ) (w : LayerContent) → has_layer scratch name ≡ true → scratch ≡ with_head name w scratch
 head-there_already scratch name w there = sym (ap (λ b. if b then scratch else scratch ++ (name, head_of w) ∷ []) there)
 
+-- with a head it is well formed, whether it was there or not
+pub IsWellFormed-with_head : (whole scratch : Content) (name : List ℕ) (w : LayerContent) → IsWellFormed whole → IsWellFormed scratch → IsPart whole scratch → layer_of whole name ≡ Some w → IsWellFormed (with_head name w scratch)
+IsWellFormed-with_head whole scratch name w fine fine' part found = by (layer_of scratch name) refl
+  where
+    by : (o : Option LayerContent) → layer_of scratch name ≡ o → IsWellFormed (with_head name w scratch)
+    by None is = subst IsWellFormed (head-shown scratch name w (head_of w) is refl) (head-fits whole scratch name w (head_of w) fine fine' part found is refl)
+    by (Some p) is = subst IsWellFormed (head-there_already scratch name w (ap is_some is)) fine'
+
 -- the layer has the head then
 pub head-alike : (whole scratch : Content) (name : List ℕ) (w : LayerContent) → IsPart whole scratch → layer_of whole name ≡ Some w → IsSomeAnd (layer_of (with_head name w scratch) name) (λ there. HasHeadOf w there)
 head-alike whole scratch name w part found = by (layer_of scratch name) refl (subst (λ o. IsPartOf o (layer_of scratch name)) found (part name))

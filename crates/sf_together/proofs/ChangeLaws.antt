@@ -180,7 +180,7 @@ layers-of members whole scratch new after name part c part_is = by (layer_of who
 
 -- ---- places
 
-keys-one_order : (c d : Content) → HaveOneOrder c d → keys_of c ≡ keys_of d
+pub keys-one_order : (c d : Content) → HaveOneOrder c d → keys_of c ≡ keys_of d
 keys-one_order [] [] h = refl
 keys-one_order [] (b ∷ d) h = absurd h
 keys-one_order (a ∷ c) [] h = absurd h

@@ -1,16 +1,17 @@
 -- What a group does on a scratch content is a plan for the whole one.
-use Rattle.std.proofs.Common.{◌≡◌, ℕ, Bool, true, false, ◌||◌, List, [], ◌∷◌, ◌++◌, map, filter, not, Ok, Err, Result, nat_eq, refl, ap, sym, ◌∙◌}
+use Rattle.std.proofs.Common.{◌≡◌, ℕ, Bool, true, false, ◌||◌, List, [], ◌∷◌, ◌++◌, map, filter, not, Ok, Err, Result, nat_eq, refl, ap, sym, subst, ◌∙◌}
 use Rattle.std.proofs.lemmas.Bool.{eq-eqb}
 use Rattle.std.specs.List.{AllByRecursion}
 use Rattle.sf_features.specs.Features.{FeatureContent}
-use Rattle.sf_layers.specs.Content.{Content, LayerContent, place_of}
+use Rattle.sf_layers.specs.Content.{Content, LayerContent, has_layer, place_of}
 use Rattle.sf_layers.specs.WellFormed.{IsWellFormed}
 use Rattle.sf_steps.specs.Laws.{BringsGridPoints}
 use Rattle.sf_patches.specs.declared.slot.Slot.{Slot}
 use Rattle.sf_patches.specs.Fits.{FitsPatch}
-use Rattle.sf_patches.specs.Patches.{patched}
-use Rattle.sf_patches.proofs.TakenBack.{patches-lead}
+use Rattle.sf_patches.specs.Patches.{patched, undoing}
+use Rattle.sf_patches.proofs.TakenBack.{patches-lead, patches-take_back}
 use Rattle.sf_groups.specs.declared.member.Member.{Member}
+use Rattle.sf_groups.specs.Groups.{AcceptsGroup, content_weight, together_touched}
 use Rattle.sf_groups.specs.Members.{IsGroup, Refused, together}
 use Rattle.sf_groups.specs.Scratches.{Shows, is_of_layer, is_looked_at}
 use Rattle.sf_groups.proofs.GroupsFine.{groups-fine}
@@ -19,14 +20,16 @@ use Rattle.sf_together.specs.declared.outcome.Refusal.{Refusal}
 use Rattle.sf_together.specs.declared.outcome.Refusal.TheVariants as refusals
 use Rattle.sf_together.specs.declared.removals.Key.{Key}
 use Rattle.sf_together.specs.Copies.{IsScratchOf}
-use Rattle.sf_together.specs.Exchanges.{has_key, keys_in, layer_slots, put_at, puts, removal, removals_of, slots_between}
+use Rattle.sf_together.specs.Exchanges.{AllThere, has_key, keys_in, layer_slots, put_at, puts, removal, removals_of, slots_between}
 use Rattle.sf_together.specs.Outcomes.{IsRefusedAs}
 use Rattle.sf_together.specs.Plans.{IsPlan}
 use Rattle.sf_together.proofs.ListLaws.{all-always, all-map}
 use Rattle.sf_together.proofs.FrameLaws.{Leaves-together}
 use Rattle.sf_together.proofs.FitLaws.{GrowsFirst-put, IsPut, IsTaken, RaisedFirst, RaisedFirst-append, StayFine-taken}
-use Rattle.sf_together.proofs.ChangeLaws.{AreCarried, all-changes, all-puts, counters-below, slots-taken}
-use Rattle.sf_together.proofs.CopyLaws.{IsScratchFor-scratch}
+use Rattle.sf_together.proofs.ChangeLaws.{AreCarried, all-changes, all-puts, counters-below, keys-one_order, slots-taken}
+use Rattle.sf_together.proofs.CallLaws.{AllThere-part}
+use Rattle.sf_together.proofs.CopyLaws.{IsPart-scratch, IsScratchFor-scratch}
+use Rattle.sf_together.proofs.WeightLaws.{slots_between-weight, undoing-weight}
 
 -- ---- the order of the exchanges
 
@@ -58,11 +61,12 @@ removals-taken whole after keys =
 
 -- ---- the plan
 
-record Fits (whole scratch after : Content) (members : List Member) (ids : List ℕ) : Type 0 where
+record Fits (whole scratch new after : Content) (members : List Member) (ids : List ℕ) : Type 0 where
+  leads : patched whole (slots_between whole after (keys_in whole scratch)) ≡ new
   led : together whole members ≡ Ok (patched whole (slots_between whole after (keys_in whole scratch)), ids)
   fits : FitsPatch whole (slots_between whole after (keys_in whole scratch))
 
-carried-fits : (members : List Member) (whole scratch new after : Content) (ids : List ℕ) → AreCarried members whole scratch new after → together whole members ≡ Ok (new, ids) → Fits whole scratch after members ids
+carried-fits : (members : List Member) (whole scratch new after : Content) (ids : List ℕ) → AreCarried members whole scratch new after → together whole members ≡ Ok (new, ids) → Fits whole scratch new after members ids
 carried-fits members whole scratch new after ids c led =
     let fits : FitsPatch whole (slots_between whole after (keys_in whole scratch)) = record {
       well_formed = c.whole_fine;
@@ -72,15 +76,16 @@ carried-fits members whole scratch new after ids c led =
           (λ more. removals-raised more (filter (λ key. not (has_key whole after key)) (keys_in whole scratch))));
       first = GrowsFirst-put whole (puts whole after) (removals_of whole after (keys_in whole scratch)) (puts-put whole after) (removals-taken whole after (keys_in whole scratch));
     } in
+    let leads = patches-lead whole new (slots_between whole after (keys_in whole scratch)) fits c.new_fine (all-changes members whole scratch new after c) in
     record {
-      led = led ∙ ap (λ content. let r : Result (Content × List ℕ) Refused = Ok (content, ids) in r)
-          (sym (patches-lead whole new (slots_between whole after (keys_in whole scratch)) fits c.new_fine (all-changes members whole scratch new after c)));
+      leads = leads;
+      led = led ∙ ap (λ content. let r : Result (Content × List ℕ) Refused = Ok (content, ids) in r) (sym leads);
       fits = fits;
     }
 
 pub planned : (whole scratch after : Content) (members : List Member) (ids : List ℕ) → IsGroup members → AllByRecursion (λ member. BringsGridPoints member.edit) members → IsWellFormed whole → IsWellFormed scratch
-    → IsScratchOf whole members scratch → together scratch members ≡ Ok (after, ids) → IsPlan whole members (slots_between whole after (keys_in whole scratch)) ids
-planned whole scratch after members ids group brings fine fine' copied led =
+    → IsScratchOf whole members scratch → content_weight scratch ≡ together_touched whole members → together scratch members ≡ Ok (after, ids) → IsPlan whole members (slots_between whole after (keys_in whole scratch)) ids
+planned whole scratch after members ids group brings fine fine' copied holds led =
     let alike = scratches-do_alike whole scratch members group brings fine fine' (IsScratchFor-scratch whole scratch members fine copied) in
     let done = alike.carried after ids led in
     let c : AreCarried members whole scratch done.0 after = record {
@@ -94,7 +99,12 @@ planned whole scratch after members ids group brings fine fine' copied led =
       leaves_scratch = Leaves-together scratch after members ids group led;
     } in
     let fits = carried-fits members whole scratch done.0 after ids c done.1 in
-    record { led = fits.led; fits = fits.fits; weight = ? }
+    record {
+      led = fits.led;
+      fits = fits.fits;
+      weight =
+          undoing-weight whole done.0 scratch after (slots_between whole after (keys_in whole scratch)) fine fits.fits.fine fits.leads (slots_between-weight whole after (keys_in whole scratch)) done.3 ∙ holds;
+    }
 
 -- why a group is refused on the scratch content is why it is refused
 pub refused-alike : (whole scratch : Content) (members : List Member) (refusal : Refusal) → IsGroup members → AllByRecursion (λ member. BringsGridPoints member.edit) members → IsWellFormed whole → IsWellFormed scratch
@@ -102,3 +112,15 @@ pub refused-alike : (whole scratch : Content) (members : List Member) (refusal :
 refused-alike whole scratch members (refusals.Member number refusal) group brings fine fine' copied h =
     (scratches-do_alike whole scratch members group brings fine fine' (IsScratchFor-scratch whole scratch members fine copied)).refused (record { member = number; refusal = refusal }) h
 refused-alike whole scratch members refusals.Memory group brings fine fine' copied h = tt
+
+-- what is left of the layers when all members are carried out
+pub AllThere-after : (whole scratch after : Content) (members : List Member) (ids : List ℕ) → IsGroup members → IsWellFormed scratch → IsScratchOf whole members scratch → together scratch members ≡ Ok (after, ids) → AllThere whole after
+AllThere-after whole scratch after members ids group fine copied led =
+    subst (AllByRecursion (λ name. has_layer whole name ≡ true)) (keys-one_order scratch after (Leaves-together scratch after members ids group led).order) (AllThere-part whole scratch fine (IsPart-scratch whole scratch members copied))
+
+-- a plan that is exchanged with the content is an accepted group
+pub accepts-plan : (old new : Content) (members : List Member) (slots back : List Slot) (ids : List ℕ) → IsPlan old members slots ids → new ≡ patched old slots → back ≡ undoing old slots → AcceptsGroup old members back ids new
+accepts-plan old new members slots back ids plan new_is back_is =
+    let takes = patches-take_back old slots plan.fits in
+    subst (λ c. AcceptsGroup old members back ids c) (sym new_is) (subst (λ b. AcceptsGroup old members b ids (patched old slots)) (sym back_is)
+    (record { led = plan.led; back = takes.back; fits = takes.fits; weight = plan.weight }))

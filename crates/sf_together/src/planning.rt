@@ -6,7 +6,7 @@ ghost use Rattle.sf_together.specs.Plans.{IsPlan};
 use super::members::carry_out_all;
 use super::outcome::{Refusal, Together};
 use super::removals::keys_of;
-use super::scratch::scratch_for;
+use super::scratch::{is_well_formed, scratch_for};
 use super::slots::patch_to;
 use sf_groups::Group;
 use sf_layers::Store;
@@ -17,9 +17,11 @@ pub(crate) fn plan(alloc: Global, store: &Store, group: Group) -> Result<Togethe
     ensures planned { IfOk result (λ plan. IsPlan store.now group plan.patch plan.ids.items) }
     ensures refused { IfErr result (IsRefusedAs store.now group) }
 {
+    is_well_formed(store);
     group.brings_grid_points();
     let members = group.into_members();
     let mut scratch = scratch_for(alloc, store, members.as_slice())?;
+    is_well_formed(&scratch);
     let keys = keys_of(alloc, store, &scratch)?;
     let ids = carry_out_all(alloc, &mut scratch, members)?;
     let patch = patch_to(alloc, store, scratch, keys.as_slice())?;

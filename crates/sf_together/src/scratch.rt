@@ -2,6 +2,7 @@
 ghost use Rattle.std.specs.Prelude.{◌≡◌, IfOk, IsSomeAnd, OnOk, Some, is_some, option_copied};
 ghost use Rattle.sf_layers.specs.Content.{feature_in, feature_of, layer_of};
 ghost use Rattle.sf_layers.specs.WellFormed.{IsLayer, IsWellFormed};
+ghost use Rattle.sf_groups.specs.Groups.{content_weight, together_touched};
 ghost use Rattle.sf_groups.specs.Local.{edit_id as id_of_edit};
 ghost use Rattle.sf_together.specs.Copies.{HasHeadOf, IsPart, IsScratchOf, named_feature, with_copy, with_head, with_shown};
 
@@ -21,13 +22,24 @@ pub(crate) fn scratch_for(
     store: &Store,
     members: &[Member],
 ) -> Result<Store, AllocError>
-    ensures { IfOk result (λ scratch. IsScratchOf store.now members.now scratch) }
+    ensures copied { IfOk result (λ scratch. IsScratchOf store.now members.now scratch) }
+    ensures weight { IfOk result (λ scratch.
+        content_weight scratch ≡ together_touched store.now members.now) }
 {
+    is_well_formed(store);
     let mut scratch = Store::new(alloc);
     for member in members {
+        is_well_formed(&scratch);
         show(alloc, store, member, &mut scratch)?;
     }
     Ok(scratch)
+}
+
+/// Shows a proof that a store is well formed. It does nothing, so a compiler may leave it out.
+pub(crate) fn is_well_formed(store: &Store)
+    ensures { IsWellFormed store.now }
+{
+    store.layer_count();
 }
 
 /// Puts what a member looks at into the scratch store, where it is not there yet.
