@@ -1,11 +1,14 @@
-ghost use Rattle.std.specs.Prelude.{◌≡◌, ◌⊎◌, [], length, Ok, Err, IsOk, OnOk, OnErr, IfOk, IfErr};
-ghost use Rattle.sf_history.specs.History.{fresh, edited, undone, redone};
+ghost use Rattle.std.specs.Prelude.{◌≡◌, ◌⊎◌, ◌+◌, ◌≤◌, ◌∷◌, ◌++◌, [], length, take, Ok, Err, IsOk, OnOk, OnErr, IfOk, IfErr, vec_capacity};
+ghost use Rattle.sf_together.specs.Outcomes.{IsRefusedAs};
+ghost use Rattle.sf_history.specs.History.{fresh, edited, grouped, undone, redone};
 
 use sf_changes::{Redo, Undo, make_again, take_back};
 use sf_edits::apply;
+use sf_groups::Group;
 use sf_layers::Store;
 use sf_refusals::Refusal;
 use sf_steps::{Answer, Edit};
+use sf_together::{Refusal as GroupRefusal, Together, together};
 use std::alloc::Global;
 use std::marker::Model;
 
@@ -98,13 +101,51 @@ impl Editor {
         match apply(alloc, &mut self.store, edit) {
             Ok(inverse) => {
                 let answer = inverse.answer();
-                self.editors.truncate(self.done.len());
-                self.editors.push(editor).unwrap();
-                self.done.push(Undo::Edit(inverse)).unwrap();
-                self.undone.clear();
+                advance(
+                    &mut self.done,
+                    &mut self.undone,
+                    &mut self.editors,
+                    Undo::Edit(inverse),
+                    editor,
+                );
                 Ok(answer)
             }
             Err((edit, refusal)) => Err((edit, refusal.into())),
+        }
+    }
+
+    /// Carries out several edits of features as one step of the editor, and empties the future. Gives the identifiers of
+    /// their additions, in order.
+    ///
+    /// # Errors
+    ///
+    /// The first member that is refused; `Memory` may come in its place, and in the place of success. Nothing is changed
+    /// then.
+    pub fn group_as(
+        &mut self,
+        alloc: Global,
+        editor: u8,
+        group: Group,
+    ) -> Result<Vec<u32>, GroupRefusal>
+        ensures accepted { IfOk result (λ ids. grouped editor self.old group ≡ Ok (self.new, ids.items)) }
+        ensures refused { IfErr result (IsRefusedAs self.old.now group) }
+        ensures unchanged { OnErr result (self.new ≡ self.old) }
+    {
+        if self.done.reserve(1).is_err() || self.editors.reserve(1).is_err() {
+            return Err(GroupRefusal::Memory);
+        }
+        match together(alloc, &mut self.store, group) {
+            Ok(Together { ids, patch }) => {
+                advance(
+                    &mut self.done,
+                    &mut self.undone,
+                    &mut self.editors,
+                    Undo::Group(patch),
+                    editor,
+                );
+                Ok(ids)
+            }
+            Err(refusal) => Err(refusal),
         }
     }
 
@@ -216,4 +257,24 @@ impl Editor {
             future: self.undone.len(),
         }
     }
+}
+
+// Puts what takes a change of the editor back behind the others, and empties the future. There is room for it.
+fn advance(
+    done: &mut Vec<Undo>,
+    undone: &mut Vec<Redo>,
+    editors: &mut Vec<u8>,
+    undo: Undo,
+    editor: u8,
+)
+    requires done { length done.old.items + 1 ≤ vec_capacity done.old }
+    requires editors { length editors.old.items + 1 ≤ vec_capacity editors.old }
+    ensures done { done.new.items ≡ done.old.items ++ undo ∷ [] }
+    ensures undone { undone.new.items ≡ [] }
+    ensures editors { editors.new.items ≡ take (length done.old.items) editors.old.items ++ editor ∷ [] }
+{
+    editors.truncate(done.len());
+    editors.push(editor).unwrap();
+    done.push(undo).unwrap();
+    undone.clear();
 }

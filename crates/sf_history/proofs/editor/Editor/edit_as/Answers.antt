@@ -13,8 +13,8 @@ returns-in-Ok-clause-accepted c =
     let inside = c.self.inside in
     let content = c.apply.new.store in
     let answer = c.answer-answer.result in
-    let done = c.push-in-Ok.new.self.items in
-    let editors = c.push.new.self.items in
+    let done = c.advance.new.done.items in
+    let editors = c.advance.new.editors.items in
     let accepts = c.in-Ok.ensures.carried_out.accepted in
     let within : length inside.done.items ≤ length inside.editors.items = grind (arith, common_steps) in
     let longer : done ≡ inside.done.items ++ undos.Edit c.in-Ok.inverse ∷ [] = grind (arith, common_steps) in
@@ -34,8 +34,8 @@ returns-in-Ok-clause-accepted c =
       },
       answer,
     ) in
-    subst (λ m. edited c.args.editor m c.args.edit ≡ reached (past_of content (reverse done) (reverse (take (length done) editors))) c.clear.new.self.items) c.self.view_is
+    subst (λ m. edited c.args.editor m c.args.edit ≡ reached (past_of content (reverse done) (reverse (take (length done) editors))) c.advance.new.undone.items) c.self.view_is
     (ap (after_step c.args.editor old) accepts.led
     ∙ ap (λ (a : Answer). let r : Result (Machine × Answer) Refusal = Ok (record { past = kept c.args.editor inside.store ∷ earlier; now = content; future = [] }, a) in r) (sym c.answer-answer.ensures)
     ∙ ap (λ past. reached past []) (sym past)
-    ∙ ap (reached (past_of content (reverse done) (reverse (take (length done) editors)))) (sym c.clear.ensures.items))
+    ∙ ap (reached (past_of content (reverse done) (reverse (take (length done) editors)))) (sym c.advance.ensures.undone))
