@@ -5,4 +5,6 @@
 #[cfg(test)]
 mod edits;
 #[cfg(test)]
+mod groups;
+#[cfg(test)]
 mod layers;

@@ -1,6 +1,6 @@
 -- What calls on a scratch store ask, and what they leave.
-use Rattle.std.proofs.Common.{◌≡◌, ℕ, zero, suc, ◌+◌, ◌<◌, ◌≤◌, Bool, true, false, not, cond, ◌||◌, if◌then◌else◌, List, [], ◌∷◌, ◌++◌, append_assoc, length, insert, map, remove, slice_index_or, take, Option, None, Some, is_some, option_map, option_and_then, IsTrue, nat_eq, bytes_eq, slice_get, refl, ap, sym, subst, ◌∙◌, arith}
-use Rattle.std.specs.Prelude.{IsSome, IsSomeAnd}
+use Rattle.std.proofs.Common.{◌≡◌, ℕ, zero, suc, ◌+◌, ◌<◌, ◌≤◌, Bool, true, false, cond, ◌||◌, if◌then◌else◌, List, [], ◌∷◌, ◌++◌, append_assoc, length, insert, map, remove, slice_index_or, take, Option, None, Some, is_some, option_map, option_and_then, IsTrue, bytes_eq, slice_get, refl, ap, sym, subst, ◌∙◌, arith}
+use Rattle.std.specs.Prelude.{IsSomeAnd}
 use Rattle.std.proofs.lemmas.List.{append-nil, take_more}
 use Rattle.std.proofs.lemmas.List.Edits.{insert_end}
 use Rattle.std.proofs.lemmas.Slice.Eq.{bytes_eq-Decides}
@@ -20,7 +20,7 @@ use Rattle.sf_layers.proofs.Places.{slice_get-below}
 use Rattle.sf_together.specs.Copies.{HasHeadOf, IsPart, IsPartOf, with_copy, with_head}
 use Rattle.sf_together.specs.Exchanges.{AllThere, key_at, keys_in, layer_slots, puts}
 use Rattle.sf_together.proofs.ListLaws.{all-at_name, all-found, all-map, all-of_map, bytes_eq-turned}
-use Rattle.sf_together.proofs.FitLaws.{Entry, IsLayer-with_feature, issued-there}
+use Rattle.sf_together.proofs.FitLaws.{IsLayer-with_feature, issued-there}
 use Rattle.sf_together.proofs.ChangeLaws.{all-at_place}
 use Rattle.sf_together.proofs.CopyLaws.{layer_of-push}
 

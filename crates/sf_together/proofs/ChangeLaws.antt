@@ -3,21 +3,21 @@ use Rattle.std.proofs.Common.{◌≡◌, ℕ, zero, suc, ◌+◌, ◌<◌, ◌�
 use Rattle.std.proofs.lemmas.Bool.Decides.{nat_tests}
 use Rattle.std.proofs.lemmas.Bool.{eq-eqb, eqb-true}
 use Rattle.std.proofs.lemmas.Slice.Eq.{bytes_eq-Decides}
-use Rattle.std.specs.List.{AllByRecursion, flat_map, list_any, position_or_len}
+use Rattle.std.specs.List.{AllByRecursion, list_any, position_or_len}
 use Rattle.std.specs.Map.{keys_of, lookup}
 use Rattle.std.specs.Option.{option_map_or}
 use Rattle.sf_features.specs.Columns.{IsDistinct}
 use Rattle.sf_features.specs.Features.{FeatureContent}
-use Rattle.sf_layers.specs.Content.{Content, LayerContent, feature_at, feature_in, feature_of, has_layer, layer_at, layer_of, place_of}
+use Rattle.sf_layers.specs.Content.{Content, LayerContent, feature_at, feature_in, feature_of, layer_at, layer_of, place_of}
 use Rattle.sf_layers.specs.WellFormed.{IsLayer, IsWellFormed}
 use Rattle.sf_layers.proofs.Changes.{IsLayer-layer_of, layer_of-place_of, place_of-within}
 use Rattle.sf_layers.proofs.Kept.{all-weaker, none_or}
 use Rattle.sf_layers.proofs.Places.{entry_at_place}
 use Rattle.sf_steps.specs.Steps.{next_id_of}
 use Rattle.sf_patches.specs.declared.slot.Slot.{Slot}
-use Rattle.sf_patches.specs.declared.slot.Slot.TheVariants.{Counter, State}
+use Rattle.sf_patches.specs.declared.slot.Slot.TheVariants.{Counter}
 use Rattle.sf_patches.specs.Patches.{next_id_at}
-use Rattle.sf_patches.specs.Merged.{HasAllChanges, HaveOneHead, HaveOneOrder, IsReadOff, is_of_counter, is_of_id}
+use Rattle.sf_patches.specs.Merged.{HasAllChanges, HaveOneOrder, IsReadOff, is_of_counter, is_of_id}
 use Rattle.sf_patches.proofs.MergedLaws.{none-there}
 use Rattle.sf_groups.specs.declared.member.Member.{Member}
 use Rattle.sf_groups.specs.Members.{names}

@@ -1,23 +1,14 @@
 -- A scratch content that is made member by member has what they look at.
-use Rattle.std.proofs.Common.{◌≡◌, ℕ, zero, suc, ◌+◌, ◌<◌, ◌≤◌, Bool, true, false, not, cond, ◌&&◌, ◌||◌, if◌then◌else◌, List, [], ◌∷◌, ◌++◌, length, insert, map, Option, None, Some, is_some, option_map, option_and_then, IsTrue, IsSomeAnd, nat_eq, nat_le, bytes_eq, slice_get, refl, ap, sym, subst, ◌∙◌, arith}
-use Rattle.std.proofs.lemmas.Bool.{eq-eqb, eqb-true}
+use Rattle.std.proofs.Common.{◌≡◌, ℕ, ◌≤◌, Bool, true, false, not, cond, ◌&&◌, ◌||◌, if◌then◌else◌, List, [], ◌∷◌, ◌++◌, Option, None, Some, is_some, option_map, nat_eq, nat_le, bytes_eq, refl, ap, sym, subst, ◌∙◌}
+use Rattle.std.proofs.lemmas.Bool.{eqb-true}
 use Rattle.std.proofs.lemmas.Slice.Eq.{bytes_eq-Decides}
-use Rattle.std.specs.List.{AllByRecursion, list_any}
-use Rattle.std.specs.List.Sorted.{IsStrictlySortedBy}
-use Rattle.std.specs.Map.{keys_of, lookup, values_of}
-use Rattle.std.specs.Option.{option_map_or}
-use Rattle.sf_features.specs.Columns.{IsDistinct}
+use Rattle.std.specs.List.{list_any}
 use Rattle.sf_features.specs.Features.{FeatureContent}
-use Rattle.sf_features.specs.Names.{is_name}
 use Rattle.sf_layers.specs.Content.{Content, LayerContent, change_layer, feature_in, feature_of, has_layer, head_of, layer_of, with_feature}
-use Rattle.sf_layers.specs.WellFormed.{IsFeature, IsLayer, IsWellFormed, layers_max}
+use Rattle.sf_layers.specs.WellFormed.{IsWellFormed}
 use Rattle.sf_layers.proofs.Changes.{IsLayer-layer_of, layer_of-change_layer}
-use Rattle.sf_layers.proofs.ChangedAt.{IsFeature-feature_of, IsWellFormed-at, some_of}
-use Rattle.sf_layers.proofs.Changes.{IsLayer-slice_get}
-use Rattle.sf_layers.proofs.Fine.{IsWellFormed-insert}
-use Rattle.sf_layers.proofs.Kept.{all-weaker, none_or, none-from}
+use Rattle.sf_layers.proofs.Kept.{none_or, none-from}
 use Rattle.sf_layers.proofs.Values.{lookup-insert_entry}
-use Rattle.sf_patches.specs.Merged.{HaveOneOrder}
 use Rattle.sf_patches.proofs.MergedLaws.{lookup-insert_entry-other}
 use Rattle.sf_steps.specs.Steps.{edit_layer, next_id_of}
 use Rattle.sf_groups.specs.declared.member.Member.{Member}
@@ -27,10 +18,8 @@ use Rattle.sf_groups.specs.Scratches.{IsScratchFor, ShowsThere, is_of_layer, is_
 use Rattle.sf_groups.proofs.Pushed.{any-push}
 use Rattle.sf_groups.proofs.ShownLaws.{layer_of-change_layer-other, nat_eq-turned}
 use Rattle.sf_groups.proofs.TogetherLaws.{bytes_same}
-use Rattle.sf_together.specs.Copies.{CopiesLayer, HasHeadOf, IsCopied, IsPart, IsPartOf, IsScratchOf, named_feature, with_copy, with_feature_shown, with_head, with_layer_shown, with_shown}
-use Rattle.sf_together.specs.Exchanges.{AllThere}
-use Rattle.sf_together.proofs.ListLaws.{all-at_name, all-found, all-map, all-none, all-of_map, bytes_eq-turned}
-use Rattle.sf_together.proofs.FitLaws.{IsLayer-with_feature, issued-there}
+use Rattle.sf_together.specs.Copies.{CopiesLayer, HasHeadOf, IsCopied, IsPart, IsPartOf, IsScratchOf, named_feature, with_feature_shown, with_head, with_layer_shown, with_shown}
+use Rattle.sf_together.proofs.ListLaws.{bytes_eq-turned}
 use Rattle.sf_together.proofs.ChangeLaws.{feature-in, le_from, next_id-of, none-above}
 
 -- ---- what a scratch content is
@@ -208,7 +197,6 @@ Gains-feature member w p feature not_last found = record {
     by id false is =
         lookup-insert_entry-other id (edit_id member.edit) feature p.features (nat_eq-turned (edit_id member.edit) id is)
         ∙ sym (ap (λ b. if b then feature_of w id else feature_of p id) is)
-
 
 feature-copied : (members : List Member) (member : Member) (w : LayerContent) (scratch : Content) → HasCopy members (edit_layer member.edit) w scratch
     → HasCopy (members ++ member ∷ []) (edit_layer member.edit) w (with_feature_shown (edit_layer member.edit) (edit_id member.edit) (named_feature w member) scratch)

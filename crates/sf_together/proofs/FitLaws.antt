@@ -1,19 +1,17 @@
 -- A patch that is read off a well-formed content fits where each counter is raised before features are put in.
-use Rattle.std.proofs.Common.{◌≡◌, ℕ, zero, suc, ◌+◌, ◌<◌, ◌≤◌, Bool, true, false, not, cond, ◌||◌, List, [], ◌∷◌, ◌++◌, length, map, Option, None, Some, is_some, option_map, option_and_then, IsTrue, nat_eq, slice_get, refl, ap, sym, subst, ◌∙◌, arith}
-use Rattle.std.proofs.lemmas.Bool.{eq-eqb, eqb-true}
+use Rattle.std.proofs.Common.{◌≡◌, ℕ, zero, suc, ◌<◌, ◌≤◌, Bool, true, false, ◌||◌, List, [], ◌∷◌, ◌++◌, length, Option, None, Some, option_map, option_and_then, IsTrue, nat_eq, slice_get, refl, ap, sym, subst, ◌∙◌, arith}
+use Rattle.std.proofs.lemmas.Bool.{eqb-true}
 use Rattle.std.specs.List.{AllByRecursion}
-use Rattle.std.specs.List.Sorted.{IsStrictlySortedBy}
-use Rattle.std.specs.Map.{keys_of, values_of}
 use Rattle.std.specs.Option.{option_map_or}
 use Rattle.std.specs.Ordering.{nat_cmp}
 use Rattle.std.specs.BTreeMap.{insert_entry}
 use Rattle.sf_features.specs.Features.{FeatureContent}
-use Rattle.sf_layers.specs.Content.{Content, LayerContent, change_at, feature_at, feature_of, layer_at, with_feature, with_next_id}
+use Rattle.sf_layers.specs.Content.{Content, LayerContent, feature_of, layer_at, with_feature, with_next_id}
 use Rattle.sf_layers.specs.WellFormed.{IsFeature, IsIssued, IsLayer, IsWellFormed, id_end}
 use Rattle.sf_layers.proofs.Changes.{IsLayer-slice_get}
 use Rattle.sf_layers.proofs.ChangedAt.{IsFeature-feature_of, IsWellFormed-at}
 use Rattle.sf_layers.proofs.Fine.{all-insert_entry, rising-insert_entry}
-use Rattle.sf_layers.proofs.Kept.{IsLayer-without_feature, IsWellFormed-change_at, all-weaker, length-change_at}
+use Rattle.sf_layers.proofs.Kept.{IsLayer-without_feature, IsWellFormed-change_at, all-weaker}
 use Rattle.sf_patches.specs.declared.slot.Slot.{Slot}
 use Rattle.sf_patches.specs.declared.slot.Slot.TheVariants.{Counter, State}
 use Rattle.sf_patches.specs.Patches.{GrowsFirst, NoneGrows, NoneRemoves, next_id_at, patched, put_state, with_slot}

@@ -1,11 +1,10 @@
 -- What the members of a group leave as it is.
-use Rattle.std.proofs.Common.{◌≡◌, ℕ, ◌+◌, ◌≤◌, Bool, true, false, not, cond, ◌&&◌, ◌||◌, if◌then◌else◌, List, [], ◌∷◌, ◌++◌, append_assoc, Option, None, Some, option_map, option_and_then, Result, Ok, Err, IsTrue, nat_eq, nat_le, bytes_eq, refl, ap, sym, subst, ◌∙◌, arith}
+use Rattle.std.proofs.Common.{◌≡◌, ℕ, ◌+◌, ◌≤◌, Bool, true, false, not, ◌||◌, if◌then◌else◌, List, [], ◌∷◌, ◌++◌, append_assoc, Option, None, Some, option_map, option_and_then, Result, Ok, Err, IsTrue, nat_eq, nat_le, bytes_eq, refl, ap, sym, subst, ◌∙◌, arith}
 use Rattle.std.proofs.lemmas.Bool.Decides.{nat_tests}
 use Rattle.std.proofs.lemmas.Bool.{eqb-true}
 use Rattle.std.proofs.lemmas.Slice.Eq.{bytes_eq-Decides}
 use Rattle.std.specs.List.{list_any}
 use Rattle.std.specs.Option.{option_map_or}
-use Rattle.std.specs.Map.{keys_of, lookup}
 use Rattle.sf_features.specs.Features.{FeatureContent, change_geometry, plain_feature, with_geometry, with_value, without_value}
 use Rattle.sf_geometry.specs.Vertices.{insert_vertex, move_vertex, remove_vertex}
 use Rattle.sf_layers.specs.Content.{Content, LayerContent, layer_of, change_layer, feature_in, feature_of}
@@ -18,7 +17,7 @@ use Rattle.sf_steps.specs.Steps.{edit_layer, first_refusal, next_id_of, step}
 use Rattle.sf_patches.specs.Merged.{HaveOneHead, HaveOneOrder}
 use Rattle.sf_patches.proofs.MergedLaws.{lookup-insert_entry-other, lookup-remove_entry-other}
 use Rattle.sf_groups.specs.declared.member.Member.{Member}
-use Rattle.sf_groups.specs.Local.{is_of_features, edit_id, sight, Writing, Adds, Puts, Removes, written, checks_seen, number_seen, puts, writing, answer_seen, outcome, outcome_of, into_layer, step_seen}
+use Rattle.sf_groups.specs.Local.{is_of_features, edit_id, sight, Writing, Adds, Puts, Removes, written, checks_seen, number_seen, puts, writing, answer_seen, outcome_of, into_layer, step_seen}
 use Rattle.sf_groups.specs.Members.{resolved, adds_to, may_follow, FollowInTurn, IsGroup, Refused, ids_given, in_front, and_behind, members_from, together, names}
 use Rattle.sf_groups.specs.Scratches.{is_of_layer, is_looked_at}
 use Rattle.sf_groups.proofs.LocalLaws.{steps-local}

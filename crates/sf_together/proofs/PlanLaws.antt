@@ -1,5 +1,5 @@
 -- What a group does on a scratch content is a plan for the whole one.
-use Rattle.std.proofs.Common.{◌≡◌, ℕ, Bool, true, false, ◌||◌, List, [], ◌∷◌, ◌++◌, map, filter, not, Ok, Err, Result, nat_eq, refl, ap, sym, subst, ◌∙◌}
+use Rattle.std.proofs.Common.{◌≡◌, ℕ, Bool, true, false, ◌||◌, List, [], ◌∷◌, map, filter, not, Ok, Result, nat_eq, refl, ap, sym, subst, ◌∙◌}
 use Rattle.std.proofs.lemmas.Bool.{eq-eqb}
 use Rattle.std.specs.List.{AllByRecursion}
 use Rattle.sf_features.specs.Features.{FeatureContent}
@@ -13,7 +13,6 @@ use Rattle.sf_patches.proofs.TakenBack.{patches-lead, patches-take_back}
 use Rattle.sf_groups.specs.declared.member.Member.{Member}
 use Rattle.sf_groups.specs.Groups.{AcceptsGroup, content_weight, together_touched}
 use Rattle.sf_groups.specs.Members.{IsGroup, Refused, together}
-use Rattle.sf_groups.specs.Scratches.{Shows, is_of_layer, is_looked_at}
 use Rattle.sf_groups.proofs.GroupsFine.{groups-fine}
 use Rattle.sf_groups.proofs.TogetherLaws.{or_left, scratches-do_alike}
 use Rattle.sf_together.specs.declared.outcome.Refusal.{Refusal}

@@ -1,5 +1,5 @@
 -- What a patch holds that was exchanged: as much as the features that members name.
-use Rattle.std.proofs.Common.{◌≡◌, ℕ, zero, suc, ◌+◌, ◌<◌, Bool, true, false, not, cond, ◌&&◌, ◌||◌, if◌then◌else◌, List, [], ◌∷◌, ◌++◌, length, map, filter, reverse, sum_by, Option, None, Some, is_some, option_map, option_and_then, IsTrue, nat_eq, bytes_eq, slice_get, refl, ap, sym, subst, ◌∙◌, arith}
+use Rattle.std.proofs.Common.{◌≡◌, ℕ, zero, suc, ◌+◌, Bool, true, false, not, cond, ◌&&◌, ◌||◌, if◌then◌else◌, List, [], ◌∷◌, ◌++◌, map, filter, reverse, sum_by, Option, None, Some, is_some, option_and_then, nat_eq, bytes_eq, slice_get, refl, ap, sym, subst, ◌∙◌, arith}
 use Rattle.std.proofs.lemmas.Bool.{eq-eqb, eqb-true}
 use Rattle.std.proofs.lemmas.List.{reverse-append}
 use Rattle.std.proofs.lemmas.List.Sums.{sum_by-append, sum_by-cons}
@@ -13,15 +13,15 @@ use Rattle.std.specs.Ordering.{nat_cmp}
 use Rattle.std.specs.BTreeMap.{insert_entry}
 use Rattle.sf_features.specs.Columns.{IsDistinct}
 use Rattle.sf_features.specs.Features.{FeatureContent}
-use Rattle.sf_layers.specs.Content.{Content, LayerContent, change_at, change_layer, feature_at, feature_of, has_layer, head_of, layer_at, layer_of, place_of, with_feature, with_next_id}
-use Rattle.sf_layers.specs.WellFormed.{IsLayer, IsWellFormed}
-use Rattle.sf_layers.proofs.Changes.{IsLayer-layer_of, change_at-place_of, layer_of-place_of}
+use Rattle.sf_layers.specs.Content.{Content, LayerContent, change_at, change_layer, feature_at, feature_of, has_layer, head_of, layer_of, place_of, with_feature, with_next_id}
+use Rattle.sf_layers.specs.WellFormed.{IsWellFormed}
+use Rattle.sf_layers.proofs.Changes.{IsLayer-layer_of}
 use Rattle.sf_layers.proofs.Kept.{all-weaker}
 use Rattle.sf_layers.proofs.Values.{less-below, nat_eq-apart-above}
 use Rattle.sf_patches.specs.declared.slot.Slot.{Slot}
 use Rattle.sf_patches.specs.declared.slot.Slot.TheVariants.{Counter, State}
 use Rattle.sf_patches.specs.Patches.{before, befores, patched, put_state, undoing, with_slot}
-use Rattle.sf_patches.specs.Fits.{FitsPatch, IsAt, StayFine}
+use Rattle.sf_patches.specs.Fits.{IsAt, StayFine}
 use Rattle.sf_patches.proofs.ExchangeLaws.{AreRising-fine}
 use Rattle.sf_patches.proofs.MergedLaws.{layer_at-rising}
 use Rattle.sf_patches.proofs.Rising.{AreRising}
@@ -32,13 +32,12 @@ use Rattle.sf_groups.specs.Groups.{content_weight, features_weight, patch_weight
 use Rattle.sf_groups.specs.Local.{edit_id}
 use Rattle.sf_groups.specs.Members.{names}
 use Rattle.sf_groups.proofs.Pushed.{any-push}
-use Rattle.sf_groups.proofs.TogetherLaws.{and_true}
 use Rattle.sf_groups.proofs.WeightLaws.{change_layer-weight, insert-weight, remove-weight, state_weight}
 use Rattle.sf_together.specs.declared.removals.Key.{Key}
-use Rattle.sf_together.specs.Copies.{CopiesLayer, IsCopied, IsScratchOf, named_feature, with_copy, with_feature_shown, with_head, with_layer_shown, with_shown}
-use Rattle.sf_together.specs.Exchanges.{has_key, keys_in, layer_slots, put_at, puts, removal, removals_of, slots_between}
-use Rattle.sf_together.proofs.ListLaws.{all-both, all-found, all-found_rising, all-none, all-of_map}
-use Rattle.sf_together.proofs.FitLaws.{Entry, entry-there, layer-there}
+use Rattle.sf_together.specs.Copies.{IsScratchOf, named_feature, with_feature_shown, with_head, with_layer_shown, with_shown}
+use Rattle.sf_together.specs.Exchanges.{has_key, layer_slots, put_at, puts, removal, removals_of, slots_between}
+use Rattle.sf_together.proofs.ListLaws.{all-found_rising, all-none, all-of_map}
+use Rattle.sf_together.proofs.FitLaws.{entry-there, layer-there}
 use Rattle.sf_together.proofs.CallLaws.{none-any}
 use Rattle.sf_together.proofs.ChangeLaws.{feature-in}
 use Rattle.sf_together.proofs.CopyLaws.{HasCopy, head-copied, names-own}
@@ -224,8 +223,8 @@ module _ where
       behind_it is =
           all-weaker (λ g. nat_cmp f.0 g.0 ≡ Less) (λ g. names name g.0 member ≡ true → list_any (names name g.0) members ≡ true)
           (λ g less h.
-              let apart : nat_eq g.0 f.0 ≡ false = nat_eq-apart-above g.0 f.0 (less-below f.0 g.0 less) in
-              let yes : nat_eq g.0 f.0 ≡ true = eq-eqb g.0 f.0 (sym (eqb-true (edit_id member.edit) g.0 (sym (own g.0) ∙ h)) ∙ is) in cc)
+          let apart : nat_eq g.0 f.0 ≡ false = nat_eq-apart-above g.0 f.0 (less-below f.0 g.0 less) in
+          let yes : nat_eq g.0 f.0 ≡ true = eq-eqb g.0 f.0 (sym (eqb-true (edit_id member.edit) g.0 (sym (own g.0) ∙ h)) ∙ is) in cc)
           fs (all-of_map (λ n. nat_cmp f.0 n ≡ Less) (λ g. g.0) fs rising.0)
 
       by : (lookup (nat_eq (edit_id member.edit)) fs ≡ Some feature → layer_touched (members ++ member ∷ []) name fs ≡ layer_touched members name fs + feature_weight feature) → (b : Bool)
@@ -368,13 +367,13 @@ shown-weight members member whole s w fine fine' found has holds = by member.of_
         copied-weight s (edit_layer member.edit) has.p (edit_id member.edit) feature has.is (IsLayer-layer_of s (edit_layer member.edit) has.p has.is fine'.layers).rising free
         ∙ ap (λ n. n + feature_weight feature) holds
         ∙ sym (touched-gains members member whole w (feature_weight feature) fine.distinct found
-            (layer-gains members member (edit_layer member.edit) w.features feature (IsLayer-layer_of whole (edit_layer member.edit) w found fine.layers).rising (names-id member first)
-            (unnamed (list_any (names (edit_layer member.edit) (edit_id member.edit)) members) refl free (ap is_some is)) is))
+        (layer-gains members member (edit_layer member.edit) w.features feature (IsLayer-layer_of whole (edit_layer member.edit) w found fine.layers).rising (names-id member first)
+        (unnamed (list_any (names (edit_layer member.edit) (edit_id member.edit)) members) refl free (ap is_some is)) is))
     put feature first is (Some there) there_is =
         holds
         ∙ sym (touched-same members member whole w fine found (λ id f f_is h.
-            subst (λ i. list_any (names (edit_layer member.edit) i) members ≡ true) (eqb-true (edit_id member.edit) id (sym (names-id member first id) ∙ h))
-            (named there there_is (list_any (names (edit_layer member.edit) (edit_id member.edit)) members) refl)))
+        subst (λ i. list_any (names (edit_layer member.edit) i) members ≡ true) (eqb-true (edit_id member.edit) id (sym (names-id member first id) ∙ h))
+        (named there there_is (list_any (names (edit_layer member.edit) (edit_id member.edit)) members) refl)))
 
     by : (a : Bool) → member.of_last ≡ a → (o : Option FeatureContent) → feature_of w (edit_id member.edit) ≡ o
         → content_weight (with_feature_shown (edit_layer member.edit) (edit_id member.edit) (if member.of_last then None else feature_of w (edit_id member.edit)) s) ≡ together_touched whole (members ++ member ∷ [])
@@ -386,8 +385,8 @@ shown-weight members member whole s w fine fine' found has holds = by member.of_
         ∙ ap (λ o. content_weight (with_feature_shown (edit_layer member.edit) (edit_id member.edit) o s)) is
         ∙ holds
         ∙ sym (touched-same members member whole w fine found (λ id f f_is h.
-            let same : edit_id member.edit ≡ id = eqb-true (edit_id member.edit) id (sym (names-id member first id) ∙ h) in
-            let no : ◌≡◌ {A = Option FeatureContent} None (Some f) = sym is ∙ ap (feature_of w) same ∙ f_is in cc))
+        let same : edit_id member.edit ≡ id = eqb-true (edit_id member.edit) id (sym (names-id member first id) ∙ h) in
+        let no : ◌≡◌ {A = Option FeatureContent} None (Some f) = sym is ∙ ap (feature_of w) same ∙ f_is in cc))
     by false first (Some feature) is =
         ap (λ a. content_weight (with_feature_shown (edit_layer member.edit) (edit_id member.edit) (if a then None else feature_of w (edit_id member.edit)) s)) first
         ∙ ap (λ o. content_weight (with_feature_shown (edit_layer member.edit) (edit_id member.edit) o s)) is

@@ -1,5 +1,3 @@
-use Rattle.std.proofs.Common.{◌≡◌, ◌∙◌, ap}
-use Rattle.sf_patches.specs.Patches.{patched, undoing}
 use Rattle.sf_together.proofs.PlanLaws.{accepts-plan}
 use Rattle.sf_together.proofs.carrying.together.Goals as goal
 

@@ -1,4 +1,4 @@
-use Rattle.std.proofs.Common.{◌≡◌, ◌∙◌, List, ap, subst, sym}
+use Rattle.std.proofs.Common.{◌≡◌, ◌∙◌, ap, subst, sym}
 use Rattle.std.specs.List.{AllByRecursion}
 use Rattle.sf_steps.specs.Laws.{BringsGridPoints}
 use Rattle.sf_validity.proofs.RuleLaws.{err-passed}

@@ -1,5 +1,5 @@
-use Rattle.std.proofs.Common.{◌≡◌, ◌∙◌, ◌+◌, ◌++◌, Some, ap, arith, map, rules, slice_get, sym, take}
-use Rattle.sf_layers.specs.Content.{has_layer, place_of}
+use Rattle.std.proofs.Common.{◌≡◌, ◌∙◌, ◌++◌, Some, ap, arith, map, rules, slice_get, sym, take}
+use Rattle.sf_layers.specs.Content.{place_of}
 use Rattle.sf_layers.proofs.Places.{slice_get-below}
 use Rattle.sf_together.specs.Exchanges.{key_at, keys_in}
 use Rattle.sf_together.proofs.CallLaws.{has-there, keys-more}

@@ -2,7 +2,7 @@ use Rattle.std.proofs.Common.{◌≡◌, ◌∙◌, ◌+◌, ◌++◌, ◌∷◌
 use Rattle.std.proofs.lemmas.List.{take_all, take_more}
 use Rattle.sf_steps.specs.Steps.{edit_layer}
 use Rattle.sf_groups.specs.Groups.{content_weight, together_touched}
-use Rattle.sf_together.specs.Copies.{IsScratchOf, with_shown}
+use Rattle.sf_together.specs.Copies.{IsScratchOf}
 use Rattle.sf_together.proofs.CallLaws.{IsWellFormed-with_head}
 use Rattle.sf_together.proofs.CopyLaws.{IsPart-scratch, IsScratchOf-none, IsScratchOf-shown}
 use Rattle.sf_together.proofs.WeightLaws.{scratch-weight, touched-none}
@@ -22,10 +22,10 @@ loop-member-preserved c =
           (IsScratchOf-shown c.args.store.now c.loop-member.scratch (take c.loop-member.member-index c.args.members.now) c.member-item.result c.loop-member.invariant.0)),
       ap content_weight c.in_ok-show.ensures
           ∙ scratch-weight c.args.store.now c.loop-member.scratch (take c.loop-member.member-index c.args.members.now) c.member-item.result c.is_well_formed.ensures
-              (λ w found.
-                  IsWellFormed-with_head c.args.store.now c.loop-member.scratch (edit_layer c.member-item.result.edit) w c.is_well_formed.ensures c.is_well_formed-in-loop-member.ensures
-                  (IsPart-scratch c.args.store.now c.loop-member.scratch (take c.loop-member.member-index c.args.members.now) c.loop-member.invariant.0) found)
-              c.loop-member.invariant.0 c.loop-member.invariant.1
+          (λ w found.
+          IsWellFormed-with_head c.args.store.now c.loop-member.scratch (edit_layer c.member-item.result.edit) w c.is_well_formed.ensures c.is_well_formed-in-loop-member.ensures
+          (IsPart-scratch c.args.store.now c.loop-member.scratch (take c.loop-member.member-index c.args.members.now) c.loop-member.invariant.0) found)
+          c.loop-member.invariant.0 c.loop-member.invariant.1
           ∙ ap (together_touched c.args.store.now) (sym more),
     )
 

@@ -1,5 +1,5 @@
-use Rattle.std.proofs.Common.{◌≡◌, ◌∙◌, false, is_some, rules, subst, sym}
-use Rattle.sf_layers.specs.Content.{change_at, feature_in, place_of, with_feature}
+use Rattle.std.proofs.Common.{◌≡◌, ◌∙◌, rules, subst, sym}
+use Rattle.sf_layers.specs.Content.{change_at, place_of, with_feature}
 use Rattle.sf_layers.specs.WellFormed.{IsWellFormed}
 use Rattle.sf_together.specs.Copies.{HasHeadOf}
 use Rattle.sf_together.proofs.CallLaws.{at-place_of, copy-fits, copy-free, copy-put}
