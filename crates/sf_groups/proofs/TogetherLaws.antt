@@ -212,7 +212,7 @@ pub record HaveGrown (start now : Content) (earlier : List Member) : Type 0 wher
 
 -- ---- a member
 
-le_true : (m n : ℕ) → m ≤ n → nat_le m n ≡ true
+pub le_true : (m n : ℕ) → m ≤ n → nat_le m n ≡ true
 le_true m n h = grind (arith, nat_tests)
 
 -- what a member looks at is shown

@@ -20,10 +20,10 @@ abbrev pub state_weight : Option FeatureContent → ℕ
 state_weight None = 0
 state_weight (Some feature) = feature_weight feature
 
-features-cons : (e : ℕ × FeatureContent) (es : List (ℕ × FeatureContent)) → features_weight (e ∷ es) ≡ feature_weight e.1 + features_weight es
+pub features-cons : (e : ℕ × FeatureContent) (es : List (ℕ × FeatureContent)) → features_weight (e ∷ es) ≡ feature_weight e.1 + features_weight es
 features-cons e es = sum_by-cons (λ entry. feature_weight entry.1) e es
 
-content-cons : (e : List ℕ × LayerContent) (es : Content) → content_weight (e ∷ es) ≡ features_weight e.1.features + content_weight es
+pub content-cons : (e : List ℕ × LayerContent) (es : Content) → content_weight (e ∷ es) ≡ features_weight e.1.features + content_weight es
 content-cons e es = sum_by-cons (λ entry. features_weight entry.1.features) e es
 
 -- ---- one feature
@@ -45,10 +45,10 @@ remove-weight id (e ∷ es) = by (remove-weight id es) (nat_eq id e.0)
         kept-in (features_weight (e ∷ remove_entry (nat_eq id) es)) (features_weight (e ∷ es)) (features_weight (remove_entry (nat_eq id) es)) (feature_weight e.1) (features_weight es) (state_weight (lookup (nat_eq id) es))
         (features-cons e (remove_entry (nat_eq id) es)) (features-cons e es) later
 
-changed-here : (a b s w v : ℕ) → a ≡ v + s → b ≡ w + s → a + w ≡ b + v
+pub changed-here : (a b s w v : ℕ) → a ≡ v + s → b ≡ w + s → a + w ≡ b + v
 changed-here a b s w v a_is b_is = omega (arith, a_is, b_is)
 
-changed-later : (a b r w s t v : ℕ) → a ≡ w + r → b ≡ w + s → r + t ≡ s + v → a + t ≡ b + v
+pub changed-later : (a b r w s t v : ℕ) → a ≡ w + r → b ≡ w + s → r + t ≡ s + v → a + t ≡ b + v
 changed-later a b r w s t v a_is b_is rest = omega (arith, a_is, b_is, rest)
 
 pub change-weight : (id : ℕ) (es : List (ℕ × FeatureContent)) (feature : FeatureContent)
@@ -68,30 +68,29 @@ change-weight id (e ∷ es) feature = by (change-weight id es feature) (nat_eq i
 put-before : (a b v : ℕ) → a ≡ v + b → a + 0 ≡ b + v
 put-before a b v is = omega (arith, is)
 
-module _ where
-  pub insert-weight : (id : ℕ) (es : List (ℕ × FeatureContent)) (feature : FeatureContent) → IsStrictlySortedBy nat_cmp (keys_of es)
-      → features_weight (insert_entry nat_cmp es id feature) + state_weight (lookup (nat_eq id) es) ≡ features_weight es + feature_weight feature
-  unfolding IsStrictlySortedBy
-  insert-weight id [] feature rising = put-before (features_weight ((id, feature) ∷ [])) 0 (feature_weight feature) (features-cons (id, feature) [])
-  insert-weight id (e ∷ es) feature rising = by (insert-weight id es feature rising.1) (nat_cmp id e.0) refl
-    where
-      by : features_weight (insert_entry nat_cmp es id feature) + state_weight (lookup (nat_eq id) es) ≡ features_weight es + feature_weight feature → (o : Ordering) → nat_cmp id e.0 ≡ o
-          → features_weight (match_ordering o ((id, feature) ∷ e ∷ es) ((e.0, feature) ∷ es) (e ∷ insert_entry nat_cmp es id feature)) + state_weight (lookup (nat_eq id) (e ∷ es))
-          ≡ features_weight (e ∷ es) + feature_weight feature
-      by later Less is =
-          let below = less-below id e.0 is in
-          let none : lookup (nat_eq id) (e ∷ es) ≡ None = lookup-below id (e ∷ es) (nat_cmp-of_below id e.0 below, all_below id e.0 (keys_of es) below rising.0) in
-          subst (λ o. features_weight ((id, feature) ∷ e ∷ es) + state_weight o ≡ features_weight (e ∷ es) + feature_weight feature) (sym none)
-          (put-before (features_weight ((id, feature) ∷ e ∷ es)) (features_weight (e ∷ es)) (feature_weight feature) (features-cons (id, feature) (e ∷ es)))
-      by later Equal is =
-          let found : lookup (nat_eq id) (e ∷ es) ≡ Some e.1 = ap (λ b. cond b (Some e.1) (lookup (nat_eq id) es)) (eq-eqb id e.0 (equal-same id e.0 is)) in
-          subst (λ o. features_weight ((e.0, feature) ∷ es) + state_weight o ≡ features_weight (e ∷ es) + feature_weight feature) (sym found)
-          (changed-here (features_weight ((e.0, feature) ∷ es)) (features_weight (e ∷ es)) (features_weight es) (feature_weight e.1) (feature_weight feature) (features-cons (e.0, feature) es) (features-cons e es))
-      by later Greater is =
-          let found : lookup (nat_eq id) (e ∷ es) ≡ lookup (nat_eq id) es = ap (λ b. cond b (Some e.1) (lookup (nat_eq id) es)) (nat_eq-apart-above id e.0 (greater-above id e.0 is)) in
-          subst (λ o. features_weight (e ∷ insert_entry nat_cmp es id feature) + state_weight o ≡ features_weight (e ∷ es) + feature_weight feature) (sym found)
-          (changed-later (features_weight (e ∷ insert_entry nat_cmp es id feature)) (features_weight (e ∷ es)) (features_weight (insert_entry nat_cmp es id feature)) (feature_weight e.1) (features_weight es)
-          (state_weight (lookup (nat_eq id) es)) (feature_weight feature) (features-cons e (insert_entry nat_cmp es id feature)) (features-cons e es) later)
+pub insert-weight : (id : ℕ) (es : List (ℕ × FeatureContent)) (feature : FeatureContent) → IsStrictlySortedBy nat_cmp (keys_of es)
+    → features_weight (insert_entry nat_cmp es id feature) + state_weight (lookup (nat_eq id) es) ≡ features_weight es + feature_weight feature
+unfolding IsStrictlySortedBy
+insert-weight id [] feature rising = put-before (features_weight ((id, feature) ∷ [])) 0 (feature_weight feature) (features-cons (id, feature) [])
+insert-weight id (e ∷ es) feature rising = by (insert-weight id es feature rising.1) (nat_cmp id e.0) refl
+  where
+    by : features_weight (insert_entry nat_cmp es id feature) + state_weight (lookup (nat_eq id) es) ≡ features_weight es + feature_weight feature → (o : Ordering) → nat_cmp id e.0 ≡ o
+        → features_weight (match_ordering o ((id, feature) ∷ e ∷ es) ((e.0, feature) ∷ es) (e ∷ insert_entry nat_cmp es id feature)) + state_weight (lookup (nat_eq id) (e ∷ es))
+        ≡ features_weight (e ∷ es) + feature_weight feature
+    by later Less is =
+        let below = less-below id e.0 is in
+        let none : lookup (nat_eq id) (e ∷ es) ≡ None = lookup-below id (e ∷ es) (nat_cmp-of_below id e.0 below, all_below id e.0 (keys_of es) below rising.0) in
+        subst (λ o. features_weight ((id, feature) ∷ e ∷ es) + state_weight o ≡ features_weight (e ∷ es) + feature_weight feature) (sym none)
+        (put-before (features_weight ((id, feature) ∷ e ∷ es)) (features_weight (e ∷ es)) (feature_weight feature) (features-cons (id, feature) (e ∷ es)))
+    by later Equal is =
+        let found : lookup (nat_eq id) (e ∷ es) ≡ Some e.1 = ap (λ b. cond b (Some e.1) (lookup (nat_eq id) es)) (eq-eqb id e.0 (equal-same id e.0 is)) in
+        subst (λ o. features_weight ((e.0, feature) ∷ es) + state_weight o ≡ features_weight (e ∷ es) + feature_weight feature) (sym found)
+        (changed-here (features_weight ((e.0, feature) ∷ es)) (features_weight (e ∷ es)) (features_weight es) (feature_weight e.1) (feature_weight feature) (features-cons (e.0, feature) es) (features-cons e es))
+    by later Greater is =
+        let found : lookup (nat_eq id) (e ∷ es) ≡ lookup (nat_eq id) es = ap (λ b. cond b (Some e.1) (lookup (nat_eq id) es)) (nat_eq-apart-above id e.0 (greater-above id e.0 is)) in
+        subst (λ o. features_weight (e ∷ insert_entry nat_cmp es id feature) + state_weight o ≡ features_weight (e ∷ es) + feature_weight feature) (sym found)
+        (changed-later (features_weight (e ∷ insert_entry nat_cmp es id feature)) (features_weight (e ∷ es)) (features_weight (insert_entry nat_cmp es id feature)) (feature_weight e.1) (features_weight es)
+        (state_weight (lookup (nat_eq id) es)) (feature_weight feature) (features-cons e (insert_entry nat_cmp es id feature)) (features-cons e es) later)
 
 -- ---- one writing into two layers
 

@@ -22,7 +22,7 @@ use Rattle.sf_patches.proofs.MergedLaws.{none-there}
 use Rattle.sf_groups.specs.declared.member.Member.{Member}
 use Rattle.sf_groups.specs.Members.{names}
 use Rattle.sf_groups.specs.Scratches.{Shows, ShowsLayer, ShowsThere, is_of_layer, is_looked_at}
-use Rattle.sf_groups.proofs.TogetherLaws.{or_left, or_right}
+use Rattle.sf_groups.proofs.TogetherLaws.{and_true, or_left, or_right}
 use Rattle.sf_together.specs.declared.removals.Key.{Key}
 use Rattle.sf_together.specs.Copies.{CopiesLayer, IsCopied, IsScratchOf}
 use Rattle.sf_together.specs.Exchanges.{has_key, key_at, keys_in, layer_slots, put_at, puts, removal, removals_of, slots_between}
@@ -345,11 +345,6 @@ any-keys test whole (e ∷ es) name layer is any = by (λ there. any-keys test w
         (subst (λ l. list_any test (map (key_at (place_of whole name)) l.features) ≡ true) (sym there) any))
     by later false is h = any-right test (map (key_at (place_of whole e.0)) e.1.features) (keys_in whole es) (later h)
 
-and_both : (a b : Bool) → a && b ≡ true → (a ≡ true) × (b ≡ true)
-and_both true true h = (refl, refl)
-and_both true false h = cc
-and_both false b h = cc
-
 any-removal : (whole after : Content) (place id : ℕ) (keys : List Key) → has_key whole after (record { place = place; id = id }) ≡ false → list_any (is_key place id) keys ≡ true
     → list_any (is_of_id place id) (removals_of whole after keys) ≡ true
 any-removal whole after place id [] none any = cc
@@ -364,7 +359,7 @@ any-removal whole after place id (key ∷ keys) none any = by (any-removal whole
         → list_any (is_of_id place id) (map removal (cond b (key ∷ filter (λ k. not (has_key whole after k)) keys) (filter (λ k. not (has_key whole after k)) keys))) ≡ true
     gone is true b_is = or_left (nat_eq key.place place && nat_eq key.id id) (list_any (is_of_id place id) (removals_of whole after keys)) is
     gone is false b_is =
-        let both = and_both (nat_eq key.place place) (nat_eq key.id id) is in
+        let both = and_true (nat_eq key.place place) (nat_eq key.id id) is in
         let there : has_key whole after key ≡ false =
         ap (λ p. has_key whole after (record { place = p; id = key.id })) (eqb-true key.place place both.0) ∙ ap (λ i. has_key whole after (record { place = place; id = i })) (eqb-true key.id id both.1) ∙ none in
         let yes : not (has_key whole after key) ≡ true = ap not there in

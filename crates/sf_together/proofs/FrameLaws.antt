@@ -1,6 +1,5 @@
 -- What the members of a group leave as it is.
 use Rattle.std.proofs.Common.{◌≡◌, ℕ, ◌+◌, ◌≤◌, Bool, true, false, not, ◌||◌, if◌then◌else◌, List, [], ◌∷◌, ◌++◌, append_assoc, Option, None, Some, option_map, option_and_then, Result, Ok, Err, IsTrue, nat_eq, nat_le, bytes_eq, refl, ap, sym, subst, ◌∙◌, arith}
-use Rattle.std.proofs.lemmas.Bool.Decides.{nat_tests}
 use Rattle.std.proofs.lemmas.Bool.{eqb-true}
 use Rattle.std.proofs.lemmas.Slice.Eq.{bytes_eq-Decides}
 use Rattle.std.specs.List.{list_any}
@@ -22,7 +21,7 @@ use Rattle.sf_groups.specs.Members.{resolved, adds_to, may_follow, FollowInTurn,
 use Rattle.sf_groups.specs.Scratches.{is_of_layer, is_looked_at}
 use Rattle.sf_groups.proofs.LocalLaws.{steps-local}
 use Rattle.sf_groups.proofs.ShownLaws.{LooksAtShown, layer_of-change_layer-other, lookup-change_value, nat_eq-turned}
-use Rattle.sf_groups.proofs.TogetherLaws.{HaveGrown, and_true, any-at, bytes_same, features-resolved, grown-next, grown-start, layer-resolved, member-looks, or_right, step-counter}
+use Rattle.sf_groups.proofs.TogetherLaws.{HaveGrown, and_true, any-at, bytes_same, features-resolved, grown-next, grown-start, layer-resolved, le_true, member-looks, or_right, step-counter}
 
 -- ---- what a step writes
 
@@ -156,9 +155,6 @@ Leaves-then start all a b c h k = record {
   features = λ name id none. k.features name id none ∙ h.features name id none;
   counters = λ name. omega (arith, h.counters name, k.counters name);
 }
-
-le_true : (m n : ℕ) → m ≤ n → nat_le m n ≡ true
-le_true m n h = grind (arith, nat_tests)
 
 -- one member
 Leaves-member : (start now new : Content) (earlier rest all : List Member) (member : Member) (answer : Answer) → all ≡ earlier ++ member ∷ rest → IsTrue (may_follow earlier member) → HaveGrown start now earlier

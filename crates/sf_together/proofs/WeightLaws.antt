@@ -32,7 +32,7 @@ use Rattle.sf_groups.specs.Groups.{content_weight, features_weight, patch_weight
 use Rattle.sf_groups.specs.Local.{edit_id}
 use Rattle.sf_groups.specs.Members.{names}
 use Rattle.sf_groups.proofs.Pushed.{any-push}
-use Rattle.sf_groups.proofs.WeightLaws.{change_layer-weight, insert-weight, remove-weight, state_weight}
+use Rattle.sf_groups.proofs.WeightLaws.{change_layer-weight, changed-here, changed-later, content-cons, features-cons, insert-weight, remove-weight, state_weight}
 use Rattle.sf_together.specs.declared.removals.Key.{Key}
 use Rattle.sf_together.specs.Copies.{IsScratchOf, named_feature, with_feature_shown, with_head, with_layer_shown, with_shown}
 use Rattle.sf_together.specs.Exchanges.{has_key, layer_slots, put_at, puts, removal, removals_of, slots_between}
@@ -44,24 +44,15 @@ use Rattle.sf_together.proofs.CopyLaws.{HasCopy, head-copied, names-own}
 
 -- ---- one exchange
 
-content-cons : (e : List ℕ × LayerContent) (es : Content) → content_weight (e ∷ es) ≡ features_weight e.1.features + content_weight es
-content-cons e es = sum_by-cons (λ entry. features_weight entry.1.features) e es
-
-changed-first : (a b s v w : ℕ) → a ≡ v + s → b ≡ w + s → a + w ≡ b + v
-changed-first a b s v w a_is b_is = omega (arith, a_is, b_is)
-
-changed-later : (a b w r s t v : ℕ) → a ≡ w + r → b ≡ w + s → r + t ≡ s + v → a + t ≡ b + v
-changed-later a b w r s t v a_is b_is rest = omega (arith, a_is, b_is, rest)
-
 at-weight : (content : Content) (place : ℕ) (f : LayerContent → LayerContent) (entry : List ℕ × LayerContent) → slice_get content place ≡ Some entry
     → content_weight (change_at place f content) + features_weight entry.1.features ≡ content_weight content + features_weight (f entry.1).features
 at-weight [] place f entry is = cc
 at-weight (e ∷ es) zero f entry is =
     let same : e ≡ entry = cc in
     subst (λ x. content_weight ((e.0, f e.1) ∷ es) + features_weight x.1.features ≡ content_weight (e ∷ es) + features_weight (f x.1).features) same
-    (changed-first (content_weight ((e.0, f e.1) ∷ es)) (content_weight (e ∷ es)) (content_weight es) (features_weight (f e.1).features) (features_weight e.1.features) (content-cons (e.0, f e.1) es) (content-cons e es))
+    (changed-here (content_weight ((e.0, f e.1) ∷ es)) (content_weight (e ∷ es)) (content_weight es) (features_weight e.1.features) (features_weight (f e.1).features) (content-cons (e.0, f e.1) es) (content-cons e es))
 at-weight (e ∷ es) (suc place) f entry is =
-    changed-later (content_weight (e ∷ change_at place f es)) (content_weight (e ∷ es)) (features_weight e.1.features) (content_weight (change_at place f es)) (content_weight es)
+    changed-later (content_weight (e ∷ change_at place f es)) (content_weight (e ∷ es)) (content_weight (change_at place f es)) (features_weight e.1.features) (content_weight es)
     (features_weight entry.1.features) (features_weight (f entry.1).features) (content-cons e (change_at place f es)) (content-cons e es) (at-weight es place f entry is)
 
 state-weight : (place id : ℕ) (o : Option FeatureContent) → slot_weight (State place id o) ≡ state_weight o
@@ -127,7 +118,7 @@ reverse-weight (slot ∷ slots) =
 states-weigh : (place : ℕ) (es : List (ℕ × FeatureContent)) → patch_weight (map (put_at place) es) ≡ features_weight es
 states-weigh place [] = refl
 states-weigh place (e ∷ es) =
-    patch-cons (put_at place e) (map (put_at place) es) ∙ ap (λ n. feature_weight e.1 + n) (states-weigh place es) ∙ sym (sum_by-cons (λ entry. feature_weight entry.1) e es)
+    patch-cons (put_at place e) (map (put_at place) es) ∙ ap (λ n. feature_weight e.1 + n) (states-weigh place es) ∙ sym (features-cons e es)
 
 no_more : (a b : ℕ) → a ≡ 0 + b → a ≡ b
 no_more a b h = omega (arith, h)
@@ -209,42 +200,41 @@ first-gains a b w r s z a_is b_is none same = omega (arith, a_is, b_is, none, sa
 later-gains : (a b x y r s w : ℕ) → a ≡ x + r → b ≡ y + s → x ≡ y → r ≡ s + w → a ≡ b + w
 later-gains a b x y r s w a_is b_is same rest = omega (arith, a_is, b_is, same, rest)
 
-module _ where
-  layer-gains : (members : List Member) (member : Member) (name : List ℕ) (fs : List (ℕ × FeatureContent)) (feature : FeatureContent) → IsStrictlySortedBy nat_cmp (keys_of fs)
-      → ((id : ℕ) → names name id member ≡ nat_eq (edit_id member.edit) id) → list_any (names name (edit_id member.edit)) members ≡ false → lookup (nat_eq (edit_id member.edit)) fs ≡ Some feature
-      → layer_touched (members ++ member ∷ []) name fs ≡ layer_touched members name fs + feature_weight feature
-  unfolding IsStrictlySortedBy
-  layer-gains members member name [] feature rising own none found = cc
-  layer-gains members member name (f ∷ fs) feature rising own none found =
-      by (λ there. layer-gains members member name fs feature rising.1 own none there) (nat_eq (edit_id member.edit) f.0) refl found
-    where
-      -- those behind it are not named
-      behind_it : edit_id member.edit ≡ f.0 → AllByRecursion (λ g. names name g.0 member ≡ true → list_any (names name g.0) members ≡ true) fs
-      behind_it is =
-          all-weaker (λ g. nat_cmp f.0 g.0 ≡ Less) (λ g. names name g.0 member ≡ true → list_any (names name g.0) members ≡ true)
-          (λ g less h.
-          let apart : nat_eq g.0 f.0 ≡ false = nat_eq-apart-above g.0 f.0 (less-below f.0 g.0 less) in
-          let yes : nat_eq g.0 f.0 ≡ true = eq-eqb g.0 f.0 (sym (eqb-true (edit_id member.edit) g.0 (sym (own g.0) ∙ h)) ∙ is) in cc)
-          fs (all-of_map (λ n. nat_cmp f.0 n ≡ Less) (λ g. g.0) fs rising.0)
+layer-gains : (members : List Member) (member : Member) (name : List ℕ) (fs : List (ℕ × FeatureContent)) (feature : FeatureContent) → IsStrictlySortedBy nat_cmp (keys_of fs)
+    → ((id : ℕ) → names name id member ≡ nat_eq (edit_id member.edit) id) → list_any (names name (edit_id member.edit)) members ≡ false → lookup (nat_eq (edit_id member.edit)) fs ≡ Some feature
+    → layer_touched (members ++ member ∷ []) name fs ≡ layer_touched members name fs + feature_weight feature
+unfolding IsStrictlySortedBy
+layer-gains members member name [] feature rising own none found = cc
+layer-gains members member name (f ∷ fs) feature rising own none found =
+    by (λ there. layer-gains members member name fs feature rising.1 own none there) (nat_eq (edit_id member.edit) f.0) refl found
+  where
+    -- those behind it are not named
+    behind_it : edit_id member.edit ≡ f.0 → AllByRecursion (λ g. names name g.0 member ≡ true → list_any (names name g.0) members ≡ true) fs
+    behind_it is =
+        all-weaker (λ g. nat_cmp f.0 g.0 ≡ Less) (λ g. names name g.0 member ≡ true → list_any (names name g.0) members ≡ true)
+        (λ g less h.
+        let apart : nat_eq g.0 f.0 ≡ false = nat_eq-apart-above g.0 f.0 (less-below f.0 g.0 less) in
+        let yes : nat_eq g.0 f.0 ≡ true = eq-eqb g.0 f.0 (sym (eqb-true (edit_id member.edit) g.0 (sym (own g.0) ∙ h)) ∙ is) in cc)
+        fs (all-of_map (λ n. nat_cmp f.0 n ≡ Less) (λ g. g.0) fs rising.0)
 
-      by : (lookup (nat_eq (edit_id member.edit)) fs ≡ Some feature → layer_touched (members ++ member ∷ []) name fs ≡ layer_touched members name fs + feature_weight feature) → (b : Bool)
-          → nat_eq (edit_id member.edit) f.0 ≡ b → cond b (Some f.1) (lookup (nat_eq (edit_id member.edit)) fs) ≡ Some feature
-          → layer_touched (members ++ member ∷ []) name (f ∷ fs) ≡ layer_touched members name (f ∷ fs) + feature_weight feature
-      by later true is h =
-          let there : f.1 ≡ feature = cc in
-          let id_is : edit_id member.edit ≡ f.0 = eqb-true (edit_id member.edit) f.0 is in
-          let was : list_any (names name f.0) members ≡ false = ap (λ i. list_any (names name i) members) (sym id_is) ∙ none in
-          let now : (list_any (names name f.0) members || names name f.0 member) ≡ true = ap (λ b. b || names name f.0 member) was ∙ own f.0 ∙ is in
-          subst (λ x. layer_touched (members ++ member ∷ []) name (f ∷ fs) ≡ layer_touched members name (f ∷ fs) + feature_weight x) there
-          (first-gains (layer_touched (members ++ member ∷ []) name (f ∷ fs)) (layer_touched members name (f ∷ fs)) (feature_weight f.1) (layer_touched (members ++ member ∷ []) name fs) (layer_touched members name fs)
-          (named_weight members name f)
-          (layer-cons (members ++ member ∷ []) name f fs
-          ∙ ap (λ b. (if b then feature_weight f.1 else 0) + layer_touched (members ++ member ∷ []) name fs) (any-push (names name f.0) members member ∙ now))
-          (layer-cons members name f fs) (ap (λ b. if b then feature_weight f.1 else 0) was) (layer-same members member name fs (behind_it id_is)))
-      by later false is h =
-          later-gains (layer_touched (members ++ member ∷ []) name (f ∷ fs)) (layer_touched members name (f ∷ fs)) (named_weight (members ++ member ∷ []) name f) (named_weight members name f)
-          (layer_touched (members ++ member ∷ []) name fs) (layer_touched members name fs) (feature_weight feature) (layer-cons (members ++ member ∷ []) name f fs) (layer-cons members name f fs)
-          (same-named members member name f (λ named. let no : false ≡ true = sym (own f.0 ∙ is) ∙ named in cc)) (later h)
+    by : (lookup (nat_eq (edit_id member.edit)) fs ≡ Some feature → layer_touched (members ++ member ∷ []) name fs ≡ layer_touched members name fs + feature_weight feature) → (b : Bool)
+        → nat_eq (edit_id member.edit) f.0 ≡ b → cond b (Some f.1) (lookup (nat_eq (edit_id member.edit)) fs) ≡ Some feature
+        → layer_touched (members ++ member ∷ []) name (f ∷ fs) ≡ layer_touched members name (f ∷ fs) + feature_weight feature
+    by later true is h =
+        let there : f.1 ≡ feature = cc in
+        let id_is : edit_id member.edit ≡ f.0 = eqb-true (edit_id member.edit) f.0 is in
+        let was : list_any (names name f.0) members ≡ false = ap (λ i. list_any (names name i) members) (sym id_is) ∙ none in
+        let now : (list_any (names name f.0) members || names name f.0 member) ≡ true = ap (λ b. b || names name f.0 member) was ∙ own f.0 ∙ is in
+        subst (λ x. layer_touched (members ++ member ∷ []) name (f ∷ fs) ≡ layer_touched members name (f ∷ fs) + feature_weight x) there
+        (first-gains (layer_touched (members ++ member ∷ []) name (f ∷ fs)) (layer_touched members name (f ∷ fs)) (feature_weight f.1) (layer_touched (members ++ member ∷ []) name fs) (layer_touched members name fs)
+        (named_weight members name f)
+        (layer-cons (members ++ member ∷ []) name f fs
+        ∙ ap (λ b. (if b then feature_weight f.1 else 0) + layer_touched (members ++ member ∷ []) name fs) (any-push (names name f.0) members member ∙ now))
+        (layer-cons members name f fs) (ap (λ b. if b then feature_weight f.1 else 0) was) (layer-same members member name fs (behind_it id_is)))
+    by later false is h =
+        later-gains (layer_touched (members ++ member ∷ []) name (f ∷ fs)) (layer_touched members name (f ∷ fs)) (named_weight (members ++ member ∷ []) name f) (named_weight members name f)
+        (layer_touched (members ++ member ∷ []) name fs) (layer_touched members name fs) (feature_weight feature) (layer-cons (members ++ member ∷ []) name f fs) (layer-cons members name f fs)
+        (same-named members member name f (λ named. let no : false ≡ true = sym (own f.0 ∙ is) ∙ named in cc)) (later h)
 
 -- a member names no feature of another layer
 apart-names : (member : Member) (name : List ℕ) (id : ℕ) → bytes_eq (edit_layer member.edit) name ≡ false → names name id member ≡ false
