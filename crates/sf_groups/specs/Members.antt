@@ -1,4 +1,3 @@
--- Internal: who wants to trust the program need not read this file.
 -- Several edits of features carried out as one step: all, or none.
 use Rattle.std.specs.Prelude.{ℕ, ◌+◌, ◌-◌, Bool, false, not, ◌&&◌, ◌||◌, List, [], ◌∷◌, ◌++◌, Result, Ok, Err, IsTrue, nat_eq, bytes_eq, if◌then◌else◌}
 use Rattle.std.specs.List.{list_any}

@@ -1,4 +1,3 @@
--- Internal: who wants to trust the program need not read this file.
 -- When a patch can be exchanged with a store.
 use Rattle.std.specs.Prelude.{◌<◌, List, [], ◌∷◌, length}
 use Rattle.sf_layers.specs.Content.{Content}

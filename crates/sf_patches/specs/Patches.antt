@@ -1,4 +1,3 @@
--- Internal: who wants to trust the program need not read this file.
 -- Patches: what several edits make of a content, as exchanges of counters and of whole features.
 use Rattle.std.specs.Prelude.{◌≡◌, ℕ, Bool, false, not, List, [], ◌∷◌, ◌++◌, reverse, Option, None, Some, is_some}
 use Rattle.std.specs.Option.{option_map_or}
