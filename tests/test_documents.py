@@ -152,6 +152,8 @@ class Made(unittest.TestCase):
         files = trust.specs()
         cited = {name.file for name in trust.closure(files)}
         self.assertGreater(len(cited), 50)
+        shown = {crate for _, crates in trust.SUBJECTS for crate in crates}
+        self.assertEqual({file.split("/")[0] for file in cited if file in files and not trust.is_computing(file)} - shown, set())
         for file in files:
             text = (CRATES / file).read_text()
             says_so = text.startswith((trust.INTERNAL, "-- Beside the headline"))

@@ -62,7 +62,7 @@ SUBJECTS: list[tuple[str, list[str]]] = [
         "Features, layers, edits and their inverses",
         ["sf_refusals", "sf_features", "sf_layers", "sf_steps", "sf_edits"],
     ),
-    ("History", ["sf_history"]),
+    ("Several edits as one step, and the history", ["sf_patches", "sf_groups", "sf_changes", "sf_history"]),
     (
         "Texts, binary and files",
         ["sf_lines", "sf_streams", "sf_wkt", "sf_wkb", "sf_format", "sf_loading", "sf_saving"],
