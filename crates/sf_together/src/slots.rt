@@ -25,6 +25,8 @@ pub(crate) fn patch_to(
     let mut removed = removals(alloc, store, &scratch, keys)?;
     let mut slots = put_all(alloc, store, scratch)?;
     slots.append(&mut removed)?;
+    // A patch is kept for long.
+    slots.shrink_to_fit();
     Ok(Patch::from_slots(slots))
 }
 
