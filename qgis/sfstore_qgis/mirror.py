@@ -2,7 +2,9 @@
 
 from __future__ import annotations
 
-from collections.abc import Iterable, Sequence
+import contextlib
+import gc
+from collections.abc import Iterable, Iterator, Sequence
 from typing import TYPE_CHECKING, Any
 
 from qgis.core import QgsFeature, QgsField, QgsGeometry, QgsVectorLayer, QgsWkbTypes
@@ -69,8 +71,9 @@ class Mirror(QObject):
         """Takes over all features as they are now."""
         numbers = self.session.identifiers(self.name)
         self._drop(self.fids.keys() - set(numbers))
-        for begin in range(0, len(numbers), _ROWS):
-            self._take(numbers[begin : begin + _ROWS])
+        with _uncollected():
+            for begin in range(0, len(numbers), _ROWS):
+                self._take(numbers[begin : begin + _ROWS])
 
     def follow(self, numbers: Iterable[int]) -> None:
         """Takes over what has become of some features."""
@@ -146,10 +149,10 @@ class Mirror(QObject):
 
     def _add(self, rows: Sequence[Row]) -> None:
         features = []
-        for row in rows:
+        for _, _, geometry, values in rows:
             feature = QgsFeature()
-            feature.setGeometry(row.geometry)
-            feature.setAttributes(row.values)
+            feature.setGeometry(geometry)
+            feature.setAttributes(values)
             features.append(feature)
         added = self.memory.addFeatures(features)[1]
         for row, feature in zip(rows, added):
@@ -161,3 +164,15 @@ class Mirror(QObject):
         fids = [self.fids.pop(number) for number in numbers if number in self.fids]
         if fids:
             self.memory.deleteFeatures(fids)
+
+
+@contextlib.contextmanager
+def _uncollected() -> Iterator[None]:
+    """Has Python look for no cycles in the body, which makes many objects and none of these."""
+    was_so = gc.isenabled()
+    gc.disable()
+    try:
+        yield
+    finally:
+        if was_so:
+            gc.enable()

@@ -1,4 +1,4 @@
-"""What edits have changed, as it is told to whoever keeps a picture of the store."""
+"""What edits have changed, for whoever keeps a picture of the store."""
 
 from __future__ import annotations
 
@@ -36,7 +36,7 @@ class Changed(NamedTuple):
 def changed_by(line: str, step: Step) -> list[Changed]:
     """What an accepted line has changed, which made a step or moved it.
 
-    The undo of an addition is told as a deletion, and the other way round.
+    The undo of an addition is a deletion, and the other way round.
     """
     what = _OF_EDITS.get(step.line.split(maxsplit=1)[0], "changed")
     if line.strip() == "undo":
