@@ -36,6 +36,8 @@ class Plugin:
         self.teller = Teller(iface)
         self.editings: dict[str, Editing] = {}
         self._sessions: set[str] = set()
+        # The store that was opened last, which may have no layer yet.
+        self._opened: Session | None = None
         self._is_waiting = False
         self._drawn: list[tuple[str, int]] = []
         self.at_once = QgsSettings().value("sfstore/at_once", True, type=bool)
@@ -91,7 +93,8 @@ class Plugin:
 
     def open(self, path: str) -> None:
         """Adds the layers of a store to the project that are not in it, in drawing order."""
-        session = Session.of(path)
+        session = self._opened = Session.of(path)
+        self._follow_session(session)
         if session.placing_fault:
             self.teller.tell(session.placing_fault, Qgis.Warning)
         known = {str(each.provider.source) for each in self.editings.values()}
@@ -153,6 +156,14 @@ class Plugin:
             editing = self.editings.pop(each, None)
             if editing is not None:
                 editing.provider.mirror.held.discard(each)
+                # Once the layer is gone.
+                QTimer.singleShot(0, partial(self._leave, editing.session))
+
+    def _leave(self, session: Session) -> None:
+        """Leaves a store of which no layer is left in the project: other programs may have it then."""
+        if not self._of(session) and session.path in self._sessions:
+            self._sessions.discard(session.path)
+            session.close()
 
     def _follow_layer(self, editing: Editing) -> None:
         layer, mirror = editing.layer, editing.provider.mirror
@@ -298,7 +309,9 @@ class Plugin:
             return active.session  # type: ignore[no-any-return]
         for editing in self.editings.values():
             return editing.session  # type: ignore[no-any-return]
-        raise LayerRefused("No layer of a store is in the project: open one first.")
+        if self._opened is not None and self._opened.path in self._sessions:
+            return self._opened
+        raise LayerRefused("No store is open: open one first.")
 
     def move(self, verb: str) -> None:
         """Undo or redo in the store."""
