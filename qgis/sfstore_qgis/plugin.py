@@ -16,6 +16,7 @@ from sfstore.web.client import CallFailed, ServerGone
 from . import provider
 from .editing import Editing, commit, prepare
 from .history import History
+from .saving import Saving
 from .session import LayerRefused, Refusal, Session
 from .told import Teller, words_of
 from .writing import NotSent
@@ -60,6 +61,7 @@ class Plugin:
         self.switch.toggled.connect(self.set_at_once)
         self.bar.addAction(self.switch)
         self.history = History(self._iface.mainWindow(), self)
+        self.saving = Saving(self._iface)
         QgsProject.instance().layersAdded.connect(self.watch)
         QgsProject.instance().layersWillBeRemoved.connect(self.forget)
         self.watch(QgsProject.instance().mapLayers().values())
@@ -69,6 +71,7 @@ class Plugin:
         QgsProject.instance().layersAdded.disconnect(self.watch)
         QgsProject.instance().layersWillBeRemoved.disconnect(self.forget)
         self.history.leave()
+        self.saving.leave()
         self.teller.clear()
         self.bar.deleteLater()
 
@@ -206,16 +209,28 @@ class Plugin:
 
     def _prepare(self, editing: Editing, *_: object) -> None:
         """Asks the store for a whole commit, before QGIS hands its pieces to the provider."""
-        if not editing.is_sending:
-            prepare([editing])
+        if editing.is_sending:
+            return
+        if editing.is_prepared:
+            # With one that was saved before it.
+            editing.is_prepared = False
+            return
+        together = [each for each in self._of(editing.session) if each is editing or self._is_saved_with(each)]
+        prepare(together)
+        for each in together:
+            each.is_prepared = each is not editing
             # Behind the commit, and above what QGIS itself says of it.
-            QTimer.singleShot(0, partial(self._prepared, editing))
+            QTimer.singleShot(0, partial(self._prepared, each))
+
+    def _is_saved_with(self, editing: Editing) -> bool:
+        return editing.is_pending and self.saving.is_together(editing.layer)
 
     def _prepared(self, editing: Editing) -> None:
         """Ends a commit, of whatever outcome. The layer may be gone with it."""
         if editing.key not in self.editings:
             return
         outcome, editing.provider.outcome = editing.provider.outcome, None
+        editing.is_prepared = False
         if outcome is not None and outcome.fault is not None:
             self.teller.refuse(editing.layer.name(), outcome.fault, editing.session.grid)
         elif outcome is not None and editing.layer.isEditable() and editing.layer.isModified():

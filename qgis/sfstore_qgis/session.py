@@ -24,7 +24,7 @@ __all__ = ["LayerRefused", "Refusal", "Session"]
 # How long QGIS waits for a call at most, and for a server that is asked again whether it is there.
 CALL_SECONDS = 5.0
 _AGAIN_SECONDS = 0.2
-_STARTING_SECONDS = 20.0
+_STARTING_SECONDS = 30.0
 # How long after a loss the server is tried again at first, and at most: each time it takes twice as long.
 _AGAIN_MILLISECONDS = 500
 _AGAIN_MILLISECONDS_MAX = 16_000
@@ -90,8 +90,9 @@ class Session(QObject):
         self._again = QTimer(self)
         self._again.setSingleShot(True)
         self._again.timeout.connect(self._try_again)
+        # A large store takes its time until it is loaded.
         start_server(path, Session.program, _STARTING_SECONDS)
-        self._connect(CALL_SECONDS)
+        self._connect(_STARTING_SECONDS)
 
     @property
     def editor(self) -> int:
