@@ -5,6 +5,7 @@ from __future__ import annotations
 import ast
 import os
 import random
+import signal
 import subprocess
 import sys
 import time
@@ -29,6 +30,8 @@ def has_qgis(python: str) -> bool:
         return False
 
 
+# At how many moments a QGIS is killed: more where the environment variable says so.
+KILLS = int(os.environ.get("KILLS", "5"))
 PYTHON = next(filter(has_qgis, (sys.executable, "/usr/bin/python3")), None)
 
 
@@ -92,10 +95,11 @@ class Sessions(WebCase):
             self.assertEqual(store.run("show parcels"), shown)
 
     def test_one_that_is_killed_loses_nothing_that_was_answered(self):
+        signal.alarm(max(self.SECONDS, 10 * KILLS))
         self.serve()
         with Client(str(self.path), "Eve", 30) as eve:
             heard = eve.events()
-            for seed in range(5):
+            for seed in range(KILLS):
                 session = self.begin("Ann", seed, 10_000)
                 time.sleep(random.Random(seed).random())
                 session.kill()

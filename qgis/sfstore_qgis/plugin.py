@@ -189,7 +189,7 @@ class Plugin:
             session.edited.connect(partial(self._heard, session))
             session.lost.connect(partial(self._lost, session))
             session.renewed.connect(partial(self._renewed, session))
-            session.layers_changed.connect(partial(self._tell_layers, session))
+            session.layers_changed.connect(partial(self.tried, partial(self._tell_layers, session)))
 
     def _of(self, session: Session) -> list[Editing]:
         return [each for each in self.editings.values() if each.session is session]
@@ -349,7 +349,7 @@ class Plugin:
     def _heard(self, session: Session, event: dict[str, Any]) -> None:
         """Says where somebody else has changed what is being edited here."""
         self.history.look()
-        if event["number"] == session.editor:
+        if not session.is_connected or event["number"] == session.editor:
             return
         for editing in self._of(session):
             if not editing.layer.isEditable():

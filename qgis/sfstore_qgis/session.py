@@ -260,12 +260,11 @@ class Session(QObject):
         try:
             news = self._events.take()
             self._follow(followed(news, self._own))
+            for event in news:
+                self._note(event)
         except (CallFailed, Refusal, ServerGone) as error:
             QgsMessageLog.logMessage(str(error), "sfstore")
             self._lose()
-            return
-        for event in news:
-            self._note(event)
 
     def _follow(self, news: Followed) -> None:
         if news.is_anew:
