@@ -327,8 +327,8 @@ class Rows(BatchCase):
             {"layer": 5, "ids": [1]},
         ):
             self.assertEqual(self.asked("/rows", **body)[0], 400, str(body)[:60])
-        self.assertEqual(self.asked("/rows", layer="nix", ids=[1])[0], 503)
-        self.assertEqual(self.asked("/ids", layer="nix")[0], 503)
+        self.assertEqual(self.asked("/rows", layer="nix", ids=[1])[1]["refused"]["number"], 18)
+        self.assertEqual(self.asked("/ids", layer="nix")[1]["refused"]["number"], 18)
 
     def test_more_than_one_line_asks_for(self):
         with Store(program=PROGRAM) as store:

@@ -16,6 +16,7 @@ from sfstore.web.client import CallFailed, ServerGone
 from . import provider
 from .editing import Editing, commit, prepare
 from .history import History
+from .saving import Saving
 from .session import LayerRefused, Refusal, Session
 from .told import Teller, words_of
 from .writing import NotSent
@@ -36,6 +37,8 @@ class Plugin:
         self.teller = Teller(iface)
         self.editings: dict[str, Editing] = {}
         self._sessions: set[str] = set()
+        # The store that was opened last, which may have no layer yet.
+        self._opened: Session | None = None
         self._is_waiting = False
         self._drawn: list[tuple[str, int]] = []
         self.at_once = QgsSettings().value("sfstore/at_once", True, type=bool)
@@ -58,6 +61,7 @@ class Plugin:
         self.switch.toggled.connect(self.set_at_once)
         self.bar.addAction(self.switch)
         self.history = History(self._iface.mainWindow(), self)
+        self.saving = Saving(self._iface)
         QgsProject.instance().layersAdded.connect(self.watch)
         QgsProject.instance().layersWillBeRemoved.connect(self.forget)
         self.watch(QgsProject.instance().mapLayers().values())
@@ -67,6 +71,7 @@ class Plugin:
         QgsProject.instance().layersAdded.disconnect(self.watch)
         QgsProject.instance().layersWillBeRemoved.disconnect(self.forget)
         self.history.leave()
+        self.saving.leave()
         self.teller.clear()
         self.bar.deleteLater()
 
@@ -91,7 +96,8 @@ class Plugin:
 
     def open(self, path: str) -> None:
         """Adds the layers of a store to the project that are not in it, in drawing order."""
-        session = Session.of(path)
+        session = self._opened = Session.of(path)
+        self._follow_session(session)
         if session.placing_fault:
             self.teller.tell(session.placing_fault, Qgis.Warning)
         known = {str(each.provider.source) for each in self.editings.values()}
@@ -153,6 +159,14 @@ class Plugin:
             editing = self.editings.pop(each, None)
             if editing is not None:
                 editing.provider.mirror.held.discard(each)
+                # Once the layer is gone.
+                QTimer.singleShot(0, partial(self._leave, editing.session))
+
+    def _leave(self, session: Session) -> None:
+        """Leaves a store of which no layer is left in the project: other programs may have it then."""
+        if not self._of(session) and session.path in self._sessions:
+            self._sessions.discard(session.path)
+            session.close()
 
     def _follow_layer(self, editing: Editing) -> None:
         layer, mirror = editing.layer, editing.provider.mirror
@@ -175,7 +189,7 @@ class Plugin:
             session.edited.connect(partial(self._heard, session))
             session.lost.connect(partial(self._lost, session))
             session.renewed.connect(partial(self._renewed, session))
-            session.layers_changed.connect(partial(self._tell_layers, session))
+            session.layers_changed.connect(partial(self.tried, partial(self._tell_layers, session)))
 
     def _of(self, session: Session) -> list[Editing]:
         return [each for each in self.editings.values() if each.session is session]
@@ -195,16 +209,28 @@ class Plugin:
 
     def _prepare(self, editing: Editing, *_: object) -> None:
         """Asks the store for a whole commit, before QGIS hands its pieces to the provider."""
-        if not editing.is_sending:
-            prepare([editing])
+        if editing.is_sending:
+            return
+        if editing.is_prepared:
+            # With one that was saved before it.
+            editing.is_prepared = False
+            return
+        together = [each for each in self._of(editing.session) if each is editing or self._is_saved_with(each)]
+        prepare(together)
+        for each in together:
+            each.is_prepared = each is not editing
             # Behind the commit, and above what QGIS itself says of it.
-            QTimer.singleShot(0, partial(self._prepared, editing))
+            QTimer.singleShot(0, partial(self._prepared, each))
+
+    def _is_saved_with(self, editing: Editing) -> bool:
+        return editing.is_pending and self.saving.is_together(editing.layer)
 
     def _prepared(self, editing: Editing) -> None:
         """Ends a commit, of whatever outcome. The layer may be gone with it."""
         if editing.key not in self.editings:
             return
         outcome, editing.provider.outcome = editing.provider.outcome, None
+        editing.is_prepared = False
         if outcome is not None and outcome.fault is not None:
             self.teller.refuse(editing.layer.name(), outcome.fault, editing.session.grid)
         elif outcome is not None and editing.layer.isEditable() and editing.layer.isModified():
@@ -298,7 +324,9 @@ class Plugin:
             return active.session  # type: ignore[no-any-return]
         for editing in self.editings.values():
             return editing.session  # type: ignore[no-any-return]
-        raise LayerRefused("No layer of a store is in the project: open one first.")
+        if self._opened is not None and self._opened.path in self._sessions:
+            return self._opened
+        raise LayerRefused("No store is open: open one first.")
 
     def move(self, verb: str) -> None:
         """Undo or redo in the store."""
@@ -321,7 +349,7 @@ class Plugin:
     def _heard(self, session: Session, event: dict[str, Any]) -> None:
         """Says where somebody else has changed what is being edited here."""
         self.history.look()
-        if event["number"] == session.editor:
+        if not session.is_connected or event["number"] == session.editor:
             return
         for editing in self._of(session):
             if not editing.layer.isEditable():
