@@ -374,7 +374,7 @@ def _told_tile(tile: Tile, picture: Picture, seen: int) -> Body:
     told = {"x": tile.x, "y": tile.y, "count": picture.features, "whole": picture.is_whole, "version": picture.version}
     if picture.version == seen:
         return told
-    return {**told, "png": b64encode(png(picture.cells)).decode() if picture.cells else None}
+    return {**told, "png": b64encode(png(picture.cells)).decode() if picture.packed else None}
 
 
 def _names(body: Body) -> set[str]:
