@@ -172,7 +172,7 @@ def _question(line: str) -> str:
 
 
 def _sent(editor: Editor, lines: dict[int, str], answers: dict[int, Answer | Refused]) -> list[tuple[str, str]]:
-    """Has lines carried out, and puts down their answers. Gives those that were accepted."""
+    """Has lines carried out, and notes their answers. Gives those that were accepted."""
     outcomes = editor.run_all(lines.values())
     answers.update(zip(lines, outcomes))
     return [(line, str(each)) for line, each in zip(lines.values(), outcomes) if is_edit(line.encode(), each)]

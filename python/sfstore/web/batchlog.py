@@ -1,4 +1,4 @@
-"""Which lines of a journal belong together, put down beside it: so a crash leaves all of a batch, or nothing.
+"""Which lines of a journal belong together, recorded beside it: so a crash leaves all of a batch, or nothing.
 
 An entry is on the disk before the first line of its batch is sent. The next opening finds by it what a
 crash has left of a batch that was not carried out to its end, and which steps are one.
@@ -50,7 +50,7 @@ class BatchLog:
         self._path = self._store + ".batches"
 
     def begin(self, at: int, editor: int, lines: Sequence[str]) -> None:
-        """Puts down a batch that is sent next. `OSError` where that can't be done."""
+        """Records a batch that is sent next. `OSError` where that can't be done."""
         entry = Entry(self._head(), at, editor, [line.removesuffix("\r") for line in lines])
         file = files.opened_here(self._path, os.O_WRONLY | os.O_APPEND | os.O_CREAT)
         try:
@@ -63,7 +63,7 @@ class BatchLog:
             os.close(file)
 
     def found(self, records: Sequence[str]) -> Found:
-        """What the lines of the journal have of the batches that were put down."""
+        """What the lines of the journal have of the batches that were recorded."""
         groups, left, editor = [], 0, 0
         for entry in self._entries():
             behind = records[entry.at :]
