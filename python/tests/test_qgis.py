@@ -101,10 +101,16 @@ class Sessions(WebCase):
             heard = eve.events()
             for seed in range(KILLS):
                 session = self.begin("Ann", seed, 10_000)
+                # From the first answer on, however busy the machine is.
+                first = session.stdout.readline()
                 time.sleep(random.Random(seed).random())
                 session.kill()
-                told = session.communicate()[0].splitlines()
-                answered = [line.split(" ", 2)[1:] for line in told if line.startswith("value ") and line.count(" ") == 3]
+                told = [first, *session.communicate()[0].splitlines()]
+                answered = [
+                    line.rstrip("\n").split(" ", 2)[1:]
+                    for line in told
+                    if line.startswith("value ") and line.count(" ") == 3
+                ]
                 self.assert_kept(heard, answered)
             heard.close()
 

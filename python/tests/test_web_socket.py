@@ -334,6 +334,9 @@ class Ends(SocketCase):
         shown = dict(row.split(" ", 1) for row in self.rows(ann))
         for identifier, row in answered.items():
             self.assertEqual(shown.get(identifier), row)
+        # Of what was not answered all of a batch is there, or nothing.
+        for identifier, row in shown.items():
+            self.assertTrue(int(identifier) <= 2 or " n=" in row, row)
         self.assertGreater(len(answered), 20)
 
     def one_end(self, rng, seed, answered):

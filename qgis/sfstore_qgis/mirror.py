@@ -7,7 +7,7 @@ import gc
 from collections.abc import Iterable, Iterator, Sequence
 from typing import TYPE_CHECKING, Any
 
-from qgis.core import QgsFeature, QgsField, QgsGeometry, QgsVectorLayer, QgsWkbTypes
+from qgis.core import QgsFeature, QgsFeatureRequest, QgsField, QgsGeometry, QgsVectorLayer, QgsWkbTypes
 from qgis.PyQt.QtCore import QObject, QVariant, pyqtSignal
 
 from sfstore.results import Column
@@ -116,8 +116,10 @@ class Mirror(QObject):
 
     def memory_feature(self, number: int) -> QgsFeature:
         """A feature as it stands here; an invalid one where it is not here."""
-        fid = self.fids.get(number)
-        return QgsFeature() if fid is None else self.layer.getFeature(fid)
+        if number not in self.fids:
+            return QgsFeature()
+        # The provider's, since the layer itself does not hear of columns.
+        return next(self.memory.getFeatures(QgsFeatureRequest(self.fids[number])), QgsFeature())
 
     def change(self, fid: int, wkt: str) -> None:
         """Gives a feature another geometry."""

@@ -2,12 +2,13 @@
 
 from __future__ import annotations
 
-from collections.abc import Callable, Iterable
+import contextlib
+from collections.abc import Callable, Iterable, Iterator
 from functools import partial
 from typing import Any
 
-from qgis.core import Qgis, QgsMapLayer, QgsProject, QgsSettings, QgsVectorLayer
-from qgis.PyQt.QtCore import QTimer
+from qgis.core import Qgis, QgsApplication, QgsMapLayer, QgsProject, QgsSettings, QgsVectorLayer
+from qgis.PyQt.QtCore import Qt, QTimer
 from qgis.PyQt.QtWidgets import QAction, QFileDialog, QInputDialog, QLineEdit
 
 from sfstore.language import KINDS
@@ -39,6 +40,7 @@ class Plugin:
         self._sessions: set[str] = set()
         # The store that was opened last, which may have no layer yet.
         self._opened: Session | None = None
+        self._is_loaded = True
         self._is_waiting = False
         self._drawn: list[tuple[str, int]] = []
         self.at_once = QgsSettings().value("sfstore/at_once", True, type=bool)
@@ -62,14 +64,15 @@ class Plugin:
         self.bar.addAction(self.switch)
         self.history = History(self._iface.mainWindow(), self)
         self.saving = Saving(self._iface)
-        QgsProject.instance().layersAdded.connect(self.watch)
-        QgsProject.instance().layersWillBeRemoved.connect(self.forget)
+        self._connect(QgsProject.instance().layersAdded, self.watch)
+        self._connect(QgsProject.instance().layersWillBeRemoved, self.forget)
         self.watch(QgsProject.instance().mapLayers().values())
 
     def unload(self) -> None:
         """Takes the actions away. The provider stays."""
-        QgsProject.instance().layersAdded.disconnect(self.watch)
-        QgsProject.instance().layersWillBeRemoved.disconnect(self.forget)
+        self._is_loaded = False
+        self.editings.clear()
+        self._sessions.clear()
         self.history.leave()
         self.saving.leave()
         self.teller.clear()
@@ -96,13 +99,14 @@ class Plugin:
 
     def open(self, path: str) -> None:
         """Adds the layers of a store to the project that are not in it, in drawing order."""
-        session = self._opened = Session.of(path)
-        self._follow_session(session)
+        with _wait_cursor():
+            session = self._opened = Session.of(path)
+            self._follow_session(session)
+            known = {str(each.provider.source) for each in self.editings.values()}
+            sources = [each for each in self._sources(session) if str(each) not in known]
+            layers = [QgsVectorLayer(str(each), _title(each), provider.KEY) for each in sources]
         if session.placing_fault:
             self.teller.tell(session.placing_fault, Qgis.Warning)
-        known = {str(each.provider.source) for each in self.editings.values()}
-        sources = [each for each in self._sources(session) if str(each) not in known]
-        layers = [QgsVectorLayer(str(each), _title(each), provider.KEY) for each in sources]
         QgsProject.instance().addMapLayers(layers[::-1])
 
     def _sources(self, session: Session) -> list[provider.Source]:
@@ -171,25 +175,37 @@ class Plugin:
     def _follow_layer(self, editing: Editing) -> None:
         layer, mirror = editing.layer, editing.provider.mirror
         _set_precision(editing)
-        layer.editingStarted.connect(partial(self._begin, editing))
-        layer.editingStopped.connect(partial(self._end, editing))
-        layer.beforeCommitChanges.connect(partial(self._prepare, editing))
-        layer.afterCommitChanges.connect(partial(self._committed, editing))
-        layer.featureAdded.connect(partial(self._drew, editing))
-        layer.geometryChanged.connect(partial(self._drew, editing))
-        layer.attributeValueChanged.connect(lambda fid, *_: editing.touch(fid))
-        layer.featureDeleted.connect(editing.touch)
-        layer.undoStack().indexChanged.connect(partial(self._send_soon, editing))
+        self._connect(layer.editingStarted, partial(self._begin, editing))
+        self._connect(layer.editingStopped, partial(self._end, editing))
+        self._connect(layer.beforeCommitChanges, partial(self._prepare, editing))
+        self._connect(layer.afterCommitChanges, partial(self._committed, editing))
+        self._connect(layer.featureAdded, partial(self._drew, editing))
+        self._connect(layer.geometryChanged, partial(self._drew, editing))
+        self._connect(layer.attributeValueChanged, lambda fid, *_: editing.touch(fid))
+        self._connect(layer.featureDeleted, editing.touch)
+        self._connect(layer.undoStack().indexChanged, partial(self._send_soon, editing))
         mirror.changed.connect(layer.triggerRepaint)
         mirror.columns_changed.connect(layer.updateFields)
 
     def _follow_session(self, session: Session) -> None:
         if session.path not in self._sessions:
             self._sessions.add(session.path)
-            session.edited.connect(partial(self._heard, session))
-            session.lost.connect(partial(self._lost, session))
-            session.renewed.connect(partial(self._renewed, session))
-            session.layers_changed.connect(partial(self.tried, partial(self._tell_layers, session)))
+            self._connect(session.edited, partial(self._heard, session))
+            self._connect(session.lost, partial(self._lost, session))
+            self._connect(session.renewed, partial(self._renewed, session))
+            self._connect(session.layers_changed, partial(self.tried, partial(self._tell_layers, session)))
+
+    def _connect(self, signal: Any, slot: Callable[..., object]) -> None:
+        """Has a slot follow a signal until the plugin is unloaded.
+
+        It stays connected: whether what signals is still there, so that it could be disconnected, is not known then.
+        """
+
+        def follow(*words: object) -> None:
+            if self._is_loaded:
+                slot(*words)
+
+        signal.connect(follow)
 
     def _of(self, session: Session) -> list[Editing]:
         return [each for each in self.editings.values() if each.session is session]
@@ -381,6 +397,16 @@ class Plugin:
                 in_doubt.append(editing.layer.name())
         doubt = f" Look at {', '.join(in_doubt)}: save your last edit, or give it up if it is there." if in_doubt else ""
         self.teller.tell(f"The store's server answers again.{doubt}", Qgis.Warning if in_doubt else Qgis.Info)
+
+
+@contextlib.contextmanager
+def _wait_cursor() -> Iterator[None]:
+    """Shows that QGIS is at work, while it is: a large layer takes its time."""
+    QgsApplication.setOverrideCursor(Qt.WaitCursor)
+    try:
+        yield
+    finally:
+        QgsApplication.restoreOverrideCursor()
 
 
 def _title(source: provider.Source) -> str:

@@ -23,6 +23,9 @@ __all__ = ["LayerRefused", "Refusal", "Session"]
 
 # How long QGIS waits for a call at most, and for a server that is asked again whether it is there.
 CALL_SECONDS = 5.0
+# A line of a batch takes some 0.1 milliseconds. A step may be a large batch, and a save writes the whole store.
+_LINE_SECONDS = 0.005
+_LONG_SECONDS = 30.0
 _AGAIN_SECONDS = 0.2
 _STARTING_SECONDS = 30.0
 # How long after a loss the server is tried again at first, and at most: each time it takes twice as long.
@@ -167,7 +170,8 @@ class Session(QObject):
 
     def batch(self, lines: Sequence[str], seen: Sequence[int | None]) -> list[str]:
         """Has lines carried out as a whole, and gives their answers. `Refusal` where one is refused."""
-        answer = self.call("batch", page=self._token, lines=list(lines), seen=list(seen))
+        seconds = CALL_SECONDS + len(lines) * _LINE_SECONDS
+        answer = self.call("batch", seconds, page=self._token, lines=list(lines), seen=list(seen))
         if "refused" in answer:
             raise Refusal(answer["refused"])
         self._own.add(answer["version"])
@@ -176,7 +180,8 @@ class Session(QObject):
 
     def line(self, line: str) -> dict[str, Any]:
         """The answer of a line of the console. `Refusal` where it is refused."""
-        answer = self.call("line", page=self._token, line=line, seen=self.version)
+        seconds = _LONG_SECONDS if line in ("undo", "redo", "save") else CALL_SECONDS
+        answer = self.call("line", seconds, page=self._token, line=line, seen=self.version)
         if "refused" in answer:
             raise Refusal(answer["refused"])
         return answer
@@ -190,10 +195,12 @@ class Session(QObject):
 
         QTimer.singleShot(0, reload)
 
-    def call(self, name: str, **body: Any) -> dict[str, Any]:
+    def call(self, name: str, seconds: float = CALL_SECONDS, **body: Any) -> dict[str, Any]:
         """The answer of a call. `ServerGone` where there is none within some seconds, or none is waited for."""
+        client = self._connected()
+        client.seconds = seconds
         try:
-            return self._connected().call(name, **body)
+            return client.call(name, **body)
         except ServerGone:
             self._lose()
             raise
@@ -212,7 +219,6 @@ class Session(QObject):
         except BaseException:
             client.close()
             raise
-        client.seconds = CALL_SECONDS
         # Of edits under another token it is not known here that they were this QGIS' own.
         self._token = secrets.token_urlsafe(12)
         self._client, self._events = client, events
