@@ -20,7 +20,7 @@ from qgis.core import (
     QgsVectorLayerUtils,
 )
 from qgis.PyQt.QtCore import NULL, QVariant
-from qgis_support import CROSSED, SQUARE, QgisCase
+from qgis_support import CROSSED, SQUARE, Plugin, QgisCase, Session
 
 from sfstore.web.client import CallFailed
 
@@ -375,6 +375,30 @@ class AtOnce(QgisCase):
         self.assertNotIn(201, self.stored())
         self.settle()
         self.assert_alike()
+
+    def test_a_plugin_that_is_loaded_again_sends_each_edit_once(self):
+        self.plugin.unload()
+        self.plugin = Plugin(self.window)
+        self.plugin.initGui()
+        self.assertEqual(len(self.plugin.editings), 3)
+        version = self.session.call("map")["version"]
+        self.layer().startEditing()
+        self.set(10, "owner", "once")
+        self.turn()
+        self.assertIn("once", self.stored()[10])
+        self.assertEqual(self.session.call("map")["version"], version + 1)
+
+    def test_a_store_that_leaves_the_project_is_free_again(self):
+        self.set_free()
+        self.wait_for(lambda: str(self.path) not in Session.open)
+        self.plugin.open(str(self.path))
+        self.assertEqual(self.layer().featureCount(), 200)
+        self.session = Session.of(str(self.path))
+        self.assert_alike()
+
+    def set_free(self):
+        QgsProject.instance().clear()
+        self.turn()
 
     def test_one_that_is_refused_is_taken_back_and_told(self):
         parcels = self.layer()

@@ -12,11 +12,11 @@ import traceback
 from pathlib import Path
 
 import qgis.utils
-from qgis.core import QgsApplication, QgsEditFormConfig, QgsPointXY, QgsProject, QgsRectangle
+from qgis.core import QgsApplication, QgsEditFormConfig, QgsGeometry, QgsPointXY, QgsProject, QgsRectangle
 from qgis.PyQt.QtCore import QPoint, Qt, QTimer
 from qgis.PyQt.QtGui import QColor
 from qgis.PyQt.QtTest import QTest
-from qgis.PyQt.QtWidgets import QAction, QDockWidget
+from qgis.PyQt.QtWidgets import QAction, QApplication, QDockWidget, QMessageBox
 from qgis.utils import iface
 
 from sfstore.web.client import Client
@@ -24,6 +24,7 @@ from sfstore.web.client import Client
 STORE, TOLD = Path(os.environ["TOUR_STORE"]), Path(os.environ["TOUR_TOLD"])
 GOOD = [(500515, 5600000), (500540, 5600000), (500540, 5600030), (500515, 5600030)]
 CROSSED = [(500515, 5600050), (500540, 5600080), (500540, 5600050), (500515, 5600075)]
+TIE = "POLYGON((500000 5600000, 500010 5600010, 500010 5600000, 500000 5600010, 500000 5600000))"
 SECONDS = 30.0
 
 
@@ -62,6 +63,7 @@ class Tour:
         self.undo()
         self.colleague()
         self.buffered()
+        self.several()
         self.session.line("save")
 
     def look(self):
@@ -128,6 +130,39 @@ class Tour:
         iface.actionToggleEditing().trigger()
         wait()
         self.note("ended", self.parcels.isEditable())
+
+    def several(self):
+        """Two layers are saved by the action for all layers: as one step, or not at all."""
+        [wells] = QgsProject.instance().mapLayersByName("wells")
+        for layer in (self.parcels, wells):
+            layer.startEditing()
+        owner = self.parcels.fields().indexOf("owner")
+        self.parcels.changeAttributeValue(self.fid(8), owner, "both")
+        wells.deleteFeature(next(wells.getFeatures()).id())
+        self.parcels.changeGeometry(self.fid(9), QgsGeometry.fromWkt(TIE))
+        self.save_all()
+        self.note("none of both", [self.wells(), self.owner(8), wells.isModified(), self.parcels.isModified()])
+        self.parcels.undoStack().undo()
+        self.save_all()
+        self.note("both", [self.wells(), wells.isModified(), self.parcels.isModified()])
+        self.plugin.move("undo")
+        wait_for(lambda: wells.featureCount() == 4)
+        self.note("both undone", [self.wells(), self.owner(8)])
+
+    def save_all(self):
+        """QGIS asks before it saves all."""
+
+        def agree():
+            box = QApplication.activeModalWidget()
+            (box.button(QMessageBox.Yes) or box.button(QMessageBox.Ok)).click()
+
+        QTimer.singleShot(300, agree)
+        iface.actionSaveAllEdits().trigger()
+        wait(0.5)
+        iface.messageBar().clearWidgets()
+
+    def wells(self):
+        return len(self.session.identifiers("wells"))
 
     def draw(self, points):
         iface.actionAddFeature().trigger()

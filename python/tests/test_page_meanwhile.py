@@ -10,6 +10,8 @@ import unittest
 
 from test_page import PageCase
 
+from sfstore.web.client import Client
+
 # Does a line as somebody else, and lets go of what is held by a key, before anything of it can be heard.
 BEHIND = """
 const [key, line, seen] = arguments, request = new XMLHttpRequest();
@@ -68,6 +70,15 @@ class Meanwhile(PageCase):
         self.assertIn("vertex move parcels 2 0 0 2 3", "".join(line for line, _ in page.log()))
         page.drag((360, 300), (370, 310))
         page.until(lambda: page.last().startswith("vertex move parcels 2 0 0 3 3"))
+
+    def test_what_a_program_does_as_a_whole_is_drawn(self):
+        page = self.open("Ben")
+        with Client(str(self.path), "Ann") as ann:
+            lines = ["layer add trees point", "column add parcels height int", "add parcels POLYGON ((0 900, 9 900, 9 999, 0 900))"]
+            ann.call("batch", page="script", lines=[*lines, "set parcels last height 7"], seen=[None] * 4)
+        page.logged("together 4", "layer add trees point")
+        page.until(lambda: "trees" in page.text("#layers"))
+        page.until(lambda: "201" in page.text("#layers"))
 
     def test_a_drag_goes_on_when_something_else_changes(self):
         page = self.two()

@@ -79,6 +79,10 @@ class Tour(unittest.TestCase):
         self.assertEqual(told["seen"], "Ben's")
         self.assertIn("Refused (36 NotYours): the step is another editor's (Ben: set parcels 7", " ".join(told["not mine"]))
         self.assertEqual((told["saved"], told["ended"]), (["Ann's", False], False))
+        # Two layers that are saved by the action for all layers.
+        self.assertEqual(told["none of both"], [4, "both", True, True])
+        self.assertEqual(told["both"], [3, False, False])
+        self.assertEqual(told["both undone"], [4, "Ekberg"])
         # The file, by the program alone.
         self.assertEqual(len(shown), 202)
         self.assertTrue(shown[6].endswith("owner='Ann''s'"), shown[6])

@@ -3,6 +3,7 @@
 from __future__ import annotations
 
 import json
+import os
 import random
 import signal
 import unittest
@@ -13,8 +14,10 @@ from web_support import WebCase
 
 from sfstore import Refused, Store
 from sfstore.web.batches import batch_of, carry_out
+from sfstore.web.batchlog import BatchLog
 from sfstore.web.changed import Changed, changed_by, merged
 from sfstore.web.changes import Target
+from sfstore.web.keeper import Keeper
 from sfstore.web.rows import ROWS_MAX, rows_of
 from sfstore.web.steps import Step, Steps
 
@@ -327,8 +330,8 @@ class Rows(BatchCase):
             {"layer": 5, "ids": [1]},
         ):
             self.assertEqual(self.asked("/rows", **body)[0], 400, str(body)[:60])
-        self.assertEqual(self.asked("/rows", layer="nix", ids=[1])[0], 503)
-        self.assertEqual(self.asked("/ids", layer="nix")[0], 503)
+        self.assertEqual(self.asked("/rows", layer="nix", ids=[1])[1]["refused"]["number"], 18)
+        self.assertEqual(self.asked("/ids", layer="nix")[1]["refused"]["number"], 18)
 
     def test_more_than_one_line_asks_for(self):
         with Store(program=PROGRAM) as store:
@@ -391,15 +394,133 @@ class AtRandom(TestCase):
 
 
 class AfterAnEnd(BatchCase):
-    """What was answered is there after the server was killed."""
+    """What is there of a batch after the server was killed."""
 
-    def test_a_batch_that_was_answered(self):
-        self.done(self.ann, f"add p {SQUARE}", "set p last owner 'x'", "delete p 1")
-        after = self.shown()
+    LINES = [f"add p {SQUARE}", "set p 2 owner 'y'", "delete p 1", "set p last owner 'it''s last'"]
+
+    def again(self):
+        """Kills the server, and begins it anew."""
         self.serving.end(signal.SIGKILL)
         self.serving = self.serve()
-        self.ann = self.serving.log_in("Ann")
+        self.ann, self.ben = self.serving.log_in("Ann"), self.serving.log_in("Ben")
+
+    def test_a_batch_that_was_answered_is_there_and_one_step(self):
+        self.ann.answer("set p 3 owner 'before'")
+        before = self.shown()
+        self.done(self.ann, *self.LINES)
+        after = self.shown()
+        for _ in range(2):
+            self.again()
+            self.assertEqual(self.shown(), after)
+        self.assertEqual(self.ben.refused("undo")["whose"]["editor"], "Ann")
+        self.ann.answer("undo")
+        self.assertEqual(self.shown(), before)
+        self.again()
+        self.assertEqual(self.shown(), before)
+        self.ann.answer("redo")
         self.assertEqual(self.shown(), after)
+
+    def test_one_that_was_refused_is_no_step(self):
+        self.ann.answer("set p 3 owner 'before'")
+        self.refused(self.ann, "delete p 1", "set p 2 nix 1", "delete p 3")
+        before = self.shown()
+        self.again()
+        self.assertEqual(self.shown(), before)
+        self.ann.answer("undo")
+        self.assertNotIn("before", self.shown()[2])
+
+    def test_a_save_begins_anew(self):
+        self.done(self.ann, *self.LINES)
+        self.assertTrue(os.path.exists(f"{self.path}.batches"))
+        self.ann.line("save")
+        self.assertFalse(os.path.exists(f"{self.path}.batches"))
+
+    def test_the_file_gives_no_more_than_the_store(self):
+        os.chmod(self.path, 0o640)
+        self.done(self.ann, *self.LINES)
+        self.assertEqual(os.stat(f"{self.path}.batches").st_mode & 0o777, 0o640)
+
+    def test_a_link_in_its_place_is_not_followed(self):
+        other = self.folder / "other"
+        other.write_text("somebody's")
+        os.symlink(other, f"{self.path}.batches")
+        self.assertEqual(self.batch(self.ann, *self.LINES)[0], 503)
+        self.assertEqual((other.read_text(), len(self.shown())), ("somebody's", 3))
+
+
+class Cut(TestCase):
+    """Journals that end in the middle of a batch, or of its being taken back."""
+
+    SENT = [f"add p {SQUARE}", "set p 2 owner 'y'", "delete p 1", "set p last owner 'x'"]
+    RECORDS = [*SENT[:3], "set p 4 owner 'x'"]
+
+    def setUp(self):
+        super().setUp()
+        self.path = self.folder / "town.sfs"
+        with Store(program=PROGRAM, save=self.path) as store:
+            store.run_all(MADE.decode().splitlines())
+
+    def opened(self, records, sent=None, behind=(), spoil=lambda data: data):
+        """What a keeper finds behind a journal with some lines, and with others behind them: rows, and the next undo."""
+        for ending in (".journal", ".batches"):
+            (self.folder / f"town.sfs{ending}").unlink(missing_ok=True)
+        with Store(self.path, journal=True, program=PROGRAM) as store:
+            store.editor(1).run("set p 3 owner 'before'")
+            BatchLog(str(self.path)).begin(1, 1, sent or self.SENT)
+            for line in records:
+                store.editor(1).run(line)
+            for line in behind:
+                store.editor(2).run(line)
+            store.close(save=False)
+        log = self.folder / "town.sfs.batches"
+        log.write_bytes(spoil(log.read_bytes()))
+        keeper = Keeper(str(self.path), PROGRAM)
+        try:
+            step = keeper.steps()[1]
+            return keeper.ask(lambda store: store.run("show p")), step and step.line
+        finally:
+            keeper.close()
+
+    def test_all_of_it_or_nothing(self):
+        before, after = self.opened([])[0], self.opened(self.RECORDS)[0]
+        self.assertNotEqual(before, after)
+        for count in range(len(self.RECORDS)):
+            self.assertEqual(self.opened(self.RECORDS[:count]), (before, "set p 3 owner 'before'"), count)
+        self.assertEqual(self.opened(self.RECORDS)[1], "set p 4 owner 'x'")
+
+    def test_one_that_was_being_taken_back(self):
+        before = self.opened([])[0]
+        sent = [*self.SENT[:2], "set p 2 nix 1", *self.SENT[2:]]
+        for count in range(4):
+            self.assertEqual(self.opened([*self.SENT[:3], *["undo"] * count], sent)[0], before, count)
+
+    def test_what_others_have_done_behind_it_is_not_touched(self):
+        for count in range(1, 4):
+            rows = self.opened(self.RECORDS[:count], behind=["set p 3 number 9"])[0]
+            self.assertTrue(any("number=9" in row for row in rows))
+            self.assertEqual(rows, self.plain([*self.RECORDS[:count], "set p 3 number 9"]))
+
+    def test_lines_of_something_else_are_not_touched(self):
+        for records in (["set p 2 owner 'other'"], ["delete p 3", *self.RECORDS[:2]]):
+            self.assertEqual(self.opened(records)[0], self.plain(records))
+
+    def test_a_file_that_is_damaged(self):
+        plain = self.plain(self.RECORDS[:2])
+        for spoil in (
+            lambda data: b"",
+            lambda data: data[:-1],
+            lambda data: b"\0\xff\n[]\n{}\n[1, 2, 3, 4]\n",
+            lambda data: data.replace(b"sfstore-journal", b"sfstore-other"),
+            lambda data: b"[" * 100_000 + b"\n",
+        ):
+            self.assertEqual(self.opened(self.RECORDS[:2], spoil=spoil)[0], plain)
+
+    def plain(self, lines):
+        with Store(program=PROGRAM, load=self.path) as store:
+            store.run_all(["set p 3 owner 'before'", *lines])
+            shown = store.run("show p")
+            store.close(save=False)
+            return shown
 
 
 if __name__ == "__main__":

@@ -27,6 +27,8 @@ from sfstore.web.client import CallFailed, Client, ServerGone, start_server
 from sfstore.web.logins import Logins
 from sfstore.web.socketed import Door, SocketTaken
 
+# At how many moments a server is killed: more where the environment variable says so.
+KILLS = int(os.environ.get("KILLS", "12"))
 MADE = b"layer add w point\ncolumn add w n int\nadd w POINT (1 1)\nadd w POINT (2 2)\n"
 
 
@@ -323,14 +325,18 @@ class Ends(SocketCase):
             Door(NoCalls(), str(self.folder / "nix" / "town.sfs"))
 
     def test_nothing_that_was_answered_is_lost(self):
+        signal.alarm(max(self.SECONDS, 5 * KILLS))
         answered = {}
-        for seed in range(12):
+        for seed in range(KILLS):
             self.one_end(random.Random(seed), seed, answered)
         self.serve()
         ann = self.client()
         shown = dict(row.split(" ", 1) for row in self.rows(ann))
         for identifier, row in answered.items():
             self.assertEqual(shown.get(identifier), row)
+        # Of what was not answered all of a batch is there, or nothing.
+        for identifier, row in shown.items():
+            self.assertTrue(int(identifier) <= 2 or " n=" in row, row)
         self.assertGreater(len(answered), 20)
 
     def one_end(self, rng, seed, answered):

@@ -35,6 +35,8 @@ class Editing:
         self.is_in_doubt = False
         """Whether it is not known what has become of what was sent."""
         self.is_sending = False
+        self.is_prepared = False
+        """Whether the store was asked for a commit that comes next, with that of another layer."""
         # The commands of QGIS' undo stack from here on were not sent.
         self.base = 0
         self._seen: dict[int, _Seen] = {}

@@ -2,10 +2,12 @@
 
 from __future__ import annotations
 
-from collections.abc import Iterable, Sequence
+import contextlib
+import gc
+from collections.abc import Iterable, Iterator, Sequence
 from typing import TYPE_CHECKING, Any
 
-from qgis.core import QgsFeature, QgsField, QgsGeometry, QgsVectorLayer, QgsWkbTypes
+from qgis.core import QgsFeature, QgsFeatureRequest, QgsField, QgsGeometry, QgsVectorLayer, QgsWkbTypes
 from qgis.PyQt.QtCore import QObject, QVariant, pyqtSignal
 
 from sfstore.results import Column
@@ -28,8 +30,6 @@ WKB_NAMES = {
 }
 """QGIS' names of the kinds of geometries."""
 
-# How many rows are asked for at a time.
-_ROWS = 5_000
 # From so many features on the index, which takes its time, is made when there is some.
 INDEX_AT_ONCE_MAX = 20_000
 
@@ -69,14 +69,12 @@ class Mirror(QObject):
         """Takes over all features as they are now."""
         numbers = self.session.identifiers(self.name)
         self._drop(self.fids.keys() - set(numbers))
-        for begin in range(0, len(numbers), _ROWS):
-            self._take(numbers[begin : begin + _ROWS])
+        with _uncollected():
+            self._take(numbers)
 
     def follow(self, numbers: Iterable[int]) -> None:
         """Takes over what has become of some features."""
-        wanted = sorted(set(numbers))
-        for begin in range(0, len(wanted), _ROWS):
-            self._take(wanted[begin : begin + _ROWS])
+        self._take(sorted(set(numbers)))
         self.changed.emit()
 
     def load_anew(self) -> None:
@@ -118,8 +116,10 @@ class Mirror(QObject):
 
     def memory_feature(self, number: int) -> QgsFeature:
         """A feature as it stands here; an invalid one where it is not here."""
-        fid = self.fids.get(number)
-        return QgsFeature() if fid is None else self.layer.getFeature(fid)
+        if number not in self.fids:
+            return QgsFeature()
+        # The provider's, since the layer itself does not hear of columns.
+        return next(self.memory.getFeatures(QgsFeatureRequest(self.fids[number])), QgsFeature())
 
     def change(self, fid: int, wkt: str) -> None:
         """Gives a feature another geometry."""
@@ -136,9 +136,15 @@ class Mirror(QObject):
     def _take(self, numbers: Sequence[int]) -> None:
         """Takes over some features: those that are not there any more go."""
         names = [column.name for column in self.columns]
-        found = rows_of(self.session.rows(self.name, numbers), names, self.session.grid)
-        rows = [row for row in found if row.kind == self.kind]
-        self._drop(set(numbers) - {row.number for row in rows})
+        gone = self.fids.keys() & set(numbers)
+        for part in self.session.parts(self.name, numbers):
+            rows = [row for row in rows_of(part, names, self.session.grid) if row.kind == self.kind]
+            gone -= {row.number for row in rows}
+            self._put(rows)
+        self._drop(gone)
+
+    def _put(self, rows: Sequence[Row]) -> None:
+        """Adds features, or gives those that are here the geometry and the values that they have now."""
         known = [row for row in rows if row.number in self.fids]
         self.memory.changeGeometryValues({self.fids[row.number]: row.geometry for row in known})
         self.memory.changeAttributeValues({self.fids[row.number]: dict(enumerate(row.values)) for row in known})
@@ -146,10 +152,10 @@ class Mirror(QObject):
 
     def _add(self, rows: Sequence[Row]) -> None:
         features = []
-        for row in rows:
+        for _, _, geometry, values in rows:
             feature = QgsFeature()
-            feature.setGeometry(row.geometry)
-            feature.setAttributes(row.values)
+            feature.setGeometry(geometry)
+            feature.setAttributes(values)
             features.append(feature)
         added = self.memory.addFeatures(features)[1]
         for row, feature in zip(rows, added):
@@ -161,3 +167,15 @@ class Mirror(QObject):
         fids = [self.fids.pop(number) for number in numbers if number in self.fids]
         if fids:
             self.memory.deleteFeatures(fids)
+
+
+@contextlib.contextmanager
+def _uncollected() -> Iterator[None]:
+    """Has Python look for no cycles in the body, which makes many objects and none of these."""
+    was_so = gc.isenabled()
+    gc.disable()
+    try:
+        yield
+    finally:
+        if was_so:
+            gc.enable()

@@ -2,12 +2,13 @@
 
 from __future__ import annotations
 
-from collections.abc import Callable, Iterable
+import contextlib
+from collections.abc import Callable, Iterable, Iterator
 from functools import partial
 from typing import Any
 
-from qgis.core import Qgis, QgsMapLayer, QgsProject, QgsSettings, QgsVectorLayer
-from qgis.PyQt.QtCore import QTimer
+from qgis.core import Qgis, QgsApplication, QgsMapLayer, QgsProject, QgsSettings, QgsVectorLayer
+from qgis.PyQt.QtCore import Qt, QTimer
 from qgis.PyQt.QtWidgets import QAction, QFileDialog, QInputDialog, QLineEdit
 
 from sfstore.language import KINDS
@@ -16,6 +17,7 @@ from sfstore.web.client import CallFailed, ServerGone
 from . import provider
 from .editing import Editing, commit, prepare
 from .history import History
+from .saving import Saving
 from .session import LayerRefused, Refusal, Session
 from .told import Teller, words_of
 from .writing import NotSent
@@ -36,6 +38,9 @@ class Plugin:
         self.teller = Teller(iface)
         self.editings: dict[str, Editing] = {}
         self._sessions: set[str] = set()
+        # The store that was opened last, which may have no layer yet.
+        self._opened: Session | None = None
+        self._is_loaded = True
         self._is_waiting = False
         self._drawn: list[tuple[str, int]] = []
         self.at_once = QgsSettings().value("sfstore/at_once", True, type=bool)
@@ -58,15 +63,18 @@ class Plugin:
         self.switch.toggled.connect(self.set_at_once)
         self.bar.addAction(self.switch)
         self.history = History(self._iface.mainWindow(), self)
-        QgsProject.instance().layersAdded.connect(self.watch)
-        QgsProject.instance().layersWillBeRemoved.connect(self.forget)
+        self.saving = Saving(self._iface)
+        self._connect(QgsProject.instance().layersAdded, self.watch)
+        self._connect(QgsProject.instance().layersWillBeRemoved, self.forget)
         self.watch(QgsProject.instance().mapLayers().values())
 
     def unload(self) -> None:
         """Takes the actions away. The provider stays."""
-        QgsProject.instance().layersAdded.disconnect(self.watch)
-        QgsProject.instance().layersWillBeRemoved.disconnect(self.forget)
+        self._is_loaded = False
+        self.editings.clear()
+        self._sessions.clear()
         self.history.leave()
+        self.saving.leave()
         self.teller.clear()
         self.bar.deleteLater()
 
@@ -91,12 +99,14 @@ class Plugin:
 
     def open(self, path: str) -> None:
         """Adds the layers of a store to the project that are not in it, in drawing order."""
-        session = Session.of(path)
+        with _wait_cursor():
+            session = self._opened = Session.of(path)
+            self._follow_session(session)
+            known = {str(each.provider.source) for each in self.editings.values()}
+            sources = [each for each in self._sources(session) if str(each) not in known]
+            layers = [QgsVectorLayer(str(each), _title(each), provider.KEY) for each in sources]
         if session.placing_fault:
             self.teller.tell(session.placing_fault, Qgis.Warning)
-        known = {str(each.provider.source) for each in self.editings.values()}
-        sources = [each for each in self._sources(session) if str(each) not in known]
-        layers = [QgsVectorLayer(str(each), _title(each), provider.KEY) for each in sources]
         QgsProject.instance().addMapLayers(layers[::-1])
 
     def _sources(self, session: Session) -> list[provider.Source]:
@@ -153,29 +163,49 @@ class Plugin:
             editing = self.editings.pop(each, None)
             if editing is not None:
                 editing.provider.mirror.held.discard(each)
+                # Once the layer is gone.
+                QTimer.singleShot(0, partial(self._leave, editing.session))
+
+    def _leave(self, session: Session) -> None:
+        """Leaves a store of which no layer is left in the project: other programs may have it then."""
+        if not self._of(session) and session.path in self._sessions:
+            self._sessions.discard(session.path)
+            session.close()
 
     def _follow_layer(self, editing: Editing) -> None:
         layer, mirror = editing.layer, editing.provider.mirror
         _set_precision(editing)
-        layer.editingStarted.connect(partial(self._begin, editing))
-        layer.editingStopped.connect(partial(self._end, editing))
-        layer.beforeCommitChanges.connect(partial(self._prepare, editing))
-        layer.afterCommitChanges.connect(partial(self._committed, editing))
-        layer.featureAdded.connect(partial(self._drew, editing))
-        layer.geometryChanged.connect(partial(self._drew, editing))
-        layer.attributeValueChanged.connect(lambda fid, *_: editing.touch(fid))
-        layer.featureDeleted.connect(editing.touch)
-        layer.undoStack().indexChanged.connect(partial(self._send_soon, editing))
+        self._connect(layer.editingStarted, partial(self._begin, editing))
+        self._connect(layer.editingStopped, partial(self._end, editing))
+        self._connect(layer.beforeCommitChanges, partial(self._prepare, editing))
+        self._connect(layer.afterCommitChanges, partial(self._committed, editing))
+        self._connect(layer.featureAdded, partial(self._drew, editing))
+        self._connect(layer.geometryChanged, partial(self._drew, editing))
+        self._connect(layer.attributeValueChanged, lambda fid, *_: editing.touch(fid))
+        self._connect(layer.featureDeleted, editing.touch)
+        self._connect(layer.undoStack().indexChanged, partial(self._send_soon, editing))
         mirror.changed.connect(layer.triggerRepaint)
         mirror.columns_changed.connect(layer.updateFields)
 
     def _follow_session(self, session: Session) -> None:
         if session.path not in self._sessions:
             self._sessions.add(session.path)
-            session.edited.connect(partial(self._heard, session))
-            session.lost.connect(partial(self._lost, session))
-            session.renewed.connect(partial(self._renewed, session))
-            session.layers_changed.connect(partial(self._tell_layers, session))
+            self._connect(session.edited, partial(self._heard, session))
+            self._connect(session.lost, partial(self._lost, session))
+            self._connect(session.renewed, partial(self._renewed, session))
+            self._connect(session.layers_changed, partial(self.tried, partial(self._tell_layers, session)))
+
+    def _connect(self, signal: Any, slot: Callable[..., object]) -> None:
+        """Has a slot follow a signal until the plugin is unloaded.
+
+        It stays connected: whether what signals is still there, so that it could be disconnected, is not known then.
+        """
+
+        def follow(*words: object) -> None:
+            if self._is_loaded:
+                slot(*words)
+
+        signal.connect(follow)
 
     def _of(self, session: Session) -> list[Editing]:
         return [each for each in self.editings.values() if each.session is session]
@@ -195,16 +225,28 @@ class Plugin:
 
     def _prepare(self, editing: Editing, *_: object) -> None:
         """Asks the store for a whole commit, before QGIS hands its pieces to the provider."""
-        if not editing.is_sending:
-            prepare([editing])
+        if editing.is_sending:
+            return
+        if editing.is_prepared:
+            # With one that was saved before it.
+            editing.is_prepared = False
+            return
+        together = [each for each in self._of(editing.session) if each is editing or self._is_saved_with(each)]
+        prepare(together)
+        for each in together:
+            each.is_prepared = each is not editing
             # Behind the commit, and above what QGIS itself says of it.
-            QTimer.singleShot(0, partial(self._prepared, editing))
+            QTimer.singleShot(0, partial(self._prepared, each))
+
+    def _is_saved_with(self, editing: Editing) -> bool:
+        return editing.is_pending and self.saving.is_together(editing.layer)
 
     def _prepared(self, editing: Editing) -> None:
         """Ends a commit, of whatever outcome. The layer may be gone with it."""
         if editing.key not in self.editings:
             return
         outcome, editing.provider.outcome = editing.provider.outcome, None
+        editing.is_prepared = False
         if outcome is not None and outcome.fault is not None:
             self.teller.refuse(editing.layer.name(), outcome.fault, editing.session.grid)
         elif outcome is not None and editing.layer.isEditable() and editing.layer.isModified():
@@ -298,7 +340,9 @@ class Plugin:
             return active.session  # type: ignore[no-any-return]
         for editing in self.editings.values():
             return editing.session  # type: ignore[no-any-return]
-        raise LayerRefused("No layer of a store is in the project: open one first.")
+        if self._opened is not None and self._opened.path in self._sessions:
+            return self._opened
+        raise LayerRefused("No store is open: open one first.")
 
     def move(self, verb: str) -> None:
         """Undo or redo in the store."""
@@ -321,7 +365,7 @@ class Plugin:
     def _heard(self, session: Session, event: dict[str, Any]) -> None:
         """Says where somebody else has changed what is being edited here."""
         self.history.look()
-        if event["number"] == session.editor:
+        if not session.is_connected or event["number"] == session.editor:
             return
         for editing in self._of(session):
             if not editing.layer.isEditable():
@@ -353,6 +397,16 @@ class Plugin:
                 in_doubt.append(editing.layer.name())
         doubt = f" Look at {', '.join(in_doubt)}: save your last edit, or give it up if it is there." if in_doubt else ""
         self.teller.tell(f"The store's server answers again.{doubt}", Qgis.Warning if in_doubt else Qgis.Info)
+
+
+@contextlib.contextmanager
+def _wait_cursor() -> Iterator[None]:
+    """Shows that QGIS is at work, while it is: a large layer takes its time."""
+    QgsApplication.setOverrideCursor(Qt.WaitCursor)
+    try:
+        yield
+    finally:
+        QgsApplication.restoreOverrideCursor()
 
 
 def _title(source: provider.Source) -> str:

@@ -12,15 +12,17 @@ from qgis.core import QgsGeometry
 from qgis.PyQt.QtCore import NULL
 
 from sfstore.exchange.grid import Grid
-from sfstore.geometry import KINDS, read_wkt, write_wkb
-from sfstore.rows import row_values
+from sfstore.geometry import read_wkt, write_wkb
 
 __all__ = ["Row", "geometry_of", "rows_of"]
 
-_ROW = re.compile(r"([0-9]+) ([A-Z]+) (\([-0-9 ,()]*\))")
+_ROW = re.compile(r"([0-9]+) ([A-Z]+) (\([-0-9 ,()]*\))(.*)")
+_VALUE = re.compile(r" ([A-Za-z][A-Za-z0-9_]*)=(?:(-?[0-9]+)|'([^']*(?:''[^']*)*)')")
 _BLANKS = str.maketrans("(),", "   ")
-# How many parentheses a text has whose geometry is one list of points, by the code of its kind.
-_FLAT = {1: 1, 2: 1, 3: 2}
+# How many parentheses a text has whose geometry is one list of points.
+_FLAT = {"POINT": 1, "LINESTRING": 1, "POLYGON": 2}
+_POINT_HEAD = struct.pack("<BI", 1, 1)
+_LINE, _POLYGON = struct.Struct("<BII").pack, struct.Struct("<BIII").pack
 # Up to here whole numbers are doubles.
 _EXACT = 1 << 53
 
@@ -36,50 +38,57 @@ class Row(NamedTuple):
     """The identifier, and then a value for each column, or NULL."""
 
 
-class _Parsed(NamedTuple):
-    number: int
-    code: int
-    text: str
-    """The coordinates, in parentheses."""
-    values: list[Any]
-
-
 def rows_of(rows: Iterable[str], columns: Sequence[str], grid: Grid) -> list[Row]:
     """The features of rows, with the geometries in the units of the map."""
-    parsed = [_parsed(row, columns) for row in rows]
-    geometries = _geometries(parsed, grid)
-    return [Row(each.number, KINDS[each.code], made, each.values) for each, made in zip(parsed, geometries)]
+    found = [_parted(row) for row in rows]
+    geometries = _geometries(found, grid)
+    places = {name: at for at, name in enumerate(columns, 1)}
+    nothing = [NULL] * len(columns)
+    return [
+        Row(int(number), kind.lower(), geometry, _values(int(number), nothing, rest, places))
+        for (number, kind, _, rest), geometry in zip(found, geometries)
+    ]
 
 
 def geometry_of(wkt: str, grid: Grid) -> QgsGeometry:
     """The geometry of a text in steps of the grid."""
-    return _of_wkb(write_wkb(read_wkt(wkt).mapped(grid.places)))
+    geometry = QgsGeometry()
+    geometry.fromWkb(write_wkb(read_wkt(wkt).mapped(grid.places)))
+    return geometry
 
 
-def _parsed(row: str, columns: Sequence[str]) -> _Parsed:
-    found = _ROW.match(row)
+def _parted(row: str) -> tuple[str, str, str, str]:
+    """The identifier, the kind, the coordinates in parentheses, and the values of a row."""
+    found = _ROW.fullmatch(row)
     if found is None:
         raise ValueError(f"no feature: {row!r}")
-    number = int(found[1])
-    if found.end() == len(row):
-        values = [NULL] * len(columns)
-    else:
-        known = row_values(row, found.end())
-        values = [known.get(name, NULL) for name in columns]
-    return _Parsed(number, KINDS.index(found[2].lower()), found[3], [number, *values])
+    number, kind, text, rest = found.groups()
+    return number, kind, text, rest
 
 
-def _geometries(parsed: Sequence[_Parsed], grid: Grid) -> list[QgsGeometry]:
+def _values(number: int, nothing: list[Any], rest: str, places: dict[str, int]) -> list[Any]:
+    """The identifier, and then a value for each column."""
+    values = [number, *nothing]
+    for name, digits, text in _VALUE.findall(rest):
+        if name in places:
+            values[places[name]] = int(digits) if digits else text.replace("''", "'")
+    return values
+
+
+def _geometries(parted: Sequence[tuple[str, str, str, str]], grid: Grid) -> list[QgsGeometry]:
     """The geometries of rows: those of one list of points together, the others one by one."""
-    flat = [each for each in parsed if each.text.count("(") == _FLAT.get(each.code)]
-    places = _places(" ".join(each.text.translate(_BLANKS) for each in flat), grid) if flat else b""
-    made, at = [], 0
-    for each in parsed:
-        if each.text.count("(") != _FLAT.get(each.code):
-            made.append(geometry_of(f"{KINDS[each.code]} {each.text}", grid))
+    are_flat = [text.count("(") == _FLAT.get(kind) for _, kind, text, _ in parted]
+    flat = " ".join(text for (_, _, text, _), is_flat in zip(parted, are_flat) if is_flat)
+    places, at = _places(flat.translate(_BLANKS), grid) if flat else b"", 0
+    made = []
+    for (_, kind, text, _), is_flat in zip(parted, are_flat):
+        if not is_flat:
+            made.append(geometry_of(f"{kind} {text}", grid))
             continue
-        count = each.text.count(",") + 1
-        made.append(_of_wkb(_head(each.code, count) + places[at : at + 16 * count]))
+        count = text.count(",") + 1
+        geometry = QgsGeometry()
+        geometry.fromWkb(_head(kind, count) + places[at : at + 16 * count])
+        made.append(geometry)
         at += 16 * count
     return made
 
@@ -97,14 +106,8 @@ def _places(text: str, grid: Grid) -> bytes:
     return bytes((steps / denominator).tobytes())
 
 
-def _head(code: int, count: int) -> bytes:
+def _head(kind: str, count: int) -> bytes:
     """What stands before the points of a well-known binary."""
-    if code == 1:
-        return struct.pack("<BI", 1, 1)
-    return struct.pack("<BII", 1, 2, count) if code == 2 else struct.pack("<BIII", 1, 3, 1, count)
-
-
-def _of_wkb(data: bytes) -> QgsGeometry:
-    geometry = QgsGeometry()
-    geometry.fromWkb(data)
-    return geometry
+    if kind == "POLYGON":
+        return _POLYGON(1, 3, 1, count)
+    return _LINE(1, 2, count) if kind == "LINESTRING" else _POINT_HEAD

@@ -5,11 +5,11 @@ from __future__ import annotations
 import contextlib
 import os
 import secrets
-from collections.abc import Sequence
+from collections.abc import Iterator, Sequence
 from typing import Any, ClassVar
 
 from qgis.core import QgsCoordinateReferenceSystem, QgsMessageLog, QgsSettings
-from qgis.PyQt.QtCore import QObject, QSocketNotifier, QTimer, pyqtSignal
+from qgis.PyQt.QtCore import QObject, QSocketNotifier, QThread, QTimer, pyqtSignal
 
 from sfstore import sidecar
 from sfstore.exchange.grid import Grid
@@ -17,16 +17,20 @@ from sfstore.results import Column
 from sfstore.web.client import CallFailed, Client, Events, ServerGone, start_server
 
 from .following import Followed, followed
-from .mirror import Mirror
+from .mirror import WKB_NAMES, Mirror
 
 __all__ = ["LayerRefused", "Refusal", "Session"]
 
 # How long QGIS waits for a call at most, and for a server that is asked again whether it is there.
 CALL_SECONDS = 5.0
-_AGAIN_SECONDS = 0.5
-_STARTING_SECONDS = 20.0
-# How long after a loss the server is tried again.
-_AGAIN_MILLISECONDS = 1_000
+# A line of a batch takes some 0.1 milliseconds. A step may be a large batch, and a save writes the whole store.
+_LINE_SECONDS = 0.005
+_LONG_SECONDS = 30.0
+_AGAIN_SECONDS = 0.2
+_STARTING_SECONDS = 30.0
+# How long after a loss the server is tried again at first, and at most: each time it takes twice as long.
+_AGAIN_MILLISECONDS = 500
+_AGAIN_MILLISECONDS_MAX = 16_000
 # How many features are asked for in one call.
 _ROWS = 5_000
 
@@ -85,11 +89,13 @@ class Session(QObject):
         self._client: Client | None = None
         self._events: Events | None = None
         self._notifier: Any = None
+        self._wait = _AGAIN_MILLISECONDS
         self._again = QTimer(self)
         self._again.setSingleShot(True)
         self._again.timeout.connect(self._try_again)
+        # A large store takes its time until it is loaded.
         start_server(path, Session.program, _STARTING_SECONDS)
-        self._connect(CALL_SECONDS)
+        self._connect(_STARTING_SECONDS)
 
     @property
     def editor(self) -> int:
@@ -126,42 +132,46 @@ class Session(QObject):
 
     def identifiers(self, layer: str) -> list[int]:
         """The features of a layer; none where it is not there any more."""
-        try:
-            found: list[int] = self.call("ids", layer=layer)["ids"]
-        except CallFailed as failed:
-            if failed.status != 503:
-                raise
-            return []
+        found: list[int] = _checked(self.call("ids", layer=layer)).get("ids", [])
         return found
 
     def rows(self, layer: str, numbers: Sequence[int]) -> list[str]:
         """The rows of features, of those that are there."""
-        found: list[str] = []
-        for begin in range(0, len(numbers), _ROWS):
-            part = list(numbers[begin : begin + _ROWS])
-            try:
-                found += self.call("rows", layer=layer, ids=part)["rows"]
-            except CallFailed as failed:
-                if failed.status != 503:
-                    raise
-        return found
+        return [row for part in self.parts(layer, numbers) for row in part]
+
+    def parts(self, layer: str, numbers: Sequence[int]) -> Iterator[list[str]]:
+        """The rows of features, some thousands at a time: the next ones are on their way meanwhile."""
+        bodies = (
+            {"layer": layer, "ids": list(numbers[begin : begin + _ROWS])} for begin in range(0, len(numbers), _ROWS)
+        )
+        try:
+            for answer in self._connected().calls("rows", bodies):
+                yield _checked(answer).get("rows", [])
+        except ServerGone:
+            self._lose()
+            raise
 
     def mirror(self, layer: str, kind: str = "") -> Mirror:
         """The mirror of a layer, or of one kind of a layer that takes any. `LayerRefused` where there is none."""
-        for each in self.layers():
-            if each["name"] == layer:
-                shown = kind or each["kind"]
-                if shown == "any":
-                    raise LayerRefused(f"{layer} has geometries of any kind: name one, as by |geometrytype=polygon")
-                if (layer, shown) not in self.mirrors:
-                    columns = [Column(column["name"], column["type"]) for column in each["columns"]]
-                    self.mirrors[layer, shown] = Mirror(self, layer, shown, columns)
-                return self.mirrors[layer, shown]
-        raise LayerRefused(f"{self.path} has no layer {layer}")
+        if (layer, kind) not in self.mirrors:
+            if QThread.currentThread() != self.thread():
+                raise LayerRefused(f"{layer} is not open yet, and can be opened by QGIS' main thread alone")
+            self.mirrors[layer, kind] = self._made(layer, kind)
+        return self.mirrors[layer, kind]
+
+    def _made(self, layer: str, kind: str) -> Mirror:
+        found = next((each for each in self.layers() if each["name"] == layer), None)
+        if found is None:
+            raise LayerRefused(f"{self.path} has no layer {layer}")
+        shown = kind or found["kind"]
+        if shown not in WKB_NAMES:
+            raise LayerRefused(f"{layer} has geometries of any kind: name one, as by |geometrytype=polygon")
+        return Mirror(self, layer, shown, [Column(column["name"], column["type"]) for column in found["columns"]])
 
     def batch(self, lines: Sequence[str], seen: Sequence[int | None]) -> list[str]:
         """Has lines carried out as a whole, and gives their answers. `Refusal` where one is refused."""
-        answer = self.call("batch", page=self._token, lines=list(lines), seen=list(seen))
+        seconds = CALL_SECONDS + len(lines) * _LINE_SECONDS
+        answer = self.call("batch", seconds, page=self._token, lines=list(lines), seen=list(seen))
         if "refused" in answer:
             raise Refusal(answer["refused"])
         self._own.add(answer["version"])
@@ -170,7 +180,8 @@ class Session(QObject):
 
     def line(self, line: str) -> dict[str, Any]:
         """The answer of a line of the console. `Refusal` where it is refused."""
-        answer = self.call("line", page=self._token, line=line, seen=self.version)
+        seconds = _LONG_SECONDS if line in ("undo", "redo", "save") else CALL_SECONDS
+        answer = self.call("line", seconds, page=self._token, line=line, seen=self.version)
         if "refused" in answer:
             raise Refusal(answer["refused"])
         return answer
@@ -179,15 +190,17 @@ class Session(QObject):
         """Has a mirror read all anew, once what goes on now has ended."""
 
         def reload() -> None:
-            with contextlib.suppress(CallFailed, ServerGone):
+            with contextlib.suppress(CallFailed, Refusal, ServerGone):
                 mirror.load_anew()
 
         QTimer.singleShot(0, reload)
 
-    def call(self, name: str, **body: Any) -> dict[str, Any]:
+    def call(self, name: str, seconds: float = CALL_SECONDS, **body: Any) -> dict[str, Any]:
         """The answer of a call. `ServerGone` where there is none within some seconds, or none is waited for."""
+        client = self._connected()
+        client.seconds = seconds
         try:
-            return self._connected().call(name, **body)
+            return client.call(name, **body)
         except ServerGone:
             self._lose()
             raise
@@ -206,7 +219,6 @@ class Session(QObject):
         except BaseException:
             client.close()
             raise
-        client.seconds = CALL_SECONDS
         # Of edits under another token it is not known here that they were this QGIS' own.
         self._token = secrets.token_urlsafe(12)
         self._client, self._events = client, events
@@ -229,7 +241,8 @@ class Session(QObject):
         """Gives a server up that does not answer, and tries it again later."""
         if self._client is not None:
             self._disconnect()
-            self._again.start(_AGAIN_MILLISECONDS)
+            self._wait = _AGAIN_MILLISECONDS
+            self._again.start(self._wait)
             self.lost.emit()
 
     def _try_again(self) -> None:
@@ -239,9 +252,10 @@ class Session(QObject):
             self._connect(_AGAIN_SECONDS)
             for mirror in self.mirrors.values():
                 mirror.load_anew()
-        except (CallFailed, ServerGone):
+        except (CallFailed, Refusal, ServerGone):
             self._disconnect()
-            self._again.start(_AGAIN_MILLISECONDS)
+            self._wait = min(2 * self._wait, _AGAIN_MILLISECONDS_MAX)
+            self._again.start(self._wait)
         else:
             self.renewed.emit()
 
@@ -252,12 +266,11 @@ class Session(QObject):
         try:
             news = self._events.take()
             self._follow(followed(news, self._own))
-        except (CallFailed, ServerGone) as error:
+            for event in news:
+                self._note(event)
+        except (CallFailed, Refusal, ServerGone) as error:
             QgsMessageLog.logMessage(str(error), "sfstore")
             self._lose()
-            return
-        for event in news:
-            self._note(event)
 
     def _follow(self, news: Followed) -> None:
         if news.is_anew:
@@ -284,6 +297,15 @@ class Session(QObject):
             self.edited.emit(event)
             if any(change["what"] == "layers" for change in event["changed"]):
                 self.layers_changed.emit()
+
+
+def _checked(answer: dict[str, Any]) -> dict[str, Any]:
+    """The answer of a question about a layer; an empty one where the layer is not there any more."""
+    if "refused" not in answer:
+        return answer
+    if answer["refused"]["name"] == "NoLayer":
+        return {}
+    raise Refusal(answer["refused"])
 
 
 def _placed(path: str) -> tuple[str, Grid, Any]:

@@ -8,7 +8,7 @@ are carried out one after another, and where one is refused nevertheless those b
 from __future__ import annotations
 
 import re
-from collections.abc import Sequence
+from collections.abc import Callable, Sequence
 from typing import NamedTuple
 
 from sfstore import spelling
@@ -17,7 +17,7 @@ from sfstore.program import is_edit
 from sfstore.store import Answer, Editor, Refused
 from sfstore.web.changes import feature_of
 
-__all__ = ["LINES_MAX", "Batch", "Done", "LineRefused", "Outcome", "batch_of", "carry_out"]
+__all__ = ["LAST", "LINES_MAX", "Batch", "Done", "LineRefused", "Outcome", "batch_of", "carry_out", "take_back"]
 
 LINES_MAX = 100_000
 """How many lines a batch has at most."""
@@ -25,10 +25,11 @@ LINES_MAX = 100_000
 # What is no line of a batch: questions, and steps of the history.
 _OTHERS = QUESTIONS | {"undo", "redo"}
 
-# A line that names the feature of the nearest addition before it to the same layer.
-_LAST = re.compile(
+LAST = re.compile(
     r"([ \t]*(?:set|unset|delete|replace|vertex[ \t]+[a-z]+)[ \t]+([^ \t]+)[ \t]+)last(?=[ \t\r]|$)"
 )
+"""The front of a line that names the feature of the nearest addition before it to the same layer."""
+
 # How many words stand before a geometry.
 _BEFORE_GEOMETRY = {"add": 2, "replace": 3}
 
@@ -108,15 +109,19 @@ def _check(line: object, version: object) -> None:
         raise ValueError("seen has to be a whole number for a line that edits a feature")
 
 
-def carry_out(editor: Editor, lines: Sequence[str]) -> Outcome:
+def carry_out(
+    editor: Editor, lines: Sequence[str], begin: Callable[[list[str]], object] = lambda sent: None
+) -> Outcome:
     """Carries out lines as a whole.
 
-    Lines that name a new feature as ``last`` are carried out behind all others.
+    Lines that name a new feature as ``last`` are carried out behind all others. ``begin`` is called
+    with the lines in this order, before the first of them is carried out.
     """
     late = _late_ones(lines)
     refused = _judged(editor, lines)
     if refused is not None:
         return Outcome([], [], refused)
+    begin([*(line for at, line in enumerate(lines) if at not in late), *(lines[at] for at in late)])
     accepted: list[tuple[str, str]] = []
     answers: dict[int, Answer | Refused] = {}
     early = {at: line for at, line in enumerate(lines) if at not in late}
@@ -127,7 +132,7 @@ def carry_out(editor: Editor, lines: Sequence[str]) -> Outcome:
         accepted += _sent(editor, numbered, answers)
         refused = _first_refused(answers)
     if refused is not None:
-        return Outcome([], accepted + _taken_back(editor, len(accepted)), refused)
+        return Outcome([], accepted + take_back(editor, len(accepted)), refused)
     return Outcome([str(answers[at]) for at in range(len(lines))], accepted, None)
 
 
@@ -136,7 +141,7 @@ def _late_ones(lines: Sequence[str]) -> dict[int, _Late]:
     additions: dict[str, int] = {}
     late: dict[int, _Late] = {}
     for at, line in enumerate(lines):
-        found = _LAST.match(line)
+        found = LAST.match(line)
         if found is not None:
             if found[2] not in additions:
                 raise ValueError(f"no line before {line[:40]!r} adds a feature to {found[2]}")
@@ -167,7 +172,7 @@ def _question(line: str) -> str:
 
 
 def _sent(editor: Editor, lines: dict[int, str], answers: dict[int, Answer | Refused]) -> list[tuple[str, str]]:
-    """Has lines carried out, and puts down their answers. Gives those that were accepted."""
+    """Has lines carried out, and notes their answers. Gives those that were accepted."""
     outcomes = editor.run_all(lines.values())
     answers.update(zip(lines, outcomes))
     return [(line, str(each)) for line, each in zip(lines.values(), outcomes) if is_edit(line.encode(), each)]
@@ -182,7 +187,7 @@ def _first_refused(answers: dict[int, Answer | Refused]) -> LineRefused | None:
     return LineRefused(min(refused), refused[min(refused)]) if refused else None
 
 
-def _taken_back(editor: Editor, count: int) -> list[tuple[str, str]]:
+def take_back(editor: Editor, count: int) -> list[tuple[str, str]]:
     """Undoes the last lines, and leaves a step that changes nothing as the one to redo. Gives what was accepted."""
     if not count:
         return []

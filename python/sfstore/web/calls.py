@@ -229,17 +229,20 @@ class Calls:
         """The features of a layer, or those that meet a box."""
         layer = spelling.name(_text(body, "layer"))
         box = None if body.get("box") is None else _box(body)
-        looks = self._looks
-        return looks.ask(
-            editor, lambda store: {"ids": identifiers_of(store, layer, box), "version": looks.version}
-        )
+        return self._looked(editor, layer, lambda store: {"ids": identifiers_of(store, layer, box)})
 
     def _rows(self, editor: int, body: Body) -> Body:
         """Features with their geometries and values, of those that are there."""
-        layer, features, looks = spelling.name(_text(body, "layer")), ids_of(body.get("ids")), self._looks
-        return looks.ask(
-            editor, lambda store: {"rows": rows_of(store, layer, features), "version": looks.version}
-        )
+        layer, features = spelling.name(_text(body, "layer")), ids_of(body.get("ids"))
+        return self._looked(editor, layer, lambda store: {"rows": rows_of(store, layer, features)})
+
+    def _looked(self, editor: int, layer: str, question: Callable[[Store], Body]) -> Body:
+        """What a question about a layer gives, with the version that it is of; or that there is no such layer."""
+        looks = self._looks
+        try:
+            return looks.ask(editor, lambda store: {**question(store), "version": looks.version})
+        except Refused as refused:
+            return {"refused": self._refusal(refused, f"show {layer}")}
 
     def _meanwhile(self, target: Target, change: Change | None) -> str:
         """Who changed what before an edit, in a sentence."""
@@ -371,7 +374,7 @@ def _told_tile(tile: Tile, picture: Picture, seen: int) -> Body:
     told = {"x": tile.x, "y": tile.y, "count": picture.features, "whole": picture.is_whole, "version": picture.version}
     if picture.version == seen:
         return told
-    return {**told, "png": b64encode(png(picture.cells)).decode() if picture.cells else None}
+    return {**told, "png": b64encode(png(picture.cells)).decode() if picture.packed else None}
 
 
 def _names(body: Body) -> set[str]:

@@ -8,6 +8,7 @@ Each call has a limit of time. docs/use/PAGE.md of the project has the calls.
 
 from __future__ import annotations
 
+import contextlib
 import json
 import os
 import socket
@@ -15,6 +16,7 @@ import subprocess  # nosec B404: the server is started, without a shell.
 import sys
 import tempfile
 import time
+from collections.abc import Iterable, Iterator
 from pathlib import Path
 from types import TracebackType
 from typing import IO, Any, NamedTuple
@@ -78,26 +80,50 @@ class Client:
 
         After `ServerGone` it is not known whether the call was carried out, and the connection is closed.
         """
-        asked = json.dumps({"call": call, **body}, ensure_ascii=False).encode("utf-8", "surrogatepass")
+        [answer] = self.calls(call, [body])
+        return answer
+
+    def calls(self, call: str, bodies: Iterable[dict[str, Any]]) -> Iterator[dict[str, Any]]:
+        """The answers of calls, of which each is sent before the answer of the one before it is given.
+
+        So the server does the next one meanwhile. Whoever takes not all of them closes the connection.
+        """
+        waiting = 0
         try:
-            answer = json.loads(self._exchanged(asked + b"\n"))
-        except (OSError, ValueError) as error:
-            self.close()
-            raise ServerGone(f"The server of {self._store} does not answer: {error}.") from error
-        if answer["status"] != 200:
-            raise CallFailed(answer["status"], answer["error"])
-        found: dict[str, Any] = answer["answer"]
-        return found
+            for body in bodies:
+                self._send({"call": call, **body})
+                waiting += 1
+                if waiting > 1:
+                    waiting -= 1
+                    yield self._answer()
+            while waiting:
+                waiting -= 1
+                yield self._answer()
+        finally:
+            if waiting:
+                self.close()
 
     def events(self) -> Events:
         """A further connection that hears what happens."""
         return Events(_connected(self._store, self.seconds))
 
-    def _exchanged(self, asked: bytes) -> bytes:
-        """Sends a line, and reads one, within the limit of time."""
-        until = time.monotonic() + self.seconds
-        self._connection.settimeout(self.seconds)
-        self._connection.sendall(asked)
+    def _send(self, call: dict[str, Any]) -> None:
+        """Sends a call within the limit of time."""
+        line = json.dumps(call, ensure_ascii=False).encode("utf-8", "surrogatepass")
+        with self._guarded():
+            self._connection.settimeout(self.seconds)
+            self._connection.sendall(line + b"\n")
+
+    def _answer(self) -> dict[str, Any]:
+        """The next answer, within the limit of time."""
+        with self._guarded():
+            answer = json.loads(self._line(time.monotonic() + self.seconds))
+        if answer["status"] != 200:
+            raise CallFailed(answer["status"], answer["error"])
+        found: dict[str, Any] = answer["answer"]
+        return found
+
+    def _line(self, until: float) -> bytes:
         parts: list[bytes] = []
         while not parts or not parts[-1].endswith(b"\n"):
             self._connection.settimeout(max(until - time.monotonic(), 0.001))
@@ -105,6 +131,15 @@ class Client:
             if not parts[-1]:
                 raise ConnectionError("it has ended")
         return b"".join(parts)
+
+    @contextlib.contextmanager
+    def _guarded(self) -> Iterator[None]:
+        """Closes a connection on which nothing comes, or what is no answer: a later one would be taken for another."""
+        try:
+            yield
+        except (OSError, ValueError) as error:
+            self.close()
+            raise ServerGone(f"The server of {self._store} does not answer: {error}.") from error
 
 
 class Events:
@@ -209,10 +244,11 @@ _servers: dict[str, _Server] = {}
 
 
 def _is_there(store: str) -> bool:
+    """Whether a server can be connected to, be it busy or not. It takes no time."""
     try:
-        _connected(store, _SECONDS).close()
-    except ServerGone:
-        return False
+        _connected(store, 0.0).close()
+    except ServerGone as gone:
+        return isinstance(gone.__cause__, BlockingIOError)
     return True
 
 

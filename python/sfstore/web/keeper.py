@@ -11,7 +11,8 @@ from typing import NamedTuple, TypeVar, cast
 from sfstore.journal import JournalError
 from sfstore.program import is_edit
 from sfstore.store import Answer, Editor, ProgramEnded, Refused, Store
-from sfstore.web.batches import Batch, Done, LineRefused, carry_out
+from sfstore.web.batches import Batch, Done, LineRefused, carry_out, take_back
+from sfstore.web.batchlog import BatchLog
 from sfstore.web.changes import Change, Changes, Target, feature_of
 from sfstore.web.steps import Step, Steps
 
@@ -92,6 +93,7 @@ class Keeper:
         self._program = program
         self._store: Store | None = None
         self._steps = Steps()
+        self._log = BatchLog(path)
         self._changes = Changes()
         self._version = 0
         self._file = 0
@@ -175,7 +177,7 @@ class Keeper:
                 warnings.simplefilter("ignore", RuntimeWarning)
                 store = Store(self._path, journal=True, program=self._program)
             try:
-                self._steps = Steps(store.unsaved_lines)
+                self._steps = self._found_steps(store)
             except BaseException:
                 # Another program has written the file in this very moment.
                 store.close(save=False)
@@ -186,6 +188,13 @@ class Keeper:
             # An edit that was in doubt may be there or not.
             self._changes.forget(self._version)
         return self._store
+
+    def _found_steps(self, store: Store) -> Steps:
+        """The steps of the journal. What a crash has left of a batch is taken back: it was not answered."""
+        found = self._log.found(store.unsaved_lines)
+        if found.left:
+            take_back(_speaker(store, found.editor), found.left)
+        return Steps(store.unsaved_lines, found.groups)
 
     def _carry_out(self, store: Store, asked: Asked) -> Answer:
         self._check_seen(asked)
@@ -204,7 +213,13 @@ class Keeper:
         editor, page = batch.editor, batch.page
         for line, seen in zip(batch.lines, batch.seen):
             self._check_seen(Asked(editor, page, line, seen))
-        outcome = carry_out(_speaker(store, editor), batch.lines)
+
+        def begin(lines: Sequence[str]) -> None:
+            # One line is carried out, or it is not.
+            if len(lines) > 1:
+                self._log.begin(store.unsaved, editor, lines)
+
+        outcome = carry_out(_speaker(store, editor), batch.lines, begin)
         group = self._version + 1
         asked = (Asked(editor, page, line, None) for line, _ in outcome.accepted)
         answers = (answer for _, answer in outcome.accepted)
@@ -247,6 +262,7 @@ class Keeper:
         finally:
             # One that has failed may have come as far as the file.
             if not store.unsaved:
+                self._log.forget()
                 self._steps = Steps()
                 self._version += 1
                 self._file += 1

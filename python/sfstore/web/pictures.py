@@ -7,6 +7,7 @@ quarters. What was drawn is kept, and an edit has only the tiles drawn again tha
 from __future__ import annotations
 
 import time
+import zlib
 from collections.abc import Sequence
 from typing import NamedTuple
 
@@ -27,7 +28,7 @@ LEVEL_MAX = 16
 _FEATURES_MAX = 20_000
 # How many geometries are asked for at a time.
 _PART = 1_000
-# How many tiles are kept, of 64 KB each.
+# How many tiles are kept, of some KB each.
 _KEPT_MAX = 4_096
 # An edit that meets more tiles has its layer's pictures drawn anew.
 _MET_MAX = 1_000
@@ -65,14 +66,19 @@ class Tile(NamedTuple):
 class Picture(NamedTuple):
     """What a tile shows of a layer."""
 
-    cells: bytes
-    """As of `raster`; nothing where there is no feature."""
+    packed: bytes
+    """Its cells, compressed; nothing where there is no feature."""
     features: int
     """How many features met the tile when they were counted."""
     is_whole: bool
     """Whether all of it is drawn: where not, asking again goes on with it."""
     version: int
     """Another one whenever the picture is."""
+
+    @property
+    def cells(self) -> bytes:
+        """As of `raster`; nothing where there is no feature."""
+        return zlib.decompress(self.packed) if self.packed else b""
 
 
 class Pictures:
@@ -135,11 +141,13 @@ class Pictures:
 
     def _made(self, cells: bytes, count: int, is_whole: bool) -> Picture:
         self._version += 1
-        return Picture(cells, count, is_whole, self._version)
+        return Picture(zlib.compress(cells, 1) if cells else b"", count, is_whole, self._version)
 
     def _keep(self, layer: str, tile: Tile, picture: Picture) -> None:
         if sum(map(len, self._known.values())) >= _KEPT_MAX:
-            self._known.clear()
+            # The oldest of the layer that has the most.
+            most = max(self._known.values(), key=len)
+            del most[next(iter(most))]
         self._known.setdefault(layer, {})[tile] = picture
 
     def _outdate(self, store: Editor, edits: Sequence[Edit]) -> None:

@@ -37,16 +37,19 @@ class Step(NamedTuple):
 class Steps:
     """What was done and what was undone, as far as the history of the program goes."""
 
-    def __init__(self, lines: Iterable[str] = ()) -> None:
-        """The steps of accepted lines, each with the number of its editor or without."""
+    def __init__(self, lines: Iterable[str] = (), groups: Iterable[range] = ()) -> None:
+        """The steps of accepted lines, each with the number of its editor or without.
+
+        ``groups`` are the places of those that are one step.
+        """
         self._done: list[Step] = []
         self._undone: list[Step] = []
-        for line in lines:
+        # Those of a session are counted from 1 on.
+        group_at = {at: -number for number, group in enumerate(groups, 1) for at in group}
+        for at, line in enumerate(lines):
             found = _ADDRESS.match(line)
-            if found is None:
-                self.take(0, line)
-            else:
-                self.take(int(found[1]), line[found.end() :])
+            editor, rest = (0, line) if found is None else (int(found[1]), line[found.end() :])
+            self.take(editor, rest, "", group_at.get(at, 0))
 
     def take(self, editor: int, line: str, answer: str = "", group: int = 0) -> Step:
         """Follows an accepted line, and gives the step that it made or moved.
