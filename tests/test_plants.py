@@ -10,8 +10,7 @@ TOP = Path(__file__).resolve().parent.parent
 sys.path.insert(0, str(TOP / "bench"))
 
 import plants  # noqa: E402
-
-STORED_RUN = "the stored run of "
+from planted import file_of  # noqa: E402
 
 OUTPUT = """\
 rt: sf_query: trying its must-fail edits (3)
@@ -21,13 +20,6 @@ rt: must-fail sf_query/sf_query-three.edit: refused, as it must be (only because
 rt: must-fail sf_query/sf_query-four.edit: BAD EDIT: the prover cannot read the edited text
 rt: must-fail sf_query/sf_query-five.edit: NOT TRIED: its check was killed
 """
-
-
-def has_test(name: str, texts: list[str]) -> bool:
-    """Whether a test of that name is among the sources, or a program has such a stored run."""
-    if name.startswith(STORED_RUN):
-        return (TOP / "crates" / name[len(STORED_RUN) :] / "stdout").is_file()
-    return any(f" {name}(" in text for text in texts)
 
 
 class Plants(unittest.TestCase):
@@ -51,17 +43,16 @@ class Plants(unittest.TestCase):
     def test_fields_out_of_place_are_refused(self) -> None:
         file, old, new = ("file", "src/lib.rt"), ("old", "1"), ("new", "2")
         self.assertEqual(plants.changes_of([file, old, new]), {"src/lib.rt": [("1", "2")]})
-        for fields in ([], [file], [file, old], [file, new, old], [old, new], [file, old, new, ("note", "3")]):
+        cases: list[plants.Pairs] = [[], [file], [file, old], [file, new, old], [old, new], [file, old, new, ("note", "3")]]
+        for fields in cases:
             with self.subTest(fields=fields), self.assertRaises(ValueError):
                 plants.changes_of(fields)
 
     def test_each_says_what_is_expected(self) -> None:
-        files = [*(TOP / "tests").glob("*.py"), *(TOP / "python" / "tests").glob("*.py"), *TOP.glob("crates/sf_tests*/src/*.rt")]
-        texts = [path.read_text(encoding="utf-8") for path in files]
         for plant in self.plants:
             with self.subTest(plant.name):
                 self.assertRegex(plant.expected, f"^({plants.EXPECTED.pattern})$")
-                self.assertTrue(not plant.test or has_test(plant.test, texts), plant.test)
+                self.assertTrue(not plant.test or file_of(plant.test, TOP).is_file(), plant.test)
 
     def test_no_other_file_is_among_them(self) -> None:
         self.assertEqual(len(list(plants.PLANTS.iterdir())), len(self.plants))

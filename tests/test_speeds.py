@@ -1,8 +1,9 @@
 """Speed that the pages claim and no contract states: processor time of the built program, beside work that is known.
 
 Each claim has lines of known work and lines that ask. What the asked ones take is told as so many times what the known
-ones take, so that a slow or a busy machine makes no difference, and may be ten times what it needs: what each test
-refuses takes far more than that, and the contracts let it through. With SPEEDS set each tells its figures.
+ones take, so that a slow or a busy machine makes no difference, and may be ten times what it needs, or less where a claim
+says so: what each test refuses takes far more than that, and the contracts let it through. Reads are counted. With SPEEDS
+set each tells its figures. The program is the one that SFSTORE names, else that of the checkout.
 """
 
 from __future__ import annotations
@@ -24,8 +25,9 @@ sys.path.insert(0, str(TOP / "bench"))
 
 from questions import ROUND, WINDOW, ring  # noqa: E402
 from towns import border, square, squares, street, town  # noqa: E402
+from towns import points as places_in_rows  # noqa: E402
 
-STORE = TOP / "crates" / "sfstore" / "out" / "sfstore"
+STORE = Path(os.environ.get("SFSTORE") or TOP / "crates" / "sfstore" / "out" / "sfstore")
 RUNS = 2
 # A processor's seconds for one run, where a claim does not hold.
 SECONDS = 300
@@ -179,6 +181,48 @@ def areal_across(places: Places) -> list[tuple[int, int]]:
     return closed([*places, (top + 100, top), (top + 100, 0)])
 
 
+# A line that meets itself at its left end, is low for thousands of edges, and then goes to and fro across itself so often.
+LOW, STRANDS = 3_900, 65
+
+
+def fan() -> Places:
+    """That line: each of its last edges crosses all others of them, so that walks over few cells have a million there."""
+    low = [(20 + 2 * k, 20 + k % 2) for k in range(LOW)]
+    heights = [(1_000 * k + k * k * 7 % 991, 1_000 * (STRANDS - k) + k * k * 13 % 983) for k in range(STRANDS)]
+    strands = [place for left, right in heights for place in ((10_000, left), (1_000_000, right))]
+    return [(0, 0), (10, 10), (10, 0), (0, 10), *low, *strands]
+
+
+# A star of which two tips lie on the axes to the right and down, and an area in it that has an arm in either of these tips.
+TIPS, AHEAD = 2_044, 200
+
+
+def star() -> Places:
+    """The star, from so many corners before its tip on the right on."""
+    angles = [math.pi * (k - AHEAD) / TIPS for k in range(2 * TIPS)]
+    radii = [(500_000, 250_000)[k % 2] for k in range(2 * TIPS)]
+    return closed([(round(radius * math.cos(a)), round(radius * math.sin(a))) for radius, a in zip(radii, angles)])
+
+
+def armed() -> Places:
+    """The area in it: its arm to the right leaves the star at the end of the tip, and that down ends in its tip."""
+    down = [(-2, -100_000), (-2, -450_000), (2, -450_000), (2, -100_000)]
+    right = [(100_000, -2), (510_000, -2), (510_000, 2), (100_000, 2)]
+    above = [(100_000 - 20_000 * k, 100_000) for k in range(11)]
+    return closed([*down, (100_000, -100_000), *right, *above, (-100_000, -100_000)])
+
+
+def level_edge() -> Places:
+    """The corners of an area with thousands of edges on one line at the bottom, and a slanted side to its right at first."""
+    return closed([(EDGES - 4, 0), (EDGES + 1_000, 1_000), (0, 1_000), *((k, 0) for k in range(EDGES - 4))])
+
+
+def across_it() -> Places:
+    """The corners of an area across both of its sides, with one edge on that line, right of it."""
+    above = [(5_000 - 10 * k, 600) for k in range(12)]
+    return closed([(5_000, 0), (5_010, 0), (5_010, 600), *above, (-10, 600), (-10, 500), (5_000, 500)])
+
+
 # Two squares that share an edge, left of all these, and a ring round all.
 PAIR = [closed([(x, 0), (x + 100, 0), (x + 100, 100), (x, 100)]) for x in (-300, -200)]
 AROUND = closed([(-400, -400), (400 * TEETH, -400), (400 * TEETH, 400 * TEETH), (-400, 400 * TEETH)])
@@ -268,6 +312,23 @@ class Speeds(unittest.TestCase):
         asked = [f"relate a 1 {text('POLYGON', across)}"] * 20
         self.check(Claim(["layer add a polygon", *[f"add a {text('POLYGON', upright)}"] * 20], asked, 1.3, b"212101212"))
 
+    def test_walks_over_few_cells_end_early(self) -> None:
+        """Refuses walks over cells that are few at most places, and never end: the first edges tell."""
+        known = [f"add a {text('LINESTRING', fan())}"] * 20
+        self.check(Claim(["layer add a linestring", *known], [f"simple a {k}" for k in range(1, 21)], 1.9, b"false", 5))
+
+    def test_crossing_edges_spare_a_walk(self) -> None:
+        """Refuses walks over a star where two edges cross, and a search that is given up before it comes to them."""
+        known = [f"add a {text('POLYGON', star())}"] * 10
+        asked = [f"relate a 1 {text('POLYGON', armed())}"] * 200
+        self.check(Claim(["layer add a polygon", *known], asked, 0.4, b"212101212", 4))
+
+    def test_runs_are_tried_with_those_that_they_reach(self) -> None:
+        """Refuses a search for edges along one another that tries all pairs of thousands on one line."""
+        known = [f"add a {text('POLYGON', level_edge())}"] * 20
+        asked = [f"relate a 1 {text('POLYGON', across_it())}"] * 50
+        self.check(Claim(["layer add a polygon", *known], asked, 0.3, b"212101212", 5))
+
     def test_boxes_that_are_apart_are_not_walked(self) -> None:
         """Refuses walks over all edges where the boxes tell the matrix."""
         apart = [f"relate a 1 POLYGON ((-9 -900, -2 -900, -2 -800, -9 -{k}, -9 -900))" for k in range(300, 800)]
@@ -298,6 +359,40 @@ class Speeds(unittest.TestCase):
         given = [town(IN_TOWN, False), street(IN_TOWN)]
         asked = [f"query a {predicate} {each}" for predicate in ("within", "crosses", "touches") for each in given]
         self.check(Claim(["layer add a polygon", *squares(IN_TOWN)], [*asked, "layers"], 9.0, b"a polygon"))
+
+    def test_what_is_between_slanted_edges_is_told_by_its_box(self) -> None:
+        """Refuses walks for what is in the boxes of a line's edges and off the edges."""
+        line = high_zigzag(4_096, False)
+        between = [f"add a {ring(20, 100 * k, 200_000, (30, 30))}" for k in range(1, 2_001)]
+        asked = [f"query a {predicate} {text('LINESTRING', line)}" for predicate in ("crosses", "within", "touches")]
+        self.check(Claim(["layer add a polygon", *between], [*asked, "layers"], 0.4, b"a polygon"))
+
+    def test_the_place_of_a_point_is_told_by_edges_above_it(self) -> None:
+        """Refuses a pass over all edges of a town for each of many points."""
+        asked = [f"query a within {town(IN_TOWN, False)}"] * 3
+        self.check(Claim(["layer add a point", *places_in_rows(IN_TOWN)], [*asked, "layers"], 1.1, b"a point", 4))
+
+    def test_a_small_geometry_beside_a_large_one_is_not_walked(self) -> None:
+        """Refuses walks over all edges of a line for a pattern, where those of a small geometry show no contact."""
+        known = [f"add a {text('LINESTRING', high_zigzag(4_096, True))}"] * 20
+        asked = ["match a FF*FF**** POLYGON ((200000 320, 200010 320, 200010 330, 200000 330, 200000 320))"] * 20
+        self.check(Claim(["layer add a linestring", *known], asked, 1.0, b"20"))
+
+
+class Reads(unittest.TestCase):
+    def test_reads_are_large(self) -> None:
+        """Refuses reads of some bytes: whoever shares the file sees how much was read before the first answer."""
+        with tempfile.TemporaryFile() as source:
+            source.write(b"undo\n" * 100_000)
+            source.seek(0)
+            child = subprocess.Popen([STORE], stdin=source, stdout=subprocess.PIPE)
+            assert child.stdout is not None
+            with child.stdout as sink:
+                first = sink.read(1)
+                read = os.lseek(source.fileno(), 0, os.SEEK_CUR)
+                sink.read()
+            self.assertEqual((first, child.wait()), (b"r", 0))
+        self.assertGreaterEqual(read, 65_536)
 
 
 if __name__ == "__main__":
