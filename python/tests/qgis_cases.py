@@ -106,8 +106,8 @@ class Commits(QgisCase):
         self.assertFalse(parcels.commitChanges())
         self.turn()
         said = " ".join(self.said())
-        self.assertIn("Refused (13 RingNotSimple): a ring meets itself", said)
-        self.assertIn("Here: edges 0 and 2 of ring 0 meet at (500523.3333 5600053.333).", said)
+        place = "edges 0 and 2 of ring 0 meet at (500523.3333 5600053.333)"
+        self.assertIn(f"parcels: Refused (13 RingNotSimple): a ring meets itself, {place}. Move or remove", said)
         self.assertEqual(len(self.plugin.teller._markers), 1)
         self.assertEqual(len(parcels.editBuffer().addedFeatures()), 1)
         self.assertEqual(parcels.editBuffer().deletedFeatureIds(), [self.fid(3)])

@@ -21,13 +21,14 @@ _MARKER_PIXELS, _PEN_PIXELS = 18, 3
 _SHOWN_SECONDS = 10
 
 
-def words_of(error: Exception) -> str:
-    """Why something was not done, in words."""
+def words_of(error: Exception, place: str = "") -> str:
+    """Why something was not done, in words: the place before what helps, as a bar may show the beginning alone."""
     if not isinstance(error, Refusal):
         return str(error)
     told = error.told
     whose = f" ({told['whose']['editor']}: {told['whose']['line']})" if told.get("whose") else ""
-    return f"Refused ({told['number']} {told['name']}): {told['reason']}{whose}. {told['help']}"
+    reason = f"{told['reason']}{whose}{f', {place}' if place else ''}"
+    return f"Refused ({told['number']} {told['name']}): {reason}. {told['help']}"
 
 
 def place_of(error: Exception, grid: Grid) -> str:
@@ -65,8 +66,7 @@ class Teller:
     def refuse(self, layer: str, error: Exception, grid: Grid) -> None:
         """Says why an edit was not taken, and marks the place."""
         self.clear()
-        place = place_of(error, grid)
-        self.tell(f"{layer}: {words_of(error)}{f' Here: {place}.' if place else ''}", Qgis.Critical)
+        self.tell(f"{layer}: {words_of(error, place_of(error, grid))}", Qgis.Critical)
         self._mark(points_of(error, grid))
 
     def clear(self) -> None:
