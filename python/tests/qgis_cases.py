@@ -9,6 +9,8 @@ import time
 import unittest
 
 from qgis.core import (
+    QgsCoordinateReferenceSystem,
+    QgsCoordinateTransform,
     QgsFeature,
     QgsFeatureRequest,
     QgsField,
@@ -108,7 +110,7 @@ class Commits(QgisCase):
         said = " ".join(self.said())
         place = "edges 0 and 2 of ring 0 meet at (500523.3333 5600053.333)"
         self.assertIn(f"parcels: Refused (13 RingNotSimple): a ring meets itself, {place}. Move or remove", said)
-        self.assertEqual(len(self.plugin.teller._markers), 1)
+        self.assertEqual(len(self.plugin.teller._markers), 2)
         self.assertEqual(len(parcels.editBuffer().addedFeatures()), 1)
         self.assertEqual(parcels.editBuffer().deletedFeatureIds(), [self.fid(3)])
         self.assertIn(3, self.stored())
@@ -118,12 +120,25 @@ class Commits(QgisCase):
         self.settle()
         self.assert_alike()
 
+    def test_the_place_is_marked_in_the_reference_system_of_the_map(self):
+        system = QgsCoordinateReferenceSystem("EPSG:3857")
+        self.window.canvas.setDestinationCrs(system)
+        self.layer().startEditing()
+        self.draw(CROSSED)
+        self.layer().commitChanges()
+        self.turn()
+        band, marker = self.plugin.teller._markers
+        shown = QgsCoordinateTransform(self.layer().crs(), system, QgsProject.instance())
+        place = shown.transform(QgsPointXY(500523.0 + 1 / 3, 5600053.0 + 1 / 3))
+        self.assertLess(marker.center().distance(place), 0.1)
+        self.assertTrue(band.asGeometry().boundingBox().contains(place))
+
     def test_what_is_drawn_wrongly_is_told_before_it_is_sent(self):
         self.layer().startEditing()
         self.draw(CROSSED)
         self.turn()
         self.assertIn("parcels, not sent yet: Refused (13 RingNotSimple)", " ".join(self.said()))
-        self.assertEqual(len(self.plugin.teller._markers), 1)
+        self.assertEqual(len(self.plugin.teller._markers), 2)
         self.assertEqual(len(self.stored()), 200)
 
     def test_features_get_numbers_in_the_order_in_which_they_were_drawn(self):

@@ -248,7 +248,7 @@ class Plugin:
         outcome, editing.provider.outcome = editing.provider.outcome, None
         editing.is_prepared = False
         if outcome is not None and outcome.fault is not None:
-            self.teller.refuse(editing.layer.name(), outcome.fault, editing.session.grid)
+            self.teller.refuse(editing.layer.name(), outcome.fault, editing.session)
         elif outcome is not None and editing.layer.isEditable() and editing.layer.isModified():
             editing.settle()
 
@@ -291,7 +291,7 @@ class Plugin:
         fault = commit(editings)
         if fault is None:
             return
-        self.teller.refuse(" and ".join(each.layer.name() for each in editings), fault, editings[0].session.grid)
+        self.teller.refuse(" and ".join(each.layer.name() for each in editings), fault, editings[0].session)
         if not isinstance(fault, ServerGone):
             for each in editings:
                 _take_back(each)
@@ -321,7 +321,7 @@ class Plugin:
                 editing.session.line(f"check {editing.provider.source.layer} {wkt}")
             self.teller.clear()
         except (NotSent, Refusal) as error:
-            self.teller.refuse(f"{editing.layer.name()}, not sent yet", error, editing.session.grid)
+            self.teller.refuse(f"{editing.layer.name()}, not sent yet", error, editing.session)
             return False
         except (CallFailed, ServerGone):
             # It is asked again when it is sent.
