@@ -47,6 +47,18 @@ class Opening(QgisCase):
         owners = [feature["owner"] for feature in parcels.getFeatures("owner = 'Dunn'")]
         self.assertEqual(set(owners), {"Dunn"})
 
+    def test_a_layer_that_is_there_twice_shows_the_same(self):
+        parcels = self.layer()
+        twice = parcels.clone()
+        QgsProject.instance().addMapLayer(twice)
+        self.assertEqual(len(self.plugin.editings), 4)
+        twice.startEditing()
+        twice.changeAttributeValue(self.fid(1, parcels), 2, "twice")
+        self.assertTrue(twice.commitChanges(), twice.commitErrors())
+        self.assertEqual(self.feature(1, parcels)["owner"], "twice")
+        self.settle()
+        self.assert_alike()
+
     def test_a_second_opening_adds_nothing(self):
         self.plugin.open(str(self.path))
         self.assertEqual(len(QgsProject.instance().mapLayers()), 3)
@@ -364,9 +376,6 @@ class AnyKind(QgisCase):
         self.bens(ben, "add m POINT (7 7)", "replace m 1 LINESTRING (0 0, 1 1)")
         self.assertEqual((points.featureCount(), self.layer("m (linestring)").featureCount()), (1, 2))
         self.assert_alike()
-        self.plugin.move("undo") if False else None
-        self.settle()
-        self.assert_alike()
 
 
 class AtOnce(QgisCase):
@@ -472,6 +481,14 @@ class AtOnce(QgisCase):
         self.settle()
         self.assertNotIn("At once", self.stored()[10])
         self.assertEqual(self.feature(10)["owner"] == "At once", False)
+        self.assertTrue(redo.isEnabled())
+        # QGIS has its actions off for a layer without steps.
+        redo.setEnabled(False)
+        self.assertTrue(redo.isEnabled())
+        self.window.make_active(None)
+        redo.setEnabled(False)
+        self.assertFalse(redo.isEnabled())
+        self.window.make_active(parcels)
         self.assertTrue(redo.isEnabled())
         redo.trigger()
         self.settle()

@@ -64,6 +64,7 @@ class Plugin:
         self.bar.addAction(self.switch)
         self.history = History(self._iface.mainWindow(), self)
         self.saving = Saving(self._iface)
+        self._connect(self._iface.currentLayerChanged, self.history.look)
         self._connect(QgsProject.instance().layersAdded, self.watch)
         self._connect(QgsProject.instance().layersWillBeRemoved, self.forget)
         self.watch(QgsProject.instance().mapLayers().values())
@@ -256,6 +257,9 @@ class Plugin:
         if not editing.is_sending:
             editing.provider.outcome = None
         editing.begin()
+        for other in self.editings.values():
+            if other.provider.mirror is editing.provider.mirror and other is not editing:
+                other.layer.triggerRepaint()
         self.teller.clear()
         self._tell_moved(editing)
 
