@@ -373,7 +373,13 @@ class AnyKind(QgisCase):
         self.assertTrue(polygons.commitChanges(), polygons.commitErrors())
         self.assertTrue(self.stored("m")[4].startswith("4 POLYGON"))
         ben = self.ben()
+        self.said()
+        self.bens(ben, "add m MULTILINESTRING ((0 0, 1 1), (2 2, 3 3))")
+        self.assertEqual(self.said(), ["m has a multilinestring now, which is not shown. Open the store again to show it."])
+        self.plugin.open(str(self.path))
+        self.assertEqual(self.layer("m (multilinestring)").featureCount(), 1)
         self.bens(ben, "add m POINT (7 7)", "replace m 1 LINESTRING (0 0, 1 1)")
+        self.assertEqual(self.said(), [])
         self.assertEqual((points.featureCount(), self.layer("m (linestring)").featureCount()), (1, 2))
         self.assert_alike()
 
@@ -627,6 +633,19 @@ class Lost(QgisCase):
         self.assertTrue(self.session.is_connected)
         self.assertFalse(parcels.commitChanges())
         self.assertIn("Ben''s", self.stored()[52])
+
+    def test_a_store_whose_server_hangs_is_not_opened(self):
+        other = self.folder / "other.sfs"
+        self.make(self.lines, other)
+        serving = self.serve(path=other)
+        serving.process.send_signal(signal.SIGSTOP)
+        begun = time.monotonic()
+        self.plugin.tried(lambda: self.plugin.open(str(other)))
+        self.assertLess(time.monotonic() - begun, 8)
+        self.assertIn("does not answer", " ".join(self.said()))
+        serving.process.send_signal(signal.SIGCONT)
+        self.plugin.open(str(other))
+        self.assertEqual(len(self.plugin.editings), 6)
 
     def test_one_that_hangs_does_not_hang_qgis(self):
         parcels = self.layer()

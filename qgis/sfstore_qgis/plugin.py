@@ -192,6 +192,7 @@ class Plugin:
         if session.path not in self._sessions:
             self._sessions.add(session.path)
             self._connect(session.edited, partial(self._heard, session))
+            self._connect(session.kind_hidden, self._tell_kind)
             self._connect(session.lost, partial(self._lost, session))
             self._connect(session.renewed, partial(self._renewed, session))
             self._connect(session.layers_changed, partial(self.tried, partial(self._tell_layers, session)))
@@ -389,6 +390,9 @@ class Plugin:
             self.teller.tell(f"New in the store: {', '.join(sorted(names - shown))}. Open it again to show them.")
         if shown - names:
             self.teller.tell(f"Not in the store any more: {', '.join(sorted(shown - names))}.", Qgis.Warning)
+
+    def _tell_kind(self, layer: str, kind: str) -> None:
+        self.teller.tell(f"{layer} has a {kind} now, which is not shown. Open the store again to show it.", Qgis.Warning)
 
     def _lost(self, session: Session) -> None:
         self.teller.tell("The store's server does not answer. It is tried again; your edits wait.", Qgis.Warning)
