@@ -9,6 +9,8 @@ import time
 import unittest
 
 from qgis.core import (
+    QgsCoordinateReferenceSystem,
+    QgsCoordinateTransform,
     QgsFeature,
     QgsFeatureRequest,
     QgsField,
@@ -44,6 +46,18 @@ class Opening(QgisCase):
         self.assertTrue(found)
         owners = [feature["owner"] for feature in parcels.getFeatures("owner = 'Dunn'")]
         self.assertEqual(set(owners), {"Dunn"})
+
+    def test_a_layer_that_is_there_twice_shows_the_same(self):
+        parcels = self.layer()
+        twice = parcels.clone()
+        QgsProject.instance().addMapLayer(twice)
+        self.assertEqual(len(self.plugin.editings), 4)
+        twice.startEditing()
+        twice.changeAttributeValue(self.fid(1, parcels), 2, "twice")
+        self.assertTrue(twice.commitChanges(), twice.commitErrors())
+        self.assertEqual(self.feature(1, parcels)["owner"], "twice")
+        self.settle()
+        self.assert_alike()
 
     def test_a_second_opening_adds_nothing(self):
         self.plugin.open(str(self.path))
@@ -106,9 +120,9 @@ class Commits(QgisCase):
         self.assertFalse(parcels.commitChanges())
         self.turn()
         said = " ".join(self.said())
-        self.assertIn("Refused (13 RingNotSimple): a ring meets itself", said)
-        self.assertIn("Here: edges 0 and 2 of ring 0 meet at (500523.3333 5600053.333).", said)
-        self.assertEqual(len(self.plugin.teller._markers), 1)
+        place = "edges 0 and 2 of ring 0 meet at (500523.3333 5600053.333)"
+        self.assertIn(f"parcels: Refused (13 RingNotSimple): a ring meets itself, {place}. Move or remove", said)
+        self.assertEqual(len(self.plugin.teller._markers), 2)
         self.assertEqual(len(parcels.editBuffer().addedFeatures()), 1)
         self.assertEqual(parcels.editBuffer().deletedFeatureIds(), [self.fid(3)])
         self.assertIn(3, self.stored())
@@ -118,12 +132,25 @@ class Commits(QgisCase):
         self.settle()
         self.assert_alike()
 
+    def test_the_place_is_marked_in_the_reference_system_of_the_map(self):
+        system = QgsCoordinateReferenceSystem("EPSG:3857")
+        self.window.canvas.setDestinationCrs(system)
+        self.layer().startEditing()
+        self.draw(CROSSED)
+        self.layer().commitChanges()
+        self.turn()
+        band, marker = self.plugin.teller._markers
+        shown = QgsCoordinateTransform(self.layer().crs(), system, QgsProject.instance())
+        place = shown.transform(QgsPointXY(500523.0 + 1 / 3, 5600053.0 + 1 / 3))
+        self.assertLess(marker.center().distance(place), 0.1)
+        self.assertTrue(band.asGeometry().boundingBox().contains(place))
+
     def test_what_is_drawn_wrongly_is_told_before_it_is_sent(self):
         self.layer().startEditing()
         self.draw(CROSSED)
         self.turn()
         self.assertIn("parcels, not sent yet: Refused (13 RingNotSimple)", " ".join(self.said()))
-        self.assertEqual(len(self.plugin.teller._markers), 1)
+        self.assertEqual(len(self.plugin.teller._markers), 2)
         self.assertEqual(len(self.stored()), 200)
 
     def test_features_get_numbers_in_the_order_in_which_they_were_drawn(self):
@@ -346,11 +373,14 @@ class AnyKind(QgisCase):
         self.assertTrue(polygons.commitChanges(), polygons.commitErrors())
         self.assertTrue(self.stored("m")[4].startswith("4 POLYGON"))
         ben = self.ben()
+        self.said()
+        self.bens(ben, "add m MULTILINESTRING ((0 0, 1 1), (2 2, 3 3))")
+        self.assertEqual(self.said(), ["m has a multilinestring now, which is not shown. Open the store again to show it."])
+        self.plugin.open(str(self.path))
+        self.assertEqual(self.layer("m (multilinestring)").featureCount(), 1)
         self.bens(ben, "add m POINT (7 7)", "replace m 1 LINESTRING (0 0, 1 1)")
+        self.assertEqual(self.said(), [])
         self.assertEqual((points.featureCount(), self.layer("m (linestring)").featureCount()), (1, 2))
-        self.assert_alike()
-        self.plugin.move("undo") if False else None
-        self.settle()
         self.assert_alike()
 
 
@@ -457,6 +487,14 @@ class AtOnce(QgisCase):
         self.settle()
         self.assertNotIn("At once", self.stored()[10])
         self.assertEqual(self.feature(10)["owner"] == "At once", False)
+        self.assertTrue(redo.isEnabled())
+        # QGIS has its actions off for a layer without steps.
+        redo.setEnabled(False)
+        self.assertTrue(redo.isEnabled())
+        self.window.make_active(None)
+        redo.setEnabled(False)
+        self.assertFalse(redo.isEnabled())
+        self.window.make_active(parcels)
         self.assertTrue(redo.isEnabled())
         redo.trigger()
         self.settle()
@@ -595,6 +633,19 @@ class Lost(QgisCase):
         self.assertTrue(self.session.is_connected)
         self.assertFalse(parcels.commitChanges())
         self.assertIn("Ben''s", self.stored()[52])
+
+    def test_a_store_whose_server_hangs_is_not_opened(self):
+        other = self.folder / "other.sfs"
+        self.make(self.lines, other)
+        serving = self.serve(path=other)
+        serving.process.send_signal(signal.SIGSTOP)
+        begun = time.monotonic()
+        self.plugin.tried(lambda: self.plugin.open(str(other)))
+        self.assertLess(time.monotonic() - begun, 8)
+        self.assertIn("does not answer", " ".join(self.said()))
+        serving.process.send_signal(signal.SIGCONT)
+        self.plugin.open(str(other))
+        self.assertEqual(len(self.plugin.editings), 6)
 
     def test_one_that_hangs_does_not_hang_qgis(self):
         parcels = self.layer()

@@ -19,7 +19,7 @@ sys.path.insert(0, str(FOLDER.parent / "qgis"))
 
 from qgis.core import Qgis, QgsApplication, QgsFeature, QgsGeometry, QgsProject, QgsSettings  # noqa: E402
 from qgis.gui import QgsMapCanvas, QgsMessageBar  # noqa: E402
-from qgis.PyQt.QtCore import QCoreApplication  # noqa: E402
+from qgis.PyQt.QtCore import NULL, QCoreApplication, pyqtSignal  # noqa: E402
 from qgis.PyQt.QtWidgets import QAction, QMainWindow, QVBoxLayout, QWidget  # noqa: E402
 
 QCoreApplication.setOrganizationName("sfstore-tests")
@@ -40,6 +40,8 @@ from sfstore_qgis import session  # noqa: E402
 from sfstore_qgis.plugin import Plugin  # noqa: E402
 from sfstore_qgis.session import Session  # noqa: E402
 
+from sfstore import files  # noqa: E402
+from sfstore.rows import feature_of  # noqa: E402
 from sfstore.web import client  # noqa: E402
 from sfstore.web.client import Client  # noqa: E402
 
@@ -55,6 +57,8 @@ SQUARE = "POLYGON((500510 5600000, 500540 5600000, 500540 5600030, 500510 560003
 
 class Window(QMainWindow):
     """As much of QGIS' window as the plugin needs."""
+
+    currentLayerChanged = pyqtSignal(object)
 
     def __init__(self):
         super().__init__()
@@ -81,6 +85,10 @@ class Window(QMainWindow):
 
     def activeLayer(self):
         return self.active
+
+    def make_active(self, layer):
+        self.active = layer
+        self.currentLayerChanged.emit(layer)
 
     def action(self, name):
         return self.findChild(QAction, name)
@@ -109,8 +117,6 @@ class QgisCase(WebCase):
 
     def place(self, path):
         """Writes the side-car of a store's file."""
-        from sfstore import files
-
         told = {**SIDECAR, "digests": [files.digest(str(path))]}
         path.with_name(path.name + ".json").write_text(json.dumps(told))
 
@@ -214,10 +220,6 @@ class QgisCase(WebCase):
             expected = {number: parts_of(row) for number, row in rows.items() if kind_of(row) == mirror.kind}
             self.assertEqual(shown, expected)
 
-
-from qgis.PyQt.QtCore import NULL  # noqa: E402
-
-from sfstore.rows import feature_of  # noqa: E402
 
 
 def parts_of(row):

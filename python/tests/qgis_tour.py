@@ -13,7 +13,7 @@ from pathlib import Path
 
 import qgis.utils
 from qgis.core import QgsApplication, QgsEditFormConfig, QgsGeometry, QgsPointXY, QgsProject, QgsRectangle
-from qgis.PyQt.QtCore import QPoint, Qt, QTimer
+from qgis.PyQt.QtCore import QEvent, QPoint, Qt, QTimer
 from qgis.PyQt.QtGui import QColor
 from qgis.PyQt.QtTest import QTest
 from qgis.PyQt.QtWidgets import QAction, QApplication, QDockWidget, QMessageBox
@@ -32,6 +32,8 @@ def wait(seconds=0.2):
     until = time.monotonic() + seconds
     while time.monotonic() < until:
         QgsApplication.processEvents()
+        # What is to go once this turn of the loop has ended: the tour is one turn.
+        QgsApplication.sendPostedEvents(None, QEvent.DeferredDelete)
         time.sleep(0.005)
 
 

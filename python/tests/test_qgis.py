@@ -98,7 +98,7 @@ class Sessions(WebCase):
         signal.alarm(max(self.SECONDS, 10 * KILLS))
         self.serve()
         with Client(str(self.path), "Eve", 30) as eve:
-            heard = eve.events()
+            heard, count, version = eve.events(), 0, eve.call("map")["version"]
             for seed in range(KILLS):
                 session = self.begin("Ann", seed, 10_000)
                 # From the first answer on, however busy the machine is.
@@ -111,18 +111,21 @@ class Sessions(WebCase):
                     for line in told
                     if line.startswith("value ") and line.count(" ") == 3
                 ]
-                self.assert_kept(heard, answered)
+                before, version = version, eve.call("map")["version"]
+                self.assert_kept(heard, before, version, answered)
+                count += len(answered)
             heard.close()
+            self.assertGreater(count, KILLS)
 
-    def assert_kept(self, heard, answered):
-        """Each value that was answered was heard of by all, in its order."""
-        values = []
-        while events := heard.wait(0.5):
-            values += [event["line"] for event in events if event.get("line", "").startswith("set ")]
-        at = iter(values)
+    def assert_kept(self, heard, before, version, answered):
+        """Each value that was answered was heard of by all, in its order, from one version to another."""
+        events = []
+        while before < version:
+            events += heard.wait(30)
+            before = max(event.get("version", 0) for event in events)
+        at = (event["line"] for event in events if "line" in event)
         for number, value in answered:
             self.assertIn(f"set parcels {number} owner '{value}'", at)
-        self.assertTrue(answered)
 
 
 for each in ast.parse(CASES.read_text(encoding="utf-8")).body:

@@ -35,7 +35,7 @@ class History:
             signal.disconnect(slot)
         self._slots.clear()
 
-    def look(self) -> None:
+    def look(self, *_: object) -> None:
         """Lets an action be used where the store has a step for it that is this editor's."""
         for verb, action in self._actions.items():
             if not action.isEnabled() and self._is_stores(verb):

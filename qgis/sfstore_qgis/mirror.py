@@ -74,7 +74,8 @@ class Mirror(QObject):
 
     def follow(self, numbers: Iterable[int]) -> None:
         """Takes over what has become of some features."""
-        self._take(sorted(set(numbers)))
+        for kind in self._take(sorted(set(numbers))):
+            self.session.note_kind(self.name, kind)
         self.changed.emit()
 
     def load_anew(self) -> None:
@@ -133,15 +134,18 @@ class Mirror(QObject):
         """The geometry of a text, in the units of the map."""
         return geometry_of(wkt, self.session.grid)
 
-    def _take(self, numbers: Sequence[int]) -> None:
-        """Takes over some features: those that are not there any more go."""
+    def _take(self, numbers: Sequence[int]) -> set[str]:
+        """Takes over some features: those that are not there any more go. Gives the kinds that others of them have."""
         names = [column.name for column in self.columns]
-        gone = self.fids.keys() & set(numbers)
+        gone, others = self.fids.keys() & set(numbers), set()
         for part in self.session.parts(self.name, numbers):
-            rows = [row for row in rows_of(part, names, self.session.grid) if row.kind == self.kind]
+            found = rows_of(part, names, self.session.grid)
+            rows = [row for row in found if row.kind == self.kind]
+            others |= {row.kind for row in found} - {self.kind}
             gone -= {row.number for row in rows}
             self._put(rows)
         self._drop(gone)
+        return others
 
     def _put(self, rows: Sequence[Row]) -> None:
         """Adds features, or gives those that are here the geometry and the values that they have now."""

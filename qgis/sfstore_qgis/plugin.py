@@ -64,6 +64,7 @@ class Plugin:
         self.bar.addAction(self.switch)
         self.history = History(self._iface.mainWindow(), self)
         self.saving = Saving(self._iface)
+        self._connect(self._iface.currentLayerChanged, self.history.look)
         self._connect(QgsProject.instance().layersAdded, self.watch)
         self._connect(QgsProject.instance().layersWillBeRemoved, self.forget)
         self.watch(QgsProject.instance().mapLayers().values())
@@ -191,6 +192,7 @@ class Plugin:
         if session.path not in self._sessions:
             self._sessions.add(session.path)
             self._connect(session.edited, partial(self._heard, session))
+            self._connect(session.kind_hidden, self._tell_kind)
             self._connect(session.lost, partial(self._lost, session))
             self._connect(session.renewed, partial(self._renewed, session))
             self._connect(session.layers_changed, partial(self.tried, partial(self._tell_layers, session)))
@@ -248,7 +250,7 @@ class Plugin:
         outcome, editing.provider.outcome = editing.provider.outcome, None
         editing.is_prepared = False
         if outcome is not None and outcome.fault is not None:
-            self.teller.refuse(editing.layer.name(), outcome.fault, editing.session.grid)
+            self.teller.refuse(editing.layer.name(), outcome.fault, editing.session)
         elif outcome is not None and editing.layer.isEditable() and editing.layer.isModified():
             editing.settle()
 
@@ -256,6 +258,9 @@ class Plugin:
         if not editing.is_sending:
             editing.provider.outcome = None
         editing.begin()
+        for other in self.editings.values():
+            if other.provider.mirror is editing.provider.mirror and other is not editing:
+                other.layer.triggerRepaint()
         self.teller.clear()
         self._tell_moved(editing)
 
@@ -291,7 +296,7 @@ class Plugin:
         fault = commit(editings)
         if fault is None:
             return
-        self.teller.refuse(" and ".join(each.layer.name() for each in editings), fault, editings[0].session.grid)
+        self.teller.refuse(" and ".join(each.layer.name() for each in editings), fault, editings[0].session)
         if not isinstance(fault, ServerGone):
             for each in editings:
                 _take_back(each)
@@ -321,7 +326,7 @@ class Plugin:
                 editing.session.line(f"check {editing.provider.source.layer} {wkt}")
             self.teller.clear()
         except (NotSent, Refusal) as error:
-            self.teller.refuse(f"{editing.layer.name()}, not sent yet", error, editing.session.grid)
+            self.teller.refuse(f"{editing.layer.name()}, not sent yet", error, editing.session)
             return False
         except (CallFailed, ServerGone):
             # It is asked again when it is sent.
@@ -385,6 +390,9 @@ class Plugin:
             self.teller.tell(f"New in the store: {', '.join(sorted(names - shown))}. Open it again to show them.")
         if shown - names:
             self.teller.tell(f"Not in the store any more: {', '.join(sorted(shown - names))}.", Qgis.Warning)
+
+    def _tell_kind(self, layer: str, kind: str) -> None:
+        self.teller.tell(f"{layer} has a {kind} now, which is not shown. Open the store again to show it.", Qgis.Warning)
 
     def _lost(self, session: Session) -> None:
         self.teller.tell("The store's server does not answer. It is tried again; your edits wait.", Qgis.Warning)

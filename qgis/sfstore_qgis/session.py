@@ -55,6 +55,8 @@ class Session(QObject):
     """An edit, or an undo, of whomever: as the server tells it."""
     layers_changed = pyqtSignal()
     """There are other layers than before."""
+    kind_hidden = pyqtSignal(str, str)
+    """A layer of any kind has a geometry of a kind that is not shown."""
     lost = pyqtSignal()
     """The server does not answer any more. It is tried again."""
     renewed = pyqtSignal()
@@ -83,6 +85,7 @@ class Session(QObject):
         self.placing_fault, self.grid, self.crs = _placed(path)
         self.mirrors: dict[tuple[str, str], Mirror] = {}
         self.steps: dict[str, dict[str, Any] | None] = {"undo": None, "redo": None}
+        self._hidden: set[tuple[str, str]] = set()
         self.version = 0
         # The versions that this session's own batches have made: the mirrors have them.
         self._own: set[int] = set()
@@ -186,6 +189,12 @@ class Session(QObject):
             raise Refusal(answer["refused"])
         return answer
 
+    def note_kind(self, layer: str, kind: str) -> None:
+        """Notes a geometry of a layer of any kind, which may be of one that is not shown yet."""
+        if (layer, kind) not in self.mirrors and (layer, kind) not in self._hidden:
+            self._hidden.add((layer, kind))
+            self.kind_hidden.emit(layer, kind)
+
     def reload_soon(self, mirror: Mirror) -> None:
         """Has a mirror read all anew, once what goes on now has ended."""
 
@@ -211,10 +220,14 @@ class Session(QObject):
         return self._client
 
     def _connect(self, seconds: float) -> None:
-        """Connects to the server that is there. `ServerGone` where it does not answer."""
-        client = Client(self.path, Session.user(), seconds)
+        """Connects to the server that is there. `ServerGone` where it does not answer.
+
+        One that hangs does not greet. One that does may take some seconds for its first question.
+        """
+        client = Client(self.path, Session.user(), min(seconds, CALL_SECONDS))
         try:
             events = client.events()
+            client.seconds = seconds
             told = client.call("map")
         except BaseException:
             client.close()

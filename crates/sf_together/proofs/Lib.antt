@@ -6,4 +6,3 @@ pub mod CopyLaws
 pub mod PlanLaws
 pub mod CallLaws
 pub mod WeightLaws
-mod Computed

@@ -66,12 +66,10 @@ class BatchLog:
         """What the lines of the journal have of the batches that were recorded."""
         groups, left, editor = [], 0, 0
         for entry in self._entries():
-            behind = records[entry.at :]
-            count = _leading(entry, behind)
-            if count == len(entry.lines):
-                groups.append(range(entry.at, entry.at + count))
+            if _is_whole(entry, records):
+                groups.append(range(entry.at, entry.at + len(entry.lines)))
             else:
-                left, editor = _left(entry, behind), entry.editor
+                left, editor = _left(entry, records), entry.editor
         return Found(groups, left, editor)
 
     def forget(self) -> None:
@@ -113,30 +111,25 @@ def _entry(line: bytes) -> Entry | None:
     return Entry(head, at, editor, lines)
 
 
-def _leading(entry: Entry, records: Sequence[str]) -> int:
-    """How many of the first records are its lines, one after the other."""
-    count = 0
-    for record, line in zip(records, entry.lines):
-        if not _is_of(record, entry.editor, line):
-            break
-        count += 1
-    return count
+def _is_whole(entry: Entry, records: Sequence[str]) -> bool:
+    """Whether all of its lines stand where they have to, one behind the other."""
+    found = records[entry.at : entry.at + len(entry.lines)]
+    return len(found) == len(entry.lines) and all(
+        _is_of(record, entry.editor, line) for record, line in zip(found, entry.lines)
+    )
 
 
 def _left(entry: Entry, records: Sequence[str]) -> int:
     """How many steps are left of its lines, where the journal ends in the middle of them or of their undoing."""
-    did, at = 0, 0
-    for record in records:
-        while at < len(entry.lines) and not _is_of(record, entry.editor, entry.lines[at]):
-            # This one was refused.
-            at += 1
-        if at == len(entry.lines):
-            break
-        did, at = did + 1, at + 1
-    undone = records[did:]
-    if not all(_is_of(record, entry.editor, "undo") for record in undone):
+    place = entry.at
+    for line in entry.lines:
+        # One that is not there was refused.
+        if place < len(records) and _is_of(records[place], entry.editor, line):
+            place += 1
+    undone = len(records) - place
+    if undone < 0 or not all(_is_of(records[at], entry.editor, "undo") for at in range(place, len(records))):
         return 0
-    return max(0, did - len(undone))
+    return max(0, place - entry.at - undone)
 
 
 def _is_of(record: str, editor: int, line: str) -> bool:

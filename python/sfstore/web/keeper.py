@@ -191,10 +191,12 @@ class Keeper:
 
     def _found_steps(self, store: Store) -> Steps:
         """The steps of the journal. What a crash has left of a batch is taken back: it was not answered."""
-        found = self._log.found(store.unsaved_lines)
+        lines = store.unsaved_lines
+        found = self._log.found(lines)
         if found.left:
             take_back(_speaker(store, found.editor), found.left)
-        return Steps(store.unsaved_lines, found.groups)
+            lines = store.unsaved_lines
+        return Steps(lines, found.groups)
 
     def _carry_out(self, store: Store, asked: Asked) -> Answer:
         self._check_seen(asked)
