@@ -321,7 +321,7 @@ class Speeds(unittest.TestCase):
         """Refuses walks over a star where two edges cross, and a search that is given up before it comes to them."""
         known = [f"add a {text('POLYGON', star())}"] * 10
         asked = [f"relate a 1 {text('POLYGON', armed())}"] * 200
-        self.check(Claim(["layer add a polygon", *known], asked, 0.4, b"212101212", 4))
+        self.check(Claim(["layer add a polygon", *known], asked, 0.4, b"212101212", 6))
 
     def test_runs_are_tried_with_those_that_they_reach(self) -> None:
         """Refuses a search for edges along one another that tries all pairs of thousands on one line."""

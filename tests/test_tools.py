@@ -19,18 +19,18 @@ def said(*words: str) -> tuple[int, str]:
 
 class Tools(unittest.TestCase):
     @unittest.skipUnless(shutil.which("mypy"), "no mypy")
-    def test_types_of_scripts(self):
+    def test_types_of_scripts(self) -> None:
         for script in SCRIPTS:
             status, text = said("mypy", "--strict", "--cache-dir=/dev/null", script)
             self.assertEqual(status, 0, text)
 
     @unittest.skipUnless(shutil.which("bandit"), "no bandit")
-    def test_weak_spots_of_the_module_are_answered(self):
+    def test_weak_spots_of_the_module_are_answered(self) -> None:
         status, text = said("bandit", "--quiet", "--recursive", "python/sfstore")
         self.assertEqual(status, 0, text)
 
     @unittest.skipUnless(shutil.which("shellcheck"), "no shellcheck")
-    def test_mistakes_of_the_shell(self):
+    def test_mistakes_of_the_shell(self) -> None:
         status, text = said("shellcheck", "test", ".ci/run")
         self.assertEqual(status, 0, text)
 
