@@ -449,6 +449,24 @@ class AtOnce(QgisCase):
         self.assertIn("still going", self.stored()[10])
         self.assertEqual(len(self.plugin.teller._markers), 0)
 
+    def test_what_somebody_has_changed_a_moment_before_is_not_overwritten(self):
+        ben, parcels = self.ben(), self.layer()
+        parcels.startEditing()
+        version = ben.call("map")["version"]
+        lines = ["set parcels 7 owner 'Ben''s'", "delete parcels 8"]
+        ben.call("batch", page="ben", lines=lines, seen=[version] * 2)
+        # Nothing of that was heard here yet.
+        self.set(7, "owner", "Ann's")
+        self.plugin.send()
+        self.assertIn("Ben changed parcels 7 meanwhile: look again.", " ".join(self.said()))
+        parcels.deleteFeature(self.fid(8))
+        self.plugin.send()
+        self.assertIn("Ben deleted parcels 8 meanwhile: look again.", " ".join(self.said()))
+        self.assertFalse(parcels.isModified())
+        self.settle()
+        self.assertEqual(self.feature(7)["owner"], "Ben's")
+        self.assert_alike()
+
     def test_layers_that_are_edited_in_one_turn_are_one_step(self):
         parcels, wells = self.layer(), self.layer("wells")
         parcels.startEditing()
