@@ -22,6 +22,7 @@ from qgis.core import (
     QgsVectorLayerUtils,
 )
 from qgis.PyQt.QtCore import NULL, QVariant
+from qgis.PyQt.QtWidgets import QApplication
 from qgis_support import CROSSED, SQUARE, Plugin, QgisCase, Session
 
 from sfstore.web.client import CallFailed
@@ -539,6 +540,12 @@ class AtOnce(QgisCase):
 
 class Others(QgisCase):
     """Edits of others."""
+
+    def test_a_link_to_the_page(self):
+        self.plugin.link("Eve")
+        self.assertRegex(QApplication.clipboard().text(), "http://127.0.0.1:[0-9]+/#link=.*&name=Eve")
+        self.plugin.tried(lambda: self.plugin.link(""))
+        self.assertIn("A name has 1 to 40 letters.", self.said())
 
     def test_they_are_seen_as_they_happen(self):
         ben = self.ben()

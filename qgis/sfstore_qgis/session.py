@@ -204,7 +204,7 @@ class Session(QObject):
 
         QTimer.singleShot(0, reload)
 
-    def call(self, name: str, seconds: float = CALL_SECONDS, **body: Any) -> dict[str, Any]:
+    def call(self, name: str, seconds: float = CALL_SECONDS, /, **body: Any) -> dict[str, Any]:
         """The answer of a call. `ServerGone` where there is none within some seconds, or none is waited for."""
         client = self._connected()
         client.seconds = seconds
