@@ -659,6 +659,25 @@ class Lost(QgisCase):
         self.assertFalse(parcels.commitChanges())
         self.assertIn("Ben''s", self.stored()[52])
 
+    def test_the_program_behind_the_server_is_killed(self):
+        parcels = self.layer()
+        parcels.startEditing()
+        self.set(51, "owner", "Ann 51")
+        self.assertTrue(parcels.commitChanges())
+        self.settle()
+        parcels.startEditing()
+        self.set(52, "owner", "waits")
+        for child in os.popen(f"pgrep -P {self.server().pid}").read().split():
+            os.kill(int(child), signal.SIGKILL)
+        parcels.commitChanges()
+        self.turn(0.5)
+        self.settle()
+        self.turn(0.5)
+        self.assertTrue(parcels.commitChanges() or not parcels.isModified(), parcels.commitErrors())
+        self.assertIn("Ann 51", self.stored()[51])
+        self.assertIn("waits", self.stored()[52])
+        self.assert_alike()
+
     def test_a_store_whose_server_hangs_is_not_opened(self):
         other = self.folder / "other.sfs"
         self.make(self.lines, other)
