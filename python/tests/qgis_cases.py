@@ -22,6 +22,7 @@ from qgis.core import (
     QgsVectorLayerUtils,
 )
 from qgis.PyQt.QtCore import NULL, QVariant
+from qgis.PyQt.QtWidgets import QApplication
 from qgis_support import CROSSED, SQUARE, Plugin, QgisCase, Session
 
 from sfstore.web.client import CallFailed
@@ -449,6 +450,24 @@ class AtOnce(QgisCase):
         self.assertIn("still going", self.stored()[10])
         self.assertEqual(len(self.plugin.teller._markers), 0)
 
+    def test_what_somebody_has_changed_a_moment_before_is_not_overwritten(self):
+        ben, parcels = self.ben(), self.layer()
+        parcels.startEditing()
+        version = ben.call("map")["version"]
+        lines = ["set parcels 7 owner 'Ben''s'", "delete parcels 8"]
+        ben.call("batch", page="ben", lines=lines, seen=[version] * 2)
+        # Nothing of that was heard here yet.
+        self.set(7, "owner", "Ann's")
+        self.plugin.send()
+        self.assertIn("Ben changed parcels 7 meanwhile: look again.", " ".join(self.said()))
+        parcels.deleteFeature(self.fid(8))
+        self.plugin.send()
+        self.assertIn("Ben deleted parcels 8 meanwhile: look again.", " ".join(self.said()))
+        self.assertFalse(parcels.isModified())
+        self.settle()
+        self.assertEqual(self.feature(7)["owner"], "Ben's")
+        self.assert_alike()
+
     def test_layers_that_are_edited_in_one_turn_are_one_step(self):
         parcels, wells = self.layer(), self.layer("wells")
         parcels.startEditing()
@@ -521,6 +540,12 @@ class AtOnce(QgisCase):
 
 class Others(QgisCase):
     """Edits of others."""
+
+    def test_a_link_to_the_page(self):
+        self.plugin.link("Eve")
+        self.assertRegex(QApplication.clipboard().text(), "http://127.0.0.1:[0-9]+/#link=.*&name=Eve")
+        self.plugin.tried(lambda: self.plugin.link(""))
+        self.assertIn("A name has 1 to 40 letters.", self.said())
 
     def test_they_are_seen_as_they_happen(self):
         ben = self.ben()
@@ -633,6 +658,25 @@ class Lost(QgisCase):
         self.assertTrue(self.session.is_connected)
         self.assertFalse(parcels.commitChanges())
         self.assertIn("Ben''s", self.stored()[52])
+
+    def test_the_program_behind_the_server_is_killed(self):
+        parcels = self.layer()
+        parcels.startEditing()
+        self.set(51, "owner", "Ann 51")
+        self.assertTrue(parcels.commitChanges())
+        self.settle()
+        parcels.startEditing()
+        self.set(52, "owner", "waits")
+        for child in os.popen(f"pgrep -P {self.server().pid}").read().split():
+            os.kill(int(child), signal.SIGKILL)
+        parcels.commitChanges()
+        self.turn(0.5)
+        self.settle()
+        self.turn(0.5)
+        self.assertTrue(parcels.commitChanges() or not parcels.isModified(), parcels.commitErrors())
+        self.assertIn("Ann 51", self.stored()[51])
+        self.assertIn("waits", self.stored()[52])
+        self.assert_alike()
 
     def test_a_store_whose_server_hangs_is_not_opened(self):
         other = self.folder / "other.sfs"

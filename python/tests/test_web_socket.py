@@ -86,6 +86,12 @@ class Calls(SocketCase):
         self.assertEqual(ann.call("line", page="Ann", line="undo"), {"answer": "ok"})
         self.assertEqual(ann.call("line", page="Ann", line="undo")["refused"]["whose"]["editor"], "Eve")
 
+    def test_a_link_lets_somebody_in_by_the_page(self):
+        address = self.client().call("link", name="Eve")["address"]
+        self.assertEqual(self.serving.come_in(address, "ignored").login["name"], "Eve")
+        with self.assertRaises(CallFailed):
+            self.client().call("link", name="  ")
+
     def test_a_name_is_a_person_on_the_page_too(self):
         self.assertEqual(self.client("Eve").editor, self.serving.log_in("Eve").editor)
         self.assertEqual(self.client(" Eve ").name, "Eve")
@@ -104,6 +110,7 @@ class Calls(SocketCase):
             lines = connection.makefile("rwb")
             for line, status in (
                 (b'{"call": "map"}', 403),
+                (b'{"call": "link", "name": "Ann"}', 403),
                 (b'{"call": "hello"}', 400),
                 (b'{"call": "hello", "name": "  "}', 400),
                 (b'{"call": "hello", "name": "Ann"}', 200),

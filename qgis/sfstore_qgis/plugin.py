@@ -9,7 +9,7 @@ from typing import Any
 
 from qgis.core import Qgis, QgsApplication, QgsMapLayer, QgsProject, QgsSettings, QgsVectorLayer
 from qgis.PyQt.QtCore import Qt, QTimer
-from qgis.PyQt.QtWidgets import QAction, QFileDialog, QInputDialog, QLineEdit
+from qgis.PyQt.QtWidgets import QAction, QApplication, QFileDialog, QInputDialog, QLineEdit
 
 from sfstore.language import KINDS
 from sfstore.web.client import CallFailed, ServerGone
@@ -58,6 +58,7 @@ class Plugin:
         self._add("Save the store", self.save)
         self._add("Add a layer ..", self.choose_layer)
         self._add("Drop the layer ..", self.drop_chosen)
+        self._add("Link to the page ..", self.choose_link)
         self._add("My name ..", self.choose_name)
         self.switch = QAction("Each edit at once", self.bar, checkable=True, checked=self.at_once)
         self.switch.toggled.connect(self.set_at_once)
@@ -142,6 +143,17 @@ class Plugin:
         """Removes a layer from the store and from the project. Undo brings it back."""
         editing.session.line(f"layer drop {editing.provider.source.layer}")
         QgsProject.instance().removeMapLayer(editing.key)
+
+    def choose_link(self) -> None:
+        window = self._iface.mainWindow()
+        name, is_given = QInputDialog.getText(window, "Link to the page", "For", QLineEdit.Normal, Session.user())
+        if is_given:
+            self.link(name)
+
+    def link(self, name: str) -> None:
+        """Puts a link into the clipboard that lets somebody edit in the browser."""
+        QApplication.clipboard().setText(self._session().call("link", name=name)["address"])
+        self.teller.tell(f"A link for {name} is in the clipboard. It lets one person in, once, within ten minutes.")
 
     def choose_name(self) -> None:
         window = self._iface.mainWindow()

@@ -204,7 +204,7 @@ class Session(QObject):
 
         QTimer.singleShot(0, reload)
 
-    def call(self, name: str, seconds: float = CALL_SECONDS, **body: Any) -> dict[str, Any]:
+    def call(self, name: str, seconds: float = CALL_SECONDS, /, **body: Any) -> dict[str, Any]:
         """The answer of a call. `ServerGone` where there is none within some seconds, or none is waited for."""
         client = self._connected()
         client.seconds = seconds
@@ -227,6 +227,9 @@ class Session(QObject):
         client = Client(self.path, Session.user(), min(seconds, CALL_SECONDS))
         try:
             events = client.events()
+            # From its first line on nothing is missed: what the store is now is asked behind it.
+            if not events.wait(min(seconds, CALL_SECONDS)):
+                raise ServerGone(f"The server of {os.path.basename(self.path)} does not answer.")
             client.seconds = seconds
             told = client.call("map")
         except BaseException:
@@ -297,10 +300,11 @@ class Session(QObject):
                 mirror.follow(news.features[layer])
 
     def _note(self, event: dict[str, Any]) -> None:
-        """Puts down what an event says of the history, and tells of it."""
+        """Notes what an event says of the history, and passes it on."""
         if event.get("anew"):
             told = self.call("map")
             self.version, event = told["version"], {**event, **told}
+            self.renewed.emit()
         for verb in self.steps:
             if verb in event:
                 self.steps[verb] = event[verb]

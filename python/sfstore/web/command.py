@@ -120,7 +120,7 @@ def _socket(server: Server, asked: argparse.Namespace) -> Iterator[None]:
     with contextlib.ExitStack() as stack:
         count: Callable[[], int] = lambda: 0
         try:
-            door = stack.enter_context(Door(server.calls, asked.file))
+            door = stack.enter_context(Door(server.calls, asked.file, lambda name: _address(server, name)))
         except (OSError, SocketTaken) as error:
             print(f"sfstore-web: no program can connect: {error}", file=sys.stderr)
         else:
@@ -184,12 +184,17 @@ def _obey(server: Server) -> None:
 def _print_link(server: Server, name: str | None) -> None:
     """Prints a link for somebody new, or for somebody of a name."""
     try:
-        link = server.calls.logins.new_link(name)
+        address = _address(server, name)
     except EditorsError as error:
         print(error, flush=True)
         return
     whom = f"For {name.strip()}" if name else "For somebody new"
-    print(f"{whom}: {server.address(link, name.strip() if name else '')}", flush=True)
+    print(f"{whom}: {address}", flush=True)
+
+
+def _address(server: Server, name: str | None) -> str:
+    """An address that lets somebody new in, or somebody of a name. `EditorsError` where the name is none."""
+    return server.address(server.calls.logins.new_link(name), name.strip() if name else "")
 
 
 def _typed_lines() -> Iterator[str]:

@@ -16,7 +16,7 @@ import socketserver
 import stat
 import sys
 import threading
-from collections.abc import Iterator
+from collections.abc import Callable, Iterator
 from functools import partial
 from typing import Any
 
@@ -72,8 +72,10 @@ class Door(socketserver.ThreadingMixIn, socketserver.UnixStreamServer):
     daemon_threads = True
     request_queue_size = 128
 
-    def __init__(self, calls: Calls, store: str) -> None:
+    def __init__(self, calls: Calls, store: str, link: Callable[[str], str] = lambda name: "") -> None:
+        """``link`` makes an address of the page that lets somebody of a name in."""
         self.calls = calls
+        self.link = link
         self.path = socket_of(store)
         self._lock = threading.Lock()
         self._count = 0
@@ -168,6 +170,8 @@ class _Handler(socketserver.BaseRequestHandler):
         name = call.pop("call")
         if name == "hello":
             status, answer = outcome_of(self._hello, call)
+        elif name == "link" and self._editor:
+            status, answer = outcome_of(self._link, call)
         elif not self._editor:
             status, answer = 403, {"error": "say who you are by the call hello first"}
         elif (known := self.server.calls.by_path.get("/" + name)) is None:
@@ -176,12 +180,13 @@ class _Handler(socketserver.BaseRequestHandler):
             status, answer = outcome_of(partial(known, self._editor), call)
         self._send({"status": status, **answer} if status != 200 else {"status": status, "answer": answer})
 
+    def _link(self, body: dict[str, Any]) -> dict[str, Any]:
+        """An address of the page for somebody: whoever may come here may let anybody in."""
+        return {"address": self.server.link(_name(body))}
+
     def _hello(self, body: dict[str, Any]) -> dict[str, Any]:
         """Who it is: a name as pages have it. It is this user's to say."""
-        wanted = body.get("name")
-        if not isinstance(wanted, str):
-            raise ValueError("name has to be a text")
-        name = as_name(wanted)
+        name = _name(body)
         self._editor = self.server.calls.logins.number_of(name)
         return {"editor": self._editor, "name": name}
 
@@ -211,6 +216,14 @@ class _Handler(socketserver.BaseRequestHandler):
     def _write(self, data: bytes) -> None:
         self.request.settimeout(_TAKEN_SECONDS)
         self.request.sendall(data)
+
+
+def _name(body: dict[str, Any]) -> str:
+    """The name that a call brings."""
+    wanted = body.get("name")
+    if not isinstance(wanted, str):
+        raise ValueError("name has to be a text")
+    return as_name(wanted)
 
 
 def _call_of(line: bytes) -> dict[str, Any] | None:
