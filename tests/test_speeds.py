@@ -317,6 +317,13 @@ class Speeds(unittest.TestCase):
         known = [f"add a {text('LINESTRING', fan())}"] * 20
         self.check(Claim(["layer add a linestring", *known], [f"simple a {k}" for k in range(1, 21)], 1.9, b"false", 5))
 
+    def test_smooth_rings_are_walked(self) -> None:
+        """Refuses sweeps of rings that have few edges over each place: walks over their cells are quicker."""
+        corners = closed([(round(1e6 * math.cos(a)), round(1e6 * math.sin(a))) for a in (math.tau * k / 4_000 for k in range(4_000))])
+        points = text("MULTIPOINT", corners[:-1])
+        known, asked = [f"add a {points}"] * 100, [f"add a {text('POLYGON', corners)}"] * 100
+        self.check(Claim(["layer add a any", *known], asked, 3.8, b"ok 200", 1.6))
+
     def test_crossing_edges_spare_a_walk(self) -> None:
         """Refuses walks over a star where two edges cross, and a search that is given up before it comes to them."""
         known = [f"add a {text('POLYGON', star())}"] * 10
