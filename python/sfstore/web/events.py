@@ -5,12 +5,14 @@ from __future__ import annotations
 import json
 import queue
 import threading
+from collections.abc import Generator, Iterator
 from typing import Any
 
 __all__ = ["Events"]
 
 # A page that is so far behind is let go: it connects again, and asks for everything anew.
 _BEHIND_MAX = 1_000
+_GREETING = '{"hello": true}'
 
 
 class Events:
@@ -31,19 +33,36 @@ class Events:
                     self._queues.remove(waiting)
                     waiting.put(None)
 
-    def listen(self) -> queue.Queue[str | None]:
-        """A queue that gets each event from now on, and `None` where it is let go."""
+    def told(self, quiet_seconds: float) -> Generator[str | None, None, None]:
+        """First a greeting, then each event from then on, as it happens. `None` where none came for that many seconds.
+
+        Who hears the greeting asks for everything: nothing is missed. It ends where the page is let go, and has to be
+        closed where the page has gone.
+        """
         waiting: queue.Queue[str | None] = queue.Queue()
         with self._lock:
             self._queues.add(waiting)
-        return waiting
+        try:
+            yield _GREETING
+            yield from _taken(waiting, quiet_seconds)
+        finally:
+            with self._lock:
+                self._queues.discard(waiting)
 
     @property
     def count(self) -> int:
         """How many listen."""
         return len(self._queues)
 
-    def leave(self, waiting: queue.Queue[str | None]) -> None:
-        """Ends listening."""
-        with self._lock:
-            self._queues.discard(waiting)
+
+def _taken(waiting: queue.Queue[str | None], quiet_seconds: float) -> Iterator[str | None]:
+    """What comes to a queue, up to the page being let go."""
+    while True:
+        try:
+            text = waiting.get(timeout=quiet_seconds)
+        except queue.Empty:
+            yield None
+        else:
+            if text is None:
+                return
+            yield text

@@ -8,9 +8,9 @@ header, which a browser sends for no other page. Paths name only what stands in 
 
 from __future__ import annotations
 
+import contextlib
 import io
 import json
-import queue
 import socket
 import sys
 from collections.abc import Callable
@@ -232,27 +232,14 @@ class _Handler(BaseHTTPRequestHandler):
     def _send_events(self) -> None:
         """Sends what happens, as it happens, until the page is gone."""
         self.close_connection = True
-        events = self.server.calls.events
-        waiting = events.listen()
         try:
             self._write(self._head(200, "text/event-stream", {}))
-            # The page asks for everything when it hears this: nothing is missed from here on.
-            text: str | None = '{"hello": true}'
-            while text is not None:
-                self._write(f"data: {text}\n\n".encode())
-                text = self._next_event(waiting)
+            with contextlib.closing(self.server.calls.events.told(_QUIET_SECONDS)) as events:
+                for text in events:
+                    # A comment shows whether the page is still there.
+                    self._write(b": still here\n\n" if text is None else f"data: {text}\n\n".encode())
         except OSError:
             pass
-        finally:
-            events.leave(waiting)
-
-    def _next_event(self, waiting: queue.Queue[str | None]) -> str | None:
-        """The next event. Meanwhile comments are sent, to see whether the page is there."""
-        while True:
-            try:
-                return waiting.get(timeout=_QUIET_SECONDS)
-            except queue.Empty:
-                self._write(b": still here\n\n")
 
     def _reply_json(self, status: int, body: dict[str, Any]) -> None:
         text = json.dumps(body, ensure_ascii=False, separators=(",", ":"))

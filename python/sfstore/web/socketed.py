@@ -10,7 +10,6 @@ from __future__ import annotations
 import contextlib
 import json
 import os
-import queue
 import socket
 import socketserver
 import stat
@@ -192,22 +191,9 @@ class _Handler(socketserver.BaseRequestHandler):
 
     def _send_events(self) -> None:
         """Sends what happens, as it happens, until the program is gone. Blank lines show that it still is."""
-        events = self.server.calls.events
-        waiting = events.listen()
-        try:
-            text: str | None = '{"hello": true}'
-            while text is not None:
-                self._write(text.encode() + b"\n")
-                text = self._next_event(waiting)
-        finally:
-            events.leave(waiting)
-
-    def _next_event(self, waiting: queue.Queue[str | None]) -> str | None:
-        while True:
-            try:
-                return waiting.get(timeout=_QUIET_SECONDS)
-            except queue.Empty:
-                self._write(b"\n")
+        with contextlib.closing(self.server.calls.events.told(_QUIET_SECONDS)) as events:
+            for text in events:
+                self._write(f"{text or ''}\n".encode())
 
     def _send(self, answer: dict[str, Any]) -> None:
         text = json.dumps(answer, ensure_ascii=False, separators=(",", ":"))
