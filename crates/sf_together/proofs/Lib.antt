@@ -6,3 +6,4 @@ pub mod CopyLaws
 pub mod PlanLaws
 pub mod CallLaws
 pub mod WeightLaws
+mod Computed
