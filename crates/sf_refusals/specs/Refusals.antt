@@ -1,7 +1,7 @@
 -- Numbers and names of the refusals.
 use Rattle.std.specs.Prelude.{ℕ, List, codes}
 use Rattle.sf_refusals.specs.declared.refusal.Refusal.{Refusal}
-use Rattle.sf_refusals.specs.declared.refusal.Refusal.TheVariants.{Memory, Syntax, OffGrid, OutOfRange, Empty, UnsupportedType, Truncated, Trailing, TooManyVertices, ShortLine, OpenRing, ShortRing, RingNotSimple, RingsMeet, HoleOutside, HolesNested, PolygonsOverlap, NoLayer, LayerExists, BadName, NoFeature, NoColumn, ColumnExists, WrongValue, NoVertex, WrongKind, IdsExhausted, ColumnsExhausted, NothingToUndo, NothingToRedo, BadCommand, BadPattern, LineTooLong, BadFile, BadPlace, NotYours}
+use Rattle.sf_refusals.specs.declared.refusal.Refusal.TheVariants.{Memory, Syntax, OffGrid, OutOfRange, Empty, UnsupportedType, Truncated, Trailing, TooManyVertices, ShortLine, OpenRing, ShortRing, RingNotSimple, RingsMeet, HoleOutside, HolesNested, PolygonsOverlap, NoLayer, LayerExists, BadName, NoFeature, NoColumn, ColumnExists, WrongValue, NoVertex, WrongKind, IdsExhausted, ColumnsExhausted, NothingToUndo, NothingToRedo, BadCommand, BadPattern, LineTooLong, BadFile, BadPlace, NotYours, Unfinished}
 
 -- the number of a refusal
 abbrev pub number_of : Refusal → ℕ
@@ -41,6 +41,7 @@ number_of LineTooLong = 33
 number_of BadFile = 34
 number_of BadPlace = 35
 number_of (NotYours editor) = 36
+number_of Unfinished = 38
 
 -- the name of a refusal
 abbrev pub name_of : Refusal → List ℕ
@@ -80,3 +81,4 @@ name_of LineTooLong = codes "LineTooLong"
 name_of BadFile = codes "BadFile"
 name_of BadPlace = codes "BadPlace"
 name_of (NotYours editor) = codes "NotYours"
+name_of Unfinished = codes "Unfinished"

@@ -76,6 +76,8 @@ pub enum Refusal {
     BadPlace,
     /// The step is another editor's, whose number this is.
     NotYours(u8),
+    /// The input ended inside a group of edits.
+    Unfinished,
 }
 
 impl Refusal {
@@ -120,6 +122,7 @@ impl Refusal {
             Refusal::BadFile => 34,
             Refusal::BadPlace => 35,
             Refusal::NotYours(_) => 36,
+            Refusal::Unfinished => 38,
         }
     }
 
@@ -164,6 +167,7 @@ impl Refusal {
             Refusal::BadFile => "BadFile",
             Refusal::BadPlace => "BadPlace",
             Refusal::NotYours(_) => "NotYours",
+            Refusal::Unfinished => "Unfinished",
         }
     }
 }
