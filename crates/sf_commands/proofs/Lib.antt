@@ -14,3 +14,5 @@ pub mod ComputedMembers
 pub mod LawProofs
 pub mod JudgedProofs
 pub mod AddressLemmas
+pub mod PartLemmas
+pub mod GroupLemmas

@@ -3,3 +3,4 @@ pub mod Values
 pub mod Commands
 pub mod Laws
 pub mod Members
+pub mod GroupTexts

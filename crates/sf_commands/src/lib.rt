@@ -5,6 +5,8 @@ mod addressing;
 mod column_commands;
 mod command;
 mod feature_commands;
+mod group_text;
+mod head;
 mod identifiers;
 mod join_commands;
 pub mod laws;
@@ -23,6 +25,8 @@ mod vertex_place;
 mod words;
 
 pub use command::Command;
+pub use group_text::{GroupRefusal, parse_group, parse_members};
+pub use head::{Head, head_of};
 pub use identifiers::Identifiers;
 pub use members::parse_member;
 pub use parsing::parse;

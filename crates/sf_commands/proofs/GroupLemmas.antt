@@ -1,0 +1,34 @@
+-- Members that are put behind others.
+use Rattle.std.proofs.Common.{◌≡◌, ℕ, ◌+◌, Bool, true, false, List, [], ◌∷◌, ◌++◌, length, Result, Ok, Err, IsTrue, if◌then◌else◌, refl, sym, ap, ◌∙◌, subst}
+use Rattle.sf_refusals.specs.declared.refusal.Refusal.{Refusal}
+use Rattle.sf_refusals.specs.declared.refusal.Refusal.TheVariants.{BadCommand}
+use Rattle.sf_refusals.specs.declared.refusal.Refusal.TheVariants as refusals
+use Rattle.sf_groups.specs.declared.member.Member.{Member as GroupMember}
+use Rattle.sf_groups.specs.Members.{may_follow}
+use Rattle.sf_commands.specs.declared.group_text.GroupRefusal.{GroupRefusal}
+use Rattle.sf_commands.specs.declared.group_text.GroupRefusal.TheVariants.{Member, Memory}
+use Rattle.sf_commands.specs.Members.{member_of}
+use Rattle.sf_commands.specs.GroupTexts.{and_behind, is_return, members_behind, parts_of, placed, OrNoMemory}
+
+-- members behind the first of them
+pub behind_taken : (earlier next : List GroupMember) (text : List ℕ) (texts : List (List ℕ)) → members_behind earlier (text ∷ []) ≡ Ok next
+    → members_behind earlier (text ∷ texts) ≡ members_behind next texts
+behind_taken earlier next text texts = by (placed earlier (member_of text))
+  where
+    by : (r : Result GroupMember Refusal) → and_behind earlier r (λ members. Ok members) ≡ Ok next
+        → and_behind earlier r (λ members. members_behind members texts) ≡ members_behind next texts
+    by (Ok member) is =
+        let same : earlier ++ member ∷ [] ≡ next = cc in
+        ap (λ members. members_behind members texts) same
+    by (Err refusal) is = cc
+
+-- where the first of them is refused, or there is no memory for it
+pub behind_refused : (earlier : List GroupMember) (text : List ℕ) (texts : List (List ℕ)) (refusal : GroupRefusal)
+    → OrNoMemory (members_behind earlier (text ∷ [])) (Err refusal) → OrNoMemory (members_behind earlier (text ∷ texts)) (Err refusal)
+behind_refused earlier text texts Memory is = tt
+behind_refused earlier text texts (Member number refusal) is = by (placed earlier (member_of text)) is
+  where
+    by : (r : Result GroupMember Refusal) → Err (Member number refusal) ≡ and_behind earlier r (λ members. Ok members)
+        → Err (Member number refusal) ≡ and_behind earlier r (λ members. members_behind members texts)
+    by (Ok member) is = cc
+    by (Err other) is = is

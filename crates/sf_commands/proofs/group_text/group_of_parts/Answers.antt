@@ -1,0 +1,24 @@
+use Rattle.std.proofs.Common.{◌≡◌, ◌∙◌, ap, sym, rules}
+use Rattle.sf_commands.specs.GroupTexts.{members_behind, parts_of}
+use Rattle.sf_commands.proofs.PartLemmas.{first_part, one_part, return-split}
+use Rattle.sf_commands.proofs.GroupLemmas.{behind_taken}
+use Rattle.sf_commands.proofs.group_text.group_of_parts.Goals as goal
+
+pub loop-member-preserved : goal.loop-member-preserved
+loop-member-preserved c =
+    let l = c.loop-member in
+    let member = c.in-Some.member.now in
+    let more = c.in-Some.more.now in
+    let cut = rw c.in-Some.is at (return-split l.rest.now c.split_once.result c.split_once.ensures.cases) in
+    record {
+      text = search rules;
+      behind =
+          l.invariant.behind ∙ ap (members_behind l.group) (ap parts_of cut.1 ∙ first_part member more cut.0)
+          ∙ behind_taken l.group c.push_member.new.group member (parts_of more) c.in_ok-push_member.ensures;
+    }
+
+pub returns : goal.returns
+returns c =
+    let l = c.loop-member in
+    let none = rw c.in_default.is at (return-split l.rest.now c.split_once.result c.split_once.ensures.cases) in
+    sym (l.invariant.behind ∙ ap (members_behind l.group) (one_part l.rest.now none) ∙ c.in_ok-push_member-2.ensures)

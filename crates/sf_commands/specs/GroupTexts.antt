@@ -1,0 +1,109 @@
+-- A group of edits as one text: its head, and its members, with carriage returns between them.
+use Rattle.std.specs.Prelude.{◌≡◌, ℕ, ◌+◌, Bool, ◌&&◌, ◌==◌, List, [], ◌∷◌, ◌++◌, length, Option, None, Some, Result, Ok, Err, nat_eq, nat_lt, nat_le, option_and_then, option_map, bytes_eq, codes, if◌then◌else◌}
+use Rattle.std.specs.List.{list_any}
+use Rattle.sf_refusals.specs.declared.refusal.Refusal.{Refusal}
+use Rattle.sf_refusals.specs.declared.refusal.Refusal.TheVariants.{BadCommand}
+use Rattle.sf_refusals.specs.declared.refusal.Refusal.TheVariants as refusals
+use Rattle.sf_groups.specs.declared.member.Member.{Member as GroupMember}
+use Rattle.sf_groups.specs.Members.{may_follow}
+use Rattle.sf_commands.specs.declared.group_text.GroupRefusal.{GroupRefusal}
+use Rattle.sf_commands.specs.declared.group_text.GroupRefusal.TheVariants.{Member, Memory}
+use Rattle.sf_commands.specs.declared.head.Head.{Head}
+use Rattle.sf_commands.specs.Words.{words}
+use Rattle.sf_commands.specs.Commands.{addressed, id_of}
+use Rattle.sf_commands.specs.Members.{member_of}
+
+-- ---- the head
+
+-- how many members a group has at most
+abbrev pub members_max : ℕ
+members_max = 65535
+
+-- a number of members: at least one
+abbrev pub if_count : ℕ → Option ℕ
+if_count count = if nat_lt 0 count && nat_le count members_max then Some count else None
+
+-- the number of members that a word spells
+abbrev pub count_of : List ℕ → Option ℕ
+count_of word = option_and_then if_count (id_of word)
+
+-- the head of these words of an editor: `together`, and how many members come
+abbrev pub head_by_words : ℕ → List (List ℕ) → Option Head
+head_by_words editor (verb ∷ count ∷ []) =
+    if bytes_eq verb (codes "together") then option_map (λ members. record { editor = editor; members = members }) (count_of count) else None
+head_by_words editor other = None
+
+-- the same behind an editor's word, where that names one
+abbrev pub addressed_head : Result (ℕ × List ℕ) Refusal → Option Head
+addressed_head (Ok at) = head_by_words at.0 (words at.1)
+addressed_head (Err refusal) = None
+
+-- whether a byte is a carriage return
+abbrev pub is_return : ℕ → Bool
+is_return b = b == 13
+
+-- the head that a text is
+abbrev pub head_of : List ℕ → Option Head
+head_of text = if list_any is_return text then None else addressed_head (addressed text)
+
+-- ---- the parts of a text
+
+-- a byte in front of the first part
+abbrev pub onto_first : ℕ → List (List ℕ) → List (List ℕ)
+onto_first b [] = (b ∷ []) ∷ []
+onto_first b (part ∷ parts) = (b ∷ part) ∷ parts
+
+-- the parts of a text, between carriage returns; one alone where it has none
+abbrev pub parts_of : List ℕ → List (List ℕ)
+parts_of [] = [] ∷ []
+parts_of (b ∷ bytes) = let rest = parts_of bytes in if is_return b then [] ∷ rest else onto_first b rest
+
+-- ---- the members
+
+-- a member that may stand behind others
+abbrev pub placed : List GroupMember → Result GroupMember Refusal → Result GroupMember Refusal
+placed earlier (Ok member) = if may_follow earlier member then Ok member else Err BadCommand
+placed earlier (Err refusal) = Err refusal
+
+-- a member behind others, and what comes behind it; the members are counted from 1
+abbrev pub and_behind : List GroupMember → Result GroupMember Refusal → (List GroupMember → Result (List GroupMember) GroupRefusal) → Result (List GroupMember) GroupRefusal
+and_behind earlier (Ok member) behind = behind (earlier ++ member ∷ [])
+and_behind earlier (Err refusal) behind = Err (Member (length earlier + 1) refusal)
+
+-- the members that texts spell behind others, or the first of them that its text alone refuses
+abbrev pub members_behind : List GroupMember → List (List ℕ) → Result (List GroupMember) GroupRefusal
+members_behind earlier [] = Ok earlier
+members_behind earlier (text ∷ texts) = and_behind earlier (placed earlier (member_of text)) (λ members. members_behind members texts)
+
+-- the members of a group that the parts of its text spell, of which the first is its head
+abbrev pub members_in : List (List ℕ) → Result (List GroupMember) GroupRefusal
+members_in [] = Ok []
+members_in (head ∷ texts) = members_behind [] texts
+
+abbrev pub members_of : List ℕ → Result (List GroupMember) GroupRefusal
+members_of text = members_in (parts_of text)
+
+-- ---- the group
+
+-- the editor of a group that has as many members as its head says, and the members
+abbrev pub group_by_head : Option Head → List ℕ → ℕ → Option (ℕ × Result (List GroupMember) GroupRefusal)
+group_by_head None text members = None
+group_by_head (Some head) text members = if nat_eq head.members members then Some (head.editor, members_of text) else None
+
+abbrev pub group_by_parts : List (List ℕ) → List ℕ → Option (ℕ × Result (List GroupMember) GroupRefusal)
+group_by_parts [] text = None
+group_by_parts (head ∷ members) text = group_by_head (head_of head) text (length members)
+
+-- the group that a text is, where it is one: its editor, and its members or the first one that its text alone refuses
+abbrev pub group_of : List ℕ → Option (ℕ × Result (List GroupMember) GroupRefusal)
+group_of text = group_by_parts (parts_of text) text
+
+-- this result, or want of memory in its place
+abbrev pub OrNoMemory : Result (List GroupMember) GroupRefusal → Result (List GroupMember) GroupRefusal → Type 0
+OrNoMemory expected (Err Memory) = Unit {0}
+OrNoMemory expected result = result ≡ expected
+
+-- Internal: the refusal of the member of a number; want of memory is no fault of its text
+abbrev pub refusal_of_member : ℕ → Refusal → GroupRefusal
+refusal_of_member number refusals.Memory = Memory
+refusal_of_member number refusal = Member number refusal

@@ -1,0 +1,108 @@
+//! Several edits on one text: a head, and members behind it, with carriage returns between them.
+ghost use Rattle.std.specs.Prelude.{◌≡◌, [], ◌∷◌, List, MatchOption, MatchResult, None, Some, Ok, Err, Result, length};
+ghost use Rattle.std.specs.List.{count_by};
+ghost use Rattle.sf_groups.specs.declared.member.Member.{Member};
+ghost use Rattle.sf_commands.specs.GroupTexts.{group_of, is_return, members_behind, members_of, parts_of, refusal_of_member, OrNoMemory};
+
+use super::head::head_of;
+use super::members::parse_member;
+use sf_groups::{Group, NotTaken};
+use sf_refusals::Refusal;
+use std::alloc::Global;
+
+/// Why the texts of members are no group.
+#[derive(Clone, Copy, Debug, PartialEq, Eq)]
+pub enum GroupRefusal {
+    /// The first member that its text alone refuses, by its number from 1, and why.
+    Member { number: usize, refusal: Refusal },
+    /// No memory was found.
+    Memory,
+}
+
+/// The group that a text is, where it is one: whose step it is, and its members, as many as its head says. None where the
+/// text is no group.
+///
+/// # Errors
+///
+/// Of the members: the first one that its text alone refuses, `BadCommand` for one that may not stand there, or that
+/// no memory was found.
+pub fn parse_group(alloc: Global, text: &str) -> Option<(u8, Result<Group, GroupRefusal>)>
+    ensures { MatchOption result
+        (group_of text.now ≡ None)
+        (λ group. (expected : Result (List Member) GroupRefusal) × (group_of text.now ≡ Some (group.0, expected))
+            × OrNoMemory expected group.1) }
+{
+    let (head, members) = text.split_once('\r')?;
+    let head = head_of(head)?;
+    if parts_count(members) != usize::from(head.members) {
+        return None;
+    }
+    Some((head.editor, group_of_parts(alloc, members)))
+}
+
+/// The members of a text, which stand behind its first carriage return; none where it has none.
+///
+/// # Errors
+///
+/// The first one that its text alone refuses, `BadCommand` for one that may not stand there, or that no memory was found.
+pub fn parse_members(alloc: Global, text: &str) -> Result<Group, GroupRefusal>
+    ensures { OrNoMemory (members_of text.now) result }
+{
+    match text.split_once('\r') {
+        Some((_, members)) => group_of_parts(alloc, members),
+        None => Ok(Group::new(alloc)),
+    }
+}
+
+/// The members that the parts of a text spell, between carriage returns.
+fn group_of_parts(alloc: Global, text: &str) -> Result<Group, GroupRefusal>
+    ensures { OrNoMemory (members_behind [] (parts_of text.now)) result }
+{
+    let mut group = Group::new(alloc);
+    let mut rest = text;
+    while let Some((member, more)) = rest.split_once('\r') {
+        push_member(alloc, &mut group, member)?;
+        rest = more;
+    }
+    push_member(alloc, &mut group, rest)?;
+    Ok(group)
+}
+
+/// Puts the member of a text behind others.
+fn push_member(alloc: Global, group: &mut Group, text: &str) -> Result<(), GroupRefusal>
+    ensures { MatchResult result
+        (λ _. members_behind group.old (text.now ∷ []) ≡ Ok group.new)
+        (λ refusal. OrNoMemory (members_behind group.old (text.now ∷ [])) (Err refusal)) }
+{
+    let number = group.members().len() + 1;
+    let member = parse_member(alloc, text).map_err(|refusal| refused(number, refusal))?;
+    match group.push(alloc, member) {
+        Ok(()) => Ok(()),
+        Err(NotTaken::Misplaced(_)) => Err(refused(number, Refusal::BadCommand)),
+        Err(NotTaken::Memory(_)) => Err(GroupRefusal::Memory),
+    }
+}
+
+/// The refusal of a member: that no memory was found is no fault of its text.
+fn refused(number: usize, refusal: Refusal) -> GroupRefusal
+    ensures { result ≡ refusal_of_member number refusal }
+{
+    match refusal {
+        Refusal::Memory => GroupRefusal::Memory,
+        refusal => GroupRefusal::Member { number, refusal },
+    }
+}
+
+/// How many parts a text has, between carriage returns.
+fn parts_count(text: &str) -> usize
+    ensures { result ≡ length (parts_of text.now) }
+{
+    returns_count(text) + 1
+}
+
+/// How many carriage returns a text has.
+fn returns_count(text: &str) -> usize
+    ensures { result ≡ count_by is_return text.now }
+{
+    text.bytes().filter(|byte| *byte == b'\r').count()
+}
