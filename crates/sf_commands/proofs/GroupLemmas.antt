@@ -1,14 +1,12 @@
 -- Members that are put behind others.
-use Rattle.std.proofs.Common.{◌≡◌, ℕ, ◌+◌, Bool, true, false, List, [], ◌∷◌, ◌++◌, length, Result, Ok, Err, IsTrue, if◌then◌else◌, refl, sym, ap, ◌∙◌, subst}
+use Rattle.std.proofs.Common.{◌≡◌, ℕ, List, [], ◌∷◌, ◌++◌, Result, Ok, Err, sym, ap, subst}
+use Rattle.std.specs.Result.{IsErrAnd}
 use Rattle.sf_refusals.specs.declared.refusal.Refusal.{Refusal}
-use Rattle.sf_refusals.specs.declared.refusal.Refusal.TheVariants.{BadCommand}
-use Rattle.sf_refusals.specs.declared.refusal.Refusal.TheVariants as refusals
 use Rattle.sf_groups.specs.declared.member.Member.{Member as GroupMember}
-use Rattle.sf_groups.specs.Members.{may_follow}
 use Rattle.sf_commands.specs.declared.group_text.GroupRefusal.{GroupRefusal}
 use Rattle.sf_commands.specs.declared.group_text.GroupRefusal.TheVariants.{Member, Memory}
 use Rattle.sf_commands.specs.Members.{member_of}
-use Rattle.sf_commands.specs.GroupTexts.{and_behind, is_return, members_behind, parts_of, placed, OrNoMemory}
+use Rattle.sf_commands.specs.GroupTexts.{and_behind, members_behind, placed, OrNoMemory}
 
 -- members behind the first of them
 pub behind_taken : (earlier next : List GroupMember) (text : List ℕ) (texts : List (List ℕ)) → members_behind earlier (text ∷ []) ≡ Ok next
@@ -23,7 +21,7 @@ behind_taken earlier next text texts = by (placed earlier (member_of text))
     by (Err refusal) is = cc
 
 -- where the first of them is refused, or there is no memory for it
-pub behind_refused : (earlier : List GroupMember) (text : List ℕ) (texts : List (List ℕ)) (refusal : GroupRefusal)
+behind_refused : (earlier : List GroupMember) (text : List ℕ) (texts : List (List ℕ)) (refusal : GroupRefusal)
     → OrNoMemory (members_behind earlier (text ∷ [])) (Err refusal) → OrNoMemory (members_behind earlier (text ∷ texts)) (Err refusal)
 behind_refused earlier text texts Memory is = tt
 behind_refused earlier text texts (Member number refusal) is = by (placed earlier (member_of text)) is
@@ -32,3 +30,12 @@ behind_refused earlier text texts (Member number refusal) is = by (placed earlie
         → Err (Member number refusal) ≡ and_behind earlier r (λ members. members_behind members texts)
     by (Ok member) is = cc
     by (Err other) is = is
+
+-- and what a caller passes on of it
+pub refused_behind : (expected result : Result (List GroupMember) GroupRefusal) (earlier : List GroupMember) (text : List ℕ) (texts : List (List ℕ)) (refusal : GroupRefusal)
+    → expected ≡ members_behind earlier (text ∷ texts) → OrNoMemory (members_behind earlier (text ∷ [])) (Err refusal) → IsErrAnd result (λ e. e ≡ refusal)
+    → OrNoMemory expected result
+refused_behind expected (Ok members) earlier text texts refusal all is passed = absurd passed
+refused_behind expected (Err e) earlier text texts refusal all is passed =
+    subst (λ whole. OrNoMemory whole (Err e)) (sym all)
+    (subst (λ (given : GroupRefusal). OrNoMemory (members_behind earlier (text ∷ texts)) (Err given)) (sym passed) (behind_refused earlier text texts refusal is))

@@ -1,5 +1,5 @@
--- The points that the edit of a line brings are on the grid.
-use Rattle.std.proofs.Common.{◌≡◌, ℕ, ℤ, Bool, true, false, nat_lt, List, [], ◌∷◌, length, Option, None, Some, ok_or, Result, Ok, Err, IfOk, if◌then◌else◌, refl, subst}
+-- The points that the edits of lines and members bring are on the grid.
+use Rattle.std.proofs.Common.{◌≡◌, ℕ, ℤ, Bool, true, false, nat_lt, List, [], ◌∷◌, ◌++◌, length, Option, None, Some, ok_or, Result, Ok, Err, IfOk, if◌then◌else◌, refl, subst}
 use Rattle.std.specs.List.{AllByRecursion}
 use Rattle.hex.specs.declared.error.FromHexError.{FromHexError}
 use Rattle.hex.specs.Hex.{decode_of}
@@ -23,17 +23,23 @@ use Rattle.sf_wkb.specs.Grammar.{read as read_bytes}
 use Rattle.sf_wkb.proofs.Sized.{read_is_sized as bytes_are_sized}
 use Rattle.sf_steps.specs.declared.edit.Edit.TheVariants as edits
 use Rattle.sf_steps.specs.Laws.{BringsGridPoints}
+use Rattle.sf_groups.specs.declared.member.Member.{Member}
+use Rattle.sf_groups.specs.Members.{may_follow}
 use Rattle.sf_commands.specs.declared.command.Command.{Command}
 use Rattle.sf_commands.specs.declared.command.Command.TheVariants.{Edit, Undo, Redo, Layers, Columns, Show, Hex, Simple, Extent, Relate, Match, Query}
-use Rattle.sf_commands.specs.declared.naming.Naming.TheVariants.{ById}
+use Rattle.sf_commands.specs.declared.group_text.GroupRefusal.{GroupRefusal}
+use Rattle.sf_commands.specs.declared.naming.Naming.{Naming}
+use Rattle.sf_commands.specs.declared.naming.Naming.TheVariants.{ById, OrLast}
 use Rattle.sf_commands.specs.declared.verb.Verb.{Verb}
 use Rattle.sf_commands.specs.declared.verb.Verb.TheVariants as verbs
 use Rattle.sf_commands.specs.declared.verb.Action.{Action}
 use Rattle.sf_commands.specs.declared.verb.Action.TheVariants as actions
 use Rattle.sf_commands.specs.Words.{words, skip_blanks, skip_word, trimmed_end}
 use Rattle.sf_commands.specs.Values.{point_by, point_of, value_of}
-use Rattle.sf_commands.specs.Commands.{action_of, add_arguments, add_column, check_arguments, add_layer, addhex_arguments, addressed, addressed_command, after_two_words, alone, by_editor, by_verb, by_words, bytes_command, column_arguments, column_command, column_type_of, command_of, delete_arguments, drop_column, drop_layer, feature_arguments, feature_command, feature_named, find_arguments, get_arguments, join_arguments, join_by, beside_of, given, hex_command, id_of, ids_of, insert_vertex, layer_arguments, layer_command, layer_kind_of, made, match_arguments, move_layer, move_vertex, of_layer, of_text, predicate_of, query_arguments, relate_arguments, remove_vertex, rename_layer, replace_arguments, set_arguments, sought_of, unset_arguments, valid_of, verb_of, vertex_arguments, vertex_command, vertex_place, with_geometry}
-use Rattle.sf_commands.specs.Laws.{CommandsBringGridPoints}
+use Rattle.sf_commands.specs.Commands.{action_of, add_arguments, add_column, check_arguments, add_layer, addhex_arguments, addressed, addressed_command, after_two_words, alone, by_editor, by_verb, by_words, bytes_command, column_arguments, column_command, column_type_of, command_of, delete_arguments, drop_column, drop_layer, feature_arguments, feature_command, feature_named, find_arguments, get_arguments, join_arguments, join_by, beside_of, given, hex_command, id_named, id_of, ids_of, insert_vertex, layer_arguments, layer_command, layer_kind_of, made, match_arguments, move_layer, move_vertex, of_layer, of_text, predicate_of, query_arguments, relate_arguments, remove_vertex, rename_layer, replace_arguments, set_arguments, sought_of, unset_arguments, valid_of, verb_of, vertex_arguments, vertex_command, vertex_place, with_geometry}
+use Rattle.sf_commands.specs.Members.{member_by, member_by_verb, member_by_words, member_of, second_is_last, third_is_last}
+use Rattle.sf_commands.specs.GroupTexts.{and_behind, members_behind, members_in, parts_of, placed}
+use Rattle.sf_commands.specs.Laws.{CommandsBringGridPoints, MembersBringGridPoints}
 use Rattle.sf_commands.proofs.PointLemmas.{spelled_on_grid}
 
 -- the points that a command brings into the store are on the grid
@@ -130,29 +136,29 @@ column_brings : (arguments : List (List ℕ)) → Brings (column_arguments argum
 column_brings [] = tt
 column_brings (action ∷ arguments) = column_command_brings (action_of action) arguments
 
-insert_vertex_brings : (arguments : List (List ℕ)) → Brings (insert_vertex ById arguments)
-insert_vertex_brings (layer ∷ id ∷ part ∷ ring ∷ index ∷ x ∷ y ∷ []) =
-    made_brings (vertex_place ById id part ring index) _ (λ v. point_brings (point_of x y) _ (point_on_grid x y) (λ point on_grid. on_grid))
-insert_vertex_brings arguments = tt
+insert_vertex_brings : (naming : Naming) (arguments : List (List ℕ)) → Brings (insert_vertex naming arguments)
+insert_vertex_brings naming (layer ∷ id ∷ part ∷ ring ∷ index ∷ x ∷ y ∷ []) =
+    made_brings (vertex_place naming id part ring index) _ (λ v. point_brings (point_of x y) _ (point_on_grid x y) (λ point on_grid. on_grid))
+insert_vertex_brings naming arguments = tt
 
-move_vertex_brings : (arguments : List (List ℕ)) → Brings (move_vertex ById arguments)
-move_vertex_brings (layer ∷ id ∷ part ∷ ring ∷ index ∷ x ∷ y ∷ []) =
-    made_brings (vertex_place ById id part ring index) _ (λ v. point_brings (point_of x y) _ (point_on_grid x y) (λ point on_grid. on_grid))
-move_vertex_brings arguments = tt
+move_vertex_brings : (naming : Naming) (arguments : List (List ℕ)) → Brings (move_vertex naming arguments)
+move_vertex_brings naming (layer ∷ id ∷ part ∷ ring ∷ index ∷ x ∷ y ∷ []) =
+    made_brings (vertex_place naming id part ring index) _ (λ v. point_brings (point_of x y) _ (point_on_grid x y) (λ point on_grid. on_grid))
+move_vertex_brings naming arguments = tt
 
-remove_vertex_brings : (arguments : List (List ℕ)) → Brings (remove_vertex ById arguments)
-remove_vertex_brings (layer ∷ id ∷ part ∷ ring ∷ index ∷ []) = made_brings (vertex_place ById id part ring index) _ (λ v. tt)
-remove_vertex_brings arguments = tt
+remove_vertex_brings : (naming : Naming) (arguments : List (List ℕ)) → Brings (remove_vertex naming arguments)
+remove_vertex_brings naming (layer ∷ id ∷ part ∷ ring ∷ index ∷ []) = made_brings (vertex_place naming id part ring index) _ (λ v. tt)
+remove_vertex_brings naming arguments = tt
 
-vertex_command_brings : (action : Option Action) (arguments : List (List ℕ)) → Brings (vertex_command ById action arguments)
-vertex_command_brings (Some actions.Insert) arguments = insert_vertex_brings arguments
-vertex_command_brings (Some actions.Move) arguments = move_vertex_brings arguments
-vertex_command_brings (Some actions.Remove) arguments = remove_vertex_brings arguments
-vertex_command_brings action arguments = tt
+vertex_command_brings : (naming : Naming) (action : Option Action) (arguments : List (List ℕ)) → Brings (vertex_command naming action arguments)
+vertex_command_brings naming (Some actions.Insert) arguments = insert_vertex_brings naming arguments
+vertex_command_brings naming (Some actions.Move) arguments = move_vertex_brings naming arguments
+vertex_command_brings naming (Some actions.Remove) arguments = remove_vertex_brings naming arguments
+vertex_command_brings naming action arguments = tt
 
-vertex_brings : (arguments : List (List ℕ)) → Brings (vertex_arguments ById arguments)
-vertex_brings [] = tt
-vertex_brings (action ∷ arguments) = vertex_command_brings (action_of action) arguments
+vertex_brings : (naming : Naming) (arguments : List (List ℕ)) → Brings (vertex_arguments naming arguments)
+vertex_brings naming [] = tt
+vertex_brings naming (action ∷ arguments) = vertex_command_brings naming (action_of action) arguments
 
 add_brings : (arguments : List (List ℕ)) (text : List ℕ) → Brings (add_arguments arguments text)
 add_brings (layer ∷ first ∷ more) text = text_brings (read text) _ (read_is_sized text) (λ geometry on_grid. on_grid)
@@ -174,22 +180,22 @@ about_brings command (Err refusal) brings = tt
 feature_brings : (command : List ℕ → ℕ → Command) (arguments : List (List ℕ)) → ((layer : List ℕ) (id : ℕ) → BringsOnGrid (command layer id)) → Brings (feature_arguments command arguments)
 feature_brings command arguments brings = about_brings command (feature_named ById arguments) brings
 
-delete_brings : (arguments : List (List ℕ)) → Brings (delete_arguments ById arguments)
-delete_brings arguments = feature_brings (λ layer id. Edit (edits.DeleteFeature layer id)) arguments (λ layer id. tt)
+delete_brings : (naming : Naming) (arguments : List (List ℕ)) → Brings (delete_arguments naming arguments)
+delete_brings naming arguments = about_brings (λ layer id. Edit (edits.DeleteFeature layer id)) (feature_named naming arguments) (λ layer id. tt)
 
-replace_brings : (arguments : List (List ℕ)) (text : List ℕ) → Brings (replace_arguments ById arguments text)
-replace_brings (layer ∷ id ∷ first ∷ more) text =
-    given_brings (id_of id) _ (λ id. text_brings (read text) _ (read_is_sized text) (λ geometry on_grid. on_grid))
-replace_brings arguments text = tt
+replace_brings : (naming : Naming) (arguments : List (List ℕ)) (text : List ℕ) → Brings (replace_arguments naming arguments text)
+replace_brings naming (layer ∷ id ∷ first ∷ more) text =
+    given_brings (id_named naming id) _ (λ id. text_brings (read text) _ (read_is_sized text) (λ geometry on_grid. on_grid))
+replace_brings naming arguments text = tt
 
-set_brings : (arguments : List (List ℕ)) (text : List ℕ) → Brings (set_arguments ById arguments text)
-set_brings (layer ∷ id ∷ column ∷ first ∷ more) text =
-    given_brings (id_of id) _ (λ id. given_brings (value_of (trimmed_end text)) _ (λ value. tt))
-set_brings arguments text = tt
+set_brings : (naming : Naming) (arguments : List (List ℕ)) (text : List ℕ) → Brings (set_arguments naming arguments text)
+set_brings naming (layer ∷ id ∷ column ∷ first ∷ more) text =
+    given_brings (id_named naming id) _ (λ id. given_brings (value_of (trimmed_end text)) _ (λ value. tt))
+set_brings naming arguments text = tt
 
-unset_brings : (arguments : List (List ℕ)) → Brings (unset_arguments ById arguments)
-unset_brings (layer ∷ id ∷ column ∷ []) = given_brings (id_of id) _ (λ id. tt)
-unset_brings arguments = tt
+unset_brings : (naming : Naming) (arguments : List (List ℕ)) → Brings (unset_arguments naming arguments)
+unset_brings naming (layer ∷ id ∷ column ∷ []) = given_brings (id_named naming id) _ (λ id. tt)
+unset_brings naming arguments = tt
 
 get_brings : (arguments : List (List ℕ)) → Brings (get_arguments arguments)
 get_brings [] = tt
@@ -247,11 +253,11 @@ by_verb_brings (Some verbs.Layer) rest = layer_brings (words rest)
 by_verb_brings (Some verbs.Column) rest = column_brings (words rest)
 by_verb_brings (Some verbs.Add) rest = add_brings (words rest) (skip_blanks (skip_word rest))
 by_verb_brings (Some verbs.AddHex) rest = addhex_brings (words rest)
-by_verb_brings (Some verbs.Delete) rest = delete_brings (words rest)
-by_verb_brings (Some verbs.Replace) rest = replace_brings (words rest) (skip_blanks (skip_word (skip_word rest)))
-by_verb_brings (Some verbs.Vertex) rest = vertex_brings (words rest)
-by_verb_brings (Some verbs.Set) rest = set_brings (words rest) (skip_blanks (skip_word (skip_word (skip_word rest))))
-by_verb_brings (Some verbs.Unset) rest = unset_brings (words rest)
+by_verb_brings (Some verbs.Delete) rest = delete_brings ById (words rest)
+by_verb_brings (Some verbs.Replace) rest = replace_brings ById (words rest) (skip_blanks (skip_word (skip_word rest)))
+by_verb_brings (Some verbs.Vertex) rest = vertex_brings ById (words rest)
+by_verb_brings (Some verbs.Set) rest = set_brings ById (words rest) (skip_blanks (skip_word (skip_word (skip_word rest))))
+by_verb_brings (Some verbs.Unset) rest = unset_brings ById (words rest)
 by_verb_brings (Some verbs.Undo) rest = alone_brings Undo (words rest) tt
 by_verb_brings (Some verbs.Redo) rest = alone_brings Redo (words rest) tt
 by_verb_brings (Some verbs.Layers) rest = alone_brings Layers (words rest) tt
@@ -294,3 +300,74 @@ command_brings line = by_length (nat_lt line_max (length line)) (addressed_comma
 
 pub commands_bring_grid_points : CommandsBringGridPoints
 commands_bring_grid_points line editor edit is = subst BringsByEditor is (command_brings line)
+
+-- ---- members
+
+-- the points that a member brings are on the grid
+abbrev MemberBrings : Member → Type 0
+MemberBrings member = BringsGridPoints member.edit
+
+member_by_brings : (of_last : Bool) (r : Result Command Refusal) → Brings r → IfOk (member_by of_last r) MemberBrings
+member_by_brings of_last (Ok (Edit edit)) brings = brings
+member_by_brings of_last (Ok command) brings = tt
+member_by_brings of_last (Err refusal) brings = tt
+
+member_by_verb_brings : (verb : Option Verb) (rest : List ℕ) → IfOk (member_by_verb verb rest) MemberBrings
+member_by_verb_brings (Some verbs.Add) rest = member_by_brings false (add_arguments (words rest) (skip_blanks (skip_word rest))) (add_brings (words rest) (skip_blanks (skip_word rest)))
+member_by_verb_brings (Some verbs.AddHex) rest = member_by_brings false (addhex_arguments (words rest)) (addhex_brings (words rest))
+member_by_verb_brings (Some verbs.Delete) rest =
+    member_by_brings (second_is_last (words rest)) (delete_arguments OrLast (words rest)) (delete_brings OrLast (words rest))
+member_by_verb_brings (Some verbs.Replace) rest =
+    member_by_brings (second_is_last (words rest)) (replace_arguments OrLast (words rest) (skip_blanks (skip_word (skip_word rest))))
+    (replace_brings OrLast (words rest) (skip_blanks (skip_word (skip_word rest))))
+member_by_verb_brings (Some verbs.Vertex) rest =
+    member_by_brings (third_is_last (words rest)) (vertex_arguments OrLast (words rest)) (vertex_brings OrLast (words rest))
+member_by_verb_brings (Some verbs.Set) rest =
+    member_by_brings (second_is_last (words rest)) (set_arguments OrLast (words rest) (skip_blanks (skip_word (skip_word (skip_word rest)))))
+    (set_brings OrLast (words rest) (skip_blanks (skip_word (skip_word (skip_word rest)))))
+member_by_verb_brings (Some verbs.Unset) rest =
+    member_by_brings (second_is_last (words rest)) (unset_arguments OrLast (words rest)) (unset_brings OrLast (words rest))
+member_by_verb_brings verb rest = tt
+
+member_by_words_brings : (all : List (List ℕ)) (rest : List ℕ) → IfOk (member_by_words all rest) MemberBrings
+member_by_words_brings [] rest = tt
+member_by_words_brings (verb ∷ arguments) rest = member_by_verb_brings (verb_of verb) rest
+
+member_by_length : (long : Bool) (r : Result Member Refusal) → IfOk r MemberBrings → IfOk (if long then Err LineTooLong else r) MemberBrings
+member_by_length true r brings = tt
+member_by_length false r brings = brings
+
+member_brings : (line : List ℕ) → IfOk (member_of line) MemberBrings
+member_brings line = member_by_length (nat_lt line_max (length line)) (member_by_words (words line) (skip_word line)) (member_by_words_brings (words line) (skip_word line))
+
+placed_brings : (earlier : List Member) (r : Result Member Refusal) → IfOk r MemberBrings → IfOk (placed earlier r) MemberBrings
+placed_brings earlier (Ok member) brings = by (may_follow earlier member)
+  where
+    by : (may : Bool) → IfOk (if may then Ok member else Err BadCommand) MemberBrings
+    by true = brings
+    by false = tt
+placed_brings earlier (Err refusal) brings = tt
+
+one_more_brings : (earlier : List Member) (member : Member) → AllByRecursion MemberBrings earlier → MemberBrings member → AllByRecursion MemberBrings (earlier ++ member ∷ [])
+one_more_brings [] member all brings = (brings, tt)
+one_more_brings (first ∷ earlier) member all brings = (all.0, one_more_brings earlier member all.1 brings)
+
+behind_brings : (earlier : List Member) (r : Result Member Refusal) (behind : List Member → Result (List Member) GroupRefusal)
+    → AllByRecursion MemberBrings earlier → IfOk r MemberBrings
+    → ((members : List Member) → AllByRecursion MemberBrings members → IfOk (behind members) (AllByRecursion MemberBrings))
+    → IfOk (and_behind earlier r behind) (AllByRecursion MemberBrings)
+behind_brings earlier (Ok member) behind all brings further = further (earlier ++ member ∷ []) (one_more_brings earlier member all brings)
+behind_brings earlier (Err refusal) behind all brings further = tt
+
+members_behind_bring : (texts : List (List ℕ)) (earlier : List Member) → AllByRecursion MemberBrings earlier → IfOk (members_behind earlier texts) (AllByRecursion MemberBrings)
+members_behind_bring [] earlier all = all
+members_behind_bring (text ∷ texts) earlier all =
+    behind_brings earlier (placed earlier (member_of text)) (λ members. members_behind members texts) all (placed_brings earlier (member_of text) (member_brings text))
+    (members_behind_bring texts)
+
+members_in_bring : (parts : List (List ℕ)) → IfOk (members_in parts) (AllByRecursion MemberBrings)
+members_in_bring [] = tt
+members_in_bring (head ∷ texts) = members_behind_bring texts [] tt
+
+pub members_bring_grid_points : MembersBringGridPoints
+members_bring_grid_points text members is = subst (λ (r : Result (List Member) GroupRefusal). IfOk r (AllByRecursion MemberBrings)) is (members_in_bring (parts_of text))

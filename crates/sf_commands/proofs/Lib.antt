@@ -11,6 +11,7 @@ pub mod Computed
 pub mod ComputedQueries
 pub mod MemberLemmas
 pub mod ComputedMembers
+pub mod ComputedGroups
 pub mod LawProofs
 pub mod JudgedProofs
 pub mod AddressLemmas

@@ -1,5 +1,5 @@
 -- The parts of a text, between carriage returns, and the groups that they make.
-use Rattle.std.proofs.Common.{◌≡◌, ◌≢◌, ℕ, zero, suc, ◌+◌, ◌-◌, ◌<◌, ◌≤◌, Bool, true, false, ◌||◌, ◌&&◌, cond, nat_eq, nat_lt, nat_le, List, [], ◌∷◌, ◌++◌, length, get_or, Option, Some, None, Result, Ok, Err, MatchOption, option_map, option_and_then, bytes_eq, codes, if◌then◌else◌, refl, sym, ap, ◌∙◌, subst, eq-eqb, arith}
+use Rattle.std.proofs.Common.{◌≡◌, ◌≢◌, ℕ, suc, ◌+◌, ◌-◌, ◌<◌, Bool, true, false, ◌||◌, ◌&&◌, cond, nat_eq, nat_lt, nat_le, List, [], ◌∷◌, ◌++◌, length, get_or, Option, Some, None, Result, Ok, Err, MatchOption, option_map, option_and_then, bytes_eq, codes, if◌then◌else◌, refl, sym, ap, ◌∙◌, subst, eq-eqb, arith}
 use denote.Ref.{Bor}
 use Rattle.std.specs.List.{count_by, list_any}
 use Rattle.std.proofs.lemmas.Bool.Decides.{nat_tests}
@@ -11,7 +11,7 @@ use Rattle.sf_refusals.specs.declared.refusal.Refusal.{Refusal}
 use Rattle.sf_commands.specs.declared.head.Head.{Head}
 use Rattle.sf_commands.specs.Commands.{addressed, id_of}
 use Rattle.sf_commands.specs.Words.{words}
-use Rattle.sf_commands.specs.GroupTexts.{addressed_head, count_of, group_by_head, group_by_parts, group_of, head_by_words, head_of, if_count, is_return, members_behind, members_in, members_max, members_of, onto_first, parts_of}
+use Rattle.sf_commands.specs.GroupTexts.{addressed_head, group_by_head, group_by_parts, group_of, head_by_words, head_of, if_count, is_return, members_behind, members_in, members_max, members_of, onto_first, parts_of}
 
 -- ---- parts
 

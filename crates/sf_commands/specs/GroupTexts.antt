@@ -103,7 +103,7 @@ abbrev pub OrNoMemory : Result (List GroupMember) GroupRefusal → Result (List 
 OrNoMemory expected (Err Memory) = Unit {0}
 OrNoMemory expected result = result ≡ expected
 
--- Internal: the refusal of the member of a number; want of memory is no fault of its text
+-- Internal: the refusal of the member of a number; where no memory was found, its text is not at fault
 abbrev pub refusal_of_member : ℕ → Refusal → GroupRefusal
 refusal_of_member number refusals.Memory = Memory
 refusal_of_member number refusal = Member number refusal

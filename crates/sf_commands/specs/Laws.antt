@@ -1,5 +1,6 @@
 -- Laws of commands.
 use Rattle.std.specs.Prelude.{◌≡◌, ℕ, List, [], Result, Ok, Err}
+use Rattle.std.specs.List.{AllByRecursion}
 use Rattle.sf_refusals.specs.declared.refusal.Refusal.{Refusal}
 use Rattle.sf_geometry.specs.declared.geometry.Geometry.{Geometry}
 use Rattle.sf_rules.specs.declared.fault.Fault.{Fault}
@@ -8,14 +9,20 @@ use Rattle.sf_rules.specs.Validity.{IsFirstFault, IsValid}
 use Rattle.sf_wkt.specs.Grammar.{read}
 use Rattle.sf_steps.specs.declared.edit.Edit.{Edit}
 use Rattle.sf_steps.specs.Laws.{BringsGridPoints}
+use Rattle.sf_groups.specs.declared.member.Member.{Member}
 use Rattle.sf_commands.specs.declared.command.Command.{Command}
 use Rattle.sf_commands.specs.declared.command.Command.TheVariants as commands
 use Rattle.sf_commands.specs.Words.{skip_blanks, skip_word}
 use Rattle.sf_commands.specs.Commands.{addressed, command_of}
+use Rattle.sf_commands.specs.GroupTexts.{members_of}
 
 -- the points that the edit of a line brings are on the grid
 abbrev pub CommandsBringGridPoints : Type 0
 CommandsBringGridPoints = (line : List ℕ) (editor : ℕ) (edit : Edit) → command_of line ≡ Ok (editor, commands.Edit edit) → BringsGridPoints edit
+
+-- and so are those that the members of a text bring
+abbrev pub MembersBringGridPoints : Type 0
+MembersBringGridPoints = (text : List ℕ) (members : List Member) → members_of text ≡ Ok members → AllByRecursion (λ member. BringsGridPoints member.edit) members
 
 -- the text of a geometry that features are compared with: the line from the third word behind the verb on
 abbrev pub given_text : Result (ℕ × List ℕ) Refusal → List ℕ

@@ -1,5 +1,5 @@
-use Rattle.std.proofs.Common.{◌≡◌, ◌≢◌, ◌∙◌, None, ap, sym, subst, rules, arith}
-use Rattle.sf_commands.specs.GroupTexts.{group_by_head, head_of, members_of, parts_of, OrNoMemory}
+use Rattle.std.proofs.Common.{◌≡◌, ◌≢◌, ◌∙◌, None, sym, subst, arith}
+use Rattle.sf_commands.specs.GroupTexts.{members_of, OrNoMemory}
 use Rattle.sf_commands.proofs.PartLemmas.{group_of-alone, group_of-counted, group_of-headless, group_of-miscounted, members_of-cut, return-split}
 use Rattle.sf_commands.proofs.group_text.parse_group.Goals as goal
 
