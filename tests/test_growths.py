@@ -40,6 +40,7 @@ query
 join
 undo
 redo
+together
 """.splitlines()
 
 # A feature deleted, additions taken back, and others in their place.
@@ -146,7 +147,53 @@ undo
 @1 show w
 """.splitlines()
 
-WHOLE = [*SESSION, *(f"layer drop {name}" for name in "acd"), *TAKEN_BACK, *LAYERS, *VERTICES, *VALUES, *VALUES_BACK, *EDITORS]
+def together(*members: str) -> str:
+    """A group as the lines that have one answer."""
+    return "\n".join([f"together {len(members)}", *members])
+
+
+# Groups that add, change and delete in two layers, by their own lines and on one line; undone and done again, by two editors.
+GROUPS = [
+    "layer add p polygon",
+    "layer add w point",
+    "column add p owner text",
+    "add p POLYGON ((0 0, 20 0, 20 10, 0 10, 0 0))",
+    "set p 1 owner 'Ada'",
+    together(
+        "add p POLYGON ((0 0, 10 0, 10 10, 0 10, 0 0))",
+        "set p last owner 'Ada'",
+        "add p POLYGON ((10 0, 20 0, 20 10, 10 10, 10 0))",
+        "set p last owner 'Ben'",
+        "add w POINT (10 0)",
+        "delete p 1",
+    ),
+    "show p",
+    "@2 together 2\rvertex move p 2 0 0 1 9 0\rvertex move p 3 0 0 0 9 0",
+    "show p",
+    "undo",
+    "@2 undo",
+    "undo",
+    "show p",
+    "redo",
+    "@2 redo",
+    "show p",
+    together("replace p 3 POLYGON ((9 0, 20 0, 20 10, 9 0))", "unset p 2 owner", "addhex w 010100000000000000000008400000000000001040"),
+    together("delete w 1", "delete w 7"),
+    together("add w POINT (1 1)", "set w last owner 'x'"),
+    together("delete w 2", "add w POINT (2 2)", "delete w last"),
+    "undo",
+    "undo",
+    "query w disjoint POINT (2 2)",
+    "redo",
+    "redo",
+    "show w",
+    "show p",
+    *["undo"] * 4,
+    "layer drop p",
+    "layer drop w",
+]
+
+WHOLE = [*SESSION, *(f"layer drop {name}" for name in "acd"), *TAKEN_BACK, *LAYERS, *VERTICES, *VALUES, *VALUES_BACK, *GROUPS, *EDITORS]
 
 # A look at a layer of points: what its index finds, and the rest.
 LOOKS = ["query w intersects POLYGON ((0 0, 3 0, 3 3, 0 3, 0 0))", "query w disjoint POINT (2 2)"]
@@ -212,6 +259,13 @@ class Refused(Preloaded):
     def test_every_command_and_every_edit_undone_and_done_again(self) -> None:
         ends = {end for end, _ in self.ends(Call(STORE), WHOLE)}
         self.assertIn("serve", ends)
+
+    def test_a_group_is_carried_out_whole_or_not_at_all(self) -> None:
+        found = self.ends(Call(STORE, saves=True), GROUPS)
+        groups = {str(place) for place, line in enumerate(GROUPS) if "together" in line}
+        moves = {str(place) for place, line in enumerate(GROUPS) if line.endswith(("undo", "redo"))}
+        refused = {end for end, _ in found}
+        self.assertTrue(groups & refused and moves & refused, refused)
 
     def test_the_session_has_every_command(self) -> None:
         given = answers(Call(STORE).run(sent(WHOLE), {}).output)

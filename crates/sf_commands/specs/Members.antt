@@ -1,4 +1,3 @@
--- Internal: who wants to trust the program need not read this file.
 -- The members of a group, as lines spell them.
 use Rattle.std.specs.Prelude.{ℕ, Bool, false, List, [], ◌∷◌, length, Option, Some, Result, Ok, Err, nat_lt, if◌then◌else◌}
 use Rattle.sf_refusals.specs.declared.refusal.Refusal.{Refusal}

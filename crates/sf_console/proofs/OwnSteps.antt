@@ -1,18 +1,22 @@
 -- Whose steps the undos and redos of a session move.
-use Rattle.std.proofs.Common.{◌≡◌, ◌⊎◌, ℕ, inl, inr, List, [], ◌∷◌, Option, None, Some, Result, Ok, Err, filter_map, refl, sym, ap, ◌∙◌, subst}
+use Rattle.std.proofs.Common.{◌≡◌, ◌⊎◌, ℕ, inl, inr, List, [], ◌∷◌, Option, None, Some, Result, Ok, Err, filter_map, option_map, refl, sym, ap, ◌∙◌, subst}
 use Rattle.std.specs.List.{cons_option}
 use Rattle.sf_refusals.specs.declared.refusal.Refusal.{Refusal}
+use Rattle.sf_layers.specs.Content.{Content}
 use Rattle.sf_steps.specs.declared.answer.Answer.{Answer}
 use Rattle.sf_steps.specs.declared.edit.Edit.{Edit}
 use Rattle.sf_steps.specs.Steps.{step}
-use Rattle.sf_changes.specs.Changes.{OfEdit}
-use Rattle.sf_history.specs.History.{Machine, fresh, changed, edited, undone, redone}
+use Rattle.sf_groups.specs.declared.member.Member.{Member}
+use Rattle.sf_groups.specs.Members.{Refused, together}
+use Rattle.sf_changes.specs.Changes.{OfEdit, OfGroup, group_led}
+use Rattle.sf_history.specs.History.{Machine, advanced, after_group, fresh, changed, edited, grouped, undone, redone}
 use Rattle.sf_history.specs.Laws.{Turn, Leads, LeadInTurn}
 use Rattle.sf_history.proofs.LawProofs.{edited-changed}
 use Rattle.sf_history.proofs.OwnSteps.{own_steps_law}
 use Rattle.sf_commands.specs.declared.command.Command.TheVariants as commands
-use Rattle.sf_console.specs.Answers.{edit_reply, history_reply}
-use Rattle.sf_console.specs.Readings.{Reading, Blank, Unreadable, Asked, readings_of}
+use Rattle.sf_console.specs.Answers.{edit_reply, history_reply, step_reply}
+use Rattle.sf_console.specs.Readings.{Reading, Blank, Unreadable, Asked, Grouped, Cut}
+use Rattle.sf_console.specs.Requests.{readings_of}
 use Rattle.sf_console.specs.Session.{IsAnswered, Run}
 use Rattle.sf_console.specs.Laws.{turn_of, SessionsMoveOwnSteps}
 
@@ -31,6 +35,22 @@ move_turn : (old new : Machine) (text : List ℕ) (r e : Result Machine Refusal)
 move_turn old new text (Ok other) e is h = inl (is ∙ ap (λ (m : Machine). let r : Result Machine Refusal = Ok m in r) (ap (λ p. p.0) h))
 move_turn old new text (Err refusal) e is h = inr (sym (ap (λ p. p.0) h))
 
+machine_at : Result (Machine × List ℕ) Refused → Option Machine
+machine_at (Ok done) = Some done.0
+machine_at (Err refused) = None
+
+-- an accepted group is an accepted change
+pub grouped-changed : (editor : ℕ) (old new : Machine) (ids : List ℕ) (r : Result (Content × List ℕ) Refused) → after_group editor old r ≡ Ok (new, ids)
+    → option_map (advanced editor old) (group_led r) ≡ Some new
+grouped-changed editor old new ids (Ok done) h = ap machine_at h
+grouped-changed editor old new ids (Err refused) h = cc
+
+group_turn : (editor : ℕ) (members : List Member) (old new : Machine) (text : List ℕ) (r : Result (Machine × List ℕ) Refused) → grouped editor old members ≡ r
+    → step_reply old r ≡ (new, text) → (changed editor old (OfGroup members) ≡ Some new) ⊎ (new ≡ old)
+group_turn editor members old new text (Ok done) is h =
+    inl (grouped-changed editor old new done.1 (together old.now members) (is ∙ ap (λ (m : Machine). let r : Result (Machine × List ℕ) Refused = Ok (m, done.1) in r) (ap (λ p. p.0) h)))
+group_turn editor members old new text (Err refused) is h = inr (sym (ap (λ p. p.0) h))
+
 line_turn : (old new : Machine) (line : Reading) (text : List ℕ) → IsAnswered old line text new → LeadsOrStays (turn_of line) old new
 line_turn old new Blank text answered = answered.1
 line_turn old new (Unreadable refusal) text answered = answered.1
@@ -44,6 +64,11 @@ line_turn old new (Asked takes (Ok (editor, commands.Redo))) text (inl replied) 
 line_turn old new (Asked takes (Ok (editor, commands.Redo))) text (inr refused) = inr refused.1
 line_turn old new (Asked takes (Ok (editor, command))) text (inl replied) = sym (ap (λ p. p.0) replied)
 line_turn old new (Asked takes (Ok (editor, command))) text (inr refused) = refused.1
+line_turn old new (Grouped editor (Ok members)) text (inl replied) = group_turn editor members old new text (grouped editor old members) refl replied
+line_turn old new (Grouped editor (Ok members)) text (inr refused) = inr refused.1
+line_turn old new (Grouped editor (Err refusal)) text (inl replied) = sym (ap (λ p. p.0) replied)
+line_turn old new (Grouped editor (Err refusal)) text (inr refused) = refused.1
+line_turn old new (Cut group) text answered = answered.1
 
 -- the lines' turns lead where the session leads
 one_more : (old mid new : Machine) (turn : Option Turn) (lines : List Reading) → LeadsOrStays turn old mid → LeadInTurn mid (filter_map turn_of lines) new

@@ -1,7 +1,8 @@
 -- A session in parts: runs one after another.
 use Rattle.std.proofs.Common.{◌≡◌, ℕ, List, [], ◌∷◌, ◌++◌, Option, None, Some, sym, ap, ◌∙◌, subst, append_assoc, append-nil}
 use Rattle.sf_history.specs.History.{Machine}
-use Rattle.sf_console.specs.Readings.{Reading, readings_of}
+use Rattle.sf_console.specs.Readings.{Reading}
+use Rattle.sf_console.specs.Requests.{readings_of}
 use Rattle.sf_console.specs.Session.{Run}
 use Rattle.sf_console.specs.Serving.{ServesAll}
 

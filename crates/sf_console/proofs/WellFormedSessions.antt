@@ -1,10 +1,9 @@
 -- Sessions lead from well-formed contents to well-formed ones.
-use Rattle.std.proofs.Common.{◌≡◌, ℕ, Bool, true, false, not, nat_eq, nat_lt, inl, inr, List, [], ◌∷◌, ◌++◌, length, map, Option, Result, Ok, Err, if◌then◌else◌, refl, sym, ap, subst, arith}
+use Rattle.std.proofs.Common.{◌≡◌, ℕ, Bool, true, false, not, zero, suc, ◌-◌, nat_eq, inl, inr, List, [], ◌∷◌, ◌++◌, length, Option, None, Some, Result, Ok, Err, if◌then◌else◌, refl, sym, ap, ◌∙◌, subst, arith}
 use Rattle.std.specs.List.{AllByRecursion, IsDistinct, list_all}
 use Rattle.std.specs.Str.{is_utf8}
 use Rattle.sf_refusals.specs.declared.refusal.Refusal.{Refusal}
-use Rattle.sf_refusals.specs.declared.refusal.Refusal.TheVariants.{BadCommand, LineTooLong, NotYours}
-use Rattle.sf_lines.specs.Lines.{Line, ended_lines, line_max, lines_of, text_of}
+use Rattle.sf_refusals.specs.declared.refusal.Refusal.TheVariants.{BadCommand, NotYours}
 use Rattle.sf_wkt.specs.Tokens.{is_blank}
 use Rattle.sf_layers.specs.Content.{Content}
 use Rattle.sf_layers.specs.WellFormed.{IsWellFormed}
@@ -14,13 +13,20 @@ use Rattle.sf_steps.specs.declared.refusal.Refusal.{Refusal as EditRefusal}
 use Rattle.sf_steps.specs.Laws.{BringsGridPoints}
 use Rattle.sf_steps.specs.Steps.{step}
 use Rattle.sf_steps.proofs.StepsFine.{IsWellFormed-step}
-use Rattle.sf_history.specs.History.{Kept, Machine, after_step, back_to, forth_to, fresh}
+use Rattle.sf_history.specs.History.{Kept, Machine, after_group, after_step, back_to, forth_to, fresh}
 use Rattle.sf_commands.specs.declared.command.Command.{Command}
 use Rattle.sf_commands.specs.declared.command.Command.TheVariants as commands
 use Rattle.sf_commands.specs.Commands.{command_of, takes_memory}
-use Rattle.sf_commands.proofs.LawProofs.{commands_bring_grid_points}
-use Rattle.sf_console.specs.Answers.{edit_reply, history_reply, reply}
-use Rattle.sf_console.specs.Readings.{Reading, Blank, Unreadable, Asked, reading, readings_of, text_reading, whole_readings_of}
+use Rattle.sf_groups.specs.declared.member.Member.{Member}
+use Rattle.sf_groups.specs.Members.{Refused, together}
+use Rattle.sf_groups.proofs.GroupsFine.{groups-fine}
+use Rattle.sf_commands.specs.declared.group_text.GroupRefusal.{GroupRefusal}
+use Rattle.sf_commands.specs.declared.head.Head.{Head}
+use Rattle.sf_commands.specs.GroupTexts.{group_by_head, group_by_parts, group_of, head_of, members_of, parts_of}
+use Rattle.sf_commands.proofs.LawProofs.{commands_bring_grid_points, members_bring_grid_points}
+use Rattle.sf_console.specs.Answers.{edit_reply, group_reply, history_reply, reply, step_reply}
+use Rattle.sf_console.specs.Readings.{Reading, Blank, Unreadable, Asked, Grouped, Cut, by_group, reading_of, text_reading}
+use Rattle.sf_console.specs.Requests.{Closed, Comes, Ends, Event, Gathering, Open, events_of, gathered, gathered_on, is_passed_over, line_head, nothing_asked, outside, readings, readings_of, requests_from, whole_lines_come, whole_readings_of, with_member}
 use Rattle.sf_console.specs.Session.{IsAnswered, Run}
 use Rattle.sf_console.specs.Serving.{AreFirst, BreaksOff}
 use Rattle.sf_console.specs.Laws.{AreWellFormed, FreshMachinesAreWellFormed, ServingKeepsContentsWellFormed, SessionsKeepContentsWellFormed}
@@ -64,34 +70,96 @@ after_command machine (Ok (editor, commands.Undo)) brings fine = after_undo mach
 after_command machine (Ok (editor, commands.Redo)) brings fine = after_redo machine editor machine.future fine.future fine
 after_command machine command brings fine = fine
 
--- ---- a line
+-- ---- a group
 
--- the same of a line
+after_step_of : (machine : Machine) (editor : ℕ) (members : List Member) (done : Result (Content × List ℕ) Refused) → together machine.now members ≡ done
+    → AllByRecursion (λ member. BringsGridPoints member.edit) members → AreWellFormed machine → AreWellFormed (step_reply machine (after_group editor machine done)).0
+after_step_of machine editor members (Ok done) is bring fine = record {
+  now = groups-fine machine.now done.0 members done.1 bring fine.now is;
+  past = (fine.now, fine.past);
+  future = tt;
+}
+after_step_of machine editor members (Err refused) is bring fine = fine
+
+-- the points that the members of a group bring are on the grid
+abbrev GroupBrings : Result (List Member) GroupRefusal → Type 0
+GroupBrings group = (members : List Member) → group ≡ Ok members → AllByRecursion (λ member. BringsGridPoints member.edit) members
+
+after_group_of : (machine : Machine) (editor : ℕ) (group : Result (List Member) GroupRefusal) → GroupBrings group → AreWellFormed machine
+    → AreWellFormed (group_reply machine editor group).0
+after_group_of machine editor (Ok members) brings fine = after_step_of machine editor members (together machine.now members) refl (brings members refl) fine
+after_group_of machine editor (Err refusal) brings fine = fine
+
+-- ---- what is asked
+
+-- the same of what is asked
 abbrev LineBrings : Reading → Type 0
 LineBrings (Asked takes command) = Brings command
+LineBrings (Grouped editor group) = GroupBrings group
 LineBrings other = Unit {0}
 
 by_test : (b : Bool) (one other : Reading) → LineBrings one → LineBrings other → LineBrings (if b then one else other)
 by_test true one other first second = first
 by_test false one other first second = second
 
+-- a group that a text is has the members that the text spells
+group_spelled : (text : List ℕ) (head : Option Head) (count : ℕ) → group_by_head head text count ≡ group_by_head head text count
+    → (group : ℕ × Result (List Member) GroupRefusal) → group_by_head head text count ≡ Some group → group.1 ≡ members_of text
+group_spelled text None count same group is = absurd cc
+group_spelled text (Some head) count same group is = by_count (nat_eq head.members count) is
+  where
+    by_count : (all : Bool) → (if all then Some (head.editor, members_of text) else None) ≡ Some group → group.1 ≡ members_of text
+    by_count true is = ap (λ o. group_in o) (sym is)
+      where
+        group_in : Option (ℕ × Result (List Member) GroupRefusal) → Result (List Member) GroupRefusal
+        group_in (Some found) = found.1
+        group_in None = members_of text
+    by_count false is = absurd cc
+
 text_brings : (text : List ℕ) → LineBrings (text_reading text)
 text_brings text =
-    by_test (not (is_utf8 text)) (Unreadable BadCommand) _ tt
-    (by_test (list_all is_blank text) Blank (Asked (takes_memory text) (command_of text)) tt (commands_bring_grid_points text))
+    by_test (not (is_utf8 text)) (Unreadable BadCommand) _ tt (by_test (list_all is_blank text) Blank (by_group text (group_of text)) tt (of_group (group_of text) refl))
+  where
+    of_group : (group : Option (ℕ × Result (List Member) GroupRefusal)) → group_of text ≡ group → LineBrings (by_group text group)
+    of_group None is = commands_bring_grid_points text
+    of_group (Some group) is = λ members spelled. members_bring_grid_points text members (sym (spelled_in (parts_of text) group is) ∙ spelled)
+    spelled_in : (parts : List (List ℕ)) (group : ℕ × Result (List Member) GroupRefusal) → group_by_parts parts text ≡ Some group → group.1 ≡ members_of text
+    spelled_in [] group is = absurd cc
+    spelled_in (first ∷ members) group is = group_spelled text (head_of first) (length members) refl group is
 
-line_brings : (line : Line) → LineBrings (reading line)
-line_brings line = by_test (nat_lt line_max (length line.bytes)) (Unreadable LineTooLong) _ tt (text_brings (text_of line))
+line_brings : (line : Option (List ℕ)) → LineBrings (reading_of line)
+line_brings None = tt
+line_brings (Some text) = text_brings text
 
-lines_bring : (lines : List Line) → AllByRecursion LineBrings (map reading lines)
-lines_bring [] = tt
-lines_bring (line ∷ lines) = (line_brings line, lines_bring lines)
+event_brings : (gathering : Gathering) (event : Event) → LineBrings (gathered gathering event).1.reading
+event_brings Closed (Comes line) = by_head (line_head line)
+  where
+    by_head : (head : Option Head) → LineBrings (outside line head).1.reading
+    by_head None = line_brings line
+    by_head (Some head) = tt
+event_brings Closed Ends = tt
+event_brings (Open text left) (Comes line) = by_passed (is_passed_over line)
+  where
+    by_left : (whole : List ℕ) (n : ℕ) → LineBrings (gathered_on whole n).1.reading
+    by_left whole zero = text_brings whole
+    by_left whole (suc n) = tt
+    by_passed : (passed : Bool) → LineBrings (if passed then (Open text left, nothing_asked) else gathered_on (with_member text line) (left - 1)).1.reading
+    by_passed true = tt
+    by_passed false = by_left (with_member text line) (left - 1)
+event_brings (Open text left) Ends = tt
+
+events_bring : (gathering : Gathering) (events : List Event) → AllByRecursion LineBrings (readings (requests_from gathering events))
+events_bring gathering [] = tt
+events_bring gathering (event ∷ events) = (event_brings gathering event, events_bring (gathered gathering event).0 events)
 
 after_line : (old new : Machine) (line : Reading) (text : List ℕ) → LineBrings line → AreWellFormed old → IsAnswered old line text new → AreWellFormed new
 after_line old new Blank text brings fine answered = subst AreWellFormed (sym answered.1) fine
 after_line old new (Unreadable refusal) text brings fine answered = subst AreWellFormed (sym answered.1) fine
 after_line old new (Asked takes command) text brings fine (inl replied) = subst AreWellFormed (ap (λ p. p.0) replied) (after_command old command brings fine)
 after_line old new (Asked takes command) text brings fine (inr refused) = subst AreWellFormed (sym refused.1) fine
+after_line old new (Grouped editor group) text brings fine (inl replied) = subst AreWellFormed (ap (λ p. p.0) replied) (after_group_of old editor group brings fine)
+after_line old new (Grouped editor group) text brings fine (inr refused) = subst AreWellFormed (sym refused.1) fine
+after_line old new (Cut group) text brings fine answered = subst AreWellFormed (sym answered.1) fine
 
 -- ---- lines
 
@@ -106,9 +174,9 @@ parts_bring (line ∷ lines) more bring = let parts = parts_bring lines more bri
 
 first_bring : (lines : List Reading) (taken : List ℕ) (left : Option (List ℕ)) → AreFirst lines taken left → AllByRecursion LineBrings lines
 first_bring lines taken left (inl (later, parts)) =
-    (parts_bring lines later (subst (λ all. AllByRecursion LineBrings all) parts (lines_bring (ended_lines (lines_of taken))))).0
+    (parts_bring lines later (subst (λ all. AllByRecursion LineBrings all) parts (events_bring Closed (whole_lines_come taken)))).0
 first_bring lines taken left (inr (at_end, later, parts)) =
-    (parts_bring lines later (subst (λ all. AllByRecursion LineBrings all) parts (lines_bring (lines_of taken)))).0
+    (parts_bring lines later (subst (λ all. AllByRecursion LineBrings all) parts (events_bring Closed (events_of taken)))).0
 
 after_break : (unread left written_before written : Option (List ℕ)) (old new : Machine) → AreWellFormed old → BreaksOff unread left written_before written old new → AreWellFormed new
 after_break unread left written_before written old new fine broken =
@@ -130,11 +198,11 @@ fresh_machines_are_well_formed = (of_content, of_content [] new_store)
 
 pub sessions_keep_contents_well_formed : SessionsKeepContentsWellFormed
 sessions_keep_contents_well_formed old new input output fine ran =
-    after_lines old new (readings_of input) output (lines_bring (lines_of input)) fine ran
+    after_lines old new (readings_of input) output (events_bring Closed (events_of input)) fine ran
 
 pub serving_keeps_contents_well_formed : ServingKeepsContentsWellFormed
 serving_keeps_contents_well_formed unread left written_before written old new fine = record {
-  all = λ serves. after_lines old new (readings_of serves.taken) serves.output (lines_bring (lines_of serves.taken)) fine serves.ran;
-  whole_lines = λ serves. after_lines old new (whole_readings_of serves.taken) serves.output (lines_bring (ended_lines (lines_of serves.taken))) fine serves.ran;
+  all = λ serves. after_lines old new (readings_of serves.taken) serves.output (events_bring Closed (events_of serves.taken)) fine serves.ran;
+  whole_lines = λ serves. after_lines old new (whole_readings_of serves.taken) serves.output (events_bring Closed (whole_lines_come serves.taken)) fine serves.ran;
   broken_off = after_break unread left written_before written old new fine;
 }

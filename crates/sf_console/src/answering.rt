@@ -1,17 +1,23 @@
 //! A line, and its reply.
-ghost use Rattle.std.specs.Prelude.{◌≡◌, ◌⊎◌, ℕ, List, Ok, Err, false, true, map, MatchResult};
+ghost use Rattle.std.specs.Prelude.{◌≡◌, ◌⊎◌, ℕ, List, Ok, Err, false, true, map, option_copied, MatchResult};
 ghost use Rattle.sf_layers.specs.Content.{layer_of};
+ghost use Rattle.sf_lines.specs.Lines.{HasNoFeed};
 ghost use Rattle.sf_lines.specs.Buffers.{IsBufferOf};
 ghost use Rattle.sf_console.specs.Answers.{reply_text, refusal_line, rows, rows_of, layer_row, column_rows as column_rows_of, feature_rows as feature_rows_of, found, found_by, got, told, hex_text, simple_text, box_text, related_text, found_rows};
-ghost use Rattle.sf_console.specs.Readings.{Asked, reading, text_reading};
-ghost use Rattle.sf_console.specs.Session.{IsAnswered, IsLastAnswered};
+ghost use Rattle.sf_history.specs.History.{Machine};
+ghost use Rattle.sf_console.specs.Readings.{Asked, line_text, reading_of, text_reading};
+ghost use Rattle.sf_console.specs.Requests.{Ends, Gathering, Request, gathered};
+ghost use Rattle.sf_console.specs.Gatherings.{Asks, IsHeld, IsLastAnswered, IsTaken};
+ghost use Rattle.sf_console.specs.Session.{IsAnswered};
 
 use super::checking::checked;
 use super::finding::{column_of, ids_with, may_be_sought};
+use super::group_lines::{GroupLines, LineAsks};
+use super::grouping::{answer_cut, answer_group};
 use super::joining::joined;
 use super::reply::{Reply, hex_line};
 use super::rows::{column_rows, feature_rows, id_rows, layer_rows, rows_under};
-use sf_commands::{Command, Identifiers, is_blank_text, parse};
+use sf_commands::{Command, Identifiers, is_blank_text, parse, parse_group};
 use sf_history::Editor;
 use sf_layers::{AttrValue, Store, Text};
 use sf_lines::{LineBuffer, without_return};
@@ -22,41 +28,100 @@ use sf_validity::{Valid, is_simple};
 use std::alloc::Global;
 use std::str::from_utf8;
 
-/// Answers a line that had its line feed. The reply is sent as `reply_text` says: what has one line by `AnswerLine` or
-/// `matrix_line`, which take no memory, and rows as they are.
-pub fn answer_line(
+/// Answers a line that had its line feed, by itself or as one of a group. The reply is sent as `reply_text` says: what has
+/// one line by `AnswerLine` or `matrix_line`, which take no memory, and rows as they are.
+pub(crate) fn answer_line(
     alloc: Global,
     editor: &mut Editor,
+    group: &mut GroupLines,
     buffer: &LineBuffer,
 ) -> Result<Reply, Refusal>
-    ensures { (bytes : List ℕ) → IsBufferOf bytes buffer.now →
-        IsAnswered editor.old (reading (record { bytes = bytes; ended = true })) (reply_text result) editor.new }
+    ensures { (bytes : List ℕ) (gathering : Gathering) → IsBufferOf bytes buffer.now → HasNoFeed bytes → IsHeld gathering group.old →
+        IsTaken editor.old gathering (line_text (record { bytes = bytes; ended = true })) (reply_text result) editor.new group.new }
 {
-    let Some(bytes) = buffer.line() else {
-        return Err(Refusal::LineTooLong);
-    };
-    answer_text(alloc, editor, without_return(bytes))
+    let line = whole_line(buffer);
+    let asks = group.take(alloc, line);
+    answer_asked(alloc, editor, line, asks)
 }
 
-/// Answers the last line, which had no line feed, if there is one; the reply is sent as that of `answer_line`.
-pub fn answer_last_line(
+/// Answers the last line, which had no line feed, if there is one, and then the end of the input, which cuts a group off; no
+/// more than one of both has an answer. The reply is sent as that of `answer_line`.
+pub(crate) fn answer_last_line(
     alloc: Global,
     editor: &mut Editor,
+    group: &mut GroupLines,
     buffer: &LineBuffer,
 ) -> Result<Reply, Refusal>
-    ensures { (bytes : List ℕ) → IsBufferOf bytes buffer.now →
-        IsLastAnswered editor.old bytes (reply_text result) editor.new }
+    ensures { (bytes : List ℕ) (gathering : Gathering) → IsBufferOf bytes buffer.now → HasNoFeed bytes → IsHeld gathering group.old →
+        IsLastAnswered editor.old gathering bytes (reply_text result) editor.new }
 {
     if buffer.is_empty() {
-        return Ok(Reply::Nothing);
+        return answer_end(alloc, group);
     }
-    let Some(bytes) = buffer.line() else {
-        return Err(Refusal::LineTooLong);
-    };
-    answer_text(alloc, editor, bytes)
+    let line = buffer.line();
+    let asks = group.take(alloc, line);
+    if group.is_closed() {
+        answer_asked(alloc, editor, line, asks)
+    } else {
+        answer_end(alloc, group)
+    }
 }
 
-/// Answers the text of a line that is not too long.
+/// Answers the end of the input: a group that is open is cut off.
+pub fn answer_end(alloc: Global, group: &GroupLines) -> Result<Reply, Refusal>
+    ensures { (gathering : Gathering) (machine : Machine) → IsHeld gathering group.now →
+        IsAnswered machine (gathered gathering Ends).1.reading (reply_text result) machine }
+{
+    match group {
+        GroupLines::Closed => Ok(Reply::Nothing),
+        GroupLines::Open { text, .. } => answer_cut(alloc, text.as_str()),
+        GroupLines::Lost { .. } => Err(Refusal::Memory),
+    }
+}
+
+/// The text of a line that had its line feed; None where it is too long.
+pub fn whole_line(buffer: &LineBuffer) -> Option<&[u8]>
+    ensures { (bytes : List ℕ) → IsBufferOf bytes buffer.now → option_copied result ≡ line_text (record { bytes = bytes; ended = true }) }
+{
+    match buffer.line() {
+        Some(bytes) => Some(without_return(bytes)),
+        None => None,
+    }
+}
+
+/// Answers what a line asks.
+fn answer_asked(
+    alloc: Global,
+    editor: &mut Editor,
+    line: Option<&[u8]>,
+    asks: LineAsks,
+) -> Result<Reply, Refusal>
+    ensures { (request : Request) → Asks (option_copied line) request asks →
+        IsAnswered editor.old request.reading (reply_text result) editor.new }
+{
+    match asks {
+        LineAsks::Nothing => Ok(Reply::Nothing),
+        LineAsks::Itself => answer_alone(alloc, editor, line),
+        LineAsks::Group(text) => answer_text(alloc, editor, text.as_bytes()),
+        LineAsks::Lost => Err(Refusal::Memory),
+    }
+}
+
+/// Answers a line that asks something by itself.
+fn answer_alone(
+    alloc: Global,
+    editor: &mut Editor,
+    line: Option<&[u8]>,
+) -> Result<Reply, Refusal>
+    ensures { IsAnswered editor.old (reading_of (option_copied line)) (reply_text result) editor.new }
+{
+    match line {
+        Some(bytes) => answer_text(alloc, editor, bytes),
+        None => Err(Refusal::LineTooLong),
+    }
+}
+
+/// Answers a text: that of a line which is not too long, or that of a group.
 fn answer_text(alloc: Global, editor: &mut Editor, bytes: &[u8]) -> Result<Reply, Refusal>
     ensures { IsAnswered editor.old (text_reading bytes.now) (reply_text result) editor.new }
 {
@@ -65,6 +130,9 @@ fn answer_text(alloc: Global, editor: &mut Editor, bytes: &[u8]) -> Result<Reply
     };
     if is_blank_text(text) {
         return Ok(Reply::Nothing);
+    }
+    if let Some((asker, group)) = parse_group(alloc, text) {
+        return answer_group(alloc, editor, asker, group);
     }
     let (asker, command) = parse(alloc, text)?;
     execute(alloc, editor, asker, command)

@@ -1,6 +1,6 @@
 ghost use Rattle.std.specs.Prelude.{◌≡◌, ◌≤◌, ◌+◌, ◌<◌, ◌++◌, [], ◌∷◌, codes, decimal, length};
 ghost use Rattle.std.specs.Fmt.{signed_decimal};
-ghost use Rattle.sf_console.specs.Answers.{accepted_line, refusal_line, line as line_of, truth as truth_word, extent_text};
+ghost use Rattle.sf_console.specs.Answers.{accepted_line, member_line, refusal_line, line as line_of, truth as truth_word, extent_text};
 
 use sf_geometry::Extent;
 use sf_refusals::Refusal;
@@ -8,9 +8,9 @@ use sf_steps::Answer;
 use std::fmt::{InlineText, Write};
 use std::marker::Model;
 
-/// Room for each answer of one line, in bytes: the longest has four numbers of at most 11 bytes, three
-/// blanks and a line feed.
-const ROOM: usize = 48;
+/// Room for each answer of one line, in bytes: the longest has the name of a refusal, which is at most 16 bytes, its number
+/// of at most 3, that of a member of at most 20, and 19 bytes between them.
+const ROOM: usize = 60;
 
 /// An answer of one line, with its line feed. It stands on the stack, so it takes no memory.
 #[derive(Drop)]
@@ -39,7 +39,7 @@ impl AnswerLine {
             Answer::Done => line.push("ok\n"),
             Answer::Id(id) => {
                 line.push("ok ");
-                line.push_decimal(id);
+                line.push_decimal(u64::from(id));
                 line.push("\n");
             }
         }
@@ -52,10 +52,36 @@ impl AnswerLine {
     {
         let mut line = AnswerLine::empty();
         line.push("refused ");
-        line.push_decimal(u32::from(refusal.number()));
+        line.push_decimal(u64::from(refusal.number()));
         line.push(" ");
         line.push(refusal.name());
         line.push("\n");
+        line
+    }
+
+    /// The answer of a group of which this member is refused, counted from 1.
+    pub fn member_refused(number: usize, refusal: Refusal) -> AnswerLine
+        ensures { result ≡ member_line number refusal }
+    {
+        let mut line = AnswerLine::empty();
+        line.push("refused ");
+        line.push_decimal(u64::from(refusal.number()));
+        line.push(" ");
+        line.push(refusal.name());
+        line.push(" member ");
+        line.push_decimal(number as u64);
+        line.push("\n");
+        line
+    }
+
+    /// One of the identifiers that a group gave, as it stands in its answer: no whole line.
+    pub(crate) fn identifier(id: u32) -> AnswerLine
+        ensures text { result ≡ codes " " ++ decimal id }
+        ensures len { length result ≤ 11 }
+    {
+        let mut line = AnswerLine::empty();
+        line.push_blank();
+        line.push_decimal(u64::from(id));
         line
     }
 
@@ -122,11 +148,11 @@ impl AnswerLine {
         if number < 0 {
             self.push("-");
         }
-        self.push_decimal(number.unsigned_abs());
+        self.push_decimal(u64::from(number.unsigned_abs()));
     }
 
     // `write!` does not promise to succeed where there is room.
-    fn push_decimal(&mut self, number: u32)
+    fn push_decimal(&mut self, number: u64)
         requires { length self.old + length (decimal number) ≤ ROOM }
         ensures { self.new ≡ self.old ++ decimal number }
     {

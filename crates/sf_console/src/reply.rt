@@ -2,6 +2,7 @@ ghost use Rattle.std.specs.Prelude.{◌≡◌, string_bytes, IfOk};
 ghost use Rattle.sf_console.specs.Answers.{line as line_of, hex_text, matrix_text};
 
 use sf_geometry::Extent;
+use sf_refusals::Refusal;
 use sf_relate::Matrix;
 use sf_steps::Answer;
 use sf_validity::Valid;
@@ -22,6 +23,10 @@ pub enum Reply {
     Extent(Extent),
     /// The DE-9IM matrix of two geometries.
     Matrix(Matrix),
+    /// The line of the identifiers that a group gave, with its line feed.
+    Identifiers(Vec<u8>),
+    /// The member of a group for which the group is refused, by its number from 1, and why.
+    MemberRefused(usize, Refusal),
 }
 
 /// The canonical bytes of a geometry in small hexadecimal, and a line feed.

@@ -1,4 +1,3 @@
--- Internal: who wants to trust the program need not read this file.
 -- What a step of an edit of features looks at, and what it writes.
 use Rattle.std.specs.Prelude.{◌≡◌, ℕ, Bool, true, false, List, [], ◌∷◌, Option, None, Some, is_some, option_and_then, Result, Ok, Err, IsTrue, nat_lt}
 use Rattle.std.specs.Option.{option_map_or}

@@ -1,10 +1,10 @@
 -- From moment to moment of a session that is kept.
 use Rattle.std.proofs.Common.{◌≡◌, ℕ, List, [], ◌∷◌, ◌++◌, refl, ap, ◌∙◌, subst, append_assoc, append-nil}
-use Rattle.sf_lines.specs.Lines.{Line}
 use Rattle.sf_journal.specs.Records.{records, sum_behind}
 use Rattle.sf_journal.specs.Fronts.{IsFrontOf}
 use Rattle.sf_journal.proofs.FrontLaws.{records-append}
 use Rattle.sf_history.specs.History.{Machine}
+use Rattle.sf_console.specs.Requests.{Request}
 use Rattle.sf_keeping.specs.Desks.{Call, Standing, nothing_yet, after_call, after_calls}
 use Rattle.sf_keeping.specs.Kept.{Keeps}
 use Rattle.sf_keeping.specs.Moments.{IsCovered, AtEachMoment}
@@ -37,12 +37,12 @@ front_of_snoc (x ∷ before) a after (y ∷ calls) c is =
     tail_eq h = cc
 
 -- one moment more
-pub moments-snoc : (sum : ℕ) (old : Machine) (lines : List Line) (last : Machine) (calls : List Call) (call : Call)
-    → AtEachMoment sum old lines last calls → IsCovered sum old lines last (after_calls nothing_yet (calls ++ call ∷ []))
-    → AtEachMoment sum old lines last (calls ++ call ∷ [])
-moments-snoc sum old lines last calls call moments covered before [] is =
-    subst (λ l. IsCovered sum old lines last (after_calls nothing_yet l)) (is ∙ append-nil before) covered
-moments-snoc sum old lines last calls call moments covered before (a ∷ after) is =
+pub moments-snoc : (sum : ℕ) (old : Machine) (asked : List Request) (last : Machine) (calls : List Call) (call : Call)
+    → AtEachMoment sum old asked last calls → IsCovered sum old asked last (after_calls nothing_yet (calls ++ call ∷ []))
+    → AtEachMoment sum old asked last (calls ++ call ∷ [])
+moments-snoc sum old asked last calls call moments covered before [] is =
+    subst (λ l. IsCovered sum old asked last (after_calls nothing_yet l)) (is ∙ append-nil before) covered
+moments-snoc sum old asked last calls call moments covered before (a ∷ after) is =
     let found = front_of_snoc before a after calls call is in moments before found.0 found.1
 
 -- a front of records is one of more records
@@ -50,10 +50,10 @@ IsFrontOf-records : (bytes : List ℕ) (sum : ℕ) (texts more : List (List ℕ)
 IsFrontOf-records bytes sum texts more front =
     IsFrontOf-trans bytes (records sum texts) (records sum (texts ++ more)) front (records (sum_behind sum texts) more, records-append sum texts more)
 
--- with more lines it stays so
-pub covered-more : (sum : ℕ) (old : Machine) (lines : List Line) (last : Machine) (standing : Standing) (more : List Line) (output : List ℕ) (texts : List (List ℕ)) (new : Machine)
-    → IsCovered sum old lines last standing → Keeps last more output texts new → IsCovered sum old (lines ++ more) new standing
-covered-more sum old lines last standing more output texts new c keeps =
+-- with more requests it stays so
+pub covered-more : (sum : ℕ) (old : Machine) (asked : List Request) (last : Machine) (standing : Standing) (more : List Request) (output : List ℕ) (texts : List (List ℕ)) (new : Machine)
+    → IsCovered sum old asked last standing → Keeps last more output texts new → IsCovered sum old (asked ++ more) new standing
+covered-more sum old asked last standing more output texts new c keeps =
     record {
       first = c.first;
       later = c.later ++ more;
@@ -71,7 +71,7 @@ covered-more sum old lines last standing more output texts new c keeps =
           (IsFrontOf-records (standing.kept ++ standing.waiting) sum (c.texts ++ c.later_texts) texts c.journal);
     }
 
-pub moments-more : (sum : ℕ) (old : Machine) (lines : List Line) (last : Machine) (calls : List Call) (more : List Line) (output : List ℕ) (texts : List (List ℕ)) (new : Machine)
-    → AtEachMoment sum old lines last calls → Keeps last more output texts new → AtEachMoment sum old (lines ++ more) new calls
-moments-more sum old lines last calls more output texts new moments keeps before after is =
-    covered-more sum old lines last (after_calls nothing_yet before) more output texts new (moments before after is) keeps
+pub moments-more : (sum : ℕ) (old : Machine) (asked : List Request) (last : Machine) (calls : List Call) (more : List Request) (output : List ℕ) (texts : List (List ℕ)) (new : Machine)
+    → AtEachMoment sum old asked last calls → Keeps last more output texts new → AtEachMoment sum old (asked ++ more) new calls
+moments-more sum old asked last calls more output texts new moments keeps before after is =
+    covered-more sum old asked last (after_calls nothing_yet before) more output texts new (moments before after is) keeps

@@ -2,15 +2,23 @@
 use Rattle.std.specs.Prelude.{◌≡◌, ℕ, List, [], ◌∷◌, Option, None, Some, Result, Ok, Err}
 use Rattle.sf_refusals.specs.declared.refusal.Refusal.{Refusal}
 use Rattle.sf_steps.specs.declared.answer.Answer.{Answer}
-use Rattle.sf_history.specs.History.{Machine, edited, undone, redone}
+use Rattle.sf_groups.specs.declared.member.Member.{Member}
+use Rattle.sf_groups.specs.Members.{Refused}
+use Rattle.sf_history.specs.History.{Machine, edited, grouped, undone, redone}
 use Rattle.sf_commands.specs.declared.command.Command.{Command}
+use Rattle.sf_commands.specs.declared.group_text.GroupRefusal.{GroupRefusal}
 use Rattle.sf_commands.specs.declared.command.Command.TheVariants.{Edit, Undo, Redo}
-use Rattle.sf_console.specs.Readings.{Reading, Asked, text_reading}
+use Rattle.sf_console.specs.Readings.{Reading, Asked, Grouped, text_reading}
 
 -- the machine of an accepted edit
 abbrev pub after_edit : Result (Machine × Answer) Refusal → Option Machine
 after_edit (Ok done) = Some done.0
 after_edit (Err refusal) = None
+
+-- the machine of an accepted group
+abbrev pub after_group : Result (Machine × List ℕ) Refused → Option Machine
+after_group (Ok done) = Some done.0
+after_group (Err refused) = None
 
 -- the machine of an accepted undo or redo
 abbrev pub after_move : Result Machine Refusal → Option Machine
@@ -24,12 +32,18 @@ commanded machine (Ok (editor, Undo)) = after_move (undone editor machine)
 commanded machine (Ok (editor, Redo)) = after_move (redone editor machine)
 commanded machine other = None
 
--- the machine after what a line asks, where that is an accepted edit, undo or redo
+-- the machine after a group that is accepted
+abbrev pub grouped_by : Machine → ℕ → Result (List Member) GroupRefusal → Option Machine
+grouped_by machine editor (Ok members) = after_group (grouped editor machine members)
+grouped_by machine editor (Err refusal) = None
+
+-- the machine after what is asked, where that is an accepted edit, group, undo or redo
 abbrev pub changed : Machine → Reading → Option Machine
 changed machine (Asked takes command) = commanded machine command
+changed machine (Grouped editor group) = grouped_by machine editor group
 changed machine other = None
 
--- the texts lead from the one machine to the other, each an accepted edit, undo or redo
+-- the texts lead from the one machine to the other, each an accepted edit, group, undo or redo
 abbrev pub Leads : Machine → List (List ℕ) → Machine → Type 0
 Leads old [] new = new ≡ old
 Leads old (text ∷ texts) new = (mid : Machine) × (changed old (text_reading text) ≡ Some mid) × Leads mid texts new

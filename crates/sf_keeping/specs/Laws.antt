@@ -1,10 +1,10 @@
 -- The law of recovery: what a crash leaves of a journal.
 use Rattle.std.specs.Prelude.{◌≡◌, ◌≢◌, ℕ, List, ◌++◌}
-use Rattle.sf_lines.specs.Lines.{Line}
 use Rattle.sf_journal.specs.Readings.{Ending, Reads}
 use Rattle.sf_journal.specs.Readings.Ending.{Damaged}
 use Rattle.sf_journal.specs.Fronts.{IsFrontOf}
 use Rattle.sf_history.specs.History.{Machine}
+use Rattle.sf_console.specs.Requests.{Request}
 use Rattle.sf_keeping.specs.Desks.{Standing}
 use Rattle.sf_keeping.specs.Changes.{Leads}
 use Rattle.sf_keeping.specs.Kept.{Keeps}
@@ -15,11 +15,11 @@ pub record IsLeft (standing : Standing) (bytes : List ℕ) : Type 0 where
   pub has_kept : IsFrontOf standing.kept bytes
   pub has_no_more : IsFrontOf bytes (standing.kept ++ standing.waiting)
 
--- the bytes read as texts that lead to the machine after some first lines, among them all whose answers were put out
-pub record IsRecovered (sum : ℕ) (old : Machine) (lines : List Line) (answered bytes : List ℕ) : Type 0 where
-  pub first : List Line
-  pub later : List Line
-  pub parts : lines ≡ first ++ later
+-- the bytes read as texts that lead to the machine after some first of what was asked, among them all whose answers were put out
+pub record IsRecovered (sum : ℕ) (old : Machine) (asked : List Request) (answered bytes : List ℕ) : Type 0 where
+  pub first : List Request
+  pub later : List Request
+  pub parts : asked ≡ first ++ later
   pub output : List ℕ
   pub texts : List (List ℕ)
   pub machine : Machine
@@ -31,8 +31,8 @@ pub record IsRecovered (sum : ℕ) (old : Machine) (lines : List Line) (answered
   pub leads : Leads old texts machine
 
 -- at each moment at which a session that is kept may end, whatever a crash leaves of its journal is read without damage and
--- leads to the machine after some first lines, which have all that was answered
+-- leads to the machine after some first of what was asked, which have all that was answered
 abbrev pub RecoveryLaw : Type 0
 RecoveryLaw =
-    (sum : ℕ) (old : Machine) (lines : List Line) (last : Machine) (standing : Standing) (bytes : List ℕ)
-    → IsCovered sum old lines last standing → IsLeft standing bytes → IsRecovered sum old lines standing.answered bytes
+    (sum : ℕ) (old : Machine) (asked : List Request) (last : Machine) (standing : Standing) (bytes : List ℕ)
+    → IsCovered sum old asked last standing → IsLeft standing bytes → IsRecovered sum old asked standing.answered bytes

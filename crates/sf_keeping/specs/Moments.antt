@@ -1,18 +1,18 @@
 -- What holds at each moment of a session that is kept in a journal.
 use Rattle.std.specs.Prelude.{◌≡◌, ℕ, List, ◌++◌}
-use Rattle.sf_lines.specs.Lines.{Line}
 use Rattle.sf_journal.specs.Records.{records}
 use Rattle.sf_journal.specs.Fronts.{IsFrontOf}
 use Rattle.sf_history.specs.History.{Machine}
+use Rattle.sf_console.specs.Requests.{Request}
 use Rattle.sf_keeping.specs.Desks.{Call, Standing, nothing_yet, after_calls}
 use Rattle.sf_keeping.specs.Kept.{Keeps}
 
--- What was put out answers no more than some first lines, and the records of all that was accepted of these are kept,
--- whatever comes; the journal has nothing but records of what was accepted. The lines lead to the last machine.
-pub record IsCovered (sum : ℕ) (old : Machine) (lines : List Line) (last : Machine) (standing : Standing) : Type 0 where
-  pub first : List Line
-  pub later : List Line
-  pub parts : lines ≡ first ++ later
+-- What was put out answers no more than some first of what was asked, and the records of all that was accepted of it are kept,
+-- whatever comes; the journal has nothing but records of what was accepted. All that was asked leads to the last machine.
+pub record IsCovered (sum : ℕ) (old : Machine) (asked : List Request) (last : Machine) (standing : Standing) : Type 0 where
+  pub first : List Request
+  pub later : List Request
+  pub parts : asked ≡ first ++ later
   pub output : List ℕ
   pub texts : List (List ℕ)
   pub mid : Machine
@@ -25,6 +25,6 @@ pub record IsCovered (sum : ℕ) (old : Machine) (lines : List Line) (last : Mac
   pub journal : IsFrontOf (standing.kept ++ standing.waiting) (records sum (texts ++ later_texts))
 
 -- it is so after each of the calls, from the first on
-abbrev pub AtEachMoment : ℕ → Machine → List Line → Machine → List Call → Type 0
-AtEachMoment sum old lines last calls =
-    (before after : List Call) → calls ≡ before ++ after → IsCovered sum old lines last (after_calls nothing_yet before)
+abbrev pub AtEachMoment : ℕ → Machine → List Request → Machine → List Call → Type 0
+AtEachMoment sum old asked last calls =
+    (before after : List Call) → calls ≡ before ++ after → IsCovered sum old asked last (after_calls nothing_yet before)

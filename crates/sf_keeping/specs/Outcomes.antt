@@ -1,24 +1,36 @@
 -- Internal: who wants to trust the program need not read this file.
--- What becomes of a line that is carried out.
-use Rattle.std.specs.Prelude.{◌≡◌, ℕ, ◌≤◌, false, List, length, Some, Ok}
+-- What becomes of a text that is carried out.
+use Rattle.std.specs.Prelude.{◌≡◌, ℕ, false, List, Result, Some, Ok}
+use Rattle.sf_groups.specs.declared.member.Member.{Member}
 use Rattle.sf_history.specs.History.{Machine}
-use Rattle.sf_lines.specs.Lines.{line_max}
+use Rattle.sf_commands.specs.declared.group_text.GroupRefusal.{GroupRefusal}
 use Rattle.sf_commands.specs.declared.command.Command.{Command}
-use Rattle.sf_console.specs.Answers.{accepted_line, reply, reply_text}
+use Rattle.sf_console.specs.Answers.{accepted_line, group_reply, reply, reply_text}
 use Rattle.sf_console.specs.Readings.{Asked, text_reading}
+use Rattle.sf_console.specs.Readings.Reading.{Grouped as AskedGroup}
 use Rattle.sf_console.specs.Session.{IsAnswered}
-use Rattle.sf_keeping.specs.Changes.{changed, commanded}
+use Rattle.sf_keeping.specs.Changes.{changed, commanded, grouped_by}
 use Rattle.sf_keeping.specs.declared.carrying.Outcome.{Outcome}
-use Rattle.sf_keeping.specs.declared.carrying.Outcome.TheVariants.{Changed, Told}
+use Rattle.sf_keeping.specs.declared.carrying.Outcome.TheVariants.{Changed, Grouped, Told}
 
 -- what becomes of a text: it changed the machine and is answered so, or changed nothing
 abbrev pub IsOutcome : Machine → List ℕ → Outcome → Machine → Type 0
 IsOutcome old text (Changed answer) new =
-    IsAnswered old (text_reading text) (accepted_line answer) new × (changed old (text_reading text) ≡ Some new) × (length text ≤ line_max)
+    IsAnswered old (text_reading text) (accepted_line answer) new × (changed old (text_reading text) ≡ Some new)
+IsOutcome old text (Grouped answer) new =
+    IsAnswered old (text_reading text) answer.items new × (changed old (text_reading text) ≡ Some new)
 IsOutcome old text (Told told) new = IsAnswered old (text_reading text) (reply_text told) new × (new ≡ old)
 
 -- what becomes of a command
 abbrev pub Becomes : Machine → ℕ → Command → Outcome → Machine → Type 0
 Becomes old asker command (Changed answer) new =
     (reply old (Ok (asker, command)) ≡ (new, accepted_line answer)) × (commanded old (Ok (asker, command)) ≡ Some new)
+Becomes old asker command (Grouped answer) new = ⊥
 Becomes old asker command (Told told) new = IsAnswered old (Asked false (Ok (asker, command))) (reply_text told) new × (new ≡ old)
+
+-- what becomes of a group of an editor: it changed the machine and is answered so, or changed nothing
+abbrev pub BecomesGrouped : Machine → ℕ → Result (List Member) GroupRefusal → Outcome → Machine → Type 0
+BecomesGrouped old asker group (Changed answer) new = ⊥
+BecomesGrouped old asker group (Grouped answer) new =
+    (group_reply old asker group ≡ (new, answer.items)) × (grouped_by old asker group ≡ Some new)
+BecomesGrouped old asker group (Told told) new = IsAnswered old (AskedGroup asker group) (reply_text told) new × (new ≡ old)

@@ -1,23 +1,30 @@
-//! A line carried out, and whether it is one to be kept.
-ghost use Rattle.sf_keeping.specs.Outcomes.{Becomes, IsOutcome};
+//! A text carried out, and whether it is one to be kept.
+ghost use Rattle.std.specs.Prelude.{Ok, Result};
+ghost use Rattle.sf_groups.specs.declared.member.Member.{Member};
+ghost use Rattle.sf_commands.specs.declared.group_text.GroupRefusal.{GroupRefusal as GroupRefusalOf};
+ghost use Rattle.sf_commands.specs.GroupTexts.{OrNoMemory};
+ghost use Rattle.sf_keeping.specs.Outcomes.{Becomes, BecomesGrouped, IsOutcome};
 
-use sf_commands::{Command, is_blank_text, parse};
-use sf_console::{Editor, Reply, execute};
+use sf_commands::{Command, GroupRefusal, is_blank_text, parse, parse_group};
+use sf_console::{Editor, Reply, carry_out_group, execute, refused};
+use sf_groups::Group;
 use sf_refusals::Refusal;
 use sf_steps::Answer;
 use std::alloc::Global;
 use std::str::from_utf8;
 
-/// What became of a line.
+/// What became of a text.
 #[derive(Drop)]
 pub(crate) enum Outcome {
     /// It was accepted as an edit, an undo or a redo.
     Changed(Answer),
+    /// It was accepted as a group, and this is the line that answers it.
+    Grouped(Vec<u8>),
     /// It changed nothing, and this is its reply.
     Told(Result<Reply, Refusal>),
 }
 
-/// Carries out the text of a line.
+/// Carries out a text.
 pub(crate) fn carry_out(alloc: Global, editor: &mut Editor, bytes: &[u8]) -> Outcome
     ensures { IsOutcome editor.old bytes.now result editor.new }
 {
@@ -27,9 +34,31 @@ pub(crate) fn carry_out(alloc: Global, editor: &mut Editor, bytes: &[u8]) -> Out
     if is_blank_text(text) {
         return Outcome::Told(Ok(Reply::Nothing));
     }
+    if let Some((asker, group)) = parse_group(alloc, text) {
+        return carry_out_members(alloc, editor, asker, group);
+    }
     match parse(alloc, text) {
         Ok((asker, command)) => carry_out_command(alloc, editor, asker, command),
         Err(refusal) => Outcome::Told(Err(refusal)),
+    }
+}
+
+/// Carries out a group of the editor of that number, where its text is one.
+fn carry_out_members(
+    alloc: Global,
+    editor: &mut Editor,
+    asker: u8,
+    group: Result<Group, GroupRefusal>,
+) -> Outcome
+    ensures { (expected : Result (List Member) GroupRefusalOf) → OrNoMemory expected group →
+        BecomesGrouped editor.old asker expected result editor.new }
+{
+    match group {
+        Ok(group) => match carry_out_group(alloc, editor, asker, group) {
+            Ok(answer) => Outcome::Grouped(answer),
+            Err(refusal) => Outcome::Told(refused(refusal)),
+        },
+        Err(refusal) => Outcome::Told(refused(refusal)),
     }
 }
 

@@ -1,5 +1,6 @@
 //! Records on their way to the journal, and answers that wait for them.
 ghost use Rattle.std.specs.Prelude.{◌≡◌, ◌≤◌, ◌+◌, [], List, nat_le, length, IfOk, OnOk, OnErr};
+ghost use Rattle.sf_journal.specs.Records.{record_of, sum_with};
 ghost use Rattle.sf_keeping.specs.Desks.{Call, Makes};
 ghost use Rattle.sf_keeping.specs.Waiting.{nothing_waits, with_text, with_answer, committing_calls, keeping_calls, IsBrokenKeeping, IsBrokenOff};
 
@@ -90,6 +91,47 @@ impl Pending {
         ensures { self.new ≡ with_answer self.old answer.now }
     {
         self.answers.extend_from_slice(answer).unwrap();
+    }
+
+    /// The record of a text that comes next.
+    pub(crate) fn record_of(&self, alloc: Global, text: &[u8]) -> Result<Vec<u8>, AllocError>
+        ensures { IfOk result (λ record. record.items ≡ record_of self.now.sum text.now) }
+    {
+        let mut record = Vec::with_capacity(alloc, text.len().saturating_add(MARK_LEN + 1))?;
+        record.extend_from_slice(self.sum.with(text).mark().as_slice())?;
+        record.extend_from_slice(text)?;
+        record.push(b'\n')?;
+        Ok(record)
+    }
+
+    /// Puts the record of a text that comes next into the journal, syncs it, and then puts its answer out, where nothing
+    /// waits.
+    ///
+    /// # Errors
+    ///
+    /// As those of `commit`.
+    pub(crate) fn keep_at_once<D: Desk>(
+        &mut self,
+        desk: &mut D,
+        text: &[u8],
+        record: &[u8],
+        answer: &[u8],
+    ) -> Result<(), KeepFault>
+        ensures ok { OnOk result (self.old ≡ nothing_waits self.old.sum → record.now ≡ record_of self.old.sum text.now →
+            Makes (D.calls desk.old) (D.calls desk.new) (committing_calls (with_answer (with_text self.old text.now) answer.now))) }
+        ensures sum { OnOk result (self.old ≡ nothing_waits self.old.sum → self.new ≡ nothing_waits (sum_with self.old.sum text.now)) }
+        ensures broken { OnErr result (self.old ≡ nothing_waits self.old.sum → record.now ≡ record_of self.old.sum text.now →
+            (calls : List Call) × Makes (D.calls desk.old) (D.calls desk.new) calls
+            × IsBrokenOff (with_answer (with_text self.old text.now) answer.now) calls) }
+    {
+        desk.append(record)?;
+        desk.sync()?;
+        self.sum = self.sum.with(text);
+        if answer.is_empty() {
+            return Ok(());
+        }
+        desk.answer(answer)?;
+        Ok(())
     }
 
     /// Puts the records into the journal, and syncs it.

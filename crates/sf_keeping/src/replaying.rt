@@ -28,7 +28,7 @@ pub enum ReplayFault {
     Memory,
     /// What stands there is no record behind those before it.
     Damaged(usize),
-    /// The record's text is no edit that is accepted there.
+    /// The record's text is no edit and no group that is accepted there.
     NotAccepted(usize),
 }
 
@@ -43,7 +43,7 @@ fn replay_text(
     ensures fault { IfErr result (λ fault. (fault ≡ ReplayFault.Memory) ⊎ (fault ≡ ReplayFault.NotAccepted place)) }
 {
     match carry_out(alloc, editor, text) {
-        Outcome::Changed(_) => Ok(()),
+        Outcome::Changed(_) | Outcome::Grouped(_) => Ok(()),
         Outcome::Told(Err(Refusal::Memory)) => Err(ReplayFault::Memory),
         Outcome::Told(_) => Err(ReplayFault::NotAccepted(place)),
     }

@@ -1,13 +1,15 @@
 use Rattle.std.proofs.Common.{ℕ, List, length}
 use Rattle.sf_lines.specs.Lines.{HasNoFeed}
 use Rattle.sf_lines.specs.Buffers.{IsBufferOf}
+use Rattle.sf_console.specs.Requests.{Gathering}
+use Rattle.sf_console.specs.Gatherings.{IsHeld}
 use Rattle.sf_console.specs.Chunks.{Takes}
 use Rattle.sf_console.proofs.serving.take_chunk.Given as goal
 
 -- the lines before the rest were answered
 abbrev pub invariant-loop-at : goal.invariant-loop-at
-invariant-loop-at g l = (before : List ℕ) → IsBufferOf before l.fn.buffer → HasNoFeed before →
-    Takes before l.chunk l.rest l.buffer (g.W.Write.contents l.fn.writer) (g.W.Write.contents l.writer) l.fn.editor l.editor
+invariant-loop-at g l = (before : List ℕ) (gathering : Gathering) → IsBufferOf before l.fn.buffer → HasNoFeed before → IsHeld gathering l.fn.group →
+    Takes before l.chunk l.rest l.buffer gathering l.group (g.W.Write.contents l.fn.writer) (g.W.Write.contents l.writer) l.fn.editor l.editor
 
 abbrev pub decreases-loop-at : goal.decreases-loop-at
 decreases-loop-at g l = length l.rest
