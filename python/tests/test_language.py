@@ -60,7 +60,7 @@ class Language(TestCase):
                     store.run("column add wells depth int")
                 store.run("layer add before any")
                 try:
-                    store.run(command.example)
+                    store.run(command.example + "\rset wells 1 label 'a'\rset wells 1 label 'b'" * (command.word == "together"))
                 except Refused as refused:
                     self.fail(f"{command.example}: {refused}")
                 if command.touches is not None:
