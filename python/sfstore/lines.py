@@ -6,7 +6,17 @@ from sfstore.geometry import NotTaken, Shape, read_wkb, read_wkt
 from sfstore.language import words_of_line
 from sfstore.store import Editor, Refused
 
-__all__ = ["geometry_of"]
+__all__ = ["geometry_of", "geometry_refused"]
+
+
+def geometry_refused(refused: Refused, store: Editor) -> Shape | None:
+    """The geometry that was refused, or none where that is not known.
+
+    Of a group the members before may have changed the feature whose vertex is named.
+    """
+    if (refused.member or 1) > 1 and words_of_line(refused.line)[:1] == ["vertex"]:
+        return None
+    return geometry_of(refused.line, store)
 
 
 def geometry_of(line: str, store: Editor) -> Shape | None:
