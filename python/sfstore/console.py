@@ -280,7 +280,7 @@ class Console:
 
     def _place(self, refused: Refused) -> str:
         """Where a geometry breaks a rule, or nothing."""
-        shape = geometry_refused(refused, self._store) if 10 <= refused.number <= 17 else None
+        shape = geometry_refused(refused, refused.line, self._store) if 10 <= refused.number <= 17 else None
         if shape is None:
             return ""
         return str(fault_at(shape, refused) or fault_of(shape, self._program) or "")

@@ -9,14 +9,14 @@ from sfstore.store import Editor, Refused
 __all__ = ["geometry_of", "geometry_refused"]
 
 
-def geometry_refused(refused: Refused, store: Editor) -> Shape | None:
-    """The geometry that was refused, or none where that is not known.
+def geometry_refused(refused: Refused, line: str, store: Editor) -> Shape | None:
+    """The geometry that a line would have brought, or a member of a group; none where that is not known.
 
-    Of a group the members before may have changed the feature whose vertex is named.
+    The members before it may have changed the feature whose vertex it names.
     """
-    if (refused.member or 1) > 1 and words_of_line(refused.line)[:1] == ["vertex"]:
+    if (refused.member or 1) > 1 and words_of_line(line)[:1] == ["vertex"]:
         return None
-    return geometry_of(refused.line, store)
+    return geometry_of(line, store)
 
 
 def geometry_of(line: str, store: Editor) -> Shape | None:

@@ -39,7 +39,7 @@ def encoded(line: str, address: str = "") -> bytes:
         raise ValueError("the line is blank")
     sent = address + line
     if size_of(sent) is not None:
-        raise ValueError("the line begins a group, and is not answered before its members: use `together()`")
+        raise ValueError("the line begins a group, which has one answer: send it with all of its members")
     members = lines_of(sent)
     # A blank line is no member, and a blank part of a line is one that is refused.
     if all(member.strip(" \t") for member in members):

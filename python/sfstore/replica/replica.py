@@ -579,7 +579,7 @@ def _checked(line: str) -> str:
     if not line.removesuffix("\r").strip(" \t"):
         raise ValueError("the line is blank")
     if size_of(line) is not None:
-        raise ValueError("the line begins a group, and is not answered before its members")
+        raise ValueError("the line begins a group, which has one answer: send it with all of its members")
     line.encode()
     return line
 
