@@ -4,11 +4,14 @@ from __future__ import annotations
 
 import os
 import pickle
+import re
 import signal
+import subprocess
 import threading
 import unittest
+from pathlib import Path
 
-from support import PROGRAM, TestCase, child_of
+from support import FOLDER, PROGRAM, TestCase, child_of
 
 from sfstore import Added, JournalError, ProgramEnded, Refused, Store, groups, language
 
@@ -377,6 +380,47 @@ class OnOneLine(GroupCase):
         for members in ([], ["delete p 1"] * 65_536, ["delete p 1", " \t\r"]):
             with self.assertRaises(ValueError):
                 groups.text_of(members)
+
+
+class Lines(TestCase):
+    """Groups as the program itself is given them."""
+
+    def answers(self, data):
+        return subprocess.run([PROGRAM], input=data, check=True, capture_output=True).stdout.decode().splitlines()
+
+    def test_a_session(self):
+        """Lines behind `> `, and what answers them; `!` is the end of the input."""
+        sent, wanted = [], []
+        for line in Path(__file__).with_name("groups_session.txt").read_text(encoding="utf-8").splitlines():
+            if line.startswith(">"):
+                text = re.sub(r"\{(\d+) times (.)\}", lambda found: found[2] * int(found[1]), line[2:])
+                sent.append(text.encode().replace(b"\\xff", b"\xff") + b"\n")
+            elif line and not line.startswith(("#", "!")):
+                wanted.append(line)
+        self.assertGreater(len(sent), 90)
+        self.assertEqual(self.answers(b"".join(sent)), wanted)
+
+    def test_the_sessions_of_the_page(self):
+        page = (FOLDER.parent / "docs" / "use" / "CONSOLE.md").read_text(encoding="utf-8")
+        section = page.partition("## Several edits as one step\n")[2].partition("\n## ")[0]
+        blocks = [block for block in re.findall(r"(?:^    .*\n)+", section, re.MULTILINE) if block.startswith("    layer")]
+        self.assertEqual(len(blocks), 2)
+        for block in blocks:
+            rows = [re.fullmatch(r"    (\S.*?)?(?: {2,}(\S.*))?", line) for line in block.splitlines()]
+            sent = "".join(f"{row[1]}\n" for row in rows if row[1])
+            self.assertEqual(self.answers(sent.encode()), [row[2] for row in rows if row[2]])
+
+    def test_on_one_line(self):
+        lines = [
+            "layer add w point", "together 2\radd w POINT (1 1)\radd w POINT (2 2)\r", "@2 together 1\rdelete w 1",
+            "together 2\rdelete w 2\rdelete w 2", "together 2\rdelete w 2", "together 2\r\rdelete w 2",
+            "together 1\radd w " + " " * 131_072 + "POINT (1 1)", "together 1", "delete w\r2", "show w", "undo", "@2 undo",
+        ]
+        wanted = [
+            "ok", "ok 1 2", "ok", "refused 21 NoFeature member 2", "refused 31 BadCommand", "refused 31 BadCommand member 1",
+            "refused 33 LineTooLong", "refused 31 BadCommand member 1", "rows 1", "2 POINT (2 2)", "refused 36 NotYours", "ok",
+        ]
+        self.assertEqual(self.answers("".join(f"{line}\n" for line in lines).encode()), wanted)
 
 
 class Kept(TestCase):
