@@ -410,6 +410,32 @@ class Lines(TestCase):
             sent = "".join(f"{row[1]}\n" for row in rows if row[1])
             self.assertEqual(self.answers(sent.encode()), [row[2] for row in rows if row[2]])
 
+    def test_an_input_that_ends_inside(self):
+        begin = b"layer add w point\ntogether 3\n"
+        for behind, answer in (
+            (b"", "refused 38 Unfinished"),
+            (b"add w POINT (1 1)\n \n", "refused 38 Unfinished"),
+            (b"delete w 9\nadd w POINT (1 1)", "refused 38 Unfinished"),
+            (b"add w POINT (1 1)\nadd w POINT (x 1)\n", "refused 2 Syntax member 2"),
+            (b"save\n", "refused 31 BadCommand member 1"),
+        ):
+            self.assertEqual(self.answers(begin + behind), ["ok", answer], behind)
+
+    def test_nothing_of_a_group_that_has_not_ended_is_kept(self):
+        words = [PROGRAM, f"--store={self.folder}/town.sfs"]
+        lines = b"layer add w point\ntogether 2\nadd w POINT (1 1)\n"
+        ended = subprocess.run([*words, "--keep"], input=lines, check=True, capture_output=True)
+        self.assertEqual(ended.stdout, b"ok\nrefused 38 Unfinished\n")
+        self.assertEqual((self.folder / "town.sfs.journal").read_bytes().count(b"\n"), 2)
+        with subprocess.Popen(words, stdin=subprocess.PIPE, stdout=subprocess.PIPE) as process:
+            process.stdin.write(b"together 2\nadd w POINT (1 1)\nlayers\n")
+            process.stdin.flush()
+            self.assertEqual(process.stdout.readline(), b"refused 31 BadCommand member 2\n")
+            process.stdin.write(b"together 2\nadd w POINT (1 1)\n")
+            process.stdin.flush()
+            process.kill()
+        self.assertEqual((self.folder / "town.sfs.journal").read_bytes().count(b"\n"), 2)
+
     def test_on_one_line(self):
         lines = [
             "layer add w point", "together 2\radd w POINT (1 1)\radd w POINT (2 2)\r", "@2 together 1\rdelete w 1",

@@ -3,6 +3,7 @@
 from __future__ import annotations
 
 import os
+import re
 import socket
 import subprocess
 import sys
@@ -15,7 +16,7 @@ from support import FOLDER, PROGRAM, TestCase
 
 from sfstore import Refused, groups
 from sfstore.replica.lines import GROUP_BYTES, asked
-from sfstore.replica.links import LogRefused
+from sfstore.replica.links import Link, LogRefused
 
 APPEND = "SELECT sfstore.append(ARRAY[gen_random_uuid()], ARRAY[%s])"
 TWO = groups.text_of(["add w POINT (1 1)", "add w POINT (2 2)"])
@@ -109,6 +110,31 @@ class Groups(ReplicaCase):
         with self.assertRaises(LogRefused) as caught:
             self.ask(APPEND, ("@9 " + TWO,), login="ann")
         self.assertEqual(caught.exception.code, "SF101")
+
+    def test_a_log_of_an_earlier_version(self):
+        """It takes no groups, until its owner has made the functions anew."""
+        [ann] = self.town("ann")
+        schema = (FOLDER / "sfstore" / "replica" / "log.sql").read_text(encoding="utf-8")
+        functions = re.findall(r"^CREATE FUNCTION sfstore\.is_.*?^\$\$;", schema, re.MULTILINE | re.DOTALL)
+        self.assertEqual(len(functions), 2)
+        group, edit = (text.replace("CREATE FUNCTION", "CREATE OR REPLACE FUNCTION") for text in functions)
+        self.make(edit.replace("sfstore.is_group(line) OR", ""))
+        with self.assertRaises(LogRefused) as caught:
+            ann.run(TWO)
+        self.assertEqual(caught.exception.code, "23514")
+        self.assertEqual(ann.run("add w POINT (1 1)"), "ok 1")
+        self.make(group)
+        self.make(edit)
+        self.assertEqual(ann.run(TWO), "ok 2 3")
+
+    def make(self, function):
+        """Makes a function of the log as its owner."""
+        link = Link(self.owner)
+        try:
+            link.ask("SET ROLE sfstore_owner")
+            link.ask(function)
+        finally:
+            link.close()
 
     def test_editors_and_readers(self):
         [ann] = self.town("ann")
