@@ -23,7 +23,7 @@ PAGE = TOP / "docs" / "use" / "PYTHON.md"
 
 # The packages, and the order in which their names are to be read; others follow by the alphabet.
 PACKAGES = ["sfstore", "sfstore.replica"]
-FIRST = ["Store", "Editor", "Feature", "Layer", "Column", "Refused", "ProgramEnded", "JournalError", "Recovered", "Replica"]
+FIRST = ["Store", "Editor", "Group", "Added", "Feature", "Layer", "Column", "Refused", "ProgramEnded", "JournalError", "Recovered", "Replica"]
 
 HEAD = """\
 # The Python module

@@ -1,8 +1,9 @@
 """Carries out what a page shows, and compares it with the answers that the page shows.
 
 A block of the kind `console` has lines behind `$ `, which a shell carries out, and what each prints. Behind
-`$ sfstore-console FILE` come lines behind the prompt `FILE> `, which are typed there. A block of the kind `python` is
-a script; a block of the kind `text` right behind it has what it prints. All of a page is carried out in one folder.
+`$ sfstore-console FILE` come lines behind the prompt `FILE> `, or `1 of 3> ` in a group, which are typed there. A block
+of the kind `python` is a script; a block of the kind `text` right behind it has what it prints. All of a page is
+carried out in one folder.
 """
 
 from __future__ import annotations
@@ -83,12 +84,12 @@ class Shown:
     @staticmethod
     def _typed_at(file: str, lines: list[str]) -> list[str]:
         """The lines that are typed at the console of a file, up to the next command of the shell."""
-        prompts = (f"{file}> ", r".*\[y/n\] ")
+        prompts = (rf"(?:{re.escape(file)}|\d+ of \d+)> ", r".*\[y/n\] ")
         typed = []
         for line in lines:
             if line.startswith("$ "):
                 break
-            found = re.match(rf"{re.escape(prompts[0])}(.*)|{prompts[1]}(.*)", line)
+            found = re.match(rf"{prompts[0]}(.*)|{prompts[1]}(.*)", line)
             if found:
                 typed.append(found[1] or found[2])
         return typed

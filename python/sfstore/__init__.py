@@ -14,11 +14,13 @@ mean, and why they are refused, is in docs/use/CONSOLE.md of the project; docs/u
 
 from sfstore.journal import JournalError
 from sfstore.store import (
+    Added,
     Answer,
     Column,
     ColumnType,
     Editor,
     Feature,
+    Group,
     Kind,
     Layer,
     Place,
@@ -31,11 +33,13 @@ from sfstore.store import (
 )
 
 __all__ = [
+    "Added",
     "Answer",
     "Column",
     "ColumnType",
     "Editor",
     "Feature",
+    "Group",
     "JournalError",
     "Kind",
     "Layer",

@@ -5,7 +5,7 @@ from __future__ import annotations
 import difflib
 from collections.abc import Callable, Sequence
 
-from sfstore.language import COLUMN_TYPES, COMMANDS, KINDS, PREDICATES, Command, words_of_line
+from sfstore.language import COLUMN_TYPES, COMMANDS, KINDS, MEMBERS, PREDICATES, Command, words_of_line
 
 __all__ = ["COMMANDS", "OWN", "Command", "candidates", "help_text", "near_words"]
 
@@ -54,10 +54,16 @@ def help_text(word: str, own: Sequence[Command] = OWN) -> str:
     return "\n".join(lines)
 
 
-def near_words(line: str, own: Sequence[Command] = OWN) -> str:
-    """What may have been meant, where the first word is no command, or how it is used."""
-    word = next(iter(words_of_line(line)), "")
+def near_words(line: str, own: Sequence[Command] = OWN, in_group: bool = False) -> str:
+    """What may have been meant, where the first word is no command, or how it is used; so too of a member of a group."""
+    words = words_of_line(line)
+    word = next(iter(words), "")
     known = [command.word for command in [*COMMANDS, *own]]
+    if in_group and (word not in MEMBERS or line.lstrip(" \t").startswith("@")):
+        near = [] if word in known else difflib.get_close_matches(word, MEMBERS, 1)
+        return f"Is `{near[0]}` meant?" if near else "A group has edits of features alone, and its editor stands before `together`."
+    if in_group and "last" in words:
+        return "`last` names what the group has added to that layer: an `add` to it has to come before."
     if word in known:
         return "It is used so:\n" + help_text(word, own)
     near = difflib.get_close_matches(word, known, 1)
@@ -65,18 +71,18 @@ def near_words(line: str, own: Sequence[Command] = OWN) -> str:
 
 
 def candidates(
-    line: str, layers: Callable[[], list[str]], columns: Callable[[str], list[str]]
+    line: str, layers: Callable[[], list[str]], columns: Callable[[str], list[str]], in_group: bool = False
 ) -> list[str]:
     """The words that can stand at the end of a line, in place of its last word.
 
     The last word is empty behind a blank. ``layers`` and ``columns`` are asked where they are
-    needed, the columns by the name of their layer.
+    needed, the columns by the name of their layer. In a group the line is one of its members.
     """
     *before, last = line.split(" ")
     if before and before[0].startswith("@"):
         before = before[1:]
     found: dict[str, None] = {}
-    for command in COMMANDS + OWN:
+    for command in [each for each in COMMANDS if not in_group or each.word in MEMBERS] + (OWN[:1] if in_group else OWN):
         usage = command.usage.split(" ")
         if len(before) < len(usage) and all(map(_fits, usage, before)):
             wanted = usage[len(before)]
@@ -86,6 +92,8 @@ def candidates(
                 words = columns(before[usage.index("LAYER")])
             elif wanted == "COMMAND":
                 words = [other.word for other in COMMANDS + OWN]
+            elif wanted == "ID" and in_group:
+                words = ["last"]
             else:
                 words = _WORDS.get(wanted, [] if wanted.isupper() else [wanted])
             found.update(dict.fromkeys(word for word in words if word.startswith(last)))

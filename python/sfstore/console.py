@@ -26,8 +26,10 @@ from sfstore import files
 from sfstore.commands import candidates, help_text, near_words
 from sfstore.exchange import exporting, importing
 from sfstore.faults import fault_at, fault_of
+from sfstore.groups import size_of, text_of
 from sfstore.journal import JournalError
-from sfstore.lines import geometry_of
+from sfstore.language import MEMBERS, words_of_line
+from sfstore.lines import geometry_refused
 from sfstore.refusals import words_of
 from sfstore.store import ProgramEnded, Refused, Store
 from sfstore.storefile import fault_words
@@ -119,6 +121,25 @@ def _lines_of(text: str) -> list[str]:
     return re.split("\r\n|\r|\n", text)
 
 
+class _Pending:
+    """A group whose members are not all there: nothing of it was sent."""
+
+    def __init__(self, head: str, size: int) -> None:
+        self._editor = head.partition("together")[0]
+        self._size = size
+        self._members: list[str] = []
+
+    @property
+    def prompt(self) -> str:
+        """Which member comes next."""
+        return f"{len(self._members) + 1} of {self._size}> "
+
+    def take(self, line: str) -> str:
+        """Takes a member. The text of the group, when it has them all; else nothing."""
+        self._members.append(line)
+        return self._editor + text_of(self._members) if len(self._members) == self._size else ""
+
+
 class Console:
     """A session at a terminal."""
 
@@ -128,6 +149,7 @@ class Console:
         self._store = self._opened()
         self._terminal = make_terminal(self._complete)
         self._is_over = False
+        self._group: _Pending | None = None
         self._own: dict[str, Callable[[list[str]], None]] = {
             "help": self._help,
             "save": self._save,
@@ -141,12 +163,12 @@ class Console:
         """Asks for lines and carries them out, until the user leaves."""
         print("`help` lists the commands; Tab completes them; `quit` leaves.")
         while not self._is_over:
+            prompt = self._group.prompt if self._group else f"{os.path.basename(self._path)}> "
             try:
-                lines = _lines_of(self._terminal.ask(f"{os.path.basename(self._path)}> "))
-            except KeyboardInterrupt:
-                continue
-            except EOFError:
-                lines = ["quit"]
+                lines = _lines_of(self._terminal.ask(prompt))
+            except (KeyboardInterrupt, EOFError) as key:
+                lines = ["quit"] if isinstance(key, EOFError) and not self._group else []
+                self._leave_group()
             for line in lines:
                 self._carry_out(line.strip(" \t"))
 
@@ -155,13 +177,9 @@ class Console:
         if not line:
             return
         try:
-            word = re.split("[ \t]+", line)[0]
-            if word in self._own:
-                self._own[word](shlex.split(line)[1:])
-            else:
-                self._ask_program(line)
+            self._take(line)
         except Refused as refused:
-            self._tell_refused(refused, line)
+            self._tell_refused(refused)
         except ValueError as error:
             print(f"That line can't be read: {error}")
         except KeyboardInterrupt:
@@ -173,6 +191,36 @@ class Console:
                 print(f"{error}.")
             else:
                 self._open_anew(f"{error}.")
+
+    def _take(self, line: str) -> None:
+        """Has a line done by the console itself, or by the program; one of a group waits for the others."""
+        word = re.split("[ \t]+", line)[0]
+        size = size_of(line)
+        if word in self._own and (word == "help" or not self._group):
+            self._own[word](shlex.split(line)[1:])
+        elif word in self._own:
+            print("Not inside a group: give it its members first, or leave it by Ctrl-C.")
+        elif self._group:
+            self._take_member(self._group, line)
+        elif size is not None:
+            self._group = _Pending(line, size)
+        else:
+            self._ask_program(line)
+
+    def _take_member(self, group: _Pending, line: str) -> None:
+        """Keeps a member, and sends the group when it has them all."""
+        text = group.take(line)
+        if text:
+            self._group = None
+            self._ask_program(text)
+        elif line.startswith("@") or words_of_line(line)[0] not in MEMBERS:
+            print("That is no edit of a feature, and the group will be refused. Ctrl-C leaves it.")
+
+    def _leave_group(self) -> None:
+        """Gives up a group that has not all of its members."""
+        if self._group:
+            self._group = None
+            print("The group is left: nothing of it was done.")
 
     def _is_open(self) -> bool:
         """Whether the store can be used on."""
@@ -217,25 +265,28 @@ class Console:
         else:
             pydoc.pager(text + "\n")
 
-    def _tell_refused(self, refused: Refused, line: str) -> None:
+    def _tell_refused(self, refused: Refused) -> None:
         """A refusal in words: what is wrong, where, and what helps."""
         words = words_of(refused.number)
         print(f"Refused ({refused.number} {refused.name}): {words.reason}.")
-        place = self._place(refused, line)
+        if refused.member:
+            shown = refused.line if len(refused.line) <= 200 else refused.line[:200] + ".."
+            print(f"  It is member {refused.member}, and nothing of the group was done: {shown}")
+        place = self._place(refused)
         if place:
             print(f"  {place}")
-        near = near_words(line) if refused.number == 31 else ""
+        near = near_words(refused.line, in_group=refused.member is not None) if refused.number == 31 else ""
         print(f"  {near or words.help}")
 
-    def _place(self, refused: Refused, line: str) -> str:
+    def _place(self, refused: Refused) -> str:
         """Where a geometry breaks a rule, or nothing."""
-        shape = geometry_of(line, self._store) if 10 <= refused.number <= 17 else None
+        shape = geometry_refused(refused, refused.line, self._store) if 10 <= refused.number <= 17 else None
         if shape is None:
             return ""
         return str(fault_at(shape, refused) or fault_of(shape, self._program) or "")
 
     def _complete(self, line: str) -> list[str]:
-        return candidates(line, self._layer_names, self._column_names)
+        return candidates(line, self._layer_names, self._column_names, in_group=self._group is not None)
 
     def _layer_names(self) -> list[str]:
         return [layer.name for layer in self._store.layers()] if self._is_open() else []

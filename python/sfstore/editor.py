@@ -5,12 +5,19 @@ from __future__ import annotations
 from collections.abc import Callable, Iterable, Iterator
 from typing import cast
 
-from sfstore import spelling
+from sfstore import edits, spelling
+from sfstore.group import Group
+from sfstore.language import QUESTIONS, words_of_line
 from sfstore.program import Link, batches
 from sfstore.results import Answer, Column, ColumnType, Feature, Kind, Layer, Predicate, Refused, Value
 from sfstore.rows import feature_of
 
 __all__ = ["Editor"]
+
+
+def _word(feature_id: int) -> str:
+    """The word for a feature."""
+    return str(spelling.identifier(feature_id))
 
 
 def _pair_of(row: str) -> tuple[int, int]:
@@ -43,7 +50,7 @@ class Editor:
     []
     """
 
-    def __init__(self, program: Link, address: bytes) -> None:
+    def __init__(self, program: Link, address: str) -> None:
         self._program = program
         # What stands before each line.
         self._address = address
@@ -52,7 +59,8 @@ class Editor:
         """The answer of a command line: its one line, or the rows behind ``rows N`` as a list.
 
         `Refused` if it is refused. `ValueError` for a line with a line feed, which would be
-        several, and for a blank one, which has no answer.
+        several, for a blank one, and for the first line of a group, which have no answer. A whole group
+        with carriage returns between its lines is a line, however long.
 
         >>> with Store() as store:
         ...     store.run("layer add wells point")
@@ -62,7 +70,7 @@ class Editor:
         'ok 1'
         ['1 POINT (3 4)']
         """
-        [outcome] = self._program.exchange([self._address + spelling.encoded(line)])
+        [outcome] = self._program.exchange([self._encoded(line)])
         if isinstance(outcome, Refused):
             raise outcome
         return outcome
@@ -86,7 +94,7 @@ class Editor:
         ...     store.run_all(["layer add wells point", "add wells POINT (3 4)", "redo"])
         ['ok', 'ok 1', Refused(30, 'NothingToRedo', 'redo')]
         """
-        encoded = [self._address + spelling.encoded(line) for line in lines]
+        encoded = [self._encoded(line) for line in lines]
         if progress is None:
             return self._program.exchange(encoded)
         outcomes: list[Answer | Refused] = []
@@ -192,11 +200,7 @@ class Editor:
         1
         2
         """
-        if isinstance(geometry, str):
-            answer = self._line(f"add {spelling.name(layer)} {geometry}")
-        else:
-            answer = self._line(f"addhex {spelling.name(layer)} {memoryview(geometry).hex()}")
-        return int(answer.split(" ")[1])
+        return int(self._line(edits.add(layer, geometry)).split(" ")[1])
 
     def check(self, layer: str, wkt: str) -> Refused | None:
         """What adding a geometry to a layer would bring, without adding it.
@@ -222,7 +226,7 @@ class Editor:
         ...     store.show("wells")
         []
         """
-        self.run(f"delete {spelling.name(layer)} {spelling.identifier(feature_id)}")
+        self.run(edits.delete(layer, _word(feature_id)))
 
     def replace(self, layer: str, feature_id: int, wkt: str) -> None:
         """Gives a feature another geometry. It keeps its values.
@@ -233,7 +237,7 @@ class Editor:
         ...     store.show("wells")
         [Feature(id=1, wkt='POINT (5 6)', values={})]
         """
-        self.run(f"replace {spelling.name(layer)} {spelling.identifier(feature_id)} {spelling.geometry(wkt)}")
+        self.run(edits.replace(layer, _word(feature_id), wkt))
 
     def vertex_insert(
         self, layer: str, feature_id: int, part: int, ring: int, index: int, x: int, y: int
@@ -252,8 +256,7 @@ class Editor:
         1
         'LINESTRING (0 0, 3 0, 5 5)'
         """
-        vertex = spelling.vertex(layer, feature_id, part, ring, index)
-        self.run(f"vertex insert {vertex} {spelling.integer(x)} {spelling.integer(y)}")
+        self.run(edits.vertex_insert(layer, _word(feature_id), part, ring, index, x, y))
 
     def vertex_move(
         self, layer: str, feature_id: int, part: int, ring: int, index: int, x: int, y: int
@@ -268,8 +271,7 @@ class Editor:
         1
         'LINESTRING (0 0, 3 0)'
         """
-        vertex = spelling.vertex(layer, feature_id, part, ring, index)
-        self.run(f"vertex move {vertex} {spelling.integer(x)} {spelling.integer(y)}")
+        self.run(edits.vertex_move(layer, _word(feature_id), part, ring, index, x, y))
 
     def vertex_remove(self, layer: str, feature_id: int, part: int, ring: int, index: int) -> None:
         """Removes a vertex, named as for `vertex_insert`.
@@ -282,7 +284,7 @@ class Editor:
         1
         'LINESTRING (0 0, 5 5)'
         """
-        self.run(f"vertex remove {spelling.vertex(layer, feature_id, part, ring, index)}")
+        self.run(edits.vertex_remove(layer, _word(feature_id), part, ring, index))
 
     def set(self, layer: str, feature_id: int, column: str, value: Value) -> None:
         """Sets the value of a feature in a column.
@@ -294,7 +296,7 @@ class Editor:
         ...     store.show("wells")[0].values
         {'label': "it's old"}
         """
-        self.run(f"set {spelling.name(layer)} {spelling.identifier(feature_id)} {spelling.name(column)} {spelling.value(value)}")
+        self.run(edits.set_value(layer, _word(feature_id), column, value))
 
     def unset(self, layer: str, feature_id: int, column: str) -> None:
         """Clears the value of a feature in a column, if there is one.
@@ -304,7 +306,31 @@ class Editor:
         ...     store.add_column("wells", "depth", "int")
         ...     store.unset("wells", store.add("wells", "POINT (3 4)"), "depth")
         """
-        self.run(f"unset {spelling.name(layer)} {spelling.identifier(feature_id)} {spelling.name(column)}")
+        self.run(edits.unset(layer, _word(feature_id), column))
+
+    def together(self) -> Group:
+        """Several edits of features as one step: all of them are carried out, or none.
+
+        The edits are calls of what the ``with`` gives, and are sent at its end. Until then this store, and
+        each editor of it, answers questions alone: edits and other groups raise `RuntimeError`.
+
+        >>> with Store() as store:
+        ...     store.add_layer("parcels", "polygon")
+        ...     store.add_column("parcels", "owner", "text")
+        ...     store.add("parcels", "POLYGON ((0 0, 20 0, 20 10, 0 10, 0 0))")
+        ...     with store.together() as group:
+        ...         for owner, left, right in ("Ada", 0, 10), ("Ben", 10, 20):
+        ...             part = f"POLYGON (({left} 0, {right} 0, {right} 10, {left} 10, {left} 0))"
+        ...             group.set("parcels", group.add("parcels", part), "owner", owner)
+        ...         group.delete("parcels", 1)
+        ...     group.ids
+        ...     store.undo()
+        ...     len(store.show("parcels"))
+        1
+        [2, 3]
+        1
+        """
+        return Group(self._program, self._address)
 
     def show(self, layer: str) -> list[Feature]:
         """The features of a layer, by rising identifier.
@@ -490,6 +516,12 @@ class Editor:
         [Layer(name='wells', kind='any')]
         """
         self.run("redo")
+
+    def _encoded(self, line: str) -> bytes:
+        """A line as it is sent. `RuntimeError` for an edit while a group is open, which it would come before."""
+        if self._program.has_group and (words_of_line(line) or [""])[0] not in QUESTIONS:
+            raise RuntimeError("a group is open: give it the edit, or end it first")
+        return spelling.encoded(line, self._address)
 
     def _line(self, line: str) -> str:
         """The answer of a command that has one line."""

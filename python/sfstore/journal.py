@@ -34,6 +34,7 @@ __all__ = [
     "path_of",
     "read_records",
     "renew_old",
+    "sent",
     "torn_bytes",
 ]
 
@@ -63,7 +64,7 @@ class Records:
     head: bytes
     """The first line, which names the file that the edits go on from."""
     lines: list[bytes]
-    """The texts of the records, each with a line feed."""
+    """The texts of the records, each with a line feed. A group is one, with carriage returns between its lines."""
 
 
 def path_of(store: str) -> str:
@@ -125,6 +126,14 @@ def read_records(data: bytes, path: str) -> Records:
         lines.append(data[at + _MARK : feed + 1])
         at = feed + 1
     return Records(head, lines)
+
+
+def sent(record: bytes) -> bytes:
+    """The text of a record as the lines that a program is given: of a group its head and its members.
+
+    A record may be longer than a line. Of all texts that a program accepts a group alone has carriage returns.
+    """
+    return record.replace(b"\r", b"\n")
 
 
 def torn_bytes(store: str) -> int:

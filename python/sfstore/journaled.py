@@ -59,6 +59,7 @@ class Journaled:
         self._kept = Kept(os.fsdecode(path))
         # Whether the program may have done something that is not noted here.
         self._in_doubt = False
+        self.has_group = False
         torn = self._open()
         self.recovered = Recovered(self.unsaved, torn)
         if torn:
@@ -85,6 +86,9 @@ class Journaled:
 
     def stop(self) -> None:
         self._program.stop()
+
+    def check_user(self) -> None:
+        self._program.check_user()
 
     def exchange(self, lines: Sequence[bytes]) -> list[Answer | Refused]:
         self._check_open()

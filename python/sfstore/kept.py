@@ -86,7 +86,7 @@ class Kept:
             self._seen = now
 
     def lines(self) -> list[bytes]:
-        """The edits that the file does not have, each with its line feed.
+        """The edits that the file does not have, each as the text of its record, with its line feed.
 
         `JournalError` where the file is another one than they go on from, and where the journal is
         not the one that the program keeps.
@@ -136,7 +136,7 @@ class Kept:
             words = [f"--{option}=/dev/fd/{number}" for option, number in zip(("save", "load"), handed)]
             ended = subprocess.run(  # nosec B603: a list of words, of which one is a path.
                 [program, *words],
-                input=b"".join(lines),
+                input=b"".join(map(journal.sent, lines)),
                 stdout=subprocess.PIPE,
                 pass_fds=handed,
                 start_new_session=True,

@@ -16,12 +16,14 @@ __all__ = [
     "EDITS",
     "GRID_MAX",
     "GRID_MIN",
+    "GROUP_MAX",
     "IDENTIFIERS_MAX",
     "IDENTIFIER_MAX",
     "INT_MAX",
     "INT_MIN",
     "KINDS",
     "LINE_MAX",
+    "MEMBERS",
     "NAME",
     "PATTERN",
     "POINTS_MAX",
@@ -58,6 +60,9 @@ LINE_MAX = 131_072
 EDITOR_MAX = 255
 """The greatest number of an editor; the least one is 1, and 0 is whoever names none."""
 
+GROUP_MAX = 65_535
+"""How many members a group has at most; the least number is 1."""
+
 IDENTIFIER_MAX = 4_294_967_295
 """The greatest identifier, place, part, ring or index."""
 
@@ -82,8 +87,11 @@ NAME = re.compile(r"[A-Za-z][A-Za-z0-9_]{0,31}")
 PATTERN = re.compile(r"[TtFf*012]{9}")
 """A pattern of matrices."""
 
-Touched = Literal["layers", "columns", "geometries", "values", "history"]
-"""What an edit changes: which layers there are, their columns, geometries, values; or it moves a step."""
+Touched = Literal["layers", "columns", "geometries", "values", "features", "history"]
+"""What an edit changes: which layers there are, their columns, geometries, values; or it moves a step.
+
+A group changes features: geometries, values, or both.
+"""
 
 
 class Command(NamedTuple):
@@ -164,6 +172,12 @@ COMMANDS = [
         "values",
     ),
     Command("unset LAYER ID COLUMN", "clears a value", "unset wells 1 label", "values"),
+    Command(
+        "together N",
+        "makes one step of the next N edits of features: all are carried out, or none; `last` names the feature added last",
+        "together 2",
+        "features",
+    ),
     Command("show LAYER", "lists the features of a layer with their values", "show wells"),
     Command("get LAYER ID", "lists features by their numbers, one or up to 1,000, in this order", "get wells 1"),
     Command(
@@ -209,6 +223,9 @@ EDITS = frozenset(command.word for command in COMMANDS if command.touches)
 
 QUESTIONS = frozenset(command.word for command in COMMANDS if not command.touches)
 """The first words of the lines that change nothing."""
+
+MEMBERS = frozenset(command.word for command in COMMANDS if command.touches in ("geometries", "values"))
+"""The first words of the lines that may be members of a group."""
 
 _ADDRESS = re.compile(r"@[0-9]{1,3}")
 

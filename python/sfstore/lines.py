@@ -6,7 +6,17 @@ from sfstore.geometry import NotTaken, Shape, read_wkb, read_wkt
 from sfstore.language import words_of_line
 from sfstore.store import Editor, Refused
 
-__all__ = ["geometry_of"]
+__all__ = ["geometry_of", "geometry_refused"]
+
+
+def geometry_refused(refused: Refused, line: str, store: Editor) -> Shape | None:
+    """The geometry that a line would have brought, or a member of a group; none where that is not known.
+
+    The members before it may have changed the feature whose vertex it names.
+    """
+    if (refused.member or 1) > 1 and words_of_line(line)[:1] == ["vertex"]:
+        return None
+    return geometry_of(line, store)
 
 
 def geometry_of(line: str, store: Editor) -> Shape | None:

@@ -10,6 +10,8 @@ that digest, which was about to take the file's place.
 Version 2 was written by the program. It is as today's but for the head's ``2`` and for the digits
 before a text: the first 8 bytes of the SHA-256 of the sum before it, 32 bytes, and of the text. The sum
 before the first record is the SHA-256 of the head.
+
+No program that wrote these versions knew of groups: each record is one line.
 """
 
 from __future__ import annotations

@@ -14,6 +14,7 @@ from collections import deque
 from collections.abc import Iterable, Iterator, Sequence
 from typing import IO, Protocol, cast
 
+from sfstore.groups import member_of
 from sfstore.results import Answer, ProgramEnded, Refused
 
 __all__ = ["BATCH_BYTES", "Link", "Program", "batches", "is_edit", "started"]
@@ -37,8 +38,18 @@ _GREETING = b"?\n"
 class Link(Protocol):
     """What editors need of the program that holds their store."""
 
+    has_group: bool
+    """Whether a group is open, whose members are not sent yet."""
+
+    @property
+    def closed(self) -> bool:
+        """Whether the store can't be used any more."""
+
+    def check_user(self) -> None:
+        """`RuntimeError` in another thread or process than the one that made the store."""
+
     def exchange(self, lines: Sequence[bytes]) -> list[Answer | Refused]:
-        """Sends lines, each with its line feed, and reads as many answers."""
+        """Sends lines, each with its line feed, and reads as many answers. The lines of a group are one."""
 
     def close(self) -> None:
         """Saves the store, and ends the program."""
@@ -60,6 +71,7 @@ class Program:
         self._thread = threading.current_thread()
         self._owner = os.getpid()
         self._closed = False
+        self.has_group = False
         self._last_line = ""
         # What is to be sent, the lines that were read, and what was read of the next one.
         self._unsent = memoryview(b"")
@@ -89,7 +101,7 @@ class Program:
         return self._closed
 
     def exchange(self, lines: Sequence[bytes]) -> list[Answer | Refused]:
-        """Sends lines, each with its line feed, and reads as many answers.
+        """Sends lines, each with its line feed, and reads as many answers. The lines of a group are one.
 
         Answers are read while lines are sent: however many they are, neither side waits for the
         other for ever.
@@ -160,8 +172,7 @@ class Program:
         if first.startswith("rows "):
             return [self._read_line() for _ in range(int(first[5:]))]
         if first.startswith("refused "):
-            _, number, name, *detail = first.split(" ", 3)
-            return Refused(int(number), name, line[:-1].decode("utf-8"), *detail)
+            return _refusal(first, line[:-1].decode("utf-8"))
         return first
 
     def _read_line(self) -> str:
@@ -238,6 +249,14 @@ def is_edit(line: bytes, outcome: object) -> bool:
     if not isinstance(outcome, str):
         return False
     return outcome.startswith("ok ") or (outcome == "ok" and not _CHECK.match(line))
+
+
+def _refusal(answer: str, sent: str) -> Refused:
+    """The refusal of what was sent; of a group with the member that it names, else with its head."""
+    _, number, name, *detail = answer.split(" ", 3)
+    lines = sent.split("\n")
+    member = member_of(detail[0]) if detail else None
+    return Refused(int(number), name, lines[member or 0 if len(lines) > 1 else 0], *detail)
 
 
 _programs: weakref.WeakSet[Program] = weakref.WeakSet()

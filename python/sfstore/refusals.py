@@ -71,6 +71,7 @@ REFUSALS = {
     33: Words("the line is too long", f"It has at most {LINE_MAX:,} bytes."),
     35: Words("there is no such place among the layers", "Places count from 0."),
     36: Words("the step is another editor's", "Who made it can undo it."),
+    38: Words("the input ended inside a group", "Send all of its lines at once."),
 }
 """The words of each refusal, by its number."""
 

@@ -7,6 +7,7 @@ import re
 from dataclasses import dataclass
 from typing import Any, Literal, NamedTuple, Union
 
+from sfstore.groups import member_of
 from sfstore.wkt import coordinates_of
 
 __all__ = [
@@ -79,9 +80,9 @@ class Refused(Exception):
     name: str
     """Its name, which belongs to the number."""
     line: str
-    """The line that was refused."""
+    """The line that was refused: of a group the member, or ``together N`` if no member is named."""
     detail: str
-    """What the answer says behind the name: where a geometry is wrong, if `Editor.check` asked."""
+    """What the answer says behind the name: where a geometry is wrong, or which member of a group it is."""
 
     def __init__(self, number: int, name: str, line: str, detail: str = "") -> None:
         super().__init__(number, name, line, *([detail] if detail else []))
@@ -108,9 +109,19 @@ class Refused(Exception):
         """
         return [_place(words) for words in _PLACE.findall(self.detail)]
 
+    @property
+    def member(self) -> int | None:
+        """Which member of a group was refused, counted from 1; None if it is no group, or none of its members.
+
+        >>> Refused(21, "NoFeature", "delete wells 7", "member 2").member
+        2
+        """
+        return member_of(self.detail)
+
     def __str__(self) -> str:
         shown = self.line if len(self.line) <= 200 else self.line[:200] + ".."
-        return f"{self.number} {self.name}: {shown}"
+        which = f" of member {self.member}" if self.member else ""
+        return f"{self.number} {self.name}{which}: {shown}"
 
 
 _PLACE = re.compile(r"(?:ring|part|line)(?: [0-9]+)+(?: edges?(?: [0-9]+)+)?")

@@ -7,6 +7,7 @@ import re
 from collections.abc import Sequence
 from typing import Any, get_args
 
+from sfstore.groups import lines_of, size_of
 from sfstore.language import EDITOR_MAX, IDENTIFIER_MAX, IDENTIFIERS_MAX, INT_MAX, INT_MIN, NAME, PATTERN, PREDICATES
 from sfstore.results import Value
 
@@ -25,14 +26,25 @@ __all__ = [
 ]
 
 
-def encoded(line: str) -> bytes:
-    """A line as it is sent, with its line feed. `ValueError` where it would not get one answer."""
+def encoded(line: str, address: str = "") -> bytes:
+    """A line as it is sent, with its line feed, behind a word that names an editor.
+
+    A group on one line is sent as lines, so that it may be longer than one. `ValueError` for what would not get one
+    answer.
+    """
     if "\n" in line:
         raise ValueError("a line feed stands in the line")
     # The program drops a carriage return right before the line feed.
     if not line.removesuffix("\r").strip(" \t"):
         raise ValueError("the line is blank")
-    return line.encode("utf-8") + b"\n"
+    sent = address + line
+    if size_of(sent) is not None:
+        raise ValueError("the line begins a group, which has one answer: send it with all of its members")
+    members = lines_of(sent)
+    # A blank line is no member, and a blank part of a line is one that is refused.
+    if all(member.strip(" \t") for member in members):
+        sent = "\n".join(members)
+    return sent.encode("utf-8") + b"\n"
 
 
 def name(text: str) -> str:
@@ -98,10 +110,10 @@ def editor(number: int) -> int:
     return number
 
 
-def vertex(layer: str, feature_id: int, part: int, ring: int, index: int) -> str:
-    """A vertex, by the numbers that name it."""
-    numbers = map(identifier, (feature_id, part, ring, index))
-    return " ".join([name(layer), *map(str, numbers)])
+def vertex(layer: str, which: str, part: int, ring: int, index: int) -> str:
+    """A vertex, by the numbers that name it, and by the word for its feature."""
+    numbers = map(identifier, (part, ring, index))
+    return " ".join([name(layer), which, *map(str, numbers)])
 
 
 def value(given: Value) -> str:

@@ -22,6 +22,7 @@ from types import TracebackType
 from typing import Literal, overload
 
 from sfstore.editor import Editor
+from sfstore.group import Added, Group
 from sfstore.journaled import Journaled
 from sfstore.program import started
 from sfstore.results import (
@@ -43,11 +44,13 @@ from sfstore.rows import row_values
 from sfstore.spelling import editor as editor_number
 
 __all__ = [
+    "Added",
     "Answer",
     "Column",
     "ColumnType",
     "Editor",
     "Feature",
+    "Group",
     "Kind",
     "Layer",
     "Place",
@@ -126,11 +129,11 @@ class Store(Editor):
                 words.append(f"--load={os.fsdecode(load)}")
             if save is not None:
                 words.append(f"--save={os.fsdecode(save)}")
-            super().__init__(started(words), b"")
+            super().__init__(started(words), "")
             return
         if path is None or load is not None or save is not None:
             raise TypeError("a store with a journal is named by its path alone")
-        super().__init__(Journaled(os.fsdecode(program or "sfstore"), path), b"")
+        super().__init__(Journaled(os.fsdecode(program or "sfstore"), path), "")
 
     def __enter__(self) -> Store:
         return self
@@ -222,8 +225,8 @@ class Store(Editor):
     def unsaved_lines(self) -> list[str]:
         """The accepted edits that the file does not have, in their order, with their editors.
 
-        A program that loads the file and is given them has the content and the history of the
-        store. `JournalError` if another program has changed the file since it was opened, so
+        A group is one text, with carriage returns between its lines, which `run` takes as it is. A store
+        that loads the file and runs them has the content and the history of this one. `JournalError` if another program has changed the file since it was opened, so
         that the lines do not go on from it, or the journal. `RuntimeError` without a journal.
         """
         return self._journaled().unsaved_lines
@@ -249,4 +252,4 @@ class Store(Editor):
         ...     store.layers()
         [Layer(name='wells', kind='any')]
         """
-        return Editor(self._program, b"@%d " % editor_number(number))
+        return Editor(self._program, f"@{editor_number(number)} ")

@@ -22,6 +22,7 @@ from journal_others import Others, Plan
 from journal_plain import Console, Violation, after, file_of, points_of
 
 from sfstore import JournalError, ProgramEnded, Store, journal
+from sfstore.groups import text_of
 
 # The calls at which something may happen: of the system, and of the program.
 CALLS = ["os.open", "os.fsync", "os.replace", "os.unlink", "sfstore.kept._state", "sfstore.kept.subprocess.run"]
@@ -96,12 +97,21 @@ class Run(Others):
 
     def _new_line(self):
         self.number += 1
-        kinds = ["add"] * 6 + ["replace"] * 2 + ["undo"] * 2 + ["redo", "bad", "layer", "show", "save"]
+        kinds = ["add"] * 6 + ["replace"] * 2 + ["undo"] * 2 + ["group"] * 3 + ["redo", "bad", "layer", "show", "save"]
         return {
+            "group": self._new_group(),
             "add": f"add w POINT ({self.number} 1)",
             "replace": f"replace w {self.dice.randint(1, 6)} POINT ({self.number} 2)",
             "undo": "undo", "redo": "redo", "bad": "nothing", "layer": "layer add w point", "show": "show w", "save": "save",
         }[self.dice.choice(kinds)]  # fmt: skip
+
+    def _new_group(self):
+        members = [
+            f"add w POINT ({self.number} 5)", f"replace w last POINT ({self.number} 6)",
+            f"replace w {self.dice.randint(1, 6)} POINT ({self.number} 7)",
+        ]  # fmt: skip
+        chosen = [self.dice.choice(members) for _ in range(self.dice.randint(1, 4))]
+        return text_of(chosen + ["undo"] * (self.dice.random() < 0.1))
 
     def edit(self):
         self._do_lines([self._new_line()])

@@ -9,6 +9,7 @@ from collections.abc import Iterable
 from typing import List, Optional
 
 from sfstore import storefile
+from sfstore.groups import lines_of
 
 # The points of the one layer, as text; None where there is no layer.
 Points = Optional[List[str]]
@@ -27,7 +28,10 @@ class Console:
         self.undone: list[Points] = []
 
     def accepts(self, line: str) -> bool:
-        """Carries out a line. Whether it is an edit that is accepted."""
+        """Carries out a line, or a group. Whether it is an edit that is accepted."""
+        _, *members = lines_of(line)
+        if members:
+            return self._accepts_group(members)
         words = line.split()
         if words == ["undo"]:
             return self._move(self.done, self.undone)
@@ -42,6 +46,23 @@ class Console:
             changed[int(words[2]) - 1] = " ".join(words[3:])
             return self._become(changed)
         return False
+
+    def _accepts_group(self, members: list[str]) -> bool:
+        """Carries out all members, or none."""
+        if self.points is None:
+            return False
+        points, last = list(self.points), 0
+        for member in members:
+            words = member.split()
+            at = last if words[2:3] == ["last"] else int(words[2]) if words[0] == "replace" else 0
+            if words[0] == "add":
+                points.append(member[6:])
+                last = len(points)
+            elif words[0] == "replace" and 1 <= at <= len(points):
+                points[at - 1] = " ".join(words[3:])
+            else:
+                return False
+        return self._become(points)
 
     def _become(self, points: Points) -> bool:
         self.done.append(self.points)

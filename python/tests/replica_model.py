@@ -18,6 +18,7 @@ from pathlib import Path
 from typing import Union
 
 from sfstore import Refused
+from sfstore.groups import text_of
 from sfstore.replica import NotAcknowledged, Replica, ReplicaStopped
 
 MODULES = Path(__file__).resolve().parent.parent
@@ -29,6 +30,12 @@ SECONDS = 40.0
 
 def some_point(dice: random.Random) -> str:
     return f"POINT ({dice.choice(ODD)} {dice.choice(ODD)})"
+
+
+def addition(dice: random.Random, point: str) -> str:
+    """A line that adds a point, or a group that does and has it at another place before."""
+    alone = f"add w {point}"
+    return dice.choice([alone, text_of([f"add w {some_point(dice)}", f"replace w last {point}"])])
 
 
 class Log:
@@ -52,9 +59,9 @@ class Log:
         points = self._contents[at]
         return None if points is None else [f"{number} {point}" for number, point in enumerate(points, 1)]
 
-    def add(self, point: str) -> str:
-        """A point is added: the answer."""
-        self._put(f"add w {point}", [*self.points, point])
+    def add(self, line: str, point: str) -> str:
+        """A line adds a point: the answer."""
+        self._put(line, [*self.points, point])
         return f"ok {len(self.points)}"
 
     def undo(self) -> None:
@@ -171,7 +178,7 @@ class Writer(threading.Thread):
     def __init__(self, login: str, replica: Asked, dice: random.Random) -> None:
         super().__init__(daemon=True)
         self.login = login
-        self.answered: list[tuple[int, str]] = []
+        self.answered: list[tuple[int, str, str]] = []
         self._error: BaseException | None = None
         self._replica = replica
         self._dice = random.Random(dice.random())
@@ -188,8 +195,9 @@ class Writer(threading.Thread):
     def write(self) -> None:
         """Puts a point down, and tries it until it is acknowledged."""
         point = some_point(self._dice)
-        answer = self._acknowledged(f"add w {point}")
-        self.answered.append((int(str(answer).removeprefix("ok ")), point))
+        line = addition(self._dice, point)
+        answer = self._acknowledged(line)
+        self.answered.append((int(str(answer).removeprefix("ok ")), line, point))
 
     def wait_for(self, count: int) -> None:
         """Waits until so many points more are acknowledged."""
@@ -219,6 +227,6 @@ class Writer(threading.Thread):
         raise AssertionError("a line at a socket was not acknowledged")
 
 
-def in_order(writers: Sequence[Writer]) -> list[tuple[int, str, str]]:
-    """What some have written, by the identifiers that were answered: identifier, point and login."""
-    return sorted((number, point, writer.login) for writer in writers for number, point in writer.answered)
+def in_order(writers: Sequence[Writer]) -> list[tuple[int, str, str, str]]:
+    """What some have written, by the identifiers that were answered: identifier, line, point and login."""
+    return sorted((*answered, writer.login) for writer in writers for answered in writer.answered)

@@ -139,6 +139,18 @@ class Pasted(TestCase):
         self.assertEqual(shown, [("POINT (1 1)", {})])
         self.assertNotIn("closed", said)
 
+    def test_a_group_that_was_pasted(self):
+        begin = "layer add w point\ntogether 2\n\nadd w POINT (1 1)\r\nadd w POINT (2 2)\nundo\nredo"
+        shown, said = self.carry_out(begin)
+        self.assertEqual(shown, [("POINT (1 1)", {}), ("POINT (2 2)", {})])
+        self.assertIn("('ok 1 2',) ('ok',) ('ok',)", said)
+
+    def test_lines_that_are_no_members_count_as_the_program_counts_them(self):
+        shown, said = self.carry_out("layer add w point\ntogether 2\nundo\nadd w POINT (1 1)\nadd w POINT (2 2)")
+        self.assertEqual(shown, [("POINT (2 2)", {})])
+        self.assertIn("That is no edit of a feature, and the group will be refused", said)
+        self.assertIn("It is member 1, and nothing of the group was done: undo", said)
+
     def test_the_history_is_for_this_user_alone(self):
         with mock.patch.dict(os.environ, XDG_STATE_HOME=str(self.folder / "state")):
             path = console._history_path()
@@ -231,6 +243,66 @@ class Sessions(ConsoleCase):
         said = terminal.line("layer add", "layer move wells 0")
         self.assertIn("It is used so:", said)
         self.leave(terminal)
+
+    def test_a_group(self):
+        terminal = self.console()
+        terminal.line("layer add p polygon", "ok")
+        terminal.line("add p POLYGON ((0 0, 20 0, 20 10, 0 10, 0 0))", "ok 1")
+        terminal.line("@7 together 3", "1 of 3>")
+        terminal.line("add p POLYGON ((0 0, 10 0, 10 10, 0 10, 0 0))", "2 of 3>")
+        terminal.send("\r")
+        self.assertIn("removes a feature", terminal.line("help delete", "example: delete wells 1"))
+        self.assertIn("Not inside a group", terminal.line("save", "leave it by Ctrl-C."))
+        terminal.wait("2 of 3>")
+        terminal.line("add p POLYGON ((10 0, 20 0, 20 10, 10 10, 10 0))", "3 of 3>")
+        terminal.line("delete p 1", "ok 2 3")
+        terminal.wait("town.sfs>")
+        terminal.line("undo", "Who made it can undo it.")
+        terminal.line("@7 undo", "ok")
+        terminal.line("show p", "1 row")
+        self.leave(terminal)
+
+    def test_a_group_that_is_left(self):
+        terminal = self.console()
+        terminal.line("layer add w point", "ok")
+        for key in "\x03\x04":
+            terminal.wait("town.sfs>")
+            terminal.line("together 2", "1 of 2>")
+            terminal.line("add w POINT (1 1)", "2 of 2>")
+            time.sleep(0.3)
+            terminal.send(key)
+            terminal.wait("The group is left: nothing of it was done.")
+        terminal.wait("town.sfs>")
+        terminal.line("show w", "0 rows")
+        self.leave(terminal)
+
+    def test_a_group_that_is_refused(self):
+        terminal = self.console()
+        terminal.line("layer add p any", "ok")
+        terminal.line("together 2", "1 of 2>")
+        terminal.line("add p POINT (1 1)", "2 of 2>")
+        said = terminal.line("add p POLYGON ((0 0, 3 3, 3 0, 0 2, 0 0))", "edges do not cross.")
+        self.assertIn("Refused (13 RingNotSimple): a ring meets itself.", said)
+        self.assertIn("It is member 2, and nothing of the group was done: add p POLYGON", said)
+        self.assertIn("edges 0 and 2 of ring 0 meet at (6/5 6/5)", said)
+        terminal.line("together 2", "1 of 2>")
+        self.assertIn("the group will be refused. Ctrl-C leaves it.", terminal.line("show p", "2 of 2>"))
+        said = terminal.line("add p POINT (1 1)", "before `together`.")
+        self.assertIn("It is member 1, and nothing of the group was done: show p", said)
+        terminal.line("show p", "0 rows")
+        self.leave(terminal)
+
+    def test_completion_in_a_group(self):
+        self.stored(["layer add wells point", "column add wells depth int", "add wells POINT (3 4)"])
+        terminal = self.console()
+        terminal.line("together 1", "1 of 1>")
+        terminal.send("set we\t")
+        time.sleep(0.5)
+        terminal.send(" 1 d\t")
+        time.sleep(0.5)
+        terminal.send(" 5\r")
+        terminal.wait("ok")
+        self.assertIn("depth=5", terminal.line("show wells", "1 row"))
 
     def test_help(self):
         terminal = self.console()
@@ -448,10 +520,10 @@ class Words(TestCase):
         self.assertIn("sfstore --load FILE --save FILE < LINES", ended.stderr)
         self.assertEqual(os.listdir(self.folder), [])
 
-    def candidates(self, line):
+    def candidates(self, line, in_group=False):
         columns = {"wells": ["depth", "label"]}
         return commands.candidates(
-            line, lambda: ["wells", "walls"], lambda layer: columns.get(layer, [])
+            line, lambda: ["wells", "walls"], lambda layer: columns.get(layer, []), in_group
         )
 
     def test_candidates(self):
@@ -471,15 +543,40 @@ class Words(TestCase):
             ("help qu", ["query", "quit"]),
             ("undo ", []),
             ("nothing ", []),
+            ("tog", ["together"]),
         ):
             self.assertEqual(self.candidates(line), words, line)
+
+    def test_candidates_of_members(self):
+        for line, words in (
+            ("", ["add", "addhex", "delete", "replace", "vertex", "set", "unset", "help"]),
+            ("s", ["set"]),
+            ("layer ", []),
+            ("set we", ["wells"]),
+            ("set wells ", ["last"]),
+            ("set wells last ", ["depth", "label"]),
+            ("vertex move wells l", ["last"]),
+            ("quit", []),
+        ):
+            self.assertEqual(self.candidates(line, in_group=True), words, line)
+
+    def test_what_helps_where_a_member_is_wrong(self):
+        for line, words in (
+            ("ad w POINT (1 1)", "Is `add` meant?"),
+            ("undo", "A group has edits of features alone"),
+            ("@2 delete w 1", "A group has edits of features alone"),
+            ("set w last x 5", "`last` names what the group has added"),
+            ("delete w", "It is used so:\ndelete LAYER ID"),
+        ):
+            self.assertIn(words, commands.near_words(line, in_group=True), line)
 
     def test_every_example_is_taken(self):
         lines = ["layer add parcels polygon", "add parcels POLYGON ((0 0, 9 0, 9 9, 0 0))"]
         lines += ["layer add roads linestring", "add roads LINESTRING (0 0, 5 5, 9 9)"]
         order = [command.example for command in commands.COMMANDS]
         late = ("layer drop", "layer rename", "column drop", "delete", "undo", "redo", "unset")
-        lines += [line for line in order if not line.startswith(late)]
+        members = "\rset wells 1 depth 12\rset wells 1 depth 13"
+        lines += [line + members * (line == "together 2") for line in order if not line.startswith(late)]
         lines.insert(lines.index("column add wells depth int"), "column add wells label text")
         lines += ["unset wells 1 label", "delete wells 1", "undo", "redo", "column drop wells depth"]
         lines += ["layer rename roads streets", "layer drop wells"]

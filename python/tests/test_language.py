@@ -18,8 +18,12 @@ CONSOLE = (TOP / "docs" / "use" / "CONSOLE.md").read_text(encoding="utf-8")
 class Language(TestCase):
     def test_the_log_takes_the_edits_of_the_table(self):
         schema = (FOLDER / "sfstore" / "replica" / "log.sql").read_text(encoding="utf-8")
-        [longest, words] = re.findall(r"is_edit\(line text\).*?<= (\d+) .*?\]\*\(([a-z|]+)\)", schema, re.DOTALL)[0]
-        self.assertEqual(frozenset(words.split("|")), language.EDITS)
+        [longest, words] = re.findall(r"is_edit\(line text\).*?<= (\d+)\s.*?\]\*\(([a-z|]+)\)", schema, re.DOTALL)[0]
+        self.assertEqual(frozenset(words.split("|")), language.EDITS - {"together"})
+        [group, members] = re.findall(r"is_group\(line text\).*?<= (\d+)\s.*?\]\*\(([a-z|]+)\)", schema, re.DOTALL)[0]
+        self.assertEqual(frozenset(members.split("|")), language.MEMBERS)
+        self.assertEqual(int(group), replica_lines.GROUP_BYTES)
+        self.assertIn(f"BETWEEN 1 AND {language.GROUP_MAX}", schema)
         # The program has ``@255`` and a blank before it.
         self.assertEqual(int(longest), language.LINE_MAX - len("@255 "))
 
@@ -60,7 +64,7 @@ class Language(TestCase):
                     store.run("column add wells depth int")
                 store.run("layer add before any")
                 try:
-                    store.run(command.example)
+                    store.run(command.example + "\rset wells 1 label 'a'\rset wells 1 label 'b'" * (command.word == "together"))
                 except Refused as refused:
                     self.fail(f"{command.example}: {refused}")
                 if command.touches is not None:

@@ -266,6 +266,40 @@ class Several(PageCase):
         ben.here().type("delete parcels 2", "ok")
         ann.here().until(lambda: ann.text("#chosen-title") == "Nothing selected")
 
+    def test_a_group_that_is_typed_is_one_line_and_one_undo(self):
+        ann = self.open("Ann")
+        ben = self.page(self.serving, "Ben")
+        ann.here().type("together 3", "1 of 3 comes next; Escape leaves the group")
+        ann.type("add wells POINT (1290 450)", "2 of 3 comes next; Escape leaves the group")
+        ann.send(ann.keys.ESCAPE)
+        ann.logged("together 3", "The group is left: nothing of it was done.")
+        for head, member, answer in (
+            ("together 2", "delete wells 77", "refused 21 NoFeature"),
+            ("together 2", "set wells last label 'new'", "ok 5"),
+        ):
+            ann.type(head, "1 of 2 comes next; Escape leaves the group")
+            ann.type("add wells POINT (1290 450)", "2 of 2 comes next; Escape leaves the group")
+            ann.one("#line-text").send_keys(member, ann.keys.ENTER)
+            ann.logged(head, answer)
+        ann.until(lambda: ann.drawn("wells") == 5)
+        ben.here().logged("together 2", "add wells POINT (1290 450)")
+        ben.until(lambda: ben.drawn("wells") == 5)
+        self.assertTrue(ben.one("#undo").get_attribute("title").startswith("together 2: add wells POINT (1290 450) (Ann's)"))
+        ann.here().use("#undo")
+        ann.logged("undo", "ok")
+        ann.until(lambda: ann.drawn("wells") == 4)
+        ben.here().logged("undo", "together 2: add wells POINT (1290 450)")
+        ben.until(lambda: ben.drawn("wells") == 4)
+
+    def test_what_helps_where_a_group_is_refused(self):
+        page = self.open()
+        page.type("together 2")
+        page.type("add parcels POLYGON ((0 0, 10 10, 10 0, 0 10, 0 0))")
+        page.one("#line-text").send_keys("delete wells 1", page.keys.ENTER)
+        page.logged("together 2", "refused 13 RingNotSimple")
+        page.until(lambda: "line 1 of the group" in page.text("#refusal"))
+        self.assertIn("(5 5)", page.text("#refusal .place"))
+
     def test_an_edit_by_another_takes_no_selection_back(self):
         ann = self.open("Ann")
         ann.choose((270, 150), "parcels 2, a polygon")

@@ -28,6 +28,7 @@ from sfstore import JournalError, Refused, Store
 from sfstore.commands import COMMANDS
 from sfstore.replica import LogUnreachable, NotAcknowledged, Replica, ReplicaStopped, owning
 from sfstore.replica.demo import Trial
+from sfstore.language import MEMBERS
 from sfstore.replica.lines import EDITS, QUESTIONS, asked
 from sfstore.replica.links import Link, LinkLost, LogRefused, servers_of
 from sfstore.replica.servers import Pair, Server
@@ -72,8 +73,9 @@ class Lines(TestCase):
             servers_of("host=a,b hostaddr=1.1.1.1,2.2.2.2,3.3.3.3")
 
     def test_the_log_takes_the_edits_of_the_module(self):
-        [words] = re.findall(r"\^\[ \\t\]\*\(([a-z|]+)\)", SCHEMA)
-        self.assertEqual(set(words.split("|")), EDITS)
+        members, words = re.findall(r"\^\[ \\t\]\*\(([a-z|]+)\)", SCHEMA)
+        self.assertEqual(set(members.split("|")), MEMBERS)
+        self.assertEqual(set(words.split("|")), EDITS - {"together"})
 
     def test_edits_and_questions_are_all_words_of_the_console(self):
         self.assertEqual({command.usage.split(" ")[0] for command in COMMANDS}, EDITS | QUESTIONS)

@@ -18,7 +18,7 @@ from concurrent.futures import ThreadPoolExecutor
 from replica_support import OPTIONS, ReplicaCase
 from support import PROGRAM
 
-from replica_model import SECONDS, Listening, Log, Writer, in_order, some_point
+from replica_model import SECONDS, Listening, Log, Writer, addition, in_order, some_point
 
 from sfstore import Refused
 from sfstore.replica import LogUnreachable, NotAcknowledged, Replica, ReplicaStopped, owning
@@ -179,7 +179,8 @@ class Model(ReplicaCase):
     def write(self):
         self.last = self.somebody()
         point = some_point(self.dice)
-        self.assertEqual(self.open[self.last].run(f"add w {point}"), self.log.add(point), self.did)
+        line = addition(self.dice, point)
+        self.assertEqual(self.open[self.last].run(line), self.log.add(line, point), self.did)
 
     def refuse(self):
         line = "delete w 9999"
@@ -274,8 +275,8 @@ class Model(ReplicaCase):
             writer.wait_for(2)
             writer.end()
         failing.result()
-        for number, point, self.last in in_order([ann, *ben]):
-            self.assertEqual(f"ok {number}", self.log.add(point), self.did)
+        for number, line, point, self.last in in_order([ann, *ben]):
+            self.assertEqual(f"ok {number}", self.log.add(line, point), self.did)
         for at, rows in glances:
             self.assertEqual(rows, self.log.rows(at), self.did)
 
@@ -347,10 +348,11 @@ class Model(ReplicaCase):
     def without_standby(self, lose, heal):
         """Ann's line is not answered, and nobody is given it, until there is a standby again. It stands once."""
         ann, point = self.open["ann"], some_point(self.dice)
+        line = addition(self.dice, point)
         lose()
         ann._patience = 0.7
         with self.assertRaises(NotAcknowledged) as caught:
-            ann.run(f"add w {point}")
+            ann.run(line)
         ann._patience = 30.0
         self.look_meanwhile()
         # Where the wait for the standby is cancelled, the server shows the line to all who ask it.
@@ -361,8 +363,8 @@ class Model(ReplicaCase):
             time.sleep(0.01)
         self.look_meanwhile()
         heal()
-        answer, self.last = self.log.add(point), "ann"
-        self.assertEqual(ann.write([f"add w {point}"], caught.exception.keys), [answer], self.did)
+        answer, self.last = self.log.add(line, point), "ann"
+        self.assertEqual(ann.write([line], caught.exception.keys), [answer], self.did)
 
     def look_meanwhile(self):
         """Nobody shows more than what was answered."""

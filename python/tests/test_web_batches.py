@@ -12,8 +12,8 @@ from support import PROGRAM, TestCase
 from test_web import Listening
 from web_support import WebCase
 
-from sfstore import Refused, Store
-from sfstore.web.batches import batch_of, carry_out
+from sfstore import Refused, Store, groups
+from sfstore.web.batches import batch_of, carry_out, is_group
 from sfstore.web.batchlog import BatchLog
 from sfstore.web.changed import Changed, changed_by, merged
 from sfstore.web.changes import Target
@@ -117,7 +117,7 @@ class Whole(BatchCase):
 
     def test_what_was_taken_back_can_not_be_redone(self):
         before = self.shown()
-        self.refused(self.ann, "delete p 1", "set p 2 nix 1")
+        self.refused(self.ann, "column add p more int", "delete p 1", "set p 2 nix 1")
         for _ in range(2):
             self.ann.line("redo")
             self.assertEqual(self.shown(), before)
@@ -137,6 +137,76 @@ class Whole(BatchCase):
         self.assertEqual(self.ann.answer("undo"), "ok")
         self.assertEqual(self.shown("w"), [])
         self.assertEqual(self.ann.line("columns w"), {"rows": [], "count": 0})
+
+
+class Groups(BatchCase):
+    """Batches of edits of features alone: the program carries them out as groups."""
+
+    LINES = [f"add p {SQUARE}", "set p last owner 'x'", "delete p 2"]
+
+    def test_what_is_a_group(self):
+        for lines, wanted in (
+            (self.LINES, True),
+            (["delete p 1"], False),
+            (["delete p 1", "column drop p owner"], False),
+            (["delete p 1", "layer add q any"], False),
+            (["delete p 1", "nonsense"], False),
+            (["delete p 1\r", "delete p 2"], True),
+            (["delete p 1", "set p 2 owner 'a\rb'"], False),
+            (["delete p 1"] * 65_535, True),
+            (["delete p 1"] * 65_536, False),
+        ):
+            self.assertEqual(is_group(lines), wanted, lines[:2])
+
+    def test_a_group_is_one_record_and_one_version(self):
+        version = self.ann.version()
+        status, answer = self.batch(self.ann, *self.LINES)
+        self.assertEqual((status, answer["answers"]), (200, ["ok 4", "ok", "ok"]))
+        self.assertEqual((answer["version"], self.ann.version()), (version + 1, version + 1))
+        self.assertFalse(os.path.exists(f"{self.path}.batches"))
+        self.serving.end(signal.SIGKILL)
+        with Store(self.path, journal=True, program=PROGRAM) as store:
+            self.assertEqual(store.unsaved_lines, [f"@{self.ann.editor} {groups.text_of(self.LINES)}"])
+            store.close(save=False)
+
+    def test_a_refused_group_leaves_what_can_be_redone(self):
+        self.ann.answer("set p 1 owner 'x'")
+        self.ann.answer("undo")
+        version = self.ann.version()
+        self.assertEqual(self.refused(self.ann, "delete p 2", "set p 1 nix 5"), (22, 1))
+        self.assertEqual((self.ann.version(), self.ann.answer("redo")), (version, "ok"))
+
+    def test_a_refusal_names_its_member_and_its_place(self):
+        _, answer = self.batch(self.ann, "delete p 2", f"replace p 1 {CROSSED}")
+        refused = answer["refused"]
+        self.assertEqual((refused["number"], refused["line"], refused["member"]), (13, 1, 2))
+        self.assertEqual(refused["place"]["points"], [[5, 5]])
+        _, answer = self.batch(self.ann, "delete p 2", "vertex move p 1 0 0 1 0 50")
+        self.assertEqual((answer["refused"]["number"], "place" in answer["refused"]), (13, False))
+
+    def test_a_group_as_a_line(self):
+        text = groups.text_of(self.LINES)
+        self.assertEqual(self.ann.line(text)["answer"], "ok 4")
+        refused = self.ann.refused("together 2\rdelete p 1\rdelete p 1")
+        self.assertEqual((refused["number"], refused["member"]), (21, 2))
+        self.assertEqual(self.ann.answer("undo"), "ok")
+        self.assertEqual(len(self.shown()), 3)
+        seen = self.ben.version()
+        self.ann.answer("set p 2 owner 'Ann'")
+        status, answer = self.serving.posted("/line", self.ben.key, page="page", line=text, seen=seen)
+        self.assertEqual((status, answer), (409, {"error": "Ann changed p 2 meanwhile: look again."}))
+        status, answer = self.serving.posted("/line", self.ben.key, page="page", line="together 2", seen=seen)
+        self.assertEqual(status, 400)
+        self.assertIn("begins a group", answer["error"])
+
+    def test_a_program_that_follows_has_groups_too(self):
+        self.assertEqual(len(self.shown()), 3)
+        for _ in range(3):
+            self.done(self.ann, *self.LINES[:2], "vertex insert p last 0 0 1 50 0")
+            self.assertEqual(self.shown()[-1].count("50 0"), 1)
+            for verb, count in (("undo", 3), ("redo", 4), ("undo", 3)):
+                self.ann.answer(verb)
+                self.assertEqual(len(self.shown()), count)
 
 
 class OneStep(BatchCase):
@@ -262,20 +332,36 @@ class Told(BatchCase):
                 self.assertEqual(self.changed(), changed)
 
     def test_a_batch_is_heard_once(self):
-        self.done(self.ann, f"add p {SQUARE}", "set p last owner 'x'", "set p 1 owner 'y'", "set p 1 number 4", "delete p 2")
+        lines = [f"add p {SQUARE}", "set p last owner 'x'", "set p 1 owner 'y'", "set p 1 number 4", "delete p 2"]
+        self.done(self.ann, *lines)
         told = self.page.next()
         self.assertEqual((told["line"], told["step"], told["page"]), ("together 5", f"add p {SQUARE}", "page"))
+        self.assertEqual(told["undo"]["line"], f"together 5: add p {SQUARE}")
         changed = [tuple(each.values()) for each in told["changed"]]
         self.assertEqual(sorted(changed), [("added", "p", 4), ("changed", "p", 1), ("deleted", "p", 2)])
         self.assertEqual(told["version"], self.ann.version())
         self.ann.answer("undo")
         told = self.page.next()
-        self.assertEqual(told["line"], "undo")
+        self.assertEqual((told["line"], told["step"]), ("undo", f"together 5: add p {SQUARE}"))
         changed = [tuple(each.values()) for each in told["changed"]]
         self.assertEqual(sorted(changed), [("added", "p", 2), ("changed", "p", 1), ("deleted", "p", 4)])
+        self.ann.answer("redo")
+        changed = [tuple(each.values()) for each in self.page.next()["changed"]]
+        self.assertEqual(sorted(changed), [("added", "p", 4), ("changed", "p", 1), ("deleted", "p", 2)])
+
+    def test_a_batch_with_columns_is_heard_once(self):
+        self.done(self.ann, "column add p more int", f"add p {SQUARE}", "set p last more 5")
+        told = self.page.next()
+        self.assertEqual((told["line"], told["step"]), ("together 3", "column add p more int"))
+        self.assertEqual(self.changed_of(told), [("columns", "p", None), ("added", "p", 4)])
+        self.ann.answer("undo")
+        self.assertEqual(self.changed_of(self.page.next()), [("deleted", "p", 4), ("columns", "p", None)])
+
+    def changed_of(self, told):
+        return [tuple(each.values()) for each in told["changed"]]
 
     def test_of_a_batch_that_was_taken_back_the_version_is_heard_and_no_change(self):
-        self.refused(self.ann, "delete p 1", "set p 2 nix 1")
+        self.refused(self.ann, "column add p more int", "delete p 1", "set p 2 nix 1")
         told = self.page.next()
         self.assertEqual((told["changed"], told["version"]), ([], self.ann.version()))
 
@@ -285,6 +371,19 @@ class Told(BatchCase):
         told = [tuple(each.values()) for each in merged(changes)]
         expected = [("added", "p", 1), ("deleted", "p", 2), ("columns", "p", None), ("changed", "p", None)]
         self.assertEqual(told, expected)
+
+    def test_a_group_of_a_journal(self):
+        members = ["add p POINT (1 1)", "set p last n 5", "delete w 3", "addhex w 01", "delete w last"]
+        text = groups.text_of(members)
+        steps = Steps([f"@2 {text}", "undo"])
+        step = steps.to_redo
+        self.assertEqual((steps.to_undo, step.editor, step.line), (None, 2, "together 5: add p POINT (1 1)"))
+        self.assertEqual(step.targets, (Target("p", None), Target("w", 3), Target("w", None)))
+        changes = [("deleted", "w", 3), ("added", "p", 8), ("changed", "p", 8), ("added", "w", 4), ("deleted", "w", 4)]
+        step = Steps().take(2, text, "ok 8 4")
+        self.assertEqual(sorted(changed_by(text, step)), sorted(changes))
+        back = [("added", "w", 4), ("deleted", "w", 4), ("added", "w", 3), ("changed", "p", 8), ("deleted", "p", 8)]
+        self.assertEqual(changed_by("undo", step), back)
 
     def test_an_addition_of_a_journal_may_have_been_any_feature(self):
         step = Steps(["@1 add p POINT (1 1)"]).to_undo
@@ -396,7 +495,8 @@ class AtRandom(TestCase):
 class AfterAnEnd(BatchCase):
     """What is there of a batch after the server was killed."""
 
-    LINES = [f"add p {SQUARE}", "set p 2 owner 'y'", "delete p 1", "set p last owner 'it''s last'"]
+    GROUP = [f"add p {SQUARE}", "set p 2 owner 'y'", "delete p 1", "set p last owner 'it''s last'"]
+    LINES = ["column add p more int", *GROUP, "set p last more 5"]
 
     def again(self):
         """Kills the server, and begins it anew."""
@@ -405,9 +505,15 @@ class AfterAnEnd(BatchCase):
         self.ann, self.ben = self.serving.log_in("Ann"), self.serving.log_in("Ben")
 
     def test_a_batch_that_was_answered_is_there_and_one_step(self):
+        for lines in (self.GROUP, self.LINES):
+            with self.subTest(lines=lines):
+                self.is_there_and_one_step(lines)
+                self.ann.answer("undo")
+
+    def is_there_and_one_step(self, lines):
         self.ann.answer("set p 3 owner 'before'")
         before = self.shown()
-        self.done(self.ann, *self.LINES)
+        self.done(self.ann, *lines)
         after = self.shown()
         for _ in range(2):
             self.again()
@@ -422,7 +528,7 @@ class AfterAnEnd(BatchCase):
 
     def test_one_that_was_refused_is_no_step(self):
         self.ann.answer("set p 3 owner 'before'")
-        self.refused(self.ann, "delete p 1", "set p 2 nix 1", "delete p 3")
+        self.refused(self.ann, "column add p more int", "delete p 1", "set p 2 nix 1", "delete p 3")
         before = self.shown()
         self.again()
         self.assertEqual(self.shown(), before)

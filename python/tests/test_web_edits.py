@@ -206,7 +206,8 @@ class Remembered(unittest.TestCase):
             self.assertEqual(targets_of(line, answer), tuple(targets), line)
 
     def test_each_edit_of_the_language_is_known(self):
-        changes_nothing = {"layer move LAYER PLACE", "undo", "redo"}
+        # A group changes what its members do.
+        changes_nothing = {"layer move LAYER PLACE", "together N", "undo", "redo"}
         for command in COMMANDS:
             if command.touches:
                 self.assertEqual(bool(feature_of(command.example)), " LAYER ID" in command.usage, command.usage)

@@ -45,7 +45,7 @@ class Entry(NamedTuple):
     """The number of the editor whose login put it down; 0 for a cut."""
     cut: bool
     line: str
-    """The line without its editor."""
+    """The line without its editor, or a group as one text with carriage returns between its lines."""
     chain: bytes
     """SHA-256 over the chain before and this entry."""
 

@@ -36,10 +36,21 @@ CREATE TABLE sfstore.head (
   standbys smallint NOT NULL CHECK (standbys >= 0)  -- how many standbys have a line before a replica applies it
 );
 
--- Whether a line is one that edits a store. The console takes 131,072 bytes; `@255 ` goes before the line.
+-- Whether a text is a group of edits of features: its head, and as many members as that says, with carriage returns
+-- between them. Each member is a line that may be one.
+CREATE FUNCTION sfstore.is_group(line text) RETURNS bool LANGUAGE sql IMMUTABLE AS $$
+  SELECT CASE WHEN octet_length(line) <= 4000000 AND line ~ '^[ \t]*together[ \t]+[0-9]{1,10}[ \t]*\r' THEN (
+    SELECT count(*) FILTER (WHERE part ~ '^[ \t]*(add|addhex|delete|replace|vertex|set|unset)([ \t]|$)') = count(*)
+      AND count(*) = substring(line FROM '[0-9]+')::bigint AND count(*) BETWEEN 1 AND 65535
+    FROM unnest((string_to_array(line, E'\r'))[2:]) AS part
+  ) ELSE false END
+$$;
+
+-- Whether a line is one that edits a store, or a group of such. The console takes 131,072 bytes of a line; `@255 ` goes
+-- before it.
 CREATE FUNCTION sfstore.is_edit(line text) RETURNS bool LANGUAGE sql IMMUTABLE AS $$
-  SELECT octet_length(line) <= 131067 AND position(E'\n' IN line) = 0
-    AND line ~ '^[ \t]*(layer|column|add|addhex|delete|replace|vertex|set|unset|undo|redo)([ \t]|\r?$)'
+  SELECT position(E'\n' IN line) = 0 AND (sfstore.is_group(line) OR octet_length(line) <= 131067
+    AND line ~ '^[ \t]*(layer|column|add|addhex|delete|replace|vertex|set|unset|undo|redo)([ \t]|\r?$)')
 $$;
 
 CREATE TABLE sfstore.log (
@@ -47,7 +58,7 @@ CREATE TABLE sfstore.log (
   key uuid NOT NULL UNIQUE,        -- by which a line that is tried again is found
   editor smallint NOT NULL,        -- 0 for a cut
   cut bool NOT NULL,
-  line text NOT NULL,              -- without its editor; empty for a cut
+  line text NOT NULL,              -- without its editor, or a group; empty for a cut
   put_down timestamptz NOT NULL DEFAULT clock_timestamp(),
   chain bytea NOT NULL,            -- SHA-256 of the chain before, and of editor, cut and line
   CHECK (CASE WHEN cut THEN editor = 0 AND line = '' ELSE editor BETWEEN 1 AND 255 AND sfstore.is_edit(line) END)

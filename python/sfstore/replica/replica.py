@@ -13,8 +13,9 @@ from pathlib import Path
 from typing import Union
 
 from sfstore import files
+from sfstore.groups import lines_of, size_of
 from sfstore.journal import locked
-from sfstore.replica.lines import LINE_MAX, Asked, asked
+from sfstore.replica.lines import Asked, asked
 from sfstore.replica.links import LogRefused, check_driver
 from sfstore.replica.log import Entry, Fence, Following, LogUnreachable, Writing, chained
 from sfstore.replica.snapshots import Snapshot, Snapshots
@@ -185,7 +186,8 @@ class Replica:
     def run_all(self, lines: Iterable[str]) -> list[Outcome]:
         """The answers of lines in their order: questions by the store here, edits by way of the log.
 
-        `ValueError` if a line has a line feed or is blank, before any is carried out.
+        A group is one line, with carriage returns between its own, and one entry of the log. `ValueError`
+        if a line has a line feed, is blank, or begins a group, before any is carried out.
         `NotAcknowledged` if an edit could not be written and kept in time. `LogUnreachable`
         if a store that begins again can't get in time to the place that was shown before.
         """
@@ -241,12 +243,13 @@ class Replica:
         """Why a line gets to no store; none where it does."""
         if not line.is_edit:
             return None if line.is_question else Refused(31, "BadCommand", line.line)
-        if len(line.line.encode()) > LINE_MAX:
-            return Refused(33, "LineTooLong", line.line)
+        first = lines_of(line.line)[0]
+        if len(line.line.encode()) > line.most_bytes:
+            return Refused(33, "LineTooLong", first)
         if self._own_number is None:
-            return Refused(102, "NoEditor", line.line)
+            return Refused(102, "NoEditor", first)
         if line.editor not in (None, self._own_number):
-            return Refused(101, "OtherEditor", line.line)
+            return Refused(101, "OtherEditor", first)
         return None
 
     def _answer(self, question: str) -> Outcome:
@@ -474,7 +477,8 @@ class Replica:
     def _note(self, entry: Entry, outcome: Outcome) -> None:
         """Keeps the answer of a line of the own editor for a while."""
         if isinstance(outcome, Refused):
-            outcome = Refused(outcome.number, outcome.name, entry.line)
+            line = outcome.line if outcome.member else lines_of(entry.line)[0]
+            outcome = Refused(outcome.number, outcome.name, line, outcome.detail)
         self._answers[entry.key] = outcome
         if len(self._answers) > _ANSWERS:
             del self._answers[next(iter(self._answers))]
@@ -574,6 +578,8 @@ def _checked(line: str) -> str:
         raise ValueError("a line feed or a NUL stands in the line")
     if not line.removesuffix("\r").strip(" \t"):
         raise ValueError("the line is blank")
+    if size_of(line) is not None:
+        raise ValueError("the line begins a group, which has one answer: send it with all of its members")
     line.encode()
     return line
 

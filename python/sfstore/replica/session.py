@@ -10,6 +10,8 @@ import time
 from collections.abc import Callable, Iterator
 from pathlib import Path
 
+from sfstore.groups import size_of
+from sfstore.replica.lines import GROUP_BYTES
 from sfstore.replica.links import LogRefused
 from sfstore.replica.log import LogUnreachable
 from sfstore.replica.replica import NotAcknowledged, Outcome, Replica
@@ -27,7 +29,61 @@ _FOLLOW_SECONDS = 0.2
 _SEND_SECONDS = 5.0
 # How many may ask at once. Each one has a file of the process, of which Debian gives it 1,024.
 _PEERS = 500
+_TOO_LONG = b"refused 33 LineTooLong\n"
 _TOO_MANY = "{} programs are connected, and no more are let in: a connection that was left open has to end first"
+
+
+# What no member of a group is: in the place of one that no store can take.
+_NO_MEMBER = "?"
+
+
+class _Group:
+    """The lines of a group that came so far. It is one line, with carriage returns between its own."""
+
+    def __init__(self, head: str, size: int) -> None:
+        self._head = head
+        self._left = size
+        self._members: list[str] = []
+        self._room = GROUP_BYTES
+
+    @property
+    def is_whole(self) -> bool:
+        """Whether all members came."""
+        return not self._left
+
+    @property
+    def is_too_long(self) -> bool:
+        """Whether the log could not take it. What came is not kept then."""
+        return self._room < 0
+
+    @property
+    def text(self) -> str:
+        """The group as one line."""
+        return "\r".join([self._head, *self._members])
+
+    def take(self, line: bytes) -> None:
+        """Takes a line as the next member, be it one or not."""
+        self._left -= 1
+        self._room -= len(line) + 1
+        text = _text(line.removesuffix(b"\r"))
+        if len(line) > _LINE_BYTES:
+            # The program refuses it as one that is too long.
+            text = "x" * (_LINE_BYTES + 1)
+        elif text is None or "\r" in text:
+            text = _NO_MEMBER
+        self._members.append(text)
+        if self.is_too_long:
+            self._members.clear()
+
+    def end(self, replica: Replica) -> bytes:
+        """The answer where no more members come: a line that is refused by itself, else that they are missing."""
+        if self.is_too_long:
+            return _TOO_LONG
+        behind = len(self._members) + 1
+        [outcome] = replica.run_all(["\r".join([f"together {behind}", *self._members, _NO_MEMBER])])
+        if isinstance(outcome, Refused) and outcome.member != behind:
+            return _written(outcome)
+        return b"refused 38 Unfinished\n"
 
 
 class _Peer:
@@ -37,12 +93,13 @@ class _Peer:
         self._read = read
         self._send = send
         self._rest = b""
+        self._group: _Group | None = None
 
     def answer(self, replica: Replica) -> bool:
         """Answers the lines that are there, which are written together. False where no more come.
 
-        A last line without a line feed counts. Where a line is not acknowledged, those before it
-        are answered.
+        A last line without a line feed counts. A group is answered when its last line is there. Where a
+        line is not acknowledged, those before it are answered.
         """
         data = self._read(_READ_BYTES)
         *lines, self._rest = (self._rest + data).split(b"\n")
@@ -52,14 +109,51 @@ class _Peer:
         self._rest = self._rest[: _LINE_BYTES + 1]
         written: list[bytes] = []
         try:
-            for answer in _answers(replica, lines):
+            for answer in self._answers(replica, lines):
                 written.append(answer)
+            if not data and self._group is not None:
+                written.append(self._group.end(replica))
         except NotAcknowledged as error:
             written += map(_written, error.answered)
             raise
         finally:
             self._send(b"".join(written))
         return bool(data)
+
+
+    def _answers(self, replica: Replica, lines: list[bytes]) -> Iterator[bytes]:
+        """The answers of lines, but of blank ones and those inside of groups, which have none."""
+        taken: list[str] = []
+        for line in lines:
+            if not line.removesuffix(b"\r").strip(b" \t"):
+                continue
+            text = self._taken(line)
+            if text is None:
+                continue
+            if isinstance(text, str):
+                taken.append(text)
+                continue
+            yield from map(_written, replica.run_all(taken))
+            taken = []
+            yield text
+        yield from map(_written, replica.run_all(taken))
+
+    def _taken(self, line: bytes) -> str | bytes | None:
+        """What a line gives to be carried out, or is answered with; none where a group goes on."""
+        if self._group is not None:
+            self._group.take(line)
+            if not self._group.is_whole:
+                return None
+            group, self._group = self._group, None
+            return _TOO_LONG if group.is_too_long else group.text
+        text = _text(line)
+        if text is None:
+            return _TOO_LONG if len(line) > _LINE_BYTES else b"refused 31 BadCommand\n"
+        size = size_of(text)
+        if size is not None:
+            self._group = _Group(text.removesuffix("\r"), size)
+            return None
+        return text
 
 
 def serve(replica: Replica, given: int, answers: int, tell: Callable[[str], object]) -> None:
@@ -171,22 +265,6 @@ def _follow(replica: Replica, tell: Callable[[str], object]) -> None:
         time.sleep(0.1)
 
 
-def _answers(replica: Replica, lines: list[bytes]) -> Iterator[bytes]:
-    """The answers of lines, but of blank ones, which have none."""
-    taken: list[str] = []
-    for line in lines:
-        if not line.removesuffix(b"\r").strip(b" \t"):
-            continue
-        text = _text(line)
-        if text is not None:
-            taken.append(text)
-            continue
-        yield from map(_written, replica.run_all(taken))
-        taken = []
-        yield b"refused 33 LineTooLong\n" if len(line) > _LINE_BYTES else b"refused 31 BadCommand\n"
-    yield from map(_written, replica.run_all(taken))
-
-
 def _text(line: bytes) -> str | None:
     """The text of a line; none of one that no store can take."""
     if len(line) > _LINE_BYTES or b"\0" in line:
@@ -200,7 +278,7 @@ def _text(line: bytes) -> str | None:
 def _written(outcome: Outcome) -> bytes:
     """An answer as the console writes it."""
     if isinstance(outcome, Refused):
-        text = f"refused {outcome.number} {outcome.name}"
+        text = outcome.answer
     elif isinstance(outcome, list):
         text = "\n".join([f"rows {len(outcome)}", *outcome])
     else:

@@ -1,34 +1,42 @@
 """Lines that are carried out as a whole: all of them, or none.
 
-The program carries out single lines. So each geometry is judged by a question first, then the lines
-are carried out one after another, and where one is refused nevertheless those before it are undone.
-`carry_out` alone knows of this.
+Edits of features are a group, which the program carries out so (`carry_out_group`). No group has lines that edit layers
+or columns, nor as many as a batch may have. Of such a batch each geometry is judged by a question first, then the lines
+are carried out one after another, and where one is refused nevertheless those before it are undone. `carry_out` alone
+knows of this.
 """
 
 from __future__ import annotations
 
-import re
 from collections.abc import Callable, Sequence
 from typing import NamedTuple
 
 from sfstore import spelling
-from sfstore.language import QUESTIONS, words_of_line
+from sfstore.groups import text_of
+from sfstore.language import GROUP_MAX, MEMBERS, QUESTIONS, words_of_line
 from sfstore.program import is_edit
 from sfstore.store import Answer, Editor, Refused
-from sfstore.web.changes import feature_of
+from sfstore.web.changes import LAST, feature_of
 
-__all__ = ["LAST", "LINES_MAX", "Batch", "Done", "LineRefused", "Outcome", "batch_of", "carry_out", "take_back"]
+__all__ = [
+    "LINES_MAX",
+    "Batch",
+    "Done",
+    "Group",
+    "LineRefused",
+    "Outcome",
+    "batch_of",
+    "carry_out",
+    "carry_out_group",
+    "is_group",
+    "take_back",
+]
 
 LINES_MAX = 100_000
 """How many lines a batch has at most."""
 
-# What is no line of a batch: questions, and steps of the history.
-_OTHERS = QUESTIONS | {"undo", "redo"}
-
-LAST = re.compile(
-    r"([ \t]*(?:set|unset|delete|replace|vertex[ \t]+[a-z]+)[ \t]+([^ \t]+)[ \t]+)last(?=[ \t\r]|$)"
-)
-"""The front of a line that names the feature of the nearest addition before it to the same layer."""
+# What is no line of a batch: questions, steps of the history, and groups.
+_OTHERS = QUESTIONS | {"undo", "redo", "together"}
 
 # How many words stand before a geometry.
 _BEFORE_GEOMETRY = {"add": 2, "replace": 3}
@@ -74,6 +82,16 @@ class Outcome(NamedTuple):
     """The line that is refused, where one is."""
 
 
+class Group(NamedTuple):
+    """A group that was carried out."""
+
+    text: str
+    answer: str
+    """The program's answer, with the identifiers of all additions."""
+    answers: list[str]
+    """Those that its lines would have had by themselves."""
+
+
 class _Late(NamedTuple):
     """A line that names a feature whose identifier an earlier line gives."""
 
@@ -93,6 +111,33 @@ def batch_of(editor: int, page: str, lines: object, seen: object) -> Batch:
         _check(line, version)
     _late_ones(lines)
     return Batch(editor, page, lines, seen)
+
+
+def is_group(lines: Sequence[str]) -> bool:
+    """Whether the lines of a batch are a group: several edits of features, and not too many."""
+    return 1 < len(lines) <= GROUP_MAX and all(map(_is_member, lines))
+
+
+def _is_member(line: str) -> bool:
+    # A carriage return inside would part the line.
+    return words_of_line(line)[0] in MEMBERS and "\r" not in line.removesuffix("\r")
+
+
+def carry_out_group(editor: Editor, lines: Sequence[str]) -> Group:
+    """Carries out lines as a group.
+
+    `LineRefused` where the program refuses one of them, and `Refused` where it names none.
+    """
+    text = text_of(lines)
+    try:
+        answer = str(editor.run(text))
+    except Refused as refused:
+        if refused.member is None:
+            raise
+        raise LineRefused(refused.member - 1, refused) from None
+    numbers = iter(answer.split(" ")[1:])
+    are_additions = (words_of_line(line)[0] in ("add", "addhex") for line in lines)
+    return Group(text, answer, [f"ok {next(numbers)}" if adds else "ok" for adds in are_additions])
 
 
 def _check(line: object, version: object) -> None:

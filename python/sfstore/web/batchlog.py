@@ -1,6 +1,6 @@
 """Which lines of a journal belong together, recorded beside it: so a crash leaves all of a batch, or nothing.
 
-An entry is on the disk before the first line of its batch is sent. The next opening finds by it what a
+A batch of edits of features needs none of this: it is a group, and one record of the journal. An entry is on the disk before the first line of its batch is sent. The next opening finds by it what a
 crash has left of a batch that was not carried out to its end, and which steps are one.
 """
 
@@ -14,7 +14,7 @@ from collections.abc import Sequence
 from typing import NamedTuple
 
 from sfstore import files, journal
-from sfstore.web.batches import LAST
+from sfstore.web.changes import LAST
 
 __all__ = ["BatchLog", "Entry", "Found"]
 

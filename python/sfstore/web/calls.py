@@ -13,12 +13,12 @@ from sfstore.commands import Command, help_text, near_words
 from sfstore.faults import fault_at, fault_of
 from sfstore.geometry import Shape, read_wkb, write_wkt
 from sfstore.language import GRID_MAX, GRID_MIN, QUESTIONS
-from sfstore.lines import geometry_of
+from sfstore.lines import geometry_refused
 from sfstore.refusals import words_of
 from sfstore.store import Answer, Refused, Store
 from sfstore.web.batches import LineRefused, batch_of
 from sfstore.web.changed import changed_by, merged
-from sfstore.web.changes import Change, Target, feature_of
+from sfstore.web.changes import Change, Target, features_of
 from sfstore.web.editors import Editors
 from sfstore.web.events import Events
 from sfstore.web.keeper import Asked, ChangedMeanwhile, Edit, Keeper, Unavailable
@@ -180,14 +180,14 @@ class Calls:
         return {**told, "by": change and self._editors.name_of(change.editor)}
 
     def _line(self, editor: int, body: Body) -> Body:
-        """Carries out a line of the console, as the editor who has logged in."""
+        """Carries out a line of the console, or a group as one, as the editor who has logged in."""
         line, page = _text(body, "line"), _page(body)
         words = line.split()
         if not words:
             return {"text": ""}
         if words[0] == "help":
             return {"text": help_text(words[1] if len(words) > 1 else "", OWN)}
-        seen = _number(body, "seen", 0, 2**53) if feature_of(line) else None
+        seen = _number(body, "seen", 0, 2**53) if features_of(line) else None
         try:
             if words == ["save"]:
                 return self._save(editor)
@@ -195,7 +195,7 @@ class Calls:
                 return _answered(self._questions.ask(editor, lambda store: store.run(line)))
             return self._edit(Asked(editor, page, line, seen))
         except Refused as refused:
-            return {"refused": self._refusal(refused, line)}
+            return {"refused": self._refusal(refused, line if refused.member is None else refused.line)}
         except ValueError as error:
             raise BadCall(str(error)) from None
 
@@ -265,13 +265,15 @@ class Calls:
         words = words_of(refused.number)
         told: Body = {"number": refused.number, "name": refused.name}
         told.update(reason=words.reason, help=words.help)
+        if refused.member is not None:
+            told["member"] = refused.member
         if refused.number == 31:
-            told["help"] = near_words(line, OWN) or words.help
+            told["help"] = near_words(line, OWN, in_group=refused.member is not None) or words.help
         elif refused.number == 36:
             _, to_undo, to_redo = self._keeper.steps()
             told["whose"] = self._step(to_undo if line.split() == ["undo"] else to_redo)
         else:
-            shape = self._keeper.ask(lambda store: geometry_of(line, store))
+            shape = self._keeper.ask(lambda store: geometry_refused(refused, line, store))
             if shape is not None:
                 told.update(_shape(shape))
                 told["place"] = self._place(refused, shape)
@@ -288,7 +290,10 @@ class Calls:
         """Tells all pages of an edit, or of a batch of them."""
         last = edits[-1]
         line, did = last.line[:1_000], last.step.line
-        if len({edit.line for edit in edits}) > 1:
+        members = last.step.members
+        if members and line.strip() not in ("undo", "redo"):
+            line, did = f"together {len(members)}", members[0].line
+        elif len({edit.line for edit in edits}) > 1:
             line, did = f"together {len(edits)}", edits[0].step.line if last.stays else "refused, and taken back"
         changes = [change for edit in edits if edit.stays for change in changed_by(edit.line, edit.step)]
         self.events.tell(

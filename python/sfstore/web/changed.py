@@ -6,7 +6,7 @@ from collections.abc import Iterable
 from typing import Any, Literal, NamedTuple
 
 from sfstore.web.changes import Target
-from sfstore.web.steps import Step
+from sfstore.web.steps import Did, Step
 
 __all__ = ["Changed", "What", "changed_by", "merged"]
 
@@ -36,12 +36,18 @@ class Changed(NamedTuple):
 def changed_by(line: str, step: Step) -> list[Changed]:
     """What an accepted line has changed, which made a step or moved it.
 
-    The undo of an addition is a deletion, and the other way round.
+    The undo of an addition is a deletion, and the other way round; a group is undone from its end.
     """
-    what = _OF_EDITS.get(step.line.split(maxsplit=1)[0], "changed")
-    if line.strip() == "undo":
+    is_undo = line.strip() == "undo"
+    edits = reversed(step.edits) if is_undo else step.edits
+    return [changed for did in edits for changed in _changed(did, is_undo)]
+
+
+def _changed(did: Did, is_undo: bool) -> list[Changed]:
+    what = _OF_EDITS.get(did.line.split(maxsplit=1)[0], "changed")
+    if is_undo:
         what = _BACK.get(what, what)
-    targets = step.targets or (Target("", None),)
+    targets = did.targets or (Target("", None),)
     return [Changed(what, target.layer or None, target.feature) for target in targets]
 
 

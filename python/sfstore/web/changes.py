@@ -8,11 +8,13 @@ number, a value that somebody has just written.
 from __future__ import annotations
 
 import re
+from collections.abc import Sequence
 from typing import NamedTuple
 
+from sfstore.groups import lines_of
 from sfstore.language import COMMANDS
 
-__all__ = ["Change", "Changes", "Target", "feature_of", "targets_of"]
+__all__ = ["LAST", "Change", "Changes", "Target", "feature_of", "features_of", "targets_of", "targets_of_members"]
 
 # The program parts words by spaces and tabs alone, and drops a carriage return at the end.
 _BLANK = "[ \t]+"
@@ -27,6 +29,8 @@ _OF_FEATURE = re.compile(
     f"[ \t]*(?:{'|'.join(sorted(_FRONTS))}){_BLANK}{_WORD}{_BLANK}([0-9]{{1,10}})(?![^ \t\r])"
 )
 _ADDITION = re.compile(f"[ \t]*(?:add|addhex){_BLANK}{_WORD}")
+LAST = re.compile(f"([ \t]*(?:{'|'.join(sorted(_FRONTS))}){_BLANK}{_WORD}{_BLANK})last(?![^ \t\r])")
+"""The front of a line that names the feature of the nearest addition before it to the same layer."""
 _OF_LAYER = re.compile(
     f"[ \t]*(?:layer{_BLANK}(?:add|drop|rename)|column{_BLANK}(?:add|drop)){_BLANK}{_WORD}"
 )
@@ -61,6 +65,26 @@ def feature_of(line: str) -> Target | None:
     """The feature that a line edits, or none where it is no edit of a feature that is there."""
     found = _OF_FEATURE.match(line)
     return Target(found[1], int(found[2])) if found else None
+
+
+def features_of(text: str) -> list[Target]:
+    """The features that a line edits, or a group, of those that may have been there before."""
+    return [target for line in lines_of(text) if (target := feature_of(line)) is not None]
+
+
+def targets_of_members(members: Sequence[str], answer: str = "") -> list[tuple[Target, ...]]:
+    """What each member of a group that was accepted has changed; ``answer`` has the identifiers of additions."""
+    numbers = iter(answer.split(" ")[1:])
+    last: dict[str, tuple[Target, ...]] = {}
+    found = []
+    for member in members:
+        addition, late = _ADDITION.match(member), LAST.match(member)
+        if addition is not None:
+            last[addition[1]] = targets_of(member, f"ok {next(numbers, '')}")
+            found.append(last[addition[1]])
+        else:
+            found.append(last.get(late[2], ()) if late else targets_of(member))
+    return found
 
 
 def targets_of(line: str, answer: str = "") -> tuple[Target, ...]:

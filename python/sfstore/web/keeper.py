@@ -11,9 +11,9 @@ from typing import NamedTuple, TypeVar, cast
 from sfstore.journal import JournalError
 from sfstore.program import is_edit
 from sfstore.store import Answer, Editor, ProgramEnded, Refused, Store
-from sfstore.web.batches import Batch, Done, LineRefused, carry_out, take_back
+from sfstore.web.batches import Batch, Done, LineRefused, carry_out, carry_out_group, is_group, take_back
 from sfstore.web.batchlog import BatchLog
-from sfstore.web.changes import Change, Changes, Target, feature_of
+from sfstore.web.changes import Change, Changes, Target, features_of
 from sfstore.web.steps import Step, Steps
 
 __all__ = ["Asked", "ChangedMeanwhile", "Edit", "Keeper", "Snapshot", "Unavailable"]
@@ -36,14 +36,14 @@ class ChangedMeanwhile(Exception):
 
 
 class Asked(NamedTuple):
-    """A line that a page wants to be carried out."""
+    """A line that a page wants to be carried out, or a group as one text."""
 
     editor: int
     page: str
     """Which page it is, among those of the editor."""
     line: str
     seen: int | None
-    """The version of the store that the page has seen of what the line edits.
+    """The version of the store that the page has seen of what it edits.
 
     None where it edits no feature that is there.
     """
@@ -215,6 +215,10 @@ class Keeper:
         editor, page = batch.editor, batch.page
         for line, seen in zip(batch.lines, batch.seen):
             self._check_seen(Asked(editor, page, line, seen))
+        if is_group(batch.lines):
+            group = carry_out_group(_speaker(store, editor), batch.lines)
+            self._tell([self._taken(Asked(editor, page, group.text, None), group.answer)])
+            return Done(group.answers, self._version)
 
         def begin(lines: Sequence[str]) -> None:
             # One line is carried out, or it is not.
@@ -222,11 +226,11 @@ class Keeper:
                 self._log.begin(store.unsaved, editor, lines)
 
         outcome = carry_out(_speaker(store, editor), batch.lines, begin)
-        group = self._version + 1
+        number = self._version + 1
         asked = (Asked(editor, page, line, None) for line, _ in outcome.accepted)
         answers = (answer for _, answer in outcome.accepted)
         self._tell(
-            [self._taken(*each, group, outcome.refused is None) for each in zip(asked, answers)]
+            [self._taken(*each, number, outcome.refused is None) for each in zip(asked, answers)]
         )
         if outcome.refused is not None:
             raise outcome.refused
@@ -238,9 +242,9 @@ class Keeper:
         editor, page, line, _ = asked
         step = self._steps.take(editor, line, answer, group)
         moved = line.strip()
-        did = f"{moved}: {step.line}" if moved in ("undo", "redo") else step.line
-        if stays:
-            self._changes.take(Change(self._version, editor, page, did, step.targets))
+        front = f"{moved}: " if moved in ("undo", "redo") else ""
+        for did in step.edits if stays else ():
+            self._changes.take(Change(self._version, editor, page, front + did.line, did.targets))
         steps = self._steps.to_undo, self._steps.to_redo
         return Edit(self._version, editor, page, line, step, *steps, stays)
 
@@ -251,12 +255,12 @@ class Keeper:
 
     def _check_seen(self, asked: Asked) -> None:
         """`ChangedMeanwhile` where a line edits what its page has not seen as it is."""
-        target = feature_of(asked.line)
-        if target is None or asked.seen is None:
+        if asked.seen is None:
             return
-        change = self._changes.since(target, asked.seen, asked.editor, asked.page)
-        if change is not None or not self._changes.is_known_since(asked.seen):
-            raise ChangedMeanwhile(target, change)
+        for target in features_of(asked.line):
+            change = self._changes.since(target, asked.seen, asked.editor, asked.page)
+            if change is not None or not self._changes.is_known_since(asked.seen):
+                raise ChangedMeanwhile(target, change)
 
     def _save(self, store: Store) -> None:
         try:

@@ -11,9 +11,10 @@ import re
 from collections.abc import Iterable
 from typing import NamedTuple
 
-from sfstore.web.changes import Target, targets_of
+from sfstore.groups import lines_of
+from sfstore.web.changes import Target, targets_of, targets_of_members
 
-__all__ = ["Step", "Steps"]
+__all__ = ["Did", "Step", "Steps"]
 
 _ADDRESS = re.compile(r"[ \t]*@([0-9]{1,3})[ \t]+")
 
@@ -21,17 +22,33 @@ _ADDRESS = re.compile(r"[ \t]*@([0-9]{1,3})[ \t]+")
 _SHOWN_LETTERS = 200
 
 
+class Did(NamedTuple):
+    """An edit of a step."""
+
+    line: str
+    """The beginning of its line."""
+    targets: tuple[Target, ...]
+    """What it changes, and so does its undoing."""
+
+
 class Step(NamedTuple):
-    """An edit that can be undone, or redone."""
+    """An edit that can be undone, or redone; or a group of them."""
 
     editor: int
     """The number of the editor who made it."""
     line: str
-    """The beginning of its line, without the editor."""
+    """The beginning of its line, without the editor; of a group how many edits they are, and the first of them."""
     targets: tuple[Target, ...] = ()
     """What it changes, and so does its undoing."""
     group: int = 0
     """A number that the steps of a batch have in common; 0 for one that stands alone."""
+    members: tuple[Did, ...] = ()
+    """The edits of a group, in their order."""
+
+    @property
+    def edits(self) -> tuple[Did, ...]:
+        """Its edits, in their order: one, but for a group."""
+        return self.members or (Did(self.line, self.targets),)
 
 
 class Steps:
@@ -52,9 +69,9 @@ class Steps:
             self.take(editor, rest, "", group_at.get(at, 0))
 
     def take(self, editor: int, line: str, answer: str = "", group: int = 0) -> Step:
-        """Follows an accepted line, and gives the step that it made or moved.
+        """Follows an accepted line, or a group, and gives the step that it made or moved.
 
-        Of an addition the answer names the feature that it made.
+        Of additions the answer names the features that they made.
         """
         words = line.split()
         if words == ["undo"]:
@@ -64,8 +81,7 @@ class Steps:
             self._done.append(self._undone.pop())
             return self._done[-1]
         self._undone.clear()
-        shown = line.strip()[:_SHOWN_LETTERS]
-        self._done.append(Step(editor, shown, targets_of(line, answer), group))
+        self._done.append(_step(editor, line, answer, group))
         return self._done[-1]
 
     def moved_by(self, line: str) -> int:
@@ -84,3 +100,17 @@ class Steps:
     def to_redo(self) -> Step | None:
         """The step that a redo would move, whoever asks."""
         return self._undone[-1] if self._undone else None
+
+
+def _step(editor: int, line: str, answer: str, group: int) -> Step:
+    """The step of an accepted line."""
+    _, *members = lines_of(line)
+    if not members:
+        return Step(editor, _shown(line), targets_of(line, answer), group)
+    did = tuple(Did(_shown(member), targets) for member, targets in zip(members, targets_of_members(members, answer)))
+    targets = dict.fromkeys(target for each in did for target in each.targets)
+    return Step(editor, _shown(f"together {len(did)}: {did[0].line}"), tuple(targets), group, did)
+
+
+def _shown(line: str) -> str:
+    return line.strip()[:_SHOWN_LETTERS]

@@ -4,10 +4,18 @@ import { byId, counted, element } from "./dom.js";
 
 const ENTRIES_MAX = 200;
 const ROWS_MAX = 100;
+// The line that begins a group, and how many members one has.
+const HEAD = /^[ \t]*together[ \t]+0*([1-9][0-9]{0,4})[ \t]*$/;
+const GROUP_MAX = 65_535;
 
 export class Log {
-  /** `onLine` is given each line, and what `now` told when it was begun. */
+  /**
+   * `onLine` is given each line, and what `now` told when it was begun.
+   *
+   * A group is one line, with carriage returns between its own: it is given when its last member was typed.
+   */
   constructor(onLine, now) {
+    this.group = null;
     this.lines = [];
     this.at = 0;
     let begun = null;
@@ -20,10 +28,11 @@ export class Log {
       this.lines.push(line);
       this.at = this.lines.length;
       input.value = "";
-      onLine(line, begun ?? now());
+      this.#take(line, begun ?? now(), onLine);
       begun = null;
     };
     input.onkeydown = (event) => {
+      if (event.key === "Escape") this.#leave();
       const step = { ArrowUp: -1, ArrowDown: 1 }[event.key];
       if (!step) return;
       event.preventDefault();
@@ -31,6 +40,25 @@ export class Log {
       input.value = this.lines[this.at] ?? "";
       begun = now();
     };
+  }
+
+  #take(line, seen, onLine) {
+    const size = this.group ? 0 : Number(HEAD.exec(line)?.[1] ?? 0);
+    if (0 < size && size <= GROUP_MAX) this.group = { lines: [], size, head: line, seen };
+    else if (this.group) this.group.lines.push(line);
+    else return onLine(line, seen);
+    const { lines, head, ...group } = this.group;
+    if (lines.length < group.size) {
+      this.add(line, `${lines.length + 1} of ${group.size} comes next; Escape leaves the group`);
+      return;
+    }
+    this.group = null;
+    onLine([head, ...lines].join("\r"), group.seen);
+  }
+
+  #leave() {
+    if (this.group) this.add(this.group.head, "The group is left: nothing of it was done.");
+    this.group = null;
   }
 
   /** Writes a line with its answer. */

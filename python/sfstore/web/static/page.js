@@ -90,25 +90,26 @@ class App {
   }
 
   /**
-   * Has a line carried out, and shows its answer.
+   * Has a line carried out, or a group as one, and shows its answer.
    *
    * `seen` is the version of the store that whoever wrote the line has seen.
    */
   async run(line, { isFurther = false, seen = this.version } = {}) {
+    const [shown] = line.split("\r");
     let answer;
     try {
       answer = await call("line", { line, page: this.page, seen });
     } catch (fault) {
-      if (fault.status === 409) this.miss(line, fault.message);
-      else if (fault instanceof CallFailed) this.log.add(line, fault.message, "refused");
+      if (fault.status === 409) this.miss(shown, fault.message);
+      else if (fault instanceof CallFailed) this.log.add(shown, fault.message, "refused");
       throw fault;
     }
-    this.log.addAnswer(line, answer);
+    this.log.addAnswer(shown, answer);
     if (answer.refused) this.#tellRefused(answer.refused);
     else {
       this.#closeRefusal();
       if (answer.rows && /^[ \t]*(query|match)[ \t]/.test(line)) this.asking.take(line.trim(), answer, isFurther);
-      else if (answer.answer) await this.#redraw(line, changedBy(line, answer.answer));
+      else if (answer.answer) await this.#redraw(shown, changedBy(shown, answer.answer));
     }
     return answer;
   }
@@ -180,8 +181,9 @@ class App {
   }
 
   #tellRefused(refused) {
-    const { place, whose } = refused;
-    this.#showWords(`Refused (${refused.number} ${refused.name}): ${refused.reason}.`, {
+    const { place, whose, member } = refused;
+    const which = member ? `, line ${member} of the group` : "";
+    this.#showWords(`Refused (${refused.number} ${refused.name})${which}: ${refused.reason}.`, {
       reason: whose ? `The next step is ${whose.editor}'s: ${whose.line}` : "",
       place: place ? `${place.words}.` : "",
       help: refused.help,
