@@ -1,12 +1,15 @@
 -- From line to line of a group.
-use Rattle.std.proofs.Common.{◌≡◌, ◌≢◌, ℕ, zero, suc, ◌+◌, ◌-◌, ◌<◌, ◌≤◌, ◌==◌, ◌&&◌, ◌||◌, Bool, true, false, not, cond, nat_eq, List, [], ◌∷◌, ◌++◌, length, replicate, Option, None, Some, Result, if◌then◌else◌, string_bytes, refl, sym, ap, ◌∙◌, subst, arith}
+use Rattle.std.proofs.Common.{◌≡◌, ◌≢◌, ℕ, zero, suc, ◌+◌, ◌-◌, ◌<◌, ◌≤◌, ◌==◌, ◌&&◌, ◌||◌, Bool, true, false, not, cond, nat_eq, nat_lt, List, [], ◌∷◌, ◌++◌, length, replicate, take, drop, slice_index, Option, None, Some, Result, String, Global, if◌then◌else◌, string_bytes, refl, sym, ap, ◌∙◌, subst, arith}
 use Rattle.std.specs.List.{AllByRecursion, list_all, list_any}
 use Rattle.std.specs.Str.{is_utf8, IsUtf8}
 use Rattle.std.proofs.lemmas.Str.{IsUtf8-append, IsUtf8-from_ascii, IsUtf8-from_is_utf8, IsUtf8-nil, is_utf8-from_IsUtf8}
 use Rattle.std.proofs.lemmas.Grind.{common_steps}
-use Rattle.std.proofs.lemmas.List.{length-append}
-use Rattle.sf_lines.specs.Lines.{HasNoFeed, line_max}
+use Rattle.std.proofs.lemmas.List.{length-append, take-append-drop}
+use Rattle.sf_lines.specs.Lines.{HasNoFeed, Line, line_max, text_of, without_return}
+use Rattle.sf_lines.specs.Buffers.{Buffered, IsBufferOf, line_buffered}
 use Rattle.sf_lines.proofs.LineLemmas.{HasNoFeed-append}
+use Rattle.sf_lines.proofs.BufferLemmas.{line_buffered-None, line_buffered-Some}
+use Rattle.sf_history.specs.History.{Machine}
 use Rattle.sf_wkt.specs.Tokens.{is_blank}
 use Rattle.sf_groups.specs.declared.member.Member.{Member}
 use Rattle.sf_commands.specs.declared.group_text.GroupRefusal.{GroupRefusal}
@@ -15,10 +18,11 @@ use Rattle.sf_commands.specs.GroupTexts.{group_by_head, group_by_parts, group_of
 use Rattle.sf_commands.proofs.PartLemmas.{head_alone, head_has_members, last_part}
 use Rattle.sf_console.specs.declared.group_lines.GroupLines.{GroupLines}
 use Rattle.sf_console.specs.declared.group_lines.GroupLines.TheVariants as lines
-use Rattle.sf_console.specs.Readings.{Grouped, by_group, text_reading}
-use Rattle.sf_console.specs.Requests.{Closed, Comes, Gathering, Open, gathered, gathered_on, is_member_text, is_passed_over, member_text, with_member}
-use Rattle.sf_console.specs.Gatherings.{IsGrouped, IsGrown, IsHeld, IsOpen, IsUnfed}
-use Rattle.sf_console.proofs.ReadingLemmas.{text_reading-by}
+use Rattle.sf_console.specs.Readings.{Blank, Grouped, Reading, by_group, line_text, text_reading}
+use Rattle.sf_console.specs.Requests.{Closed, Comes, Ends, Gathering, Open, gathered, gathered_on, is_member_text, is_passed_over, member_text, nothing_asked, readings, requests_from, with_member}
+use Rattle.sf_console.specs.Gatherings.{IsAnsweredOnce, IsGrouped, IsGrown, IsHeld, IsLastAnswered, IsOpen, IsTaken, IsUnfed}
+use Rattle.sf_console.specs.Session.{IsAnswered}
+use Rattle.sf_console.proofs.ReadingLemmas.{line_text-long, line_text-short, open-asks_nothing, text_reading-by}
 
 -- ---- the texts of members
 
@@ -160,3 +164,142 @@ IsGrouped-grown text g = (
 pub IsHeld-closed : (gathering : Gathering) → IsHeld gathering lines.Closed → gathering ≡ Closed
 IsHeld-closed Closed held = refl
 IsHeld-closed (Open text left) held = absurd held
+
+-- ---- the texts of lines
+
+-- what begins bytes without a feed has none
+unfed-front : (xs ys : List ℕ) → HasNoFeed (xs ++ ys) → HasNoFeed xs
+unfed-front [] ys unfed = refl
+unfed-front (x ∷ xs) ys unfed = at_byte (unfed-front xs ys) (x == 10) unfed
+  where
+    at_byte : (HasNoFeed (xs ++ ys) → HasNoFeed xs) → (b : Bool) → (b || list_any (λ c. c == 10) (xs ++ ys)) ≡ false → (b || list_any (λ c. c == 10) xs) ≡ false
+    at_byte later true h = cc
+    at_byte later false h = later h
+
+-- the text of a line has no feed where the line has none
+pub unfed-without_return : (bytes : List ℕ) → HasNoFeed bytes → HasNoFeed (without_return bytes)
+unfed-without_return bytes unfed = by (slice_index bytes (length bytes - 1) == 13)
+  where
+    by : (b : Bool) → HasNoFeed (cond b (take (length bytes - 1) bytes) bytes)
+    by true = unfed-front (take (length bytes - 1) bytes) (drop (length bytes - 1) bytes) (subst HasNoFeed (sym (take-append-drop (length bytes - 1) bytes)) unfed)
+    by false = unfed
+
+pub IsUnfed-line : (line : Line) → HasNoFeed line.bytes → IsUnfed (line_text line)
+IsUnfed-line line unfed = by_length (nat_lt line_max (length line.bytes))
+  where
+    by_feed : (ended : Bool) → HasNoFeed (cond ended (without_return line.bytes) line.bytes)
+    by_feed true = unfed-without_return line.bytes unfed
+    by_feed false = unfed
+    by_length : (long : Bool) → IsUnfed (if long then None else Some (text_of line))
+    by_length true = tt
+    by_length false = by_feed line.ended
+
+-- the text that a buffer has of a line
+pub line_text-ended : (bytes found : List ℕ) (buffered : Buffered) → IsBufferOf bytes buffered → Some found ≡ line_buffered buffered
+    → line_text (record { bytes = bytes; ended = true }) ≡ Some (without_return found)
+line_text-ended bytes found buffered is_buffer is =
+    let line = line_buffered-Some buffered found is in
+    let whole : found ≡ bytes = sym line.1 ∙ is_buffer.whole line.0 in
+    line_text-short (record { bytes = bytes; ended = true }) (is_buffer.short line.0) ∙ ap (λ b. Some (without_return b)) (sym whole)
+
+pub line_text-last : (bytes found : List ℕ) (buffered : Buffered) → IsBufferOf bytes buffered → Some found ≡ line_buffered buffered
+    → line_text (record { bytes = bytes; ended = false }) ≡ Some found
+line_text-last bytes found buffered is_buffer is =
+    let line = line_buffered-Some buffered found is in
+    let whole : found ≡ bytes = sym line.1 ∙ is_buffer.whole line.0 in
+    line_text-short (record { bytes = bytes; ended = false }) (is_buffer.short line.0) ∙ ap Some (sym whole)
+
+pub line_text-too_long : (bytes : List ℕ) (ended : Bool) (buffered : Buffered) → IsBufferOf bytes buffered → None ≡ line_buffered buffered
+    → line_text (record { bytes = bytes; ended = ended }) ≡ None
+line_text-too_long bytes ended buffered is_buffer is = line_text-long (record { bytes = bytes; ended = ended }) (is_buffer.long (line_buffered-None buffered is))
+
+-- a line is taken as its text is
+pub IsTaken-as : (old new : Machine) (gathering : Gathering) (line given : Option (List ℕ)) (text : List ℕ) (held : GroupLines) → given ≡ line
+    → IsAnswered old (gathered gathering (Comes given)).1.reading text new → IsHeld (gathered gathering (Comes given)).0 held → IsTaken old gathering line text new held
+IsTaken-as old new gathering line given text held same answered is_held = (
+  subst (λ l. IsAnswered old (gathered gathering (Comes l)).1.reading text new) same answered,
+  subst (λ l. IsHeld (gathered gathering (Comes l)).0 held) same is_held,
+)
+
+-- ---- the last line, and the end of the input
+
+-- the end alone is answered
+pub IsLastAnswered-end : (old new : Machine) (gathering : Gathering) (text : List ℕ) → IsAnswered old (gathered gathering Ends).1.reading text new
+    → IsLastAnswered old gathering [] text new
+IsLastAnswered-end old new gathering text answered = record {
+  earlier = [];
+  last = (gathered gathering Ends).1.reading;
+  later = [];
+  parts = refl;
+  before = (refl, refl);
+  answered = answered;
+  after = (refl, refl);
+}
+
+-- what the last line asks, behind which no group is open, and then the end of the input
+last_and_end : Gathering → Option (List ℕ) → List Reading
+last_and_end gathering line = readings (requests_from gathering (Comes line ∷ Ends ∷ []))
+
+closed_end : (gathering : Gathering) → gathering ≡ Closed → readings (requests_from gathering (Ends ∷ [])) ≡ Blank ∷ []
+closed_end gathering closed = ap (λ g. readings (requests_from g (Ends ∷ []))) closed
+
+once_line : (old new : Machine) (gathering : Gathering) (line : Option (List ℕ)) (text : List ℕ) → (gathered gathering (Comes line)).0 ≡ Closed
+    → IsAnswered old (gathered gathering (Comes line)).1.reading text new → IsAnsweredOnce old (last_and_end gathering line) text new
+once_line old new gathering line text closed answered = record {
+  earlier = [];
+  last = (gathered gathering (Comes line)).1.reading;
+  later = Blank ∷ [];
+  parts = ap (λ l. (gathered gathering (Comes line)).1.reading ∷ l) (closed_end (gathered gathering (Comes line)).0 closed);
+  before = (refl, refl);
+  answered = answered;
+  after = (new, [], [], (refl, refl), (refl, refl), refl);
+}
+
+-- the last line asks nothing, since it leaves a group open, and the end is answered
+once_end : (old new : Machine) (gathering : Gathering) (line : Option (List ℕ)) (text : List ℕ) → (gathered gathering (Comes line)).1 ≡ nothing_asked
+    → IsAnswered old (gathered (gathered gathering (Comes line)).0 Ends).1.reading text new → IsAnsweredOnce old (last_and_end gathering line) text new
+once_end old new gathering line text nothing answered = record {
+  earlier = Blank ∷ [];
+  last = (gathered (gathered gathering (Comes line)).0 Ends).1.reading;
+  later = [];
+  parts = ap (λ request. request.reading ∷ (gathered (gathered gathering (Comes line)).0 Ends).1.reading ∷ []) nothing;
+  before = (old, [], [], (refl, refl), (refl, refl), refl);
+  answered = answered;
+  after = (refl, refl);
+}
+
+pub IsLastAnswered-line : (old new : Machine) (gathering : Gathering) (bytes text : List ℕ) (line : Option (List ℕ)) → (bytes ≡ [] → ⊥)
+    → line ≡ line_text (record { bytes = bytes; ended = false }) → (gathered gathering (Comes line)).0 ≡ Closed
+    → IsAnswered old (gathered gathering (Comes line)).1.reading text new → IsLastAnswered old gathering bytes text new
+IsLastAnswered-line old new gathering [] text line some is closed answered = absurd (some refl)
+IsLastAnswered-line old new gathering (b ∷ bytes) text line some is closed answered =
+    subst (λ l. IsAnsweredOnce old (last_and_end gathering l) text new) is (once_line old new gathering line text closed answered)
+
+-- a gathering is closed, or open
+open_or_closed : (gathering : Gathering) → (gathering ≡ Closed → ⊥) → (text : List ℕ) × (left : ℕ) × (gathering ≡ Open text left)
+open_or_closed Closed no = absurd (no refl)
+open_or_closed (Open text left) no = (text, left, refl)
+
+pub IsLastAnswered-open : (old new : Machine) (gathering : Gathering) (bytes text : List ℕ) (line : Option (List ℕ)) → (bytes ≡ [] → ⊥)
+    → line ≡ line_text (record { bytes = bytes; ended = false }) → ((gathered gathering (Comes line)).0 ≡ Closed → ⊥)
+    → IsAnswered old (gathered (gathered gathering (Comes line)).0 Ends).1.reading text new → IsLastAnswered old gathering bytes text new
+IsLastAnswered-open old new gathering [] text line some is opens answered = absurd (some refl)
+IsLastAnswered-open old new gathering (b ∷ bytes) text line some is opens answered =
+    let is_open = open_or_closed (gathered gathering (Comes line)).0 opens in
+    subst (λ l. IsAnsweredOnce old (last_and_end gathering l) text new) is
+    (once_end old new gathering line text (open-asks_nothing gathering (Comes line) is_open.0 is_open.1 is_open.2) answered)
+
+-- what is kept, by cases
+pub from-closed : (P : Gathering → Type 0) → P Closed → (gathering : Gathering) → IsHeld gathering lines.Closed → P gathering
+from-closed P f gathering held = subst P (sym (IsHeld-closed gathering held)) f
+
+pub from-open : (P : Gathering → Type 0) (text : String Global) (to_come : ℕ) → (IsOpen (string_bytes text) to_come → P (Open (string_bytes text) to_come))
+    → (gathering : Gathering) → IsHeld gathering (lines.Open text to_come) → P gathering
+from-open P text to_come f Closed held = absurd held
+from-open P text to_come f (Open had left) (is, same, opens) =
+    subst (λ l. P (Open had l)) same (subst (λ t. P (Open t to_come)) is (f (subst (λ t. IsOpen t to_come) (sym is) (subst (IsOpen had) (sym same) opens))))
+
+pub from-lost : (P : Gathering → Type 0) (to_come : ℕ) → ((text : List ℕ) → IsOpen text to_come → P (Open text to_come))
+    → (gathering : Gathering) → IsHeld gathering (lines.Lost to_come) → P gathering
+from-lost P to_come f Closed held = absurd held
+from-lost P to_come f (Open text left) (same, opens) = subst (λ l. P (Open text l)) same (f text (subst (IsOpen text) (sym same) opens))

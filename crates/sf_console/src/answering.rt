@@ -96,7 +96,7 @@ fn answer_asked(
     line: Option<&[u8]>,
     asks: LineAsks,
 ) -> Result<Reply, Refusal>
-    ensures { (request : Request) → Asks (option_copied line) request asks →
+    ensures { (request : Request) → Asks (option_copied line.entry) request asks →
         IsAnswered editor.old request.reading (reply_text result) editor.new }
 {
     match asks {
@@ -113,7 +113,7 @@ fn answer_alone(
     editor: &mut Editor,
     line: Option<&[u8]>,
 ) -> Result<Reply, Refusal>
-    ensures { IsAnswered editor.old (reading_of (option_copied line)) (reply_text result) editor.new }
+    ensures { IsAnswered editor.old (reading_of (option_copied line.entry)) (reply_text result) editor.new }
 {
     match line {
         Some(bytes) => answer_text(alloc, editor, bytes),

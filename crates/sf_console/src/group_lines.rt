@@ -40,9 +40,9 @@ pub enum LineAsks {
 impl GroupLines {
     /// Takes a further line, which is None where it is too long, and says what it asks.
     pub fn take(&mut self, alloc: Global, line: Option<&[u8]>) -> LineAsks
-        ensures { (gathering : Gathering) → IsHeld gathering self.old → IsUnfed (option_copied line) →
-            IsHeld (gathered gathering (Comes (option_copied line))).0 self.new
-            × Asks (option_copied line) (gathered gathering (Comes (option_copied line))).1 result }
+        ensures { (gathering : Gathering) → IsHeld gathering self.old → IsUnfed (option_copied line.entry) →
+            IsHeld (gathered gathering (Comes (option_copied line.entry))).0 self.new
+            × Asks (option_copied line.entry) (gathered gathering (Comes (option_copied line.entry))).1 result }
     {
         let (next, asks) = replace(self, GroupLines::Closed).with_line(alloc, line);
         *self = next;
@@ -61,9 +61,9 @@ impl GroupLines {
 
     /// The lines with a further one, and what that asks.
     fn with_line(self, alloc: Global, line: Option<&[u8]>) -> (GroupLines, LineAsks)
-        ensures { (gathering : Gathering) → IsHeld gathering self → IsUnfed (option_copied line) →
-            IsHeld (gathered gathering (Comes (option_copied line))).0 result.0
-            × Asks (option_copied line) (gathered gathering (Comes (option_copied line))).1 result.1 }
+        ensures { (gathering : Gathering) → IsHeld gathering self → IsUnfed (option_copied line.entry) →
+            IsHeld (gathered gathering (Comes (option_copied line.entry))).0 result.0
+            × Asks (option_copied line.entry) (gathered gathering (Comes (option_copied line.entry))).1 result.1 }
     {
         match self {
             GroupLines::Closed => begun(alloc, line),
@@ -75,8 +75,8 @@ impl GroupLines {
 
 /// What a line leaves that stands outside of groups, and what it asks.
 fn begun(alloc: Global, line: Option<&[u8]>) -> (GroupLines, LineAsks)
-    ensures { IsUnfed (option_copied line) → IsHeld (gathered Closed (Comes (option_copied line))).0 result.0
-        × Asks (option_copied line) (gathered Closed (Comes (option_copied line))).1 result.1 }
+    ensures { IsUnfed (option_copied line.entry) → IsHeld (gathered Closed (Comes (option_copied line.entry))).0 result.0
+        × Asks (option_copied line.entry) (gathered Closed (Comes (option_copied line.entry))).1 result.1 }
 {
     match head_in(line) {
         None => (GroupLines::Closed, LineAsks::Itself),
@@ -87,8 +87,8 @@ fn begun(alloc: Global, line: Option<&[u8]>) -> (GroupLines, LineAsks)
 /// The head of a group that a line is, behind its text.
 fn head_in(line: Option<&[u8]>) -> Option<(&str, Head)>
     ensures { MatchOption result
-        (line_head (option_copied line) ≡ None)
-        (λ head. (option_copied line ≡ Some head.0.now) × (line_head (option_copied line) ≡ Some head.1)) }
+        (line_head (option_copied line.entry) ≡ None)
+        (λ head. (option_copied line.entry ≡ Some head.0.now) × (line_head (option_copied line.entry) ≡ Some head.1)) }
 {
     let Some(bytes) = line else {
         return None;
@@ -117,9 +117,9 @@ fn opened(alloc: Global, text: &str, members: u16) -> GroupLines
 
 /// What a line leaves of an open group, and what it asks.
 fn grown(text: String, left: u16, line: Option<&[u8]>) -> (GroupLines, LineAsks)
-    ensures { IsOpen (string_bytes text) left → IsUnfed (option_copied line) →
-        IsHeld (gathered (Open (string_bytes text) left) (Comes (option_copied line))).0 result.0
-        × Asks (option_copied line) (gathered (Open (string_bytes text) left) (Comes (option_copied line))).1 result.1 }
+    ensures { IsOpen (string_bytes text) left → IsUnfed (option_copied line.entry) →
+        IsHeld (gathered (Open (string_bytes text) left) (Comes (option_copied line.entry))).0 result.0
+        × Asks (option_copied line.entry) (gathered (Open (string_bytes text) left) (Comes (option_copied line.entry))).1 result.1 }
 {
     if is_passed_over(line) {
         return (GroupLines::Open { text, left }, LineAsks::Nothing);
@@ -145,9 +145,9 @@ fn with_fewer(text: String, left: u16) -> (GroupLines, LineAsks)
 
 /// What a line leaves of a group whose lines were lost, and what it asks.
 fn lost(left: u16, line: Option<&[u8]>) -> (GroupLines, LineAsks)
-    ensures { (text : List ℕ) → IsOpen text left → IsUnfed (option_copied line) →
-        IsHeld (gathered (Open text left) (Comes (option_copied line))).0 result.0
-        × Asks (option_copied line) (gathered (Open text left) (Comes (option_copied line))).1 result.1 }
+    ensures { (text : List ℕ) → IsOpen text left → IsUnfed (option_copied line.entry) →
+        IsHeld (gathered (Open text left) (Comes (option_copied line.entry))).0 result.0
+        × Asks (option_copied line.entry) (gathered (Open text left) (Comes (option_copied line.entry))).1 result.1 }
 {
     if is_passed_over(line) {
         (GroupLines::Lost { left }, LineAsks::Nothing)
@@ -170,7 +170,7 @@ fn lost_with_fewer(left: u16) -> (GroupLines, LineAsks)
 
 /// Whether a line of a group is passed over, since it has blanks alone.
 fn is_passed_over(line: Option<&[u8]>) -> bool
-    ensures { result ≡ is_passed_over_of (option_copied line) }
+    ensures { result ≡ is_passed_over_of (option_copied line.entry) }
 {
     match line {
         Some(bytes) => is_blank_line(bytes),
@@ -190,7 +190,7 @@ fn is_blank_line(bytes: &[u8]) -> bool
 
 /// Puts a line behind the others, as the text of a member.
 fn push_member(text: &mut String, line: Option<&[u8]>) -> Result<(), AllocError>
-    ensures { OnOk result (string_bytes text.new ≡ with_member (string_bytes text.old) (option_copied line)) }
+    ensures { OnOk result (string_bytes text.new ≡ with_member (string_bytes text.old) (option_copied line.entry)) }
 {
     text.push('\r')?;
     match line {
