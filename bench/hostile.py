@@ -15,6 +15,7 @@ same seed sends the same bytes. It ends with status 1 where something else happe
 from __future__ import annotations
 
 import argparse
+import itertools
 import os
 import random
 import re
@@ -28,6 +29,7 @@ from pathlib import Path
 
 PROGRAM = Path(__file__).resolve().parent.parent / "crates" / "sfstore" / "out" / "sfstore"
 LINE_MAX = 131_072
+GROUP_MAX = 65_535
 SESSION_LINES = 500
 SECONDS = 60
 
@@ -39,13 +41,14 @@ REFUSALS = dict(
         "BadCommand BadPattern LineTooLong BadFile BadPlace NotYours".split(),
         1,
     )
-)
+) | {38: "Unfinished"}
 
 # What the store is looked at by, between two lines.
 PROBES = [b"layers", b"columns a", b"show a", b"columns b", b"show b"]
 
 EDIT = re.compile(rb"ok")
 ADDITION = re.compile(rb"ok [1-9][0-9]*")
+GROUP = re.compile(rb"ok( [1-9][0-9]*)*")
 ROWS = re.compile(rb"rows (0|[1-9][0-9]*)")
 
 # The form of an accepted answer, by the first word of its command behind that of an editor.
@@ -59,6 +62,7 @@ FORMS = {
     b"vertex": EDIT,
     b"set": EDIT,
     b"unset": EDIT,
+    b"together": GROUP,
     b"undo": EDIT,
     b"redo": EDIT,
     b"layers": ROWS,
@@ -77,7 +81,11 @@ FORMS = {
 }
 # Where a geometry is wrong, behind a refusal of `check`.
 PLACE = re.compile(rb"(?: (?:line|part|ring [0-9]+) [0-9]+(?: edges? [0-9]+(?: [0-9]+)?)?){1,2}")
-EDITS = {verb for verb, form in FORMS.items() if form in (EDIT, ADDITION)}
+# Which member of a group is refused.
+MEMBER = re.compile(rb" member [1-9][0-9]*")
+EDITS = {verb for verb, form in FORMS.items() if form in (EDIT, ADDITION, GROUP)}
+# The line that begins a group.
+HEAD = re.compile(rb"[ \t]*(?:@([0-9]{1,3})[ \t]+)?together[ \t]+([0-9]{1,10})[ \t]*")
 
 BEGINNING = [
     b"layer add a any",
@@ -124,6 +132,11 @@ LINES = [
     b"join a ****T**** a 1",
     b"@7 add b POINT (7 7)",
     b"@7 undo",
+    b"together 2\radd a POINT (1 1)\rset a last depth 5",
+    b"together 3\rdelete a 1\raddhex b 00000000013ff00000000000004000000000000000\rvertex move b last 0 0 0 2 2",
+    b"@7 together 1\rreplace a 2 POINT (3 3)",
+    b"together 3\nadd a LINESTRING (0 0, 9 9)\nvertex insert a last 0 0 1 5 0\nset a last label 'new'",
+    b"@7 together 2\nunset a 1 depth\ndelete a 2",
     b"undo",
     b"redo",
     b"@255 redo",
@@ -134,7 +147,7 @@ WORDS = [
     b"a", b"b", b"c", b"0", b"1", b"2", b"4294967295", b"4294967296", b"-1", b"8388607", b"8388608", b"-8388608",
     b"-8388609", b"1.5", b"1e9", b"EMPTY", b"POINT", b"POLYGON", b"(", b")", b"((", b"))", b",", b"'", b"''", b"@0",
     b"@1", b"@256", b"@", b"int", b"text", b"any", b"T********", b"*********", b"within", b"touches", b"\xff",
-    b"\xc3\xa4", b"\0", b"\r", b"\t", b"undo", b"redo", b"99999999999999999999",
+    b"\xc3\xa4", b"\0", b"\r", b"\t", b"\n", b"undo", b"redo", b"last", b"together", b"together 2", b"99999999999999999999",
 ]  # fmt: skip
 
 
@@ -201,10 +214,27 @@ def has_answer(line: bytes) -> bool:
     return len(line) > LINE_MAX or line.removesuffix(b"\r").strip(b" \t") != b""
 
 
+def members_behind(line: bytes) -> int:
+    """How many members come behind a line; 0 where it begins no group."""
+    found = HEAD.fullmatch(line.removesuffix(b"\r"))
+    if not found or len(line) > LINE_MAX or int(found[2]) > GROUP_MAX:
+        return 0
+    return int(found[2]) if not found[1] or 1 <= int(found[1]) <= 255 else 0
+
+
+def answered_by_themselves(lines: list[bytes]) -> Iterator[bytes]:
+    """The lines that are answered, and of a group the one that begins it."""
+    left = filter(has_answer, lines)
+    for line in left:
+        for _ in itertools.islice(left, members_behind(line)):
+            pass
+        yield line
+
+
 def answers(lines: list[bytes], output: bytes) -> Iterator[Told]:
     """The answers of the lines, one for each that has one. `Wrong` where there are fewer or more."""
     written = iter(output.split(b"\n"))
-    for line in filter(has_answer, lines):
+    for line in answered_by_themselves(lines):
         first = next(written, b"")
         found = ROWS.fullmatch(first)
         rows = [next(written, b"") for _ in range(int(found[1]))] if found else []
@@ -224,9 +254,11 @@ def is_refused(told: Told) -> bool:
     """Whether the answer is a refusal. `Wrong` where its number and name are none of the table, or it is no answer."""
     found = re.fullmatch(rb"refused ([0-9]+) ([A-Za-z]+)(.*)", told.first)
     if found:
-        has_place = bool(PLACE.fullmatch(found[3]))
-        wants_place = verb(told.line) == b"check" and 10 <= int(found[1]) <= 17
-        if REFUSALS.get(int(found[1])) != found[2].decode() or has_place != wants_place or (found[3] and not has_place):
+        number, word = int(found[1]), verb(told.line)
+        detail = MEMBER if word == b"together" else PLACE if word == b"check" and 10 <= number <= 17 else None
+        is_bare = detail is None or (detail is MEMBER and number in (1, 31, 33, 38))
+        is_right = detail is not None and bool(detail.fullmatch(found[3])) or (is_bare and not found[3])
+        if REFUSALS.get(number) != found[2].decode() or not is_right:
             raise Wrong(f"no refusal of the table: {told.first!r} to {told.line[:200]!r}")
         return True
     form = FORMS.get(verb(told.line))

@@ -30,6 +30,7 @@ from sfstore.store import (
     Refused,
     Store,
     Value,
+    Which,
 )
 
 __all__ = [
@@ -50,4 +51,5 @@ __all__ = [
     "Refused",
     "Store",
     "Value",
+    "Which",
 ]

@@ -16,17 +16,15 @@ __all__ = ["Added", "Group", "Which"]
 class Added:
     """A feature that a group adds, as `Group.add` gives it.
 
-    Inside of the group it names the feature, until the group adds another one to the same layer. Behind the group it
-    stands for the identifier that the feature was given, wherever one is wanted.
+    Inside of the group it names the feature, until the group adds another one to the same layer. Afterwards `id` is
+    the identifier that the feature was given; where one is wanted it may stand itself, too.
 
     >>> with Store() as store:
     ...     store.add_layer("wells")
     ...     with store.together() as group:
     ...         well = group.add("wells", "POINT (3 4)")
     ...         group.replace("wells", well, "POINT (5 6)")
-    ...     well.id
-    ...     store.get("wells", well)
-    1
+    ...     store.get("wells", well.id)
     [Feature(id=1, wkt='POINT (5 6)', values={})]
     """
 

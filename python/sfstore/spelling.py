@@ -38,13 +38,18 @@ def encoded(line: str, address: str = "") -> bytes:
     if not line.removesuffix("\r").strip(" \t"):
         raise ValueError("the line is blank")
     sent = address + line
+    if "together" in sent:
+        sent = _with_members(sent)
+    return sent.encode("utf-8") + b"\n"
+
+
+def _with_members(sent: str) -> str:
+    """A group on one line as its lines; any other line as it is. `ValueError` for the first line of a group alone."""
     if size_of(sent) is not None:
         raise ValueError("the line begins a group, which has one answer: send it with all of its members")
     members = lines_of(sent)
     # A blank line is no member, and a blank part of a line is one that is refused.
-    if all(member.strip(" \t") for member in members):
-        sent = "\n".join(members)
-    return sent.encode("utf-8") + b"\n"
+    return "\n".join(members) if all(member.strip(" \t") for member in members) else sent
 
 
 def name(text: str) -> str:

@@ -22,7 +22,7 @@ from types import TracebackType
 from typing import Literal, overload
 
 from sfstore.editor import Editor
-from sfstore.group import Added, Group
+from sfstore.group import Added, Group, Which
 from sfstore.journaled import Journaled
 from sfstore.program import started
 from sfstore.results import (
@@ -60,6 +60,7 @@ __all__ = [
     "Refused",
     "Store",
     "Value",
+    "Which",
     "row_values",
 ]
 

@@ -4,6 +4,7 @@ from __future__ import annotations
 
 import os
 import pickle
+import random
 import re
 import signal
 import subprocess
@@ -447,6 +448,105 @@ class Lines(TestCase):
             "refused 33 LineTooLong", "refused 31 BadCommand member 1", "rows 1", "2 POINT (2 2)", "refused 36 NotYours", "ok",
         ]
         self.assertEqual(self.answers("".join(f"{line}\n" for line in lines).encode()), wanted)
+
+
+class AtRandom(TestCase):
+    """Groups by a seed, against a store that is given their members one by one, and undoes them where one is refused."""
+
+    LAYERS = ["layer add p polygon", "layer add w any", "column add p n int", "column add w t text"]
+
+    def setUp(self):
+        super().setUp()
+        # The second store is given single lines; the third has no layers, so that it decides by the line alone.
+        self.grouped, self.single, self.empty = (Store(PROGRAM) for _ in range(3))
+        for store in (self.grouped, self.single, self.empty):
+            self.addCleanup(store.close, save=False)
+
+    def test_groups_by_a_seed(self):
+        self.grouped.run_all(self.LAYERS)
+        self.single.run_all(self.LAYERS)
+        outcomes = set()
+        dice = random.Random(38)
+        # How many steps of single lines each step is, of those done and of those undone.
+        done, undone = [], []
+        for _ in range(1_500):
+            if dice.random() < 0.3:
+                self.move(*dice.choice([("undo", done, undone), ("redo", undone, done)]))
+                continue
+            members = [self.member(dice) for _ in range(dice.randint(1, 6))]
+            outcome = self.both(members)
+            outcomes.add("ok" if outcome.startswith("ok") else outcome.split(" ")[1])
+            if outcome.startswith("ok"):
+                done.append(len(members))
+                undone.clear()
+            elif undone:
+                # What was tried by single lines has left nothing to redo there.
+                self.both(["add w POINT (9 9)"])
+                done.append(1)
+                undone.clear()
+        self.assertLessEqual({"ok", "2", "13", "21", "22", "24", "25", "26", "31"}, outcomes)
+
+    def move(self, verb, source, target):
+        """Moves a step in both stores, where there is one; afterwards they are alike."""
+        if source:
+            target.append(source.pop())
+            self.grouped.run(verb)
+            self.assertEqual(self.single.run_all([verb] * target[-1]), ["ok"] * target[-1])
+            self.assertEqual(self.content(self.grouped), self.content(self.single))
+
+    def both(self, members):
+        """The answer of a group, which has to be that of its members."""
+        [outcome] = self.grouped.run_all([groups.text_of(members)])
+        answer = outcome.answer if isinstance(outcome, Refused) else outcome
+        wanted = self.by_the_lines(members) or self.one_by_one(members)
+        self.assertEqual(answer, wanted, members)
+        self.assertEqual(self.content(self.grouped), self.content(self.single), members)
+        return answer
+
+    def by_the_lines(self, members):
+        """The refusal that the lines alone decide, if there is one."""
+        added = set()
+        for number, member in enumerate(members, 1):
+            words = member.split(" ")
+            [outcome] = self.empty.run_all([re.sub(r"\blast\b", "1", member)])
+            if words[0] == "undo" or ("last" in words and not added & set(words)):
+                return f"refused 31 BadCommand member {number}"
+            if outcome.number != 18:
+                return f"{outcome.answer} member {number}"
+            added |= {words[1]} if words[0] == "add" else set()
+        return ""
+
+    def one_by_one(self, members):
+        given, last = [], {}
+        for number, member in enumerate(members, 1):
+            words = member.split(" ")
+            layer = words[2] if words[0] == "vertex" else words[1]
+            [outcome] = self.single.run_all([re.sub(r"\blast\b", last.get(layer, ""), member)])
+            if isinstance(outcome, Refused):
+                self.single.run_all(["undo"] * (number - 1))
+                return f"{outcome.answer} member {number}"
+            if words[0] == "add":
+                last[layer] = outcome.split(" ")[1]
+                given.append(last[layer])
+        return " ".join(["ok", *given])
+
+    def member(self, dice):
+        layer, which = dice.choice("pw"), dice.choice(["last", "last", *map(str, range(1, 9))])
+        wkt = dice.choice([WHOLE, LEFT, "POLYGON ((0 0, 4 4, 4 0, 0 4, 0 0))", "POINT (1 1)", "LINESTRING (0 0, 5 5)"])
+        if dice.random() < 0.02:
+            return dice.choice(["undo", f"add {layer} POINT (x 1)", f"delete {layer}"])
+        return dice.choice(
+            [
+                f"add {layer} {wkt}", f"add {layer} {wkt}", f"add p {LEFT}", f"delete {layer} {which}",
+                f"replace {layer} {which} {wkt}", f"vertex move {layer} {which} 0 0 {dice.randrange(5)} {dice.randrange(30)} 5",
+                f"vertex insert {layer} {which} 0 0 1 {dice.randrange(30)} 0", f"vertex remove {layer} {which} 0 0 1",
+                f"set p {which} n {dice.randrange(9)}", f"set w {which} t 'x'", f"unset p {which} n",
+                f"set {layer} {which} n 'x'",
+            ]
+        )  # fmt: skip
+
+    def content(self, store):
+        return [store.run(f"show {layer}") for layer in "pw"]
 
 
 class Kept(TestCase):

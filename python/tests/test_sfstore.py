@@ -25,6 +25,8 @@ from support import FOLDER, PROGRAM, TestCase, child_of
 
 import sfstore
 import sfstore.editor
+import sfstore.group
+import sfstore.groups
 import sfstore.language
 import sfstore.program
 import sfstore.results
@@ -1127,7 +1129,8 @@ class GeoInterfaces(TestCase):
 
 
 def load_tests(loader, tests, pattern):
-    for module in (sfstore.editor, sfstore.language, sfstore.results, sfstore.store, sfstore.wkt):
+    modules = (sfstore.editor, sfstore.group, sfstore.groups, sfstore.language, sfstore.results, sfstore.store, sfstore.wkt)
+    for module in modules:
         tests.addTests(doctest.DocTestSuite(module, extraglobs=vars(sfstore)))
     return tests
 
