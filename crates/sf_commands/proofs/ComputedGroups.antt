@@ -1,5 +1,5 @@
 -- Groups on one text, computed from the definitions alone.
-use Rattle.std.proofs.Common.{◌≡◌, ℕ, true, false, pos, List, [], ◌∷◌, ◌++◌, Option, None, Some, Ok, Err, codes, refl}
+use Rattle.std.proofs.Common.{◌≡◌, true, false, pos, [], ◌∷◌, ◌++◌, None, Some, Ok, Err, codes, refl}
 use Rattle.sf_refusals.specs.declared.refusal.Refusal.TheVariants.{BadCommand, Syntax}
 use Rattle.sf_geometry.specs.declared.geometry.Geometry.TheVariants.{Point}
 use Rattle.sf_features.specs.declared.attr_value.AttrValue.TheVariants as values
@@ -39,8 +39,11 @@ members = (refl, refl, refl, refl)
 -- ---- groups
 
 two_members : group_of (codes "@2 together 2" ++ 13 ∷ codes "add w POINT (3 4)" ++ 13 ∷ codes "set w last n 7")
-    ≡ Some (2, Ok (record { edit = AddFeature (codes "w") (Point (record { x = pos 3; y = pos 4 })); of_last = false }
-    ∷ record { edit = SetValue (codes "w") 0 (codes "n") (values.Int (pos 7)); of_last = true } ∷ []))
+    ≡ Some (
+      2,
+      Ok (record { edit = AddFeature (codes "w") (Point (record { x = pos 3; y = pos 4 })); of_last = false }
+          ∷ record { edit = SetValue (codes "w") 0 (codes "n") (values.Int (pos 7)); of_last = true } ∷ []),
+    )
 two_members = refl
 
 -- the first one that is refused: of the last feature of a layer that none before it adds to, by its words alone, or with nothing in it

@@ -5,6 +5,8 @@ use Rattle.sf_refusals.specs.declared.refusal.Refusal.{Refusal}
 use Rattle.sf_refusals.specs.declared.refusal.Refusal.TheVariants.{BadCommand}
 use Rattle.sf_refusals.specs.declared.refusal.Refusal.TheVariants as refusals
 use Rattle.sf_groups.specs.declared.member.Member.{Member as GroupMember}
+use Rattle.sf_groups.specs.declared.group.NotTaken.{NotTaken}
+use Rattle.sf_groups.specs.declared.group.NotTaken.TheVariants.{Misplaced, Memory as NoRoom}
 use Rattle.sf_groups.specs.Members.{may_follow}
 use Rattle.sf_commands.specs.declared.group_text.GroupRefusal.{GroupRefusal}
 use Rattle.sf_commands.specs.declared.group_text.GroupRefusal.TheVariants.{Member, Memory}
@@ -103,7 +105,18 @@ abbrev pub OrNoMemory : Result (List GroupMember) GroupRefusal → Result (List 
 OrNoMemory expected (Err Memory) = Unit {0}
 OrNoMemory expected result = result ≡ expected
 
--- Internal: the refusal of the member of a number; where no memory was found, its text is not at fault
+-- ---- internal: who wants to trust the program need not read on
+
+-- the refusal of the member of a number; where no memory was found, its text is not at fault
 abbrev pub refusal_of_member : ℕ → Refusal → GroupRefusal
 refusal_of_member number refusals.Memory = Memory
 refusal_of_member number refusal = Member number refusal
+
+-- the refusal of a member that a group did not take
+abbrev pub refusal_of_not_taken : NotTaken → Refusal
+refusal_of_not_taken (Misplaced member) = BadCommand
+refusal_of_not_taken (NoRoom member) = refusals.Memory
+
+-- the member that was read may stand behind others, and now does
+abbrev pub WasPlaced : List GroupMember → Result GroupMember Refusal → List GroupMember → Type 0
+WasPlaced earlier read members = (member : GroupMember) × (placed earlier read ≡ Ok member) × (members ≡ earlier ++ member ∷ [])

@@ -2,11 +2,13 @@
 ghost use Rattle.std.specs.Prelude.{◌≡◌, [], ◌∷◌, List, MatchOption, MatchResult, None, Some, Ok, Err, Result, length};
 ghost use Rattle.std.specs.List.{count_by};
 ghost use Rattle.sf_groups.specs.declared.member.Member.{Member};
-ghost use Rattle.sf_commands.specs.GroupTexts.{group_of, is_return, members_behind, members_of, parts_of, refusal_of_member, OrNoMemory};
+ghost use Rattle.sf_commands.specs.Commands.{OrMemory};
+ghost use Rattle.sf_commands.specs.GroupTexts.{group_of, is_return, members_behind, members_of, parts_of, placed, refusal_of_member, refusal_of_not_taken, OrNoMemory, WasPlaced};
+ghost use Rattle.sf_commands.specs.Members.{member_of};
 
 use super::head::head_of;
 use super::members::parse_member;
-use sf_groups::{Group, NotTaken};
+use sf_groups::{Group, Member, NotTaken};
 use sf_refusals::Refusal;
 use std::alloc::Global;
 
@@ -30,7 +32,7 @@ pub fn parse_group(alloc: Global, text: &str) -> Option<(u8, Result<Group, Group
     ensures { MatchOption result
         (group_of text.now ≡ None)
         (λ group. (expected : Result (List Member) GroupRefusal) × (group_of text.now ≡ Some (group.0, expected))
-            × OrNoMemory expected group.1) }
+        × OrNoMemory expected group.1) }
 {
     let (head, members) = text.split_once('\r')?;
     let head = head_of(head)?;
@@ -75,11 +77,38 @@ fn push_member(alloc: Global, group: &mut Group, text: &str) -> Result<(), Group
         (λ refusal. OrNoMemory (members_behind group.old (text.now ∷ [])) (Err refusal)) }
 {
     let number = group.members().len() + 1;
-    let member = parse_member(alloc, text).map_err(|refusal| refused(number, refusal))?;
+    take_text(alloc, group, text).map_err(|refusal| refused(number, refusal))
+}
+
+/// Takes the member of a text, where it may stand behind the others.
+fn take_text(alloc: Global, group: &mut Group, text: &str) -> Result<(), Refusal>
+    ensures { MatchResult result
+        (λ _. WasPlaced group.old (member_of text.now) group.new)
+        (λ refusal. OrMemory (placed group.old (member_of text.now)) (Err refusal)) }
+{
+    let member = parse_member(alloc, text)?;
+    take_member(alloc, group, member)
+}
+
+/// Takes a member, where it may stand behind the others.
+fn take_member(alloc: Global, group: &mut Group, member: Member) -> Result<(), Refusal>
+    ensures { MatchResult result
+        (λ _. WasPlaced group.old (Ok member) group.new)
+        (λ refusal. OrMemory (placed group.old (Ok member)) (Err refusal)) }
+{
     match group.push(alloc, member) {
         Ok(()) => Ok(()),
-        Err(NotTaken::Misplaced(_)) => Err(refused(number, Refusal::BadCommand)),
-        Err(NotTaken::Memory(_)) => Err(GroupRefusal::Memory),
+        Err(not_taken) => Err(why_not_taken(&not_taken)),
+    }
+}
+
+/// Why a member was not taken.
+fn why_not_taken(not_taken: &NotTaken) -> Refusal
+    ensures { result ≡ refusal_of_not_taken not_taken.now }
+{
+    match not_taken {
+        NotTaken::Misplaced(_) => Refusal::BadCommand,
+        NotTaken::Memory(_) => Refusal::Memory,
     }
 }
 
