@@ -1,14 +1,15 @@
 -- From line to line of a group.
-use Rattle.std.proofs.Common.{◌≡◌, ◌≢◌, ℕ, zero, suc, ◌+◌, ◌-◌, ◌<◌, ◌≤◌, ◌==◌, ◌&&◌, ◌||◌, Bool, true, false, not, cond, nat_eq, nat_lt, List, [], ◌∷◌, ◌++◌, length, replicate, take, drop, slice_index, Option, None, Some, Result, String, Global, if◌then◌else◌, string_bytes, refl, sym, ap, ◌∙◌, subst, arith}
+use Rattle.std.proofs.Common.{◌≡◌, ◌≢◌, ℕ, zero, suc, ◌+◌, ◌-◌, ◌<◌, ◌≤◌, ◌==◌, ◌&&◌, ◌||◌, Bool, true, false, not, cond, nat_eq, nat_lt, List, [], ◌∷◌, ◌++◌, length, replicate, take, drop, slice_index, Option, None, Some, Result, String, Global, if◌then◌else◌, string_bytes, append_assoc, refl, sym, ap, ◌∙◌, subst, arith}
 use Rattle.std.specs.List.{AllByRecursion, list_all, list_any}
-use Rattle.std.specs.Str.{is_utf8, IsUtf8}
+use Rattle.std.specs.Str.{chars, is_utf8, IsUtf8}
+use lib.Utf8.{encode}
 use Rattle.std.proofs.lemmas.Str.{IsUtf8-append, IsUtf8-from_ascii, IsUtf8-from_is_utf8, IsUtf8-nil, is_utf8-from_IsUtf8}
 use Rattle.std.proofs.lemmas.Grind.{common_steps}
 use Rattle.std.proofs.lemmas.List.{length-append, take-append-drop}
 use Rattle.sf_lines.specs.Lines.{HasNoFeed, Line, line_max, text_of, without_return}
-use Rattle.sf_lines.specs.Buffers.{Buffered, IsBufferOf, line_buffered}
+use Rattle.sf_lines.specs.Buffers.{Buffered, IsBufferOf, line_buffered, nothing_buffered}
 use Rattle.sf_lines.proofs.LineLemmas.{HasNoFeed-append}
-use Rattle.sf_lines.proofs.BufferLemmas.{line_buffered-None, line_buffered-Some}
+use Rattle.sf_lines.proofs.BufferLemmas.{line_buffered-None, line_buffered-Some, nothing_buffered-of}
 use Rattle.sf_history.specs.History.{Machine}
 use Rattle.sf_wkt.specs.Tokens.{is_blank}
 use Rattle.sf_groups.specs.declared.member.Member.{Member}
@@ -18,11 +19,13 @@ use Rattle.sf_commands.specs.GroupTexts.{group_by_head, group_by_parts, group_of
 use Rattle.sf_commands.proofs.PartLemmas.{head_alone, head_has_members, last_part}
 use Rattle.sf_console.specs.declared.group_lines.GroupLines.{GroupLines}
 use Rattle.sf_console.specs.declared.group_lines.GroupLines.TheVariants as lines
+use Rattle.sf_console.specs.declared.group_lines.LineAsks.{LineAsks}
+use Rattle.sf_console.specs.declared.group_lines.LineAsks.TheVariants as asks
 use Rattle.sf_console.specs.Readings.{Blank, Grouped, Reading, by_group, line_text, text_reading}
-use Rattle.sf_console.specs.Requests.{Closed, Comes, Ends, Gathering, Open, gathered, gathered_on, is_member_text, is_passed_over, member_text, nothing_asked, readings, requests_from, with_member}
-use Rattle.sf_console.specs.Gatherings.{IsAnsweredOnce, IsGrouped, IsGrown, IsHeld, IsLastAnswered, IsOpen, IsTaken, IsUnfed}
+use Rattle.sf_console.specs.Requests.{Closed, Comes, Ends, Gathering, Open, Request, gathered, gathered_on, is_member_text, is_passed_over, line_head, member_text, nothing_asked, readings, requests_from, with_member}
+use Rattle.sf_console.specs.Gatherings.{Asks, IsAnsweredOnce, IsGrouped, IsGrown, IsHeld, IsLastAnswered, IsOpen, IsTaken, IsUnfed}
 use Rattle.sf_console.specs.Session.{IsAnswered}
-use Rattle.sf_console.proofs.ReadingLemmas.{line_text-long, line_text-short, open-asks_nothing, text_reading-by}
+use Rattle.sf_console.proofs.ReadingLemmas.{line_text-long, line_text-short, not_utf8, open-asks_nothing, text_reading-by}
 
 -- ---- the texts of members
 
@@ -36,6 +39,7 @@ blanks_unfed zero = refl
 blanks_unfed (suc n) = blanks_unfed n
 
 one_blank : IsUtf8 (32 ∷ [])
+unfolding is_utf8 chars encode
 one_blank = IsUtf8-from_is_utf8 (32 ∷ []) refl
 
 blanks_text : (n : ℕ) → IsUtf8 (replicate n 32)
@@ -81,13 +85,14 @@ member_unfed line unfed = of_member HasNoFeed line (blanks_unfed (line_max + 1))
 -- a text with a return is not blank
 said : (text more : List ℕ) → list_all is_blank (text ++ 13 ∷ more) ≡ false
 said [] more = refl
-said (b ∷ text) more = by_byte (is_blank b)
+said (b ∷ text) more = by_byte (said text more) (is_blank b)
   where
-    by_byte : (blank : Bool) → (blank && list_all is_blank (text ++ 13 ∷ more)) ≡ false
-    by_byte true = said text more
-    by_byte false = refl
+    by_byte : list_all is_blank (text ++ 13 ∷ more) ≡ false → (blank : Bool) → (blank && list_all is_blank (text ++ 13 ∷ more)) ≡ false
+    by_byte later true = later
+    by_byte later false = refl
 
 one_return : IsUtf8 (13 ∷ [])
+unfolding is_utf8 chars encode
 one_return = IsUtf8-from_is_utf8 (13 ∷ []) refl
 
 -- a head opens a group
@@ -98,7 +103,7 @@ IsOpen-head text head is is_text unfed = record {
   members = [];
   parts = head_alone text head is;
   is_head = is;
-  count = refl;
+  count = omega arith;
   some = head_has_members text head is;
   is_text = is_text;
   unfed = unfed;
@@ -144,9 +149,11 @@ whole_group text first members head parts is_head count =
     ap (λ p. group_by_parts p text) parts ∙ ap (λ h. group_by_head h text (length members)) is_head
     ∙ by_count (nat_eq head.members (length members)) (nat_eq-same head.members (length members) (sym count))
   where
-    by_count : (same : Bool) → same ≡ true → (if same then Some (head.editor, members_of text) else None) ≡ Some (head.editor, members_of text)
+    by_count : (same : Bool) → same ≡ true
+        → cond {A = Option (ℕ × Result (List Member) GroupRefusal)} same (Some (head.editor, members_of text)) None ≡ Some (head.editor, members_of text)
     by_count true is = refl
     by_count false is = cc
+
     nat_eq-same : (a b : ℕ) → a ≡ b → nat_eq a b ≡ true
     nat_eq-same a b same = grind (arith, common_steps)
 
@@ -190,6 +197,7 @@ IsUnfed-line line unfed = by_length (nat_lt line_max (length line.bytes))
     by_feed : (ended : Bool) → HasNoFeed (cond ended (without_return line.bytes) line.bytes)
     by_feed true = unfed-without_return line.bytes unfed
     by_feed false = unfed
+
     by_length : (long : Bool) → IsUnfed (if long then None else Some (text_of line))
     by_length true = tt
     by_length false = by_feed line.ended
@@ -212,6 +220,32 @@ line_text-last bytes found buffered is_buffer is =
 pub line_text-too_long : (bytes : List ℕ) (ended : Bool) (buffered : Buffered) → IsBufferOf bytes buffered → None ≡ line_buffered buffered
     → line_text (record { bytes = bytes; ended = ended }) ≡ None
 line_text-too_long bytes ended buffered is_buffer is = line_text-long (record { bytes = bytes; ended = ended }) (is_buffer.long (line_buffered-None buffered is))
+
+-- a buffer that has nothing, and one that has something
+pub empty-bytes : (bytes : List ℕ) (buffered : Buffered) → IsBufferOf bytes buffered → buffered ≡ nothing_buffered → bytes ≡ []
+empty-bytes bytes buffered is_buffer is = sym (is_buffer.whole (ap (λ b. b.overlong) is)) ∙ ap (λ b. b.bytes) is
+
+pub some-bytes : (bytes : List ℕ) (buffered : Buffered) → IsBufferOf bytes buffered → (buffered ≡ nothing_buffered → ⊥) → bytes ≡ [] → ⊥
+some-bytes bytes buffered is_buffer some none = by_length buffered.overlong refl
+  where
+    by_length : (long : Bool) → buffered.overlong ≡ long → ⊥
+    by_length true is =
+        let over = is_buffer.long is in
+        let zero_bytes : length bytes ≡ 0 = ap length none in
+        omega (arith, over, zero_bytes)
+    by_length false is = some (nothing_buffered-of buffered is (is_buffer.whole is ∙ none))
+
+-- the text of the last line is what the buffer has
+pub last-text : (bytes : List ℕ) (buffered : Buffered) → IsBufferOf bytes buffered → line_buffered buffered ≡ line_text (record { bytes = bytes; ended = false })
+last-text bytes buffered is_buffer = by_length buffered.overlong refl
+  where
+    by_length : (long : Bool) → buffered.overlong ≡ long → line_buffered buffered ≡ line_text (record { bytes = bytes; ended = false })
+    by_length true is =
+        let held : line_buffered buffered ≡ None = ap (λ b. cond b None (Some buffered.bytes)) is in
+        held ∙ sym (line_text-too_long bytes false buffered is_buffer (sym held))
+    by_length false is =
+        let held : line_buffered buffered ≡ Some buffered.bytes = ap (λ b. cond b None (Some buffered.bytes)) is in
+        held ∙ sym (line_text-last bytes buffered.bytes buffered is_buffer (sym held))
 
 -- a line is taken as its text is
 pub IsTaken-as : (old new : Machine) (gathering : Gathering) (line given : Option (List ℕ)) (text : List ℕ) (held : GroupLines) → given ≡ line
@@ -237,7 +271,7 @@ IsLastAnswered-end old new gathering text answered = record {
 }
 
 -- what the last line asks, behind which no group is open, and then the end of the input
-last_and_end : Gathering → Option (List ℕ) → List Reading
+abbrev last_and_end : Gathering → Option (List ℕ) → List Reading
 last_and_end gathering line = readings (requests_from gathering (Comes line ∷ Ends ∷ []))
 
 closed_end : (gathering : Gathering) → gathering ≡ Closed → readings (requests_from gathering (Ends ∷ [])) ≡ Blank ∷ []
@@ -277,8 +311,8 @@ IsLastAnswered-line old new gathering (b ∷ bytes) text line some is closed ans
 
 -- a gathering is closed, or open
 open_or_closed : (gathering : Gathering) → (gathering ≡ Closed → ⊥) → (text : List ℕ) × (left : ℕ) × (gathering ≡ Open text left)
-open_or_closed Closed no = absurd (no refl)
-open_or_closed (Open text left) no = (text, left, refl)
+open_or_closed Closed none = absurd (none refl)
+open_or_closed (Open text left) none = (text, left, refl)
 
 pub IsLastAnswered-open : (old new : Machine) (gathering : Gathering) (bytes text : List ℕ) (line : Option (List ℕ)) → (bytes ≡ [] → ⊥)
     → line ≡ line_text (record { bytes = bytes; ended = false }) → ((gathered gathering (Comes line)).0 ≡ Closed → ⊥)
@@ -303,3 +337,91 @@ pub from-lost : (P : Gathering → Type 0) (to_come : ℕ) → ((text : List ℕ
     → (gathering : Gathering) → IsHeld gathering (lines.Lost to_come) → P gathering
 from-lost P to_come f Closed held = absurd held
 from-lost P to_come f (Open text left) (same, opens) = subst (λ l. P (Open text l)) same (f text (subst (IsOpen text) (sym same) opens))
+
+-- ---- what functions of the lines of a group give
+
+-- what bytes are that are text, or are none
+pub line_head-text : (bytes text : List ℕ) (head : Option Head) → text ≡ bytes → IsUtf8 bytes → head ≡ head_of text → line_head (Some bytes) ≡ head
+line_head-text bytes text head same is_text is =
+    ap (λ b. cond b (head_of bytes) None) (is_utf8-from_IsUtf8 bytes is_text) ∙ ap head_of (sym same) ∙ sym is
+
+pub line_head-bytes : (bytes : List ℕ) → (IsUtf8 bytes → ⊥) → line_head (Some bytes) ≡ None
+line_head-bytes bytes none = ap (λ b. cond b (head_of bytes) None) (not_utf8 bytes none)
+
+-- the head of a line opens a group
+pub IsOpen-line : (text : List ℕ) (members : ℕ) (head : Head) → line_head (Some text) ≡ Some head → head.members ≡ members → HasNoFeed text → IsOpen text members
+IsOpen-line text members head is count unfed = subst (IsOpen text) count (by_test (is_utf8 text) refl is)
+  where
+    by_test : (utf8 : Bool) → is_utf8 text ≡ utf8 → cond utf8 (head_of text) None ≡ Some head → IsOpen text head.members
+    by_test true is_text h = IsOpen-head text head h is_text unfed
+    by_test false is_text h = absurd cc
+
+pub passed-text : (bytes text : List ℕ) (blank : Bool) → text ≡ bytes → IsUtf8 bytes → blank ≡ list_all is_blank text → blank ≡ is_passed_over (Some bytes)
+passed-text bytes text blank same is_text is =
+    is ∙ ap (list_all is_blank) same ∙ sym (ap (λ b. b && list_all is_blank bytes) (is_utf8-from_IsUtf8 bytes is_text))
+
+pub passed-bytes : (bytes : List ℕ) → (IsUtf8 bytes → ⊥) → false ≡ is_passed_over (Some bytes)
+passed-bytes bytes none = sym (ap (λ b. b && list_all is_blank bytes) (not_utf8 bytes none))
+
+pub member_text-text : (bytes text found : List ℕ) → text ≡ bytes → IsUtf8 bytes → found ≡ cond (list_any is_return text) [] text → found ≡ member_text (Some bytes)
+member_text-text bytes text found same is_text is =
+    is ∙ ap (λ t. cond (list_any is_return t) [] t) same ∙ turned (list_any is_return bytes)
+    ∙ sym (ap (λ b. cond (b && not (list_any is_return bytes)) bytes []) (is_utf8-from_IsUtf8 bytes is_text))
+  where
+    turned : (has : Bool) → cond has [] bytes ≡ cond (not has) bytes []
+    turned true = refl
+    turned false = refl
+
+pub member_text-bytes : (bytes : List ℕ) → (IsUtf8 bytes → ⊥) → [] ≡ member_text (Some bytes)
+member_text-bytes bytes none = sym (ap (λ b. cond (b && not (list_any is_return bytes)) bytes []) (not_utf8 bytes none))
+
+-- a group behind its last member
+pub whole-lost : (text : List ℕ) (left : ℕ) → left ≡ 0 → IsGrown text left
+    → IsHeld (gathered_on text left).0 lines.Closed × ((line : Option (List ℕ)) → Asks line (gathered_on text left).1 asks.Lost)
+whole-lost text zero is g = (tt, λ line. IsGrouped-grown text g)
+whole-lost text (suc left) is g = absurd cc
+
+pub whole-asked : (text : String Global) (left : ℕ) → left ≡ 0 → IsGrown (string_bytes text) left
+    → IsHeld (gathered_on (string_bytes text) left).0 lines.Closed × ((line : Option (List ℕ)) → Asks line (gathered_on (string_bytes text) left).1 (asks.Group text))
+whole-asked text zero is g = (tt, λ line. (refl, g.unfed, IsGrouped-grown (string_bytes text) g))
+whole-asked text (suc left) is g = absurd cc
+
+-- one with more to come
+pub more-lost : (text : List ℕ) (left : ℕ) → (left ≡ 0 → ⊥) → IsGrown text left
+    → IsHeld (gathered_on text left).0 (lines.Lost left) × ((line : Option (List ℕ)) → Asks line (gathered_on text left).1 asks.Nothing)
+more-lost text zero some g = absurd (some refl)
+more-lost text (suc left) some g = ((refl, IsOpen-grown text (suc left) g (omega arith)), λ line. refl)
+
+pub more-asked : (text : String Global) (left : ℕ) → (left ≡ 0 → ⊥) → IsGrown (string_bytes text) left
+    → IsHeld (gathered_on (string_bytes text) left).0 (lines.Open text left) × ((line : Option (List ℕ)) → Asks line (gathered_on (string_bytes text) left).1 asks.Nothing)
+more-asked text zero some g = absurd (some refl)
+more-asked text (suc left) some g = ((refl, refl, IsOpen-grown (string_bytes text) (suc left) g (omega arith)), λ line. refl)
+
+-- what a line inside of a group asks, where it is not passed over
+pub inside-on : (text : List ℕ) (left to_come : ℕ) (line : Option (List ℕ)) (held : GroupLines) (asked : LineAsks) → is_passed_over line ≡ false → to_come ≡ left - 1
+    → IsHeld (gathered_on (with_member text line) to_come).0 held × ((l : Option (List ℕ)) → Asks l (gathered_on (with_member text line) to_come).1 asked)
+    → IsHeld (gathered (Open text left) (Comes line)).0 held × Asks line (gathered (Open text left) (Comes line)).1 asked
+inside-on text left to_come line held asked passed count (is_held, asks_so) =
+    let here : gathered_on (with_member text line) to_come ≡ gathered (Open text left) (Comes line) =
+    ap (gathered_on (with_member text line)) count ∙ sym (ap (λ b. inside_by b) passed) in (
+      subst (λ g. IsHeld g.0 held) here is_held,
+      subst (λ g. Asks line g.1 asked) here (asks_so line),
+    )
+  where
+    inside_by : Bool → Gathering × Request
+    inside_by b = cond b (Open text left, nothing_asked) (gathered_on (with_member text line) (left - 1))
+
+pub IsGrown-left : (text : List ℕ) (left to_come : ℕ) (line : Option (List ℕ)) → IsOpen text left → IsUnfed line → to_come ≡ left - 1 → IsGrown (with_member text line) to_come
+IsGrown-left text left to_come line opens unfed count = subst (IsGrown (with_member text line)) (sym count) (IsGrown-member text left line opens unfed)
+
+-- one blank more
+replicate-more : (n : ℕ) → ◌++◌ {A = ℕ} (replicate n 32) (32 ∷ []) ≡ replicate (n + 1) 32
+replicate-more n = let next : suc n ≡ n + 1 = omega arith in more n ∙ ap (λ m. replicate m 32) next
+  where
+    more : (m : ℕ) → ◌++◌ {A = ℕ} (replicate m 32) (32 ∷ []) ≡ replicate (suc m) 32
+    more zero = refl
+    more (suc m) = ap (λ l. 32 ∷ l) (more m)
+
+pub blanks-more : (base bytes : List ℕ) (n : ℕ) → bytes ≡ base ++ replicate n 32 → bytes ++ 32 ∷ [] ≡ base ++ replicate (n + 1) 32
+blanks-more base bytes n is =
+    ap (λ l. l ++ 32 ∷ []) is ∙ append_assoc base (replicate n 32) (32 ∷ []) ∙ ap (λ l. base ++ l) (replicate-more n)

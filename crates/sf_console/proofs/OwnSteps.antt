@@ -35,7 +35,7 @@ move_turn : (old new : Machine) (text : List ℕ) (r e : Result Machine Refusal)
 move_turn old new text (Ok other) e is h = inl (is ∙ ap (λ (m : Machine). let r : Result Machine Refusal = Ok m in r) (ap (λ p. p.0) h))
 move_turn old new text (Err refusal) e is h = inr (sym (ap (λ p. p.0) h))
 
-machine_at : Result (Machine × List ℕ) Refused → Option Machine
+abbrev machine_at : Result (Machine × List ℕ) Refused → Option Machine
 machine_at (Ok done) = Some done.0
 machine_at (Err refused) = None
 

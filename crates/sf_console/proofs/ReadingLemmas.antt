@@ -20,7 +20,7 @@ use Rattle.sf_groups.specs.declared.member.Member.{Member}
 use Rattle.sf_commands.specs.declared.group_text.GroupRefusal.{GroupRefusal}
 use Rattle.sf_commands.specs.declared.head.Head.{Head}
 use Rattle.sf_commands.specs.GroupTexts.{group_of}
-use Rattle.sf_console.specs.Readings.{Reading, Blank, Unreadable, Asked, by_group, line_text, text_reading}
+use Rattle.sf_console.specs.Readings.{Reading, Blank, Unreadable, Asked, Grouped, by_group, line_text, text_reading}
 use Rattle.sf_console.specs.Requests.{Closed, Comes, Ends, Event, Gathering, Open, Request, come, events_of, gathered, gathered_on, is_passed_over, left_by, left_in, line_head, nothing_asked, outside, readings, readings_of, requests_from, whole_lines_come, whole_readings_of, with_member}
 use Rattle.sf_console.specs.Gatherings.{events_at_end}
 use Rattle.sf_console.specs.Chunks.{readings_in}
@@ -32,6 +32,15 @@ reading_by utf8 blank text = cond (not utf8) (Unreadable BadCommand) (cond blank
 
 pub text_reading-by : (text : List ℕ) (utf8 blank : Bool) → is_utf8 text ≡ utf8 → list_all is_blank text ≡ blank → text_reading text ≡ reading_by utf8 blank text
 text_reading-by text utf8 blank u b = ap (λ x. reading_by x (list_all is_blank text) text) u ∙ ap (λ x. reading_by utf8 x text) b
+
+-- a text that is a group, and one that is none
+pub text_reading-group : (text : List ℕ) (editor : ℕ) (members : Result (List Member) GroupRefusal) → is_utf8 text ≡ true → list_all is_blank text ≡ false
+    → group_of text ≡ Some (editor, members) → text_reading text ≡ Grouped editor members
+text_reading-group text editor members u b is = text_reading-by text true false u b ∙ ap (by_group text) is
+
+pub text_reading-alone : (text : List ℕ) → is_utf8 text ≡ true → list_all is_blank text ≡ false → group_of text ≡ None
+    → text_reading text ≡ Asked (takes_memory text) (command_of text)
+text_reading-alone text u b is = text_reading-by text true false u b ∙ ap (by_group text) is
 
 -- memory may be wanting for what takes it as it is carried out, whether or not reading takes any
 carried : (takes : Bool) (old : Machine) (command : Result (ℕ × Command) Refusal) → MayWant old false command → MayWant old takes command
@@ -188,6 +197,7 @@ open-asks_nothing (Open had to_come) (Comes line) text left is = of_test (is_pas
     of_count : (whole : List ℕ) (n : ℕ) → (gathered_on whole n).0 ≡ Open text left → (gathered_on whole n).1 ≡ nothing_asked
     of_count whole zero is = absurd cc
     of_count whole (suc n) is = refl
+
     of_test : (passed : Bool) → (if passed then (Open had to_come, nothing_asked) else gathered_on (with_member had line) (to_come - 1)).0 ≡ Open text left
         → (if passed then (Open had to_come, nothing_asked) else gathered_on (with_member had line) (to_come - 1)).1 ≡ nothing_asked
     of_test true is = refl

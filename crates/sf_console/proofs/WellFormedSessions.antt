@@ -120,12 +120,13 @@ text_brings : (text : List ℕ) → LineBrings (text_reading text)
 text_brings text =
     by_test (not (is_utf8 text)) (Unreadable BadCommand) _ tt (by_test (list_all is_blank text) Blank (by_group text (group_of text)) tt (of_group (group_of text) refl))
   where
-    of_group : (group : Option (ℕ × Result (List Member) GroupRefusal)) → group_of text ≡ group → LineBrings (by_group text group)
-    of_group None is = commands_bring_grid_points text
-    of_group (Some group) is = λ members spelled. members_bring_grid_points text members (sym (spelled_in (parts_of text) group is) ∙ spelled)
     spelled_in : (parts : List (List ℕ)) (group : ℕ × Result (List Member) GroupRefusal) → group_by_parts parts text ≡ Some group → group.1 ≡ members_of text
     spelled_in [] group is = absurd cc
     spelled_in (first ∷ members) group is = group_spelled text (head_of first) (length members) refl group is
+
+    of_group : (group : Option (ℕ × Result (List Member) GroupRefusal)) → group_of text ≡ group → LineBrings (by_group text group)
+    of_group None is = commands_bring_grid_points text
+    of_group (Some group) is = λ members spelled. members_bring_grid_points text members (sym (spelled_in (parts_of text) group is) ∙ spelled)
 
 line_brings : (line : Option (List ℕ)) → LineBrings (reading_of line)
 line_brings None = tt
@@ -143,6 +144,7 @@ event_brings (Open text left) (Comes line) = by_passed (is_passed_over line)
     by_left : (whole : List ℕ) (n : ℕ) → LineBrings (gathered_on whole n).1.reading
     by_left whole zero = text_brings whole
     by_left whole (suc n) = tt
+
     by_passed : (passed : Bool) → LineBrings (if passed then (Open text left, nothing_asked) else gathered_on (with_member text line) (left - 1)).1.reading
     by_passed true = tt
     by_passed false = by_left (with_member text line) (left - 1)

@@ -108,11 +108,7 @@ fn answer_asked(
 }
 
 /// Answers a line that asks something by itself.
-fn answer_alone(
-    alloc: Global,
-    editor: &mut Editor,
-    line: Option<&[u8]>,
-) -> Result<Reply, Refusal>
+fn answer_alone(alloc: Global, editor: &mut Editor, line: Option<&[u8]>) -> Result<Reply, Refusal>
     ensures { IsAnswered editor.old (reading_of (option_copied line.entry)) (reply_text result) editor.new }
 {
     match line {

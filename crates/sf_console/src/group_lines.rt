@@ -1,8 +1,8 @@
 //! Groups of edits whose lines are still coming.
-ghost use Rattle.std.specs.Prelude.{◌≡◌, ◌↔◌, IsTrue, ℕ, List, MatchOption, None, OnOk, Some, option_copied, replicate, string_bytes, ◌++◌, ◌+◌, if◌then◌else◌};
+ghost use Rattle.std.specs.Prelude.{◌≡◌, ◌↔◌, IsTrue, ℕ, [], ◌∷◌, List, MatchOption, None, Option, OnOk, Some, option_copied, replicate, string_bytes, ◌++◌, ◌+◌, if◌then◌else◌};
 ghost use Rattle.sf_commands.specs.declared.head.Head.{Head as HeadOf};
 ghost use Rattle.sf_lines.specs.Lines.{HasNoFeed, line_max};
-ghost use Rattle.sf_commands.specs.GroupTexts.{head_of as head_spelled, is_return};
+ghost use Rattle.sf_commands.specs.GroupTexts.{is_return};
 ghost use Rattle.std.specs.List.{list_any};
 ghost use Rattle.sf_console.specs.Requests.{Closed, Comes, Gathering, Open, gathered, gathered_on, is_member_text, is_passed_over as is_passed_over_of, line_head, member_text as member_text_of, with_member};
 ghost use Rattle.sf_console.specs.Gatherings.{Asks, IsGrown, IsHeld, IsOpen, IsUnfed};
@@ -90,9 +90,18 @@ fn head_in(line: Option<&[u8]>) -> Option<(&str, Head)>
         (line_head (option_copied line.entry) ≡ None)
         (λ head. (option_copied line.entry ≡ Some head.0.now) × (line_head (option_copied line.entry) ≡ Some head.1)) }
 {
-    let Some(bytes) = line else {
-        return None;
-    };
+    match line {
+        Some(bytes) => head_of_bytes(bytes),
+        None => None,
+    }
+}
+
+/// The same of the bytes of a line.
+fn head_of_bytes(bytes: &[u8]) -> Option<(&str, Head)>
+    ensures { MatchOption result
+        (line_head (Some bytes.now) ≡ None)
+        (λ head. (bytes.now ≡ head.0.now) × (line_head (Some bytes.now) ≡ Some head.1)) }
+{
     let Ok(text) = from_utf8(bytes) else {
         return None;
     };
@@ -104,7 +113,7 @@ fn head_in(line: Option<&[u8]>) -> Option<(&str, Head)>
 
 /// A group of which the head alone has come.
 fn opened(alloc: Global, text: &str, members: u16) -> GroupLines
-    ensures { (head : HeadOf) → head_spelled text.now ≡ Some head → head.members ≡ members → HasNoFeed text.now → IsHeld (Open text.now members) result }
+    ensures { (head : HeadOf) → line_head (Some text.now) ≡ Some head → head.members ≡ members → HasNoFeed text.now → IsHeld (Open text.now members) result }
 {
     match String::from_str(alloc, text) {
         Ok(text) => GroupLines::Open {
@@ -188,11 +197,18 @@ fn is_blank_line(bytes: &[u8]) -> bool
     }
 }
 
-/// Puts a line behind the others, as the text of a member.
+/// Puts a further member behind the lines of a group.
 fn push_member(text: &mut String, line: Option<&[u8]>) -> Result<(), AllocError>
     ensures { OnOk result (string_bytes text.new ≡ with_member (string_bytes text.old) (option_copied line.entry)) }
 {
-    text.push('\r')?;
+    text.push_str("\r")?;
+    push_line(text, line)
+}
+
+/// Puts a line behind a text, as the text of a member.
+fn push_line(text: &mut String, line: Option<&[u8]>) -> Result<(), AllocError>
+    ensures { OnOk result (string_bytes text.new ≡ string_bytes text.old ++ member_text_of (option_copied line.entry)) }
+{
     match line {
         Some(bytes) => text.push_str(member_text(bytes)),
         None => push_too_many_blanks(text),
@@ -204,9 +220,16 @@ fn member_text(bytes: &[u8]) -> &str
     ensures { result.now ≡ member_text_of (Some bytes.now) }
 {
     match from_utf8(bytes) {
-        Ok(text) if !has_return(text) => text,
-        _ => "",
+        Ok(text) => unless_returned(text),
+        Err(_) => "",
     }
+}
+
+/// A text, or nothing where it has a carriage return.
+fn unless_returned(text: &str) -> &str
+    ensures { result.now ≡ (if list_any is_return text.now then [] else text.now) }
+{
+    if has_return(text) { "" } else { text }
 }
 
 /// Whether a text has a carriage return.
@@ -220,8 +243,14 @@ fn has_return(text: &str) -> bool
 fn push_too_many_blanks(text: &mut String) -> Result<(), AllocError>
     ensures { OnOk result (string_bytes text.new ≡ string_bytes text.old ++ replicate (line_max + 1) 32) }
 {
-    for _ in 0..=LINE_MAX {
-        text.push(' ')?;
+    for _ in 0..LINE_MAX + 1 {
+        push_blank(text)?;
     }
     Ok(())
+}
+
+fn push_blank(text: &mut String) -> Result<(), AllocError>
+    ensures { OnOk result (string_bytes text.new ≡ string_bytes text.old ++ 32 ∷ []) }
+{
+    text.push_str(" ")
 }

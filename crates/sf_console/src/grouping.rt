@@ -5,7 +5,8 @@ ghost use Rattle.sf_commands.specs.declared.group_text.GroupRefusal.{GroupRefusa
 ghost use Rattle.sf_commands.specs.GroupTexts.{OrNoMemory, members_of};
 ghost use Rattle.sf_history.specs.History.{grouped};
 ghost use Rattle.sf_console.specs.Answers.{cut_line, group_refusal_line, group_reply, identifiers_line, refusal_line, reply_text};
-ghost use Rattle.sf_console.specs.Readings.{Cut, Grouped};
+ghost use Rattle.sf_console.specs.Gatherings.{told_as};
+ghost use Rattle.sf_console.specs.Readings.{Grouped};
 ghost use Rattle.sf_console.specs.Session.{IsAnswered};
 
 use super::one_line::AnswerLine;

@@ -1,20 +1,10 @@
-use Rattle.std.proofs.Common.{◌≡◌, ◌∙◌, true, sym, subst}
-use Rattle.sf_lines.specs.Lines.{without_return}
-use Rattle.sf_lines.proofs.BufferLemmas.{line_buffered-Some, line_buffered-None}
-use Rattle.sf_console.specs.Answers.{reply_text}
-use Rattle.sf_console.specs.Readings.{text_reading}
-use Rattle.sf_console.specs.Session.{IsAnswered}
-use Rattle.sf_console.proofs.ReadingLemmas.{IsAnswered-short, IsAnswered-long}
+use Rattle.std.proofs.Common.{true, sym, subst}
+use Rattle.sf_console.specs.Gatherings.{IsUnfed}
+use Rattle.sf_console.proofs.GroupLaws.{IsTaken-as, IsUnfed-line}
 use Rattle.sf_console.proofs.answering.answer_line.Goals as goal
 
-pub returns-in_default : goal.returns-in_default
-returns-in_default c = λ bytes is_buffer.
-    IsAnswered-long c.args.editor.now (record { bytes = bytes; ended = true }) (is_buffer.long (line_buffered-None c.args.buffer.now c.in_default.ensures))
-
 pub returns : goal.returns
-returns c = λ bytes is_buffer.
-    let line = line_buffered-Some c.args.buffer.now c.in-Some.bytes.now c.in-Some.ensures in
-    let whole : c.in-Some.bytes.now ≡ bytes = sym line.1 ∙ is_buffer.whole line.0 in
-    IsAnswered-short c.args.editor.now c.answer_text.new.editor (record { bytes = bytes; ended = true }) (reply_text c.answer_text.result) (is_buffer.short line.0)
-    (subst (λ l. IsAnswered c.args.editor.now (text_reading (without_return l)) (reply_text c.answer_text.result) c.answer_text.new.editor) whole
-    (subst (λ l. IsAnswered c.args.editor.now (text_reading l) (reply_text c.answer_text.result) c.answer_text.new.editor) c.without_return.ensures c.answer_text.ensures))
+returns c = λ bytes gathering is_buffer unfed is_held.
+    let same = c.whole_line-line.ensures bytes is_buffer in
+    let taken = c.take-asks.ensures gathering is_held (subst IsUnfed (sym same) (IsUnfed-line (record { bytes = bytes; ended = true }) unfed)) in
+    IsTaken-as _ _ gathering _ _ _ _ same (c.answer_asked.ensures _ taken.1) taken.0
