@@ -1,5 +1,5 @@
 //! The lines of a reader, answered once they are kept.
-ghost use Rattle.std.specs.Prelude.{◌≡◌, ◌≤◌, ◌+◌, ◌∷◌, ℕ, List, [], true, false, length, option_copied, IfOk, OnOk, OnErr};
+ghost use Rattle.std.specs.Prelude.{◌≡◌, ◌≤◌, ◌<◌, ◌+◌, ◌∷◌, ℕ, List, [], true, false, length, option_copied, IfOk, OnOk, OnErr};
 ghost use Rattle.sf_lines.specs.Lines.{HasNoFeed, line_max, text_of};
 ghost use Rattle.sf_lines.specs.Buffers.{IsBufferOf};
 ghost use Rattle.sf_history.specs.History.{Machine};
@@ -126,7 +126,7 @@ fn tell_reply<D: Desk>(
 
 /// Carries out a text that is no longer than a line. Where it is accepted as an edit, a group, an undo or a redo, its record
 /// waits, and its answer behind that.
-fn keep_text<D: Desk>(
+fn keep_short<D: Desk>(
     alloc: Global,
     editor: &mut Editor,
     pending: &mut Pending,
@@ -165,23 +165,23 @@ fn keep_answered(pending: &mut Pending, text: &[u8], answer: &[u8]) -> Result<()
     Ok(())
 }
 
-/// Carries out the text of a group, however long it is.
-fn keep_group<D: Desk>(
+/// Carries out a text, however long it is. Only that of a group is longer than a line.
+fn keep_text<D: Desk>(
     alloc: Global,
     editor: &mut Editor,
     pending: &mut Pending,
     desk: &mut D,
     text: &[u8],
 ) -> Result<(), KeepFault>
-    ensures ok { OnOk result ((request : Request) → IsRequestOf request text.now → IsGrouped request.reading →
+    ensures ok { OnOk result ((request : Request) → IsRequestOf request text.now → (line_max < length text.now → IsGrouped request.reading) →
         GoesOnBy (D.calls desk.old) (D.calls desk.new) pending.old editor.old (request ∷ []) pending.new editor.new) }
-    ensures broken { OnErr result ((request : Request) → IsRequestOf request text.now → IsGrouped request.reading →
+    ensures broken { OnErr result ((request : Request) → IsRequestOf request text.now → (line_max < length text.now → IsGrouped request.reading) →
         BreaksWithin (D.calls desk.old) (D.calls desk.new) pending.old editor.old (request ∷ []) editor.new) }
 {
     if text.len() > LINE_MAX {
         keep_long(alloc, editor, pending, desk, text)
     } else {
-        keep_text(alloc, editor, pending, desk, text)
+        keep_short(alloc, editor, pending, desk, text)
     }
 }
 
@@ -225,15 +225,15 @@ fn keep_asked<D: Desk>(
     line: Option<&[u8]>,
     asks: LineAsks,
 ) -> Result<(), KeepFault>
-    ensures ok { OnOk result ((request : Request) → Asks (option_copied line) request asks → IsLineText (option_copied line) →
+    ensures ok { OnOk result ((request : Request) → Asks (option_copied line.entry) request asks → IsLineText (option_copied line.entry) →
         GoesOnBy (D.calls desk.old) (D.calls desk.new) pending.old editor.old (request ∷ []) pending.new editor.new) }
-    ensures broken { OnErr result ((request : Request) → Asks (option_copied line) request asks → IsLineText (option_copied line) →
+    ensures broken { OnErr result ((request : Request) → Asks (option_copied line.entry) request asks → IsLineText (option_copied line.entry) →
         BreaksWithin (D.calls desk.old) (D.calls desk.new) pending.old editor.old (request ∷ []) editor.new) }
 {
     match asks {
         LineAsks::Nothing => tell_reply(pending, desk, Ok(Reply::Nothing)),
         LineAsks::Itself => keep_alone(alloc, editor, pending, desk, line),
-        LineAsks::Group(text) => keep_group(alloc, editor, pending, desk, text.as_bytes()),
+        LineAsks::Group(text) => keep_text(alloc, editor, pending, desk, text.as_bytes()),
         LineAsks::Lost => tell_reply(pending, desk, Err(Refusal::Memory)),
     }
 }
@@ -246,10 +246,10 @@ fn keep_alone<D: Desk>(
     desk: &mut D,
     line: Option<&[u8]>,
 ) -> Result<(), KeepFault>
-    ensures ok { OnOk result (IsLineText (option_copied line) →
-        GoesOnBy (D.calls desk.old) (D.calls desk.new) pending.old editor.old (line_request (option_copied line) ∷ []) pending.new editor.new) }
-    ensures broken { OnErr result (IsLineText (option_copied line) →
-        BreaksWithin (D.calls desk.old) (D.calls desk.new) pending.old editor.old (line_request (option_copied line) ∷ []) editor.new) }
+    ensures ok { OnOk result (IsLineText (option_copied line.entry) →
+        GoesOnBy (D.calls desk.old) (D.calls desk.new) pending.old editor.old (line_request (option_copied line.entry) ∷ []) pending.new editor.new) }
+    ensures broken { OnErr result (IsLineText (option_copied line.entry) →
+        BreaksWithin (D.calls desk.old) (D.calls desk.new) pending.old editor.old (line_request (option_copied line.entry) ∷ []) editor.new) }
 {
     match line {
         Some(text) => keep_text(alloc, editor, pending, desk, text),
