@@ -51,11 +51,7 @@ fn asks_for_save(line: &LineBuffer) -> bool
 
 /// Makes room for the longest record of a line, and for the answer to a text of so many bytes: where there is none, what waits
 /// is kept.
-fn make_room<D: Desk>(
-    pending: &mut Pending,
-    desk: &mut D,
-    text: usize,
-) -> Result<(), KeepFault>
+fn make_room<D: Desk>(pending: &mut Pending, desk: &mut D, text: usize) -> Result<(), KeepFault>
     requires { text ≤ line_max }
     ensures records { OnOk result (length pending.new.records + 131090 ≤ 262144) }
     ensures answers { OnOk result (length pending.new.answers + (text + 48) ≤ 262144) }
@@ -118,7 +114,11 @@ fn tell_reply<D: Desk>(
         Ok(Reply::Matrix(matrix)) => tell(pending, desk, &matrix_line(&matrix)),
         Ok(Reply::Identifiers(text)) => tell(pending, desk, text.as_slice()),
         Ok(Reply::MemberRefused(number, refusal)) => {
-            tell(pending, desk, AnswerLine::member_refused(number, refusal).as_bytes())
+            tell(
+                pending,
+                desk,
+                AnswerLine::member_refused(number, refusal).as_bytes(),
+            )
         }
         Err(refusal) => tell(pending, desk, AnswerLine::refused(refusal).as_bytes()),
     }

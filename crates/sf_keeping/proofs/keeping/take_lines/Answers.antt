@@ -27,8 +27,8 @@ returns-in_err-keep_line-clause-broken g c = OnErr-from c.from_residual.result (
     let ended : IsBufferOf (t.after ++ e.front) c.end_line.new.self.begun = ended-buffer t.after c.loop-alloc.input c.end_line.new.self t.is_buffer e in
     let again : IsBufferOf (t.after ++ e.front) c.line-in-loop-alloc.result.now = subst (IsBufferOf (t.after ++ e.front)) (sym c.line-in-loop-alloc.ensures) ended in
     let none : IsNoSave (left_in gathering t.finished) (t.after ++ e.front) = elim c.else-is_closed.branch [
-      else-is_closed-via-then-is_closed+else-asks_for_save w ↦ λ _. sym (w.asks_for_save.ensures (t.after ++ e.front) (subst (IsBufferOf (t.after ++ e.front)) (sym w.line.ensures) ended)) ∙ w.if-asks_for_save.false
-    | else-is_closed-via-else-is_closed w ↦ not-closed (left_in gathering t.finished) c.is_closed.result (c.is_closed.ensures (left_in gathering t.finished) t.is_held) w.if-is_closed.false
+      | else-is_closed-via-then-is_closed+else-asks_for_save w ↦ λ _. sym (w.asks_for_save.ensures (t.after ++ e.front) (subst (IsBufferOf (t.after ++ e.front)) (sym w.line.ensures) ended)) ∙ w.if-asks_for_save.false
+      | else-is_closed-via-else-is_closed w ↦ not-closed (left_in gathering t.finished) c.is_closed.result (c.is_closed.ensures (left_in gathering t.finished) t.is_held) w.if-is_closed.false
     ] in
     BreaksLines-line before _ gathering c.loop-alloc.group _ _ _ _ _ _ _ _ c.loop-alloc.input c.end_line.new.self t e none
     (c.in_err-keep_line.ensures.broken (t.after ++ e.front) (left_in gathering t.finished) again (HasNoFeed-append t.after e.front t.unfed e.unfed) t.is_held))
@@ -40,8 +40,8 @@ loop-alloc-preserved g c = λ before gathering is_buffer unfed is_held.
     let ended : IsBufferOf (t.after ++ e.front) c.end_line.new.self.begun = ended-buffer t.after c.loop-alloc.input c.end_line.new.self t.is_buffer e in
     let again : IsBufferOf (t.after ++ e.front) c.line-in-loop-alloc.result.now = subst (IsBufferOf (t.after ++ e.front)) (sym c.line-in-loop-alloc.ensures) ended in
     let none : IsNoSave (left_in gathering t.finished) (t.after ++ e.front) = elim c.else-is_closed.branch [
-      else-is_closed-via-then-is_closed+else-asks_for_save w ↦ λ _. sym (w.asks_for_save.ensures (t.after ++ e.front) (subst (IsBufferOf (t.after ++ e.front)) (sym w.line.ensures) ended)) ∙ w.if-asks_for_save.false
-    | else-is_closed-via-else-is_closed w ↦ not-closed (left_in gathering t.finished) c.is_closed.result (c.is_closed.ensures (left_in gathering t.finished) t.is_held) w.if-is_closed.false
+      | else-is_closed-via-then-is_closed+else-asks_for_save w ↦ λ _. sym (w.asks_for_save.ensures (t.after ++ e.front) (subst (IsBufferOf (t.after ++ e.front)) (sym w.line.ensures) ended)) ∙ w.if-asks_for_save.false
+      | else-is_closed-via-else-is_closed w ↦ not-closed (left_in gathering t.finished) c.is_closed.result (c.is_closed.ensures (left_in gathering t.finished) t.is_held) w.if-is_closed.false
     ] in
     let kept = c.in_ok-keep_line.ensures.ok (t.after ++ e.front) (left_in gathering t.finished) again (HasNoFeed-append t.after e.front t.unfed e.unfed) t.is_held in
     TakesLines-line before _ gathering c.loop-alloc.group c.keep_line.new.group _ _ _ _ _ _ _ _ _ c.loop-alloc.input c.end_line.new.self _ t e none kept.0 kept.1 c.begin_line-in-loop-alloc.ensures

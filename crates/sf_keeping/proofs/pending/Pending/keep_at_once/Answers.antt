@@ -12,6 +12,8 @@ returns-in_err-answer-clause-broken g c = OnErr-from c.from_residual-in_err-answ
     let made : Makes (g.D.Desk.calls c.args.desk.now) (g.D.Desk.calls c.answer.new.self) (Appends c.args.bytes.now ∷ Syncs ∷ Answers c.args.answer.now ∷ []) =
     Makes-trans _ (g.D.Desk.calls c.sync.new.self) _ (Appends c.args.bytes.now ∷ Syncs ∷ []) _
     (Makes-trans _ (g.D.Desk.calls c.append.new.self) _ (Appends c.args.bytes.now ∷ []) _ c.in_ok-append.ensures.ok c.in_ok-sync.ensures.ok) c.answer.ensures in
-    let calls = at_once_calls c.args.self.now c.args.text.now c.args.bytes.now c.args.answer.now none is some in
-    (committing_calls (with_answer (with_text c.args.self.now c.args.text.now) c.args.answer.now),
-    subst (λ l. Makes (g.D.Desk.calls c.args.desk.now) (g.D.Desk.calls c.answer.new.self) l) (sym calls) made, inr refl))
+    let calls = at_once_calls c.args.self.now c.args.text.now c.args.bytes.now c.args.answer.now none is some in (
+      committing_calls (with_answer (with_text c.args.self.now c.args.text.now) c.args.answer.now),
+      subst (λ l. Makes (g.D.Desk.calls c.args.desk.now) (g.D.Desk.calls c.answer.new.self) l) (sym calls) made,
+      inr refl,
+    ))
