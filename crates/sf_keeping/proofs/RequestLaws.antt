@@ -1,9 +1,9 @@
 -- What bytes ask that come in parts, and which of it asks for a save.
-use Rattle.std.proofs.Common.{◌≡◌, ◌≢◌, ◌↔◌, ℕ, zero, suc, ◌+◌, ◌-◌, ◌<◌, ◌≤◌, Bool, true, false, IsTrue, cond, ◌==◌, ◌||◌, bytes_eq, codes, nat_lt, List, [], ◌∷◌, ◌++◌, take, drop, slice_index, length, Option, None, Some, if◌then◌else◌, refl, sym, ap, ◌∙◌, subst, append_assoc, arith}
+use Rattle.std.proofs.Common.{◌≡◌, ◌≢◌, ◌↔◌, ℕ, zero, suc, ◌+◌, ◌-◌, ◌<◌, ◌≤◌, Bool, true, false, IsTrue, cond, ◌==◌, ◌||◌, codes, nat_lt, List, [], ◌∷◌, ◌++◌, take, drop, slice_index, length, Option, None, Some, if◌then◌else◌, refl, sym, ap, ◌∙◌, subst, append_assoc, arith}
 use Rattle.std.proofs.lemmas.List.{take-append-drop, length-append}
 use Rattle.std.proofs.lemmas.Grind.{common_steps}
 use Rattle.std.proofs.lemmas.Slice.Eq.{bytes_eq-Decides}
-use Rattle.std.specs.List.{AllByRecursion, list_any}
+use Rattle.std.specs.List.{list_any}
 use Rattle.sf_lines.specs.Lines.{Line, line_max, lines_of, text_of, without_return, IsWhole, HasNoFeed}
 use Rattle.sf_lines.proofs.LineLemmas.{lines_of-unfed}
 use Rattle.sf_lines.specs.Buffers.{Buffered, IsBufferOf, line_buffered, nothing_buffered}

@@ -10,7 +10,7 @@ use Rattle.sf_journal.specs.Records.{records, line_of, sum_with, sum_behind}
 use Rattle.sf_history.specs.History.{Machine}
 use Rattle.sf_console.specs.declared.group_lines.GroupLines.{GroupLines}
 use Rattle.sf_console.specs.declared.group_lines.GroupLines.TheVariants as lines
-use Rattle.sf_console.specs.Requests.{Closed, Ends, Gathering, Request, come, left_in, requests_from, requests_in, requests_of}
+use Rattle.sf_console.specs.Requests.{Closed, Ends, Request, come, left_in, requests_from, requests_in, requests_of}
 use Rattle.sf_console.specs.Gatherings.{IsHeld}
 use Rattle.sf_console.proofs.ReadingLemmas.{left_in-whole}
 use Rattle.sf_keeping.specs.Desks.{Call, Makes, nothing_yet, after_calls}

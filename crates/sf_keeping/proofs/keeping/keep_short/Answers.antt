@@ -12,7 +12,7 @@ returns-in_err-make_room-clause-broken g c = OnErr-from c.from_residual.result (
 pub returns-in-Changed-clause-ok : goal.returns-in-Changed-clause-ok
 returns-in-Changed-clause-ok g c = OnOk-map c.keep_answered.result
     (λ next request is. GoesOnBy-changed _ _ _ c.make_room.new.pending _ _ _ request c.args.text.now _ c.in_ok-make_room.ensures.ok is c.in-Changed.ensures.0 c.in-Changed.ensures.1
-    (next ∙ ap (with_answer (with_text c.make_room.new.pending c.args.text.now)) (c.as_bytes-in-Changed.ensures ∙ c.accepted.ensures)))
+    (next ∙ ap (with_answer (with_text c.make_room.new.pending c.args.text.now)) (c.as_bytes.ensures ∙ c.accepted.ensures)))
     c.keep_answered.ensures.ok
 
 pub returns-in-Changed-clause-broken : goal.returns-in-Changed-clause-broken
