@@ -1,9 +1,10 @@
 -- Calls, one after another.
 use Rattle.std.proofs.Common.{◌≡◌, ◌≢◌, ℕ, ◌+◌, false, nat_le, length, arith, List, [], ◌∷◌, ◌++◌, Option, None, Some, Result, Ok, Err, OnOk, OnErr, IfOk, IfErr, IsErrAnd, subst, refl, sym, ap, ◌∙◌, append_assoc, append-nil}
 use Rattle.std.proofs.lemmas.Grind.{common_steps}
+use Rattle.sf_journal.specs.Records.{line_of, record_of}
 use Rattle.sf_keeping.specs.Desks.{Call, Makes}
-use Rattle.sf_keeping.specs.Desks.Call.{Answers}
-use Rattle.sf_keeping.specs.Waiting.{answering_calls}
+use Rattle.sf_keeping.specs.Desks.Call.{Answers, Appends, Syncs}
+use Rattle.sf_keeping.specs.Waiting.{Waiting, answering_calls, committing_calls, keeping_calls, nothing_waits, with_answer, with_text}
 
 -- calls behind others
 pub Makes-trans : (first mid last : Option (List Call)) (calls more : List Call) → Makes first mid calls → Makes mid last more → Makes first last (calls ++ more)
@@ -21,6 +22,31 @@ Makes-none (Some calls) = sym (append-nil calls)
 pub answering-some : (bytes : List ℕ) → bytes ≢ [] → answering_calls bytes ≡ Answers bytes ∷ []
 answering-some [] some = absurd (some refl)
 answering-some (b ∷ bytes) some = refl
+
+-- so are records kept by two
+keeping-some : (bytes : List ℕ) → bytes ≢ [] → keeping_calls bytes ≡ Appends bytes ∷ Syncs ∷ []
+keeping-some [] some = absurd (some refl)
+keeping-some (b ∷ bytes) some = refl
+
+-- what ends in a line feed is there
+fed-some : (bytes line : List ℕ) → bytes ≡ line ++ 10 ∷ [] → bytes ≢ []
+fed-some bytes [] is none = absurd (no (sym none ∙ is))
+  where
+    no : ◌≡◌ {A = List ℕ} [] (10 ∷ []) → ⊥
+    no h = cc
+fed-some bytes (b ∷ line) is none = absurd (no (sym none ∙ is))
+  where
+    no : ◌≡◌ {A = List ℕ} [] (b ∷ line ++ 10 ∷ []) → ⊥
+    no h = cc
+
+-- a record is kept and an answer put out at once, where nothing waits
+pub at_once_calls : (was : Waiting) (text bytes answer : List ℕ) → was ≡ nothing_waits was.sum → bytes ≡ record_of was.sum text → answer ≢ []
+    → committing_calls (with_answer (with_text was text) answer) ≡ Appends bytes ∷ Syncs ∷ Answers answer ∷ []
+at_once_calls was text bytes answer none is some =
+    ap (λ w. committing_calls (with_answer (with_text w text) answer)) none
+    ∙ ap (λ r. keeping_calls r ++ answering_calls answer) (sym is)
+    ∙ ap (λ calls. calls ++ answering_calls answer) (keeping-some bytes (fed-some bytes (line_of was.sum text) is))
+    ∙ ap (λ calls. Appends bytes ∷ Syncs ∷ calls) (answering-some answer some)
 
 -- what follows from two facts of an Ok
 pub OnOk-both : {T E P Q R : Type 0} (r : Result T E) → (P → Q → R) → OnOk r P → OnOk r Q → OnOk r R

@@ -3,8 +3,9 @@ pub mod InputLaws
 pub mod KeptLaws
 pub mod MomentLaws
 pub mod Underways
+pub mod RequestLaws
+pub mod KeepingLaws
 pub mod TakingLaws
 pub mod ServingLaws
 pub mod ReplayLaws
 pub mod CarryingLaws
-pub mod KeepingLaws

@@ -1,5 +1,5 @@
 //! A text carried out, and whether it is one to be kept.
-ghost use Rattle.std.specs.Prelude.{Ok, Result};
+ghost use Rattle.std.specs.Prelude.{List, Ok, Result};
 ghost use Rattle.sf_groups.specs.declared.member.Member.{Member};
 ghost use Rattle.sf_commands.specs.declared.group_text.GroupRefusal.{GroupRefusal as GroupRefusalOf};
 ghost use Rattle.sf_commands.specs.GroupTexts.{OrNoMemory};

@@ -1,9 +1,9 @@
 //! The lines of a reader, answered once they are kept.
-ghost use Rattle.std.specs.Prelude.{◌≡◌, ◌≤◌, ◌+◌, ◌∷◌, ℕ, List, [], true, false, length, option_copied, IfOk, OnOk, OnErr};
+ghost use Rattle.std.specs.Prelude.{◌≡◌, ◌≤◌, ◌<◌, ◌+◌, ◌∷◌, ℕ, List, [], true, false, length, option_copied, IfOk, OnOk, OnErr};
 ghost use Rattle.sf_lines.specs.Lines.{HasNoFeed, line_max, text_of};
 ghost use Rattle.sf_lines.specs.Buffers.{IsBufferOf};
 ghost use Rattle.sf_history.specs.History.{Machine};
-ghost use Rattle.sf_console.specs.Answers.{refusal_line, reply_text};
+ghost use Rattle.sf_console.specs.Answers.{reply_text};
 ghost use Rattle.sf_keeping.specs.Waiting.{nothing_waits};
 ghost use Rattle.sf_keeping.specs.Saves.{is_save as is_save_of, AskForNone};
 ghost use Rattle.sf_console.specs.Requests.{Gathering, Request, line_request};
@@ -51,11 +51,7 @@ fn asks_for_save(line: &LineBuffer) -> bool
 
 /// Makes room for the longest record of a line, and for the answer to a text of so many bytes: where there is none, what waits
 /// is kept.
-fn make_room<D: Desk>(
-    pending: &mut Pending,
-    desk: &mut D,
-    text: usize,
-) -> Result<(), KeepFault>
+fn make_room<D: Desk>(pending: &mut Pending, desk: &mut D, text: usize) -> Result<(), KeepFault>
     requires { text ≤ line_max }
     ensures records { OnOk result (length pending.new.records + 131090 ≤ 262144) }
     ensures answers { OnOk result (length pending.new.answers + (text + 48) ≤ 262144) }
@@ -118,7 +114,11 @@ fn tell_reply<D: Desk>(
         Ok(Reply::Matrix(matrix)) => tell(pending, desk, &matrix_line(&matrix)),
         Ok(Reply::Identifiers(text)) => tell(pending, desk, text.as_slice()),
         Ok(Reply::MemberRefused(number, refusal)) => {
-            tell(pending, desk, AnswerLine::member_refused(number, refusal).as_bytes())
+            tell(
+                pending,
+                desk,
+                AnswerLine::member_refused(number, refusal).as_bytes(),
+            )
         }
         Err(refusal) => tell(pending, desk, AnswerLine::refused(refusal).as_bytes()),
     }
@@ -126,7 +126,7 @@ fn tell_reply<D: Desk>(
 
 /// Carries out a text that is no longer than a line. Where it is accepted as an edit, a group, an undo or a redo, its record
 /// waits, and its answer behind that.
-fn keep_text<D: Desk>(
+fn keep_short<D: Desk>(
     alloc: Global,
     editor: &mut Editor,
     pending: &mut Pending,
@@ -165,23 +165,23 @@ fn keep_answered(pending: &mut Pending, text: &[u8], answer: &[u8]) -> Result<()
     Ok(())
 }
 
-/// Carries out the text of a group, however long it is.
-fn keep_group<D: Desk>(
+/// Carries out a text, however long it is. Only that of a group is longer than a line.
+fn keep_text<D: Desk>(
     alloc: Global,
     editor: &mut Editor,
     pending: &mut Pending,
     desk: &mut D,
     text: &[u8],
 ) -> Result<(), KeepFault>
-    ensures ok { OnOk result ((request : Request) → IsRequestOf request text.now → IsGrouped request.reading →
+    ensures ok { OnOk result ((request : Request) → IsRequestOf request text.now → (line_max < length text.now → IsGrouped request.reading) →
         GoesOnBy (D.calls desk.old) (D.calls desk.new) pending.old editor.old (request ∷ []) pending.new editor.new) }
-    ensures broken { OnErr result ((request : Request) → IsRequestOf request text.now → IsGrouped request.reading →
+    ensures broken { OnErr result ((request : Request) → IsRequestOf request text.now → (line_max < length text.now → IsGrouped request.reading) →
         BreaksWithin (D.calls desk.old) (D.calls desk.new) pending.old editor.old (request ∷ []) editor.new) }
 {
     if text.len() > LINE_MAX {
         keep_long(alloc, editor, pending, desk, text)
     } else {
-        keep_text(alloc, editor, pending, desk, text)
+        keep_short(alloc, editor, pending, desk, text)
     }
 }
 
@@ -225,15 +225,15 @@ fn keep_asked<D: Desk>(
     line: Option<&[u8]>,
     asks: LineAsks,
 ) -> Result<(), KeepFault>
-    ensures ok { OnOk result ((request : Request) → Asks (option_copied line) request asks → IsLineText (option_copied line) →
+    ensures ok { OnOk result ((request : Request) → Asks (option_copied line.entry) request asks → IsLineText (option_copied line.entry) →
         GoesOnBy (D.calls desk.old) (D.calls desk.new) pending.old editor.old (request ∷ []) pending.new editor.new) }
-    ensures broken { OnErr result ((request : Request) → Asks (option_copied line) request asks → IsLineText (option_copied line) →
+    ensures broken { OnErr result ((request : Request) → Asks (option_copied line.entry) request asks → IsLineText (option_copied line.entry) →
         BreaksWithin (D.calls desk.old) (D.calls desk.new) pending.old editor.old (request ∷ []) editor.new) }
 {
     match asks {
         LineAsks::Nothing => tell_reply(pending, desk, Ok(Reply::Nothing)),
         LineAsks::Itself => keep_alone(alloc, editor, pending, desk, line),
-        LineAsks::Group(text) => keep_group(alloc, editor, pending, desk, text.as_bytes()),
+        LineAsks::Group(text) => keep_text(alloc, editor, pending, desk, text.as_bytes()),
         LineAsks::Lost => tell_reply(pending, desk, Err(Refusal::Memory)),
     }
 }
@@ -246,10 +246,10 @@ fn keep_alone<D: Desk>(
     desk: &mut D,
     line: Option<&[u8]>,
 ) -> Result<(), KeepFault>
-    ensures ok { OnOk result (IsLineText (option_copied line) →
-        GoesOnBy (D.calls desk.old) (D.calls desk.new) pending.old editor.old (line_request (option_copied line) ∷ []) pending.new editor.new) }
-    ensures broken { OnErr result (IsLineText (option_copied line) →
-        BreaksWithin (D.calls desk.old) (D.calls desk.new) pending.old editor.old (line_request (option_copied line) ∷ []) editor.new) }
+    ensures ok { OnOk result (IsLineText (option_copied line.entry) →
+        GoesOnBy (D.calls desk.old) (D.calls desk.new) pending.old editor.old (line_request (option_copied line.entry) ∷ []) pending.new editor.new) }
+    ensures broken { OnErr result (IsLineText (option_copied line.entry) →
+        BreaksWithin (D.calls desk.old) (D.calls desk.new) pending.old editor.old (line_request (option_copied line.entry) ∷ []) editor.new) }
 {
     match line {
         Some(text) => keep_text(alloc, editor, pending, desk, text),

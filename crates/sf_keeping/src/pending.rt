@@ -95,7 +95,7 @@ impl Pending {
 
     /// The record of a text that comes next.
     pub(crate) fn record_of(&self, alloc: Global, text: &[u8]) -> Result<Vec<u8>, AllocError>
-        ensures { IfOk result (λ record. record.items ≡ record_of self.now.sum text.now) }
+        ensures { IfOk result (λ bytes. bytes.items ≡ record_of self.now.sum text.now) }
     {
         let mut record = Vec::with_capacity(alloc, text.len().saturating_add(MARK_LEN + 1))?;
         record.extend_from_slice(self.sum.with(text).mark().as_slice())?;
@@ -104,8 +104,8 @@ impl Pending {
         Ok(record)
     }
 
-    /// Puts the record of a text that comes next into the journal, syncs it, and then puts its answer out, where nothing
-    /// waits.
+    /// Puts the bytes of the record of a text that comes next into the journal, syncs it, and then puts its answer out, where
+    /// nothing waits.
     ///
     /// # Errors
     ///
@@ -114,17 +114,17 @@ impl Pending {
         &mut self,
         desk: &mut D,
         text: &[u8],
-        record: &[u8],
+        bytes: &[u8],
         answer: &[u8],
     ) -> Result<(), KeepFault>
-        ensures ok { OnOk result (self.old ≡ nothing_waits self.old.sum → record.now ≡ record_of self.old.sum text.now →
+        ensures ok { OnOk result (self.old ≡ nothing_waits self.old.sum → bytes.now ≡ record_of self.old.sum text.now →
             Makes (D.calls desk.old) (D.calls desk.new) (committing_calls (with_answer (with_text self.old text.now) answer.now))) }
         ensures sum { OnOk result (self.old ≡ nothing_waits self.old.sum → self.new ≡ nothing_waits (sum_with self.old.sum text.now)) }
-        ensures broken { OnErr result (self.old ≡ nothing_waits self.old.sum → record.now ≡ record_of self.old.sum text.now →
+        ensures broken { OnErr result (self.old ≡ nothing_waits self.old.sum → bytes.now ≡ record_of self.old.sum text.now →
             (calls : List Call) × Makes (D.calls desk.old) (D.calls desk.new) calls
             × IsBrokenOff (with_answer (with_text self.old text.now) answer.now) calls) }
     {
-        desk.append(record)?;
+        desk.append(bytes)?;
         desk.sync()?;
         self.sum = self.sum.with(text);
         if answer.is_empty() {

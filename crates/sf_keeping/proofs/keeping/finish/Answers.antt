@@ -1,44 +1,56 @@
-use Rattle.std.proofs.Common.{◌≡◌, ◌≢◌, [], ◌≤◌, ◌∙◌, false, rules, sym, subst, length}
+use Rattle.std.proofs.Common.{◌≡◌, false, sym, ◌∙◌}
 use Rattle.sf_streams.proofs.SendingLaws.{OnErr-from}
-use Rattle.sf_lines.specs.Lines.{HasNoFeed, lines_of, line_max}
-use Rattle.sf_lines.proofs.BufferLemmas.{line_buffered-Some, line_buffered-None}
-use Rattle.sf_keeping.specs.Saves.{is_save, AskForNone}
-use Rattle.sf_keeping.specs.Underway.{BreaksWithin, Finishes}
-use Rattle.sf_keeping.specs.declared.keeping.Stop.TheVariants.{End}
-use Rattle.sf_keeping.proofs.KeepingLaws.{IsTold-long, IsLineOf-last, Finishes-line, BreaksWithin-line, long-some, long-no-save}
+use Rattle.sf_console.specs.Requests.{Closed}
+use Rattle.sf_keeping.specs.Saves.{is_save}
+use Rattle.sf_keeping.specs.Underway.{last_left}
+use Rattle.sf_keeping.proofs.KeepingLaws.{end_asked, nothing-kept, IsTold-by, GoesOnBy-end, BreaksWithin-end, BreaksWithin-end_kept, BreaksWithin-last}
+use Rattle.sf_keeping.proofs.RequestLaws.{end-ask-for-none}
+use Rattle.sf_keeping.proofs.TakingLaws.{not-closed}
+use Rattle.sf_keeping.proofs.Underways.{Breaks-commit, Stays-commit}
 use Rattle.sf_keeping.proofs.keeping.finish.Goals as goal
-
-pub returns-in_default-clause-ok : goal.returns-in_default-clause-ok
-returns-in_default-clause-ok g c = λ bytes is_buffer unfed _.
-    let long = is_buffer.long (line_buffered-None c.args.line.now c.in_default.ensures) in
-    Finishes-line bytes _ _ _ c.refuse_last.new.pending _ _ (long-some bytes long) unfed (long-no-save bytes long) c.in_ok-refuse_last.ensures.nothing
-    (c.in_ok-refuse_last.ensures.ok c.args.editor.now _ (IsTold-long c.args.editor.now bytes false c.args.line.now is_buffer c.in_default.ensures))
-
-pub returns-in_err-refuse_last-clause-broken : goal.returns-in_err-refuse_last-clause-broken
-returns-in_err-refuse_last-clause-broken g c = OnErr-from c.from_residual.result (λ bytes is_buffer unfed.
-    let long = is_buffer.long (line_buffered-None c.args.line.now c.in_default.ensures) in
-    BreaksWithin-line bytes _ _ _ _ _ (long-some bytes long) unfed (long-no-save bytes long)
-    (c.in_err-refuse_last.ensures.broken c.args.editor.now _ (IsTold-long c.args.editor.now bytes false c.args.line.now is_buffer c.in_default.ensures)))
+use Rattle.sf_keeping.proofs.keeping.finish.Goals.{else-is_closed-via-then-is_closed+else-is_last_save, else-is_closed-via-else-is_closed}
 
 pub returns-in_err-keep_last-clause-broken : goal.returns-in_err-keep_last-clause-broken
-returns-in_err-keep_last-clause-broken g c = OnErr-from c.from_residual-in_err-keep_last.result (λ bytes is_buffer unfed.
-    let text = c.in-Some.text.now in
-    let line = line_buffered-Some c.args.line.now text c.in-Some.ensures in
-    let whole : text ≡ bytes = sym line.1 ∙ is_buffer.whole line.0 in
-    let bare : HasNoFeed text = subst HasNoFeed (sym whole) unfed in
-    let some : text ≢ [] = search rules in
-    let none : is_save text ≡ false = search rules in
-    subst (λ b. AskForNone (lines_of b) × BreaksWithin (g.D.Desk.calls c.args.desk.now) (g.D.Desk.calls c.keep_last.new.desk) c.args.pending.now c.args.editor.now (lines_of b) c.keep_last.new.editor) whole
-    (BreaksWithin-line text _ _ _ _ _ some bare none (c.in_err-keep_last.ensures.broken _ (IsLineOf-last text bare (subst (λ b. length b ≤ line_max) (sym whole) (is_buffer.short line.0))))))
+returns-in_err-keep_last-clause-broken g c = OnErr-from c.from_residual.result (λ bytes gathering is_buffer unfed is_held.
+    let none : gathering ≡ Closed → is_save bytes ≡ false = elim c.else-is_closed.branch [
+      | else-is_closed-via-then-is_closed+else-is_last_save w ↦ λ _. sym (w.is_last_save.ensures bytes is_buffer) ∙ w.if-is_last_save.false
+      | else-is_closed-via-else-is_closed w ↦ not-closed gathering c.is_closed.result (c.is_closed.ensures gathering is_held) w.if-is_closed.false
+    ] in
+    (end-ask-for-none gathering bytes none, BreaksWithin-last _ _ _ _ _ gathering bytes (c.in_err-keep_last.ensures.broken bytes gathering is_buffer unfed is_held)))
+
+pub returns-in_err-tell_reply-clause-broken : goal.returns-in_err-tell_reply-clause-broken
+returns-in_err-tell_reply-clause-broken g c = OnErr-from c.from_residual-in_err-tell_reply.result (λ bytes gathering is_buffer unfed is_held.
+    let none : gathering ≡ Closed → is_save bytes ≡ false = elim c.else-is_closed.branch [
+      | else-is_closed-via-then-is_closed+else-is_last_save w ↦ λ _. sym (w.is_last_save.ensures bytes is_buffer) ∙ w.if-is_last_save.false
+      | else-is_closed-via-else-is_closed w ↦ not-closed gathering c.is_closed.result (c.is_closed.ensures gathering is_held) w.if-is_closed.false
+    ] in
+    let kept = c.in_ok-keep_last.ensures.ok bytes gathering is_buffer unfed is_held in
+    let told = IsTold-by c.keep_last.new.editor (end_asked gathering bytes) _ (c.answer_end.ensures (last_left gathering bytes) c.keep_last.new.editor kept.1) in
+    (end-ask-for-none gathering bytes none, BreaksWithin-end _ _ _ _ c.keep_last.new.pending _ _ gathering bytes kept.0 (c.in_err-tell_reply.ensures.broken c.keep_last.new.editor (end_asked gathering bytes) told)))
+
+pub returns-in_err-commit-clause-broken : goal.returns-in_err-commit-clause-broken
+returns-in_err-commit-clause-broken g c = OnErr-from c.from_residual-in_err-commit.result (λ bytes gathering is_buffer unfed is_held.
+    let none : gathering ≡ Closed → is_save bytes ≡ false = elim c.else-is_closed.branch [
+      | else-is_closed-via-then-is_closed+else-is_last_save w ↦ λ _. sym (w.is_last_save.ensures bytes is_buffer) ∙ w.if-is_last_save.false
+      | else-is_closed-via-else-is_closed w ↦ not-closed gathering c.is_closed.result (c.is_closed.ensures gathering is_held) w.if-is_closed.false
+    ] in
+    let kept = c.in_ok-keep_last.ensures.ok bytes gathering is_buffer unfed is_held in
+    let told = IsTold-by c.keep_last.new.editor (end_asked gathering bytes) _ (c.answer_end.ensures (last_left gathering bytes) c.keep_last.new.editor kept.1) in (
+      end-ask-for-none gathering bytes none,
+      BreaksWithin-end_kept _ _ _ _ _ c.keep_last.new.pending c.tell_reply.new.pending _ _ gathering bytes kept.0 (c.in_ok-tell_reply.ensures.ok c.keep_last.new.editor (end_asked gathering bytes) told)
+          (Breaks-commit _ _ _ c.in_err-commit.ensures.broken),
+    ))
 
 pub returns-clause-ok : goal.returns-clause-ok
-returns-clause-ok g c = λ bytes is_buffer unfed _.
-    let text = c.in-Some.text.now in
-    let line = line_buffered-Some c.args.line.now text c.in-Some.ensures in
-    let whole : text ≡ bytes = sym line.1 ∙ is_buffer.whole line.0 in
-    let bare : HasNoFeed text = subst HasNoFeed (sym whole) unfed in
-    let some : text ≢ [] = search rules in
-    let none : is_save text ≡ false = search rules in
-    subst (λ b. Finishes End b (g.D.Desk.calls c.args.desk.now) (g.D.Desk.calls c.keep_last.new.desk) c.args.pending.now c.args.editor.now c.keep_last.new.pending c.keep_last.new.editor) whole
-    (Finishes-line text _ _ _ c.keep_last.new.pending _ _ some bare none c.in_ok-keep_last.ensures.nothing
-    (c.in_ok-keep_last.ensures.ok _ (IsLineOf-last text bare (subst (λ b. length b ≤ line_max) (sym whole) (is_buffer.short line.0)))))
+returns-clause-ok g c = λ bytes gathering is_buffer unfed is_held _.
+    let none : gathering ≡ Closed → is_save bytes ≡ false = elim c.else-is_closed.branch [
+      | else-is_closed-via-then-is_closed+else-is_last_save w ↦ λ _. sym (w.is_last_save.ensures bytes is_buffer) ∙ w.if-is_last_save.false
+      | else-is_closed-via-else-is_closed w ↦ not-closed gathering c.is_closed.result (c.is_closed.ensures gathering is_held) w.if-is_closed.false
+    ] in
+    let kept = c.in_ok-keep_last.ensures.ok bytes gathering is_buffer unfed is_held in
+    let told = IsTold-by c.keep_last.new.editor (end_asked gathering bytes) _ (c.answer_end.ensures (last_left gathering bytes) c.keep_last.new.editor kept.1) in (
+      end-ask-for-none gathering bytes none,
+      nothing-kept c.tell_reply.new.pending c.commit.new.self c.in_ok-commit.ensures.emptied,
+      GoesOnBy-end _ _ _ _ _ c.keep_last.new.pending c.tell_reply.new.pending c.commit.new.self _ _ gathering bytes kept.0 (c.in_ok-tell_reply.ensures.ok c.keep_last.new.editor (end_asked gathering bytes) told)
+          (Stays-commit _ _ _ _ c.in_ok-commit.ensures.ok c.in_ok-commit.ensures.emptied),
+    )

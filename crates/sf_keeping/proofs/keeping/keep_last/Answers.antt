@@ -1,20 +1,23 @@
-use Rattle.sf_streams.proofs.SendingLaws.{OnErr-from}
-use Rattle.sf_keeping.proofs.CallLaws.{OnOk-map, OnOk-both, OnErr-map}
-use Rattle.sf_keeping.proofs.Underways.{Stays-commit, Breaks-commit}
-use Rattle.sf_keeping.proofs.KeepingLaws.{nothing-kept, GoesOnBy-kept, BreaksWithin-kept}
+use Rattle.std.proofs.Common.{false, sym, subst, ◌∙◌}
+use Rattle.sf_keeping.specs.Underway.{IsLineText}
+use Rattle.sf_keeping.proofs.CallLaws.{OnOk-map, OnErr-map}
+use Rattle.sf_keeping.proofs.KeepingLaws.{GoesOnBy-last_line, BreaksWithin-last_line}
+use Rattle.sf_keeping.proofs.RequestLaws.{IsLineText-of, IsUnfed-of, bytes-some, last_text-buffer}
 use Rattle.sf_keeping.proofs.keeping.keep_last.Goals as goal
 
-pub returns-clause-nothing : goal.returns-clause-nothing
-returns-clause-nothing g c = OnOk-map c.commit.result (nothing-kept c.keep_text.new.pending c.commit.new.self) c.commit.ensures.emptied
-
 pub returns-clause-ok : goal.returns-clause-ok
-returns-clause-ok g c = OnOk-both c.commit.result
-    (λ makes none line is. GoesOnBy-kept _ _ _ _ c.keep_text.new.pending _ _ _ _ (c.in_ok-keep_text.ensures.ok line is) (Stays-commit _ _ _ _ makes none))
-    c.commit.ensures.ok c.commit.ensures.emptied
+returns-clause-ok g c = OnOk-map c.keep_asked.result (λ goes bytes gathering is_buffer unfed is_held.
+    let text = c.line-text.ensures ∙ last_text-buffer bytes c.args.line.now is_buffer in
+    let is_text = subst IsLineText (sym text) (IsLineText-of (record { bytes = bytes; ended = false }) unfed) in
+    let took = c.take-asks.ensures gathering is_held (IsUnfed-of _ is_text) in
+    GoesOnBy-last_line _ _ _ _ _ _ gathering c.take-asks.new.self _ bytes (bytes-some bytes c.args.line.now c.is_empty.result is_buffer c.is_empty.ensures c.if-is_empty.false) text
+    (goes _ took.1 is_text) took.0)
+    c.keep_asked.ensures.ok
 
 pub returns-clause-broken : goal.returns-clause-broken
-returns-clause-broken g c = OnErr-map c.commit.result
-    (λ broken line is. BreaksWithin-kept _ _ _ _ c.keep_text.new.pending _ _ _ (c.in_ok-keep_text.ensures.ok line is) (Breaks-commit _ _ _ broken)) c.commit.ensures.broken
-
-pub returns-in_err-keep_text-clause-broken : goal.returns-in_err-keep_text-clause-broken
-returns-in_err-keep_text-clause-broken g c = OnErr-from c.from_residual.result c.in_err-keep_text.ensures.broken
+returns-clause-broken g c = OnErr-map c.keep_asked.result (λ breaks bytes gathering is_buffer unfed is_held.
+    let text = c.line-text.ensures ∙ last_text-buffer bytes c.args.line.now is_buffer in
+    let is_text = subst IsLineText (sym text) (IsLineText-of (record { bytes = bytes; ended = false }) unfed) in
+    let took = c.take-asks.ensures gathering is_held (IsUnfed-of _ is_text) in
+    BreaksWithin-last_line _ _ _ _ _ gathering _ bytes (bytes-some bytes c.args.line.now c.is_empty.result is_buffer c.is_empty.ensures c.if-is_empty.false) text (breaks _ took.1 is_text))
+    c.keep_asked.ensures.broken

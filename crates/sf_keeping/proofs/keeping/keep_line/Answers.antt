@@ -1,20 +1,22 @@
-use Rattle.std.proofs.Common.{true}
+use Rattle.std.proofs.Common.{true, sym, subst}
+use Rattle.sf_keeping.specs.Underway.{IsLineText}
 use Rattle.sf_keeping.proofs.CallLaws.{OnOk-map, OnErr-map}
-use Rattle.sf_keeping.proofs.KeepingLaws.{IsLineOf-buffer, IsTold-long}
+use Rattle.sf_keeping.proofs.KeepingLaws.{GoesOnBy-line, BreaksWithin-line}
+use Rattle.sf_keeping.proofs.RequestLaws.{IsLineText-of, IsUnfed-of}
 use Rattle.sf_keeping.proofs.keeping.keep_line.Goals as goal
 
-pub returns-in-Some-clause-ok : goal.returns-in-Some-clause-ok
-returns-in-Some-clause-ok g c = OnOk-map c.keep_text.result
-    (λ goes bytes is_buffer unfed. goes _ (IsLineOf-buffer bytes c.in-Some.bytes.now _ c.args.line.now is_buffer unfed c.in-Some.ensures c.without_return.ensures)) c.keep_text.ensures.ok
+pub returns-clause-ok : goal.returns-clause-ok
+returns-clause-ok g c = OnOk-map c.keep_asked.result (λ goes bytes gathering is_buffer unfed is_held.
+    let text = c.whole_line-line.ensures bytes is_buffer in
+    let is_text = subst IsLineText (sym text) (IsLineText-of (record { bytes = bytes; ended = true }) unfed) in
+    let took = c.take-asks.ensures gathering is_held (IsUnfed-of _ is_text) in
+    GoesOnBy-line _ _ _ _ _ _ gathering c.take-asks.new.self _ _ text (goes _ took.1 is_text) took.0)
+    c.keep_asked.ensures.ok
 
-pub returns-in-Some-clause-broken : goal.returns-in-Some-clause-broken
-returns-in-Some-clause-broken g c = OnErr-map c.keep_text.result
-    (λ breaks bytes is_buffer unfed. breaks _ (IsLineOf-buffer bytes c.in-Some.bytes.now _ c.args.line.now is_buffer unfed c.in-Some.ensures c.without_return.ensures)) c.keep_text.ensures.broken
-
-pub returns-in-None-clause-ok : goal.returns-in-None-clause-ok
-returns-in-None-clause-ok g c = OnOk-map c.tell_reply.result
-    (λ goes bytes is_buffer unfed. goes _ _ (IsTold-long _ bytes true c.args.line.now is_buffer c.in-None.ensures)) c.tell_reply.ensures.ok
-
-pub returns-in-None-clause-broken : goal.returns-in-None-clause-broken
-returns-in-None-clause-broken g c = OnErr-map c.tell_reply.result
-    (λ breaks bytes is_buffer unfed. breaks _ _ (IsTold-long _ bytes true c.args.line.now is_buffer c.in-None.ensures)) c.tell_reply.ensures.broken
+pub returns-clause-broken : goal.returns-clause-broken
+returns-clause-broken g c = OnErr-map c.keep_asked.result (λ breaks bytes gathering is_buffer unfed is_held.
+    let text = c.whole_line-line.ensures bytes is_buffer in
+    let is_text = subst IsLineText (sym text) (IsLineText-of (record { bytes = bytes; ended = true }) unfed) in
+    let took = c.take-asks.ensures gathering is_held (IsUnfed-of _ is_text) in
+    BreaksWithin-line _ _ _ _ _ gathering _ _ text (breaks _ took.1 is_text))
+    c.keep_asked.ensures.broken
