@@ -1,9 +1,9 @@
 -- From line to line of a group.
-use Rattle.std.proofs.Common.{◌≡◌, ◌≢◌, ℕ, zero, suc, ◌+◌, ◌-◌, ◌<◌, ◌≤◌, ◌==◌, ◌&&◌, ◌||◌, Bool, true, false, not, cond, nat_eq, nat_lt, List, [], ◌∷◌, ◌++◌, length, replicate, take, drop, slice_index, Option, None, Some, Result, String, Global, if◌then◌else◌, string_bytes, append_assoc, refl, sym, ap, ◌∙◌, subst, arith}
-use Rattle.std.specs.List.{AllByRecursion, list_all, list_any}
+use Rattle.std.proofs.Common.{◌≡◌, ℕ, zero, suc, ◌+◌, ◌-◌, ◌<◌, ◌==◌, ◌&&◌, ◌||◌, Bool, true, false, not, cond, nat_eq, nat_lt, List, [], ◌∷◌, ◌++◌, length, replicate, take, drop, slice_index, Option, None, Some, Result, String, Global, if◌then◌else◌, string_bytes, append_assoc, refl, sym, ap, ◌∙◌, subst, arith}
+use Rattle.std.specs.List.{list_all, list_any}
 use Rattle.std.specs.Str.{chars, is_utf8, IsUtf8}
 use lib.Utf8.{encode}
-use Rattle.std.proofs.lemmas.Str.{IsUtf8-append, IsUtf8-from_ascii, IsUtf8-from_is_utf8, IsUtf8-nil, is_utf8-from_IsUtf8}
+use Rattle.std.proofs.lemmas.Str.{IsUtf8-append, IsUtf8-from_is_utf8, IsUtf8-nil, is_utf8-from_IsUtf8}
 use Rattle.std.proofs.lemmas.Grind.{common_steps}
 use Rattle.std.proofs.lemmas.List.{length-append, take-append-drop}
 use Rattle.sf_lines.specs.Lines.{HasNoFeed, Line, line_max, text_of, without_return}
@@ -21,7 +21,7 @@ use Rattle.sf_console.specs.declared.group_lines.GroupLines.{GroupLines}
 use Rattle.sf_console.specs.declared.group_lines.GroupLines.TheVariants as lines
 use Rattle.sf_console.specs.declared.group_lines.LineAsks.{LineAsks}
 use Rattle.sf_console.specs.declared.group_lines.LineAsks.TheVariants as asks
-use Rattle.sf_console.specs.Readings.{Blank, Grouped, Reading, by_group, line_text, text_reading}
+use Rattle.sf_console.specs.Readings.{Blank, Reading, by_group, line_text, text_reading}
 use Rattle.sf_console.specs.Requests.{Closed, Comes, Ends, Gathering, Open, Request, gathered, gathered_on, is_member_text, is_passed_over, line_head, member_text, nothing_asked, readings, requests_from, with_member}
 use Rattle.sf_console.specs.Gatherings.{Asks, IsAnsweredOnce, IsGrouped, IsGrown, IsHeld, IsLastAnswered, IsOpen, IsTaken, IsUnfed}
 use Rattle.sf_console.specs.Session.{IsAnswered}

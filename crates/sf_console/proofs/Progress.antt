@@ -1,5 +1,5 @@
 -- How serving goes on from line to line and from chunk to chunk.
-use Rattle.std.proofs.Common.{◌≡◌, ◌≢◌, true, false, ℕ, ◌+◌, inl, inr, Result, Ok, Err, OnErr, List, [], ◌∷◌, ◌++◌, Option, take, drop, refl, sym, ap, ◌∙◌, subst, append_assoc, append-nil}
+use Rattle.std.proofs.Common.{◌≡◌, ◌≢◌, true, ℕ, ◌+◌, inl, inr, Result, Ok, Err, OnErr, List, [], ◌∷◌, ◌++◌, Option, take, drop, refl, sym, ap, ◌∙◌, subst, append_assoc, append-nil}
 use Rattle.std.proofs.KnownBytes.{Consumes-trans, Consumes-kept, Appends-nil, Appends-trans}
 use Rattle.std.specs.Io.KnownBytes.{Consumes, Appends, Keeps, IsAtEnd}
 use Rattle.sf_lines.specs.Lines.{IsWhole, HasNoFeed}
@@ -11,7 +11,7 @@ use Rattle.sf_streams.specs.Streams.{WritesFront}
 use Rattle.sf_history.specs.History.{Machine}
 use Rattle.sf_console.specs.declared.group_lines.GroupLines.{GroupLines}
 use Rattle.sf_console.specs.Readings.{Reading, line_text}
-use Rattle.sf_console.specs.Requests.{Closed, Comes, Gathering, gathered, left_in, readings, readings_of, requests_from, whole_lines_come, whole_readings_of}
+use Rattle.sf_console.specs.Requests.{Closed, Comes, Gathering, gathered, left_in, readings, requests_from, whole_lines_come, whole_readings_of}
 use Rattle.sf_console.specs.Gatherings.{IsAnsweredOnce, IsHeld, IsLastAnswered, events_at_end}
 use Rattle.sf_console.specs.Session.{IsAnswered, Run}
 use Rattle.sf_console.specs.Chunks.{Takes, Breaks, EndsInput, BreaksAtEnd, readings_in}

@@ -1,5 +1,5 @@
 -- What a line is, and what its answer is.
-use Rattle.std.proofs.Common.{◌≡◌, ℕ, zero, suc, ◌-◌, ◌<◌, ◌≤◌, Option, None, Some, if◌then◌else◌, append_assoc, Bool, true, false, not, cond, nat_lt, inl, inr, List, [], ◌∷◌, ◌++◌, map, length, Result, Ok, Err, refl, sym, ap, ◌∙◌, subst, arith}
+use Rattle.std.proofs.Common.{◌≡◌, ℕ, zero, suc, ◌-◌, ◌<◌, ◌≤◌, Option, None, Some, if◌then◌else◌, append_assoc, Bool, true, false, not, cond, nat_lt, inl, inr, List, [], ◌∷◌, ◌++◌, length, Result, Ok, Err, refl, sym, ap, ◌∙◌, subst, arith}
 use Rattle.std.specs.List.{list_all}
 use Rattle.std.specs.Result.{IsErrAnd}
 use Rattle.std.specs.Str.{is_utf8, IsUtf8}
@@ -7,7 +7,7 @@ use Rattle.std.proofs.lemmas.Str.{IsUtf8-from_is_utf8}
 use Rattle.std.proofs.lemmas.List.{map-append}
 use Rattle.std.proofs.lemmas.Grind.{common_steps}
 use Rattle.sf_refusals.specs.declared.refusal.Refusal.{Refusal}
-use Rattle.sf_refusals.specs.declared.refusal.Refusal.TheVariants.{Memory, BadCommand, LineTooLong}
+use Rattle.sf_refusals.specs.declared.refusal.Refusal.TheVariants.{Memory, BadCommand}
 use Rattle.sf_lines.specs.Lines.{Line, ended_lines, line_max, lines_of, text_of, IsWhole, HasNoFeed}
 use Rattle.sf_lines.proofs.LineLemmas.{lines_of-whole, lines_of-unfed, lines_of-fed, ended_lines-whole, ended_lines-append, IsWhole-fed}
 use Rattle.sf_wkt.specs.Tokens.{is_blank}
@@ -21,7 +21,7 @@ use Rattle.sf_commands.specs.declared.group_text.GroupRefusal.{GroupRefusal}
 use Rattle.sf_commands.specs.declared.head.Head.{Head}
 use Rattle.sf_commands.specs.GroupTexts.{group_of}
 use Rattle.sf_console.specs.Readings.{Reading, Blank, Unreadable, Asked, Grouped, by_group, line_text, text_reading}
-use Rattle.sf_console.specs.Requests.{Closed, Comes, Ends, Event, Gathering, Open, Request, come, events_of, gathered, gathered_on, is_passed_over, left_by, left_in, line_head, nothing_asked, outside, readings, readings_of, requests_from, whole_lines_come, whole_readings_of, with_member}
+use Rattle.sf_console.specs.Requests.{Closed, Comes, Ends, Event, Gathering, Open, Request, come, gathered, gathered_on, is_passed_over, left_by, left_in, line_head, nothing_asked, outside, readings, readings_of, requests_from, whole_lines_come, whole_readings_of, with_member}
 use Rattle.sf_console.specs.Gatherings.{events_at_end}
 use Rattle.sf_console.specs.Chunks.{readings_in}
 use Rattle.sf_console.specs.Session.{IsAnswered, MayWant}

@@ -16,7 +16,6 @@ use Rattle.sf_steps.proofs.StepsFine.{IsWellFormed-step}
 use Rattle.sf_history.specs.History.{Kept, Machine, after_group, after_step, back_to, forth_to, fresh}
 use Rattle.sf_commands.specs.declared.command.Command.{Command}
 use Rattle.sf_commands.specs.declared.command.Command.TheVariants as commands
-use Rattle.sf_commands.specs.Commands.{command_of, takes_memory}
 use Rattle.sf_groups.specs.declared.member.Member.{Member}
 use Rattle.sf_groups.specs.Members.{Refused, together}
 use Rattle.sf_groups.proofs.GroupsFine.{groups-fine}

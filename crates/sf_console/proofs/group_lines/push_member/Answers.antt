@@ -1,4 +1,4 @@
-use Rattle.std.proofs.Common.{◌≡◌, ◌∙◌, ◌++◌, ◌∷◌, [], ap, append_assoc, cond, is_ok, option_copied, string_bytes}
+use Rattle.std.proofs.Common.{◌≡◌, ◌∙◌, ◌++◌, ◌∷◌, [], ap, append_assoc, option_copied, string_bytes}
 use Rattle.sf_layers.proofs.Outcomes.{OnOk-map}
 use Rattle.sf_console.specs.Requests.{member_text}
 use Rattle.sf_console.proofs.group_lines.push_member.Goals as goal

@@ -1,4 +1,4 @@
-use Rattle.std.proofs.Common.{◌≤◌, ap, arith, length}
+use Rattle.std.proofs.Common.{ap, arith, length}
 use Rattle.sf_console.proofs.GroupAnswers.{few-identifiers}
 use Rattle.sf_console.proofs.grouping.carry_out_group.Goals as goal
 

@@ -1,4 +1,4 @@
-use Rattle.std.proofs.Common.{◌≡◌, ◌≤◌, ◌<◌, ◌+◌, ◌*◌, ◌++◌, ◌∙◌, ap, cond, sym, arith, codes, decimal, flat_map, length, length-append, get_or, is_ok, vec_capacity}
+use Rattle.std.proofs.Common.{◌≡◌, ◌≤◌, ◌+◌, ◌++◌, ◌∙◌, ap, cond, sym, arith, codes, decimal, flat_map, length, length-append, get_or, is_ok}
 use Rattle.std.proofs.lemmas.List.{append-nil, take_all}
 use Rattle.sf_geometry.proofs.ListLaws.{pushed-more}
 use Rattle.sf_console.proofs.GroupAnswers.{at-place, ok-by}

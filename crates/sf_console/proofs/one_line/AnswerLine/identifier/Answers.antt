@@ -1,4 +1,4 @@
-use Rattle.std.proofs.Common.{◌≡◌, ◌≤◌, ◌+◌, ◌++◌, ◌∷◌, [], codes, length, decimal, ap, ◌∙◌, arith, length-append}
+use Rattle.std.proofs.Common.{◌≡◌, ◌≤◌, ◌+◌, length, decimal, ap, ◌∙◌, arith, length-append}
 use Rattle.sf_console.proofs.AnswerLemmas.{length-decimal-id}
 use Rattle.sf_console.proofs.one_line.AnswerLine.identifier.Goals as goal
 
