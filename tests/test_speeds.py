@@ -271,6 +271,17 @@ class Speeds(unittest.TestCase):
         moves = [f"vertex move w {k * 37 % POINTS + 1} 0 0 0 {k} {k}" for k in range(2_000)]
         self.check(Claim(points(), [*moves, "layers"], 0.1, b"w point"))
 
+    def test_a_group_costs_what_its_members_do(self) -> None:
+        """Refuses groups whose members cost more the more there are."""
+        known = points()
+        group = [f"together {len(known) - 1}", *(line.replace("add w", "add v") for line in known[1:])]
+        self.check(Claim(known, ["layer add v point", *group, "undo", "layers"], 1.2, b"v point", 4))
+
+    def test_a_group_looks_at_the_features_that_it_names(self) -> None:
+        """Refuses groups that copy or go through their layers."""
+        groups = [f"together 3\rvertex move w {k} 0 0 0 1 {k}\radd w POINT ({k} 1)\rdelete w last" for k in range(1, 1_001)]
+        self.check(Claim(points(), [*groups, *["undo"] * 1_000, "layers"], 0.1, b"w point"))
+
     def test_a_vertex_change_looks_at_its_new_edges(self) -> None:
         """Refuses changes that find the whole geometry valid anew."""
         whole = f"add a {text('POLYGON', closed(low_zigzag()))}"
