@@ -19,7 +19,7 @@ from pathlib import Path
 
 PROGRAM = Path(os.environ.get("SFSTORE") or Path(__file__).resolve().parent.parent / "crates/sfstore/out/sfstore")
 RUNS = 5
-SQUARES, SIZES = 100_000, (1, 3, 10, 100, 10_000)
+SQUARES, SIZES = 100_000, (1, 2, 3, 10, 100, 10_000)
 MILLION, LARGE = 1_000_000, 10_000
 GRID = 8_000_000
 
@@ -57,7 +57,7 @@ def of_sizes() -> None:
     singly = seconds([*head, *alone], 1 + SQUARES)
     for size in SIZES:
         groups = [line for first in range(0, SQUARES, size) for line in together(alone[first : first + size])]
-        grouped = seconds([*head, *groups], 1 + SQUARES // size)
+        grouped = seconds([*head, *groups], 1 + -(-SQUARES // size))
         print(f"{SQUARES} squares in groups of {size}: {grouped:.3f} s, one by one {singly:.3f} s, {grouped / singly:.2f} times")
 
 
