@@ -1,7 +1,7 @@
 #!/usr/bin/env python3
 """Refuses each growth of a program's memory in turn, and looks at what it answers, saves and draws then.
 
-Of a session: with the lines left out that were refused for want of memory, the program with ample memory has to give
+Of a session: with the lines left out that were refused as out of memory, the program with ample memory has to give
 the remaining answers, and to save the same file: so these lines have changed nothing, and no other line is touched. A
 run may also end with a fault that names what found no memory, and with what may stand before such a fault. The growths
 are counted from 1 until a run meets no refusal; in a second turn every growth behind the refused one is refused too. A
@@ -264,7 +264,7 @@ class Session:
         return self.ample[left_out]
 
     def fault(self, ended: Ended) -> str:
-        """What the run ended by before it answered a line, where want of memory may end it so; else nothing."""
+        """What the run ended by before it answered a line, where running out of memory may end it so; else nothing."""
         faults = {(1, b"fault serve Memory\n"): "serve", (2, b"fault words Memory\n"): "words"}
         if "--load" in self.call.words:
             faults[3, b"fault load Memory\n"] = "load"

@@ -1,4 +1,4 @@
-"""Tests of replicas over a log: rights, cuts, divergence, want of memory, kills, and servers that fail."""
+"""Tests of replicas over a log: rights, cuts, divergence, out of memory, kills, and servers that fail."""
 
 from __future__ import annotations
 

@@ -446,7 +446,7 @@ addressed_command line = made (addressed line) (λ at. by_editor at.0 (by_words 
 abbrev pub command_of : List ℕ → Result (ℕ × Command) Refusal
 command_of line = if nat_lt line_max (length line) then Err LineTooLong else addressed_command line
 
--- this result, or want of memory in its place
+-- this result, or out of memory in its place
 abbrev pub OrMemory : {T : Type 0} → Result T Refusal → Result T Refusal → Type 0
 OrMemory expected (Err Memory) = Unit {0}
 OrMemory expected result = result ≡ expected
@@ -474,7 +474,7 @@ addressed_takes_memory (Err refusal) = false
 abbrev pub takes_memory : List ℕ → Bool
 takes_memory line = if nat_lt line_max (length line) then false else addressed_takes_memory (addressed line)
 
--- this result; or want of memory in its place, where memory is taken
+-- this result; or out of memory in its place, where memory is taken
 abbrev pub OrMemoryIf : {T : Type 0} → Bool → Result T Refusal → Result T Refusal → Type 0
 OrMemoryIf true expected result = OrMemory expected result
 OrMemoryIf false expected result = result ≡ expected

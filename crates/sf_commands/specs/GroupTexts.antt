@@ -100,7 +100,7 @@ group_by_parts (head ∷ members) text = group_by_head (head_of head) text (leng
 abbrev pub group_of : List ℕ → Option (ℕ × Result (List GroupMember) GroupRefusal)
 group_of text = group_by_parts (parts_of text) text
 
--- this result, or want of memory in its place
+-- this result, or out of memory in its place
 abbrev pub OrNoMemory : Result (List GroupMember) GroupRefusal → Result (List GroupMember) GroupRefusal → Type 0
 OrNoMemory expected (Err Memory) = Unit {0}
 OrNoMemory expected result = result ≡ expected

@@ -17,7 +17,7 @@ use Rattle.sf_console.specs.declared.reply.Reply.{Reply}
 use Rattle.sf_console.specs.Answers.{found_of, found_rows, line, matrix_text, refusal_line, related_text, reply_text, rows, rows_of, told, told_of}
 use Rattle.sf_console.proofs.ReadingLemmas.{refused_text}
 
--- the text is this one, or that of want of memory
+-- the text is this one, or that of out of memory
 abbrev pub IsToldAs : List ℕ → List ℕ → Type 0
 IsToldAs expected text = (text ≡ expected) ⊎ (text ≡ refusal_line Memory)
 

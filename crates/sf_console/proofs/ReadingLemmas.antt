@@ -53,7 +53,7 @@ read_as : (takes : Bool) (old new : Machine) (text : List ℕ) (expected r : Res
 read_as takes old new text expected r is (inl replied) = inl (ap (reply old) (sym is) ∙ replied)
 read_as takes old new text expected r is (inr refused) = inr (refused.0, refused.1, carried takes old expected (subst (MayWant old false) is refused.2))
 
--- a command that is read, or refused for want of memory where reading takes some, is carried out as the line's own
+-- a command that is read, or refused as out of memory where reading takes some, is carried out as the line's own
 pub IsAnswered-asked : (takes : Bool) (old new : Machine) (text : List ℕ) (expected r : Result (ℕ × Command) Refusal)
     → OrMemoryIf takes expected r → IsAnswered old (Asked false r) text new → IsAnswered old (Asked takes expected) text new
 IsAnswered-asked false old new text expected r is gives = read_as false old new text expected r is gives

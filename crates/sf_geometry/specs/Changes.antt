@@ -45,7 +45,7 @@ filled_or_refused empty (Some x) = if empty x then Err Empty else Ok x
 abbrev pub lacks : {X : Type 0} → (X → Bool) → List X → Bool
 lacks empty xs = is_empty xs || list_any empty xs
 
--- why a call that makes the change refuses it: by what comes of it, or for want of memory
+-- why a call that makes the change refuses it: by what comes of it, or as out of memory
 abbrev pub Refuses : {X : Type 0} → Made → Result X Refusal → Refusal → Type 0
 Refuses change outcome refusal = (outcome ≡ Err refusal) ⊎ ((refusal ≡ Memory) × IsInsertion change × IsOk outcome)
 

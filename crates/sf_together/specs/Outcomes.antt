@@ -11,7 +11,7 @@ use Rattle.sf_steps.specs.Steps.{step}
 use Rattle.sf_together.specs.declared.outcome.Refusal.{Refusal}
 use Rattle.sf_together.specs.declared.outcome.Refusal.TheVariants.{Member, Memory}
 
--- a group is refused so: for the first member that is refused, or for want of memory
+-- a group is refused so: for the first member that is refused, or as out of memory
 abbrev pub IsRefusedAs : Content → List GroupMember → Refusal → Type 0
 IsRefusedAs old members (Member number refusal) = together old members ≡ Err (record { member = number; refusal = refusal })
 IsRefusedAs old members Memory = Unit {0}

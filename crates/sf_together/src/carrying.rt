@@ -12,7 +12,7 @@ use std::alloc::Global;
 ///
 /// # Errors
 ///
-/// The first member that is refused; want of memory may come in its place, and in the place of success. The store
+/// The first member that is refused; out of memory may come in its place, and in the place of success. The store
 /// is then as it was.
 pub fn together(alloc: Global, store: &mut Store, group: Group) -> Result<Together, Refusal>
     ensures accepted { IfOk result (λ done.

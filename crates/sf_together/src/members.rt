@@ -16,7 +16,7 @@ use std::alloc::{AllocError, Global};
 ///
 /// # Errors
 ///
-/// The first member that is refused, or want of memory.
+/// The first member that is refused, or out of memory.
 pub(crate) fn carry_out_all(
     alloc: Global,
     scratch: &mut Store,
@@ -39,7 +39,7 @@ pub(crate) fn carry_out_all(
 ///
 /// # Errors
 ///
-/// That the member of this number is refused, or want of memory.
+/// That the member of this number is refused, or out of memory.
 fn carry_out_one(
     alloc: Global,
     scratch: &mut Store,

@@ -26,17 +26,17 @@ from_geometry lower.Empty = Empty
 from_geometry lower.TooManyVertices = TooManyVertices
 from_geometry lower.NoVertex = NoVertex
 
--- by these rules there is such a refusal: that of the first one that applies, or want of memory
+-- by these rules there is such a refusal: that of the first one that applies, or out of memory
 abbrev pub RefusesBy : List Rule → Refusal → Type 0
 RefusesBy rules Memory = Unit {0}
 RefusesBy rules (Invalid fault) = IsFirstOf rules fault
 RefusesBy rules _ = ⊥
 
--- the geometry may be refused so: for its first fault, or for want of memory
+-- the geometry may be refused so: for its first fault, or as out of memory
 abbrev pub Refuses : Geometry → Refusal → Type 0
 Refuses geometry refusal = RefusesBy (rules_of geometry) refusal
 
--- a change of a vertex may be refused so: as that of the geometry is, never for want of memory in its place, or for
+-- a change of a vertex may be refused so: as that of the geometry is, never as out of memory in its place, or for
 -- what comes of it
 abbrev pub RefusesChange : Result Geometry GeometryRefusal → Refusal → Type 0
 RefusesChange (Err lower) refusal = refusal ≡ from_geometry lower
