@@ -11,7 +11,6 @@ Each file is one plant, in the form of a wrong body of must-fail/ behind two lin
     CRATE: what breaks with it
     expected: refused                     its contract refuses it
     expected: proved, refused by TEST     its contract lets it through, and this test does not
-    expected: proved, by speed alone      nothing but a measurement sees it
     file: src/FILE.rt
     old: a text that stands in that file once
     new: the text in its place
@@ -38,7 +37,7 @@ from pathlib import Path
 
 TOP = Path(__file__).resolve().parent.parent
 PLANTS = TOP / "bench" / "plants"
-EXPECTED = re.compile("refused|proved, by speed alone|proved, refused by (.+)")
+EXPECTED = re.compile("refused|proved, refused by (.+)")
 TOLD = re.compile(r"must-fail \w+/(\S+)\.edit: (refused, as it must be|NOT REFUSED|BAD EDIT|NOT TRIED)(.*)")
 VERDICTS = {"refused, as it must be": "refused", "NOT REFUSED": "proved", "BAD EDIT": "bad", "NOT TRIED": "not tried"}
 # What a refusal says that is none of the contract's.

@@ -2,7 +2,7 @@
 
 ghost use Rattle.std.specs.Prelude.{◌≡◌, IfOk};
 ghost use Rattle.std.specs.List.{filter};
-ghost use Rattle.sf_along.specs.Marks.{AreMarked, KeepPairs, is_marked, may_go as may_go_of};
+ghost use Rattle.sf_along.specs.Marks.{AreMarks, KeepPairs, is_marked, may_go as may_go_of, worth_sorting};
 
 use crate::run::{PLACES, Run};
 use std::alloc::{AllocError, Global};
@@ -13,7 +13,8 @@ const MANY_RUNS: usize = 256;
 /// The runs but those whose lines have no mark of a run of the other geometry: none of that one goes along them. Of few
 /// runs it is all.
 pub(crate) fn without_lone(alloc: Global, runs: Vec<Run>) -> Result<Vec<Run>, AllocError>
-    ensures { IfOk result (λ kept. KeepPairs runs.items kept.items) }
+    ensures kept { IfOk result (λ kept. kept.items ≡ worth_sorting runs.items) }
+    ensures pairs { IfOk result (λ kept. KeepPairs runs.items kept.items) }
 {
     if runs.len() < MANY_RUNS {
         return Ok(runs);
@@ -30,7 +31,7 @@ pub(crate) fn without_lone(alloc: Global, runs: Vec<Run>) -> Result<Vec<Run>, Al
 
 /// A table with a mark for each line of the runs of one geometry.
 fn marks(alloc: Global, runs: &[Run], is_first: bool) -> Result<Vec<bool>, AllocError>
-    ensures { IfOk result (λ marks. AreMarked marks.items is_first runs.now) }
+    ensures { IfOk result (λ marks. AreMarks marks.items is_first runs.now) }
 {
     let mut marks = Vec::from_elem(alloc, false, PLACES)?;
     for run in runs {

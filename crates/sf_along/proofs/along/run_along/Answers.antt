@@ -24,7 +24,7 @@ all : (c : After-as_slice-3) → All IsRun (near_runs c.as_slice.result.now c.as
 all c = all-runs c.as_slice.result.now c.as_slice-2.result.now c.args.a.now c.args.b.now (first-edges c) (second-edges c)
 
 kept : (c : After-as_slice-3) → KeepPairs (near_runs c.as_slice.result.now c.as_slice-2.result.now) c.in_ok-runs.runs.items
-kept c = subst (λ runs. KeepPairs runs c.in_ok-runs.runs.items) c.in_ok-near.ensures c.in_ok-runs.ensures
+kept c = subst (λ runs. KeepPairs runs c.in_ok-runs.runs.items) c.in_ok-near.ensures c.in_ok-runs.ensures.pairs
 
 -- and what is sorted is that
 permuted : (c : After-as_slice-3) → IsPermutation c.in_ok-runs.runs.items c.as_slice-3.result.now
