@@ -6,9 +6,11 @@ import itertools
 import os
 import pwd
 import re
+import socket
 import subprocess
 import sys
 import textwrap
+import time
 import unittest
 from importlib.util import find_spec
 
@@ -122,6 +124,37 @@ class ReplicaCase(TestCase):
             env={**os.environ, "PYTHONPATH": str(FOLDER)},
             capture_output=True,
         )
+
+    def listening(self):
+        """A replica that listens at a socket: its process, and the socket's path."""
+        words = ["run", str(self.folder / "ann"), self.dsn("ann"), "--program", PROGRAM, "--listen"]
+        process = subprocess.Popen(
+            [sys.executable, "-m", "sfstore.replica.command", *words],
+            env={**os.environ, "PYTHONPATH": str(FOLDER)},
+            stderr=subprocess.PIPE,
+        )
+        self.addCleanup(process.communicate)
+        self.addCleanup(process.kill)
+        path = self.folder / "ann" / "socket"
+        until = time.monotonic() + 30
+        while not path.exists() and time.monotonic() < until:
+            time.sleep(0.02)
+        return process, path
+
+    def connected(self, path):
+        """A connection to such a replica."""
+        connection = socket.socket(socket.AF_UNIX)
+        self.addCleanup(connection.close)
+        # With a limit of time it would not wait while many are to be let in.
+        connection.connect(str(path))
+        connection.settimeout(30)
+        return connection
+
+    def asked(self, connection, lines, count):
+        """Sends lines, and gives so many lines of answers."""
+        connection.sendall(lines)
+        with connection.makefile("rb") as answers:
+            return [answers.readline().rstrip(b"\n") for _ in range(count)]
 
     def town(self, *logins, **changed):
         """Replicas of a store with a layer of points."""

@@ -10,7 +10,6 @@ import re
 import resource
 import shutil
 import signal
-import socket
 import subprocess
 import sys
 import textwrap
@@ -337,22 +336,6 @@ class Sessions(ReplicaCase):
         answers += b"refused 101 OtherEditor\nrefused 33 LineTooLong\nok\n"
         self.assertEqual((said.stdout, said.stderr, said.returncode), (answers, b"", 0))
 
-    def listening(self):
-        """A replica that listens at a socket: its process, and the socket's path."""
-        words = ["run", str(self.folder / "ann"), self.dsn("ann"), "--program", PROGRAM, "--listen"]
-        process = subprocess.Popen(
-            [sys.executable, "-m", "sfstore.replica.command", *words],
-            env={**os.environ, "PYTHONPATH": str(FOLDER)},
-            stderr=subprocess.PIPE,
-        )
-        self.addCleanup(process.communicate)
-        self.addCleanup(process.kill)
-        path = self.folder / "ann" / "socket"
-        until = time.monotonic() + 30
-        while not path.exists() and time.monotonic() < until:
-            time.sleep(0.02)
-        return process, path
-
     def test_many_at_a_socket(self):
         process, path = self.listening()
         self.assertEqual(path.stat().st_mode & 0o077, 0)
@@ -394,19 +377,6 @@ class Sessions(ReplicaCase):
         process.send_signal(signal.SIGINT)
         self.assertEqual(process.wait(30), 130)
         self.assertIn(b"500 programs are connected, and no more are let in", process.stderr.read())
-
-    def connected(self, path):
-        connection = socket.socket(socket.AF_UNIX)
-        self.addCleanup(connection.close)
-        # With a limit of time it would not wait while many are to be let in.
-        connection.connect(str(path))
-        connection.settimeout(30)
-        return connection
-
-    def asked(self, connection, lines, count):
-        connection.sendall(lines)
-        with connection.makefile("rb") as answers:
-            return [answers.readline().rstrip(b"\n") for _ in range(count)]
 
     def test_the_owner(self):
         self.session("ann", b"layer add w point\nadd w POINT (3 4)\n")

@@ -2,17 +2,13 @@
 
 from __future__ import annotations
 
-import os
 import re
 import socket
-import subprocess
-import sys
-import time
 import unittest
 import uuid
 
 from replica_support import ReplicaCase
-from support import FOLDER, PROGRAM, TestCase
+from support import FOLDER, TestCase
 
 from sfstore import Refused, groups
 from sfstore.replica.lines import GROUP_BYTES, asked
@@ -216,18 +212,7 @@ class Sessions(ReplicaCase):
         self.assertEqual(said.stdout.splitlines(), [b"ok", b"refused 33 LineTooLong", b"rows 0", b"refused 33 LineTooLong"])
 
     def test_two_at_a_socket(self):
-        words = ["run", str(self.folder / "ann"), self.dsn("ann"), "--program", PROGRAM, "--listen"]
-        process = subprocess.Popen(
-            [sys.executable, "-m", "sfstore.replica.command", *words],
-            env={**os.environ, "PYTHONPATH": str(FOLDER)},
-            stderr=subprocess.PIPE,
-        )
-        self.addCleanup(process.communicate)
-        self.addCleanup(process.kill)
-        path = self.folder / "ann" / "socket"
-        until = time.monotonic() + 30
-        while not path.exists() and time.monotonic() < until:
-            time.sleep(0.02)
+        _, path = self.listening()
         first, second = (self.connected(path) for _ in range(2))
         self.assertEqual(self.asked(first, b"layer add w point\ntogether 2\nadd w POINT (1 1)\n", 1), [b"ok"])
         self.assertEqual(self.asked(second, b"together 1\nadd w POINT (5 5)\nshow w\n", 3), [b"ok 1", b"rows 1", b"1 POINT (5 5)"])
@@ -237,24 +222,6 @@ class Sessions(ReplicaCase):
         first.shutdown(socket.SHUT_WR)
         self.assertEqual(first.recv(100), b"refused 38 Unfinished\n")
         self.assertEqual(self.asked(second, b"show w\n", 4)[0], b"rows 3")
-
-    def connected(self, path):
-        connection = socket.socket(socket.AF_UNIX)
-        self.addCleanup(connection.close)
-        connection.settimeout(30)
-        connection.connect(str(path))
-        return connection
-
-    def asked(self, connection, lines, count):
-        """Sends lines, and gives the lines of the answers."""
-        connection.sendall(lines)
-        data = b""
-        while data.count(b"\n") < count:
-            block = connection.recv(65_536)
-            if not block:
-                break
-            data += block
-        return data.splitlines()
 
 
 if __name__ == "__main__":
