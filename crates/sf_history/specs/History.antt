@@ -1,6 +1,6 @@
 -- The history of the changes of several editors, of which each is one step: an edit, or several edits of features. It keeps
 -- whole contents.
-use Rattle.std.specs.Prelude.{ℕ, List, [], ◌∷◌, Option, Result, Ok, Err, nat_eq, if◌then◌else◌}
+use Rattle.std.specs.Prelude.{ℕ, false, List, [], ◌∷◌, Option, Result, Ok, Err, nat_eq, if◌then◌else◌}
 use Rattle.std.specs.Option.{option_map}
 use Rattle.sf_layers.specs.Content.{Content}
 use Rattle.sf_steps.specs.declared.answer.Answer.{Answer}
@@ -57,6 +57,10 @@ after_group editor machine (Err refused) = Err refused
 -- what several edits of the editor make of the machine as one step, if memory does not run out
 abbrev pub grouped : ℕ → Machine → List Member → Result (Machine × List ℕ) Refused
 grouped editor machine members = after_group editor machine (together machine.now members)
+
+-- an edit as the only one of a group
+abbrev pub alone : Edit → List Member
+alone edit = record { edit = edit; of_last = false } ∷ []
 
 -- the machine after a change of either kind; none where it is refused
 abbrev pub changed : ℕ → Machine → Change → Option Machine

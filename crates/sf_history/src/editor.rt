@@ -1,13 +1,16 @@
-ghost use Rattle.std.specs.Prelude.{◌≡◌, ◌⊎◌, ◌+◌, ◌≤◌, ◌∷◌, ◌++◌, [], length, take, Ok, Err, IsOk, OnOk, OnErr, IfOk, IfErr, vec_capacity};
-ghost use Rattle.sf_together.specs.Outcomes.{IsRefusedAs};
-ghost use Rattle.sf_history.specs.History.{fresh, edited, grouped, undone, redone};
+ghost use Rattle.std.specs.Prelude.{◌≡◌, ◌⊎◌, ◌+◌, ◌≤◌, ◌∷◌, ◌++◌, [], length, take, Ok, Err, IsOk, OnOk, OnErr, IfOk, IfErr, IsTrue, MatchResult, vec_capacity};
+ghost use Rattle.sf_steps.specs.declared.edit.Edit.{Edit as EditOf};
+ghost use Rattle.sf_steps.specs.Steps.{step};
+ghost use Rattle.sf_groups.specs.Members.{ids_given};
+ghost use Rattle.sf_together.specs.Outcomes.{IsRefusedAs, refused_as};
+ghost use Rattle.sf_history.specs.History.{alone, fresh, edited, grouped, undone, redone};
 
 use sf_changes::{Redo, Undo, make_again, take_back};
 use sf_edits::apply;
-use sf_groups::Group;
+use sf_groups::{Group, Member};
 use sf_layers::Store;
 use sf_refusals::Refusal;
-use sf_steps::{Answer, Edit};
+use sf_steps::{Answer, Edit, Refusal as StepRefusal};
 use sf_together::{Refusal as GroupRefusal, Together, together};
 use std::alloc::Global;
 use std::marker::Model;
@@ -95,8 +98,26 @@ impl Editor {
         ensures given_back { IfErr result (λ e. e.0 ≡ edit) }
         ensures unchanged { OnErr result (self.new ≡ self.old) }
     {
+        match self.step_as(alloc, editor, edit) {
+            Ok(answer) => Ok(answer),
+            Err((edit, refusal)) => Err((edit, refusal.into())),
+        }
+    }
+
+    // The same, with the refusal of the step.
+    fn step_as(
+        &mut self,
+        alloc: Global,
+        editor: u8,
+        edit: Edit,
+    ) -> Result<Answer, (Edit, StepRefusal)>
+        ensures accepted { IfOk result (λ answer. edited editor self.old edit ≡ Ok (self.new, answer)) }
+        ensures refused { IfErr result (λ e. (step self.old.now edit ≡ Err e.1) ⊎ (e.1 ≡ StepRefusal.Memory)) }
+        ensures given_back { IfErr result (λ e. e.0 ≡ edit) }
+        ensures unchanged { OnErr result (self.new ≡ self.old) }
+    {
         if self.done.reserve(1).is_err() || self.editors.reserve(1).is_err() {
-            return Err((edit, Refusal::Memory));
+            return Err((edit, StepRefusal::Memory));
         }
         match apply(alloc, &mut self.store, edit) {
             Ok(inverse) => {
@@ -110,7 +131,7 @@ impl Editor {
                 );
                 Ok(answer)
             }
-            Err((edit, refusal)) => Err((edit, refusal.into())),
+            Err((edit, refusal)) => Err((edit, refusal)),
         }
     }
 
@@ -122,6 +143,45 @@ impl Editor {
     /// The first member that is refused; `Memory` may come in its place, and in the place of success. Nothing is changed
     /// then.
     pub fn group_as(
+        &mut self,
+        alloc: Global,
+        editor: u8,
+        group: Group,
+    ) -> Result<Vec<u32>, GroupRefusal>
+        ensures accepted { IfOk result (λ ids. grouped editor self.old group ≡ Ok (self.new, ids.items)) }
+        ensures refused { IfErr result (IsRefusedAs self.old.now group) }
+        ensures unchanged { OnErr result (self.new ≡ self.old) }
+    {
+        match only_edit(group) {
+            Ok(edit) => self.edit_alone_as(alloc, editor, edit),
+            Err(group) => self.several_as(alloc, editor, group),
+        }
+    }
+
+    // One edit as a group is the edit: nothing has to be tried beside the store, and its inverse takes it back.
+    fn edit_alone_as(
+        &mut self,
+        alloc: Global,
+        editor: u8,
+        edit: Edit,
+    ) -> Result<Vec<u32>, GroupRefusal>
+        ensures accepted { IfOk result (λ ids. grouped editor self.old (alone edit) ≡ Ok (self.new, ids.items)) }
+        ensures refused { IfErr result (IsRefusedAs self.old.now (alone edit)) }
+        ensures unchanged { OnErr result (self.new ≡ self.old) }
+    {
+        // The place for its identifier comes first.
+        let mut ids = Vec::with_capacity(alloc, 1)?;
+        match self.step_as(alloc, editor, edit) {
+            Ok(answer) => {
+                put_id(&mut ids, answer);
+                Ok(ids)
+            }
+            Err((_, refusal)) => Err(refused_alone(refusal)),
+        }
+    }
+
+    // The same of several edits.
+    fn several_as(
         &mut self,
         alloc: Global,
         editor: u8,
@@ -277,4 +337,46 @@ fn advance(
     editors.push(editor).unwrap();
     done.push(undo).unwrap();
     undone.clear();
+}
+
+// The edit of a group that has no other.
+fn only_edit(group: Group) -> Result<Edit, Group>
+    ensures { MatchResult result (λ edit. group ≡ alone edit) (λ back. back ≡ group) }
+{
+    if !is_alone(group.members()) {
+        return Err(group);
+    }
+    let member = group.into_members().pop().unwrap();
+    Ok(member.edit)
+}
+
+// Whether one member stands alone, of a feature that it names.
+fn is_alone(members: &[Member]) -> bool
+    ensures { IsTrue result → (edit : EditOf) × (members.now ≡ alone edit) }
+{
+    match members {
+        [member] => !member.of_last,
+        _ => false,
+    }
+}
+
+// Puts the identifier that an edit gave behind the others, where it gave one. There is room for it.
+fn put_id(ids: &mut Vec<u32>, answer: Answer)
+    requires { length ids.old.items + 1 ≤ vec_capacity ids.old }
+    ensures { ids.new.items ≡ ids.old.items ++ ids_given answer }
+{
+    match answer {
+        Answer::Id(id) => ids.push(id).unwrap(),
+        Answer::Done => {}
+    }
+}
+
+// Why a group of one edit is refused that is refused so.
+fn refused_alone(refusal: StepRefusal) -> GroupRefusal
+    ensures { result ≡ refused_as 1 refusal }
+{
+    match refusal {
+        StepRefusal::Memory => GroupRefusal::Memory,
+        refusal => GroupRefusal::Member { number: 1, refusal },
+    }
 }

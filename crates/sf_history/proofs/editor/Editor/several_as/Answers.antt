@@ -5,7 +5,7 @@ use Rattle.sf_changes.specs.declared.undo.Undo.TheVariants as undos
 use Rattle.sf_changes.specs.declared.redo.Redo.{Redo}
 use Rattle.sf_history.specs.History.{Machine, Kept, past_of, future_of, after_group, grouped}
 use Rattle.sf_history.proofs.Histories.{past-advanced}
-use Rattle.sf_history.proofs.editor.Editor.group_as.Goals as goal
+use Rattle.sf_history.proofs.editor.Editor.several_as.Goals as goal
 
 pub returns-in-Ok-clause-accepted : goal.returns-in-Ok-clause-accepted
 returns-in-Ok-clause-accepted c =
