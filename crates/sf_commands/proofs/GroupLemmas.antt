@@ -1,5 +1,6 @@
 -- Members that are put behind others.
-use Rattle.std.proofs.Common.{◌≡◌, ℕ, List, [], ◌∷◌, ◌++◌, Result, Ok, Err, sym, ap, subst}
+use Rattle.std.proofs.Common.{◌≡◌, ℕ, ◌+◌, List, [], ◌∷◌, ◌++◌, length, Result, Ok, Err, sym, ap, subst, arith}
+use Rattle.std.proofs.lemmas.List.{length-append}
 use Rattle.std.specs.Result.{IsErrAnd}
 use Rattle.sf_refusals.specs.declared.refusal.Refusal.{Refusal}
 use Rattle.sf_groups.specs.declared.member.Member.{Member as GroupMember}
@@ -39,3 +40,20 @@ refused_behind expected (Ok members) earlier text texts refusal all is passed = 
 refused_behind expected (Err e) earlier text texts refusal all is passed =
     subst (λ whole. OrNoMemory whole (Err e)) (sym all)
     (subst (λ (given : GroupRefusal). OrNoMemory (members_behind earlier (text ∷ texts)) (Err given)) (sym passed) (behind_refused earlier text texts refusal is))
+
+-- members that texts spell behind others are as many as the texts
+pub counted : (earlier : List GroupMember) (texts : List (List ℕ)) (members : List GroupMember) → members_behind earlier texts ≡ Ok members
+    → length members ≡ length earlier + length texts
+counted earlier [] members is =
+    let same : earlier ≡ members = cc in
+    subst (λ found. length found ≡ length earlier + 0) same (omega arith)
+counted earlier (text ∷ texts) members is = by (λ next. counted next texts members) (placed earlier (member_of text)) is
+  where
+    by : ((next : List GroupMember) → members_behind next texts ≡ Ok members → length members ≡ length next + length texts)
+        → (r : Result GroupMember Refusal) → and_behind earlier r (λ next. members_behind next texts) ≡ Ok members
+        → length members ≡ length earlier + length (text ∷ texts)
+    by later (Ok member) is =
+        let more = later (earlier ++ member ∷ []) is in
+        let longer = length-append earlier (member ∷ []) in
+        omega (arith, more, longer)
+    by later (Err refusal) is = cc

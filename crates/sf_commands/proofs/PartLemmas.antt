@@ -1,17 +1,19 @@
 -- The parts of a text, between carriage returns, and the groups that they make.
-use Rattle.std.proofs.Common.{◌≡◌, ◌≢◌, ℕ, suc, ◌+◌, ◌-◌, ◌<◌, Bool, true, false, ◌||◌, ◌&&◌, cond, nat_eq, nat_lt, nat_le, List, [], ◌∷◌, ◌++◌, length, get_or, Option, Some, None, Result, Ok, Err, MatchOption, option_map, option_and_then, bytes_eq, codes, if◌then◌else◌, refl, sym, ap, ◌∙◌, subst, eq-eqb, arith}
-use denote.Ref.{Bor}
-use Rattle.std.specs.List.{count_by, list_any}
+use Rattle.std.proofs.Common.{◌≡◌, ◌≢◌, ℕ, suc, ◌+◌, ◌-◌, ◌<◌, Bool, true, false, ◌||◌, ◌&&◌, cond, nat_eq, nat_lt, nat_le, List, [], ◌∷◌, ◌++◌, length, take, drop, get_or, not, Option, Some, None, Result, Ok, Err, MatchOption, option_map, option_and_then, bytes_eq, codes, if◌then◌else◌, refl, sym, ap, ◌∙◌, subst, eq-eqb, arith}
+use Rattle.std.specs.List.{count_by, list_any, prefix_len}
+use Rattle.std.specs.Str.{IsCharBoundary, IsUtf8}
 use Rattle.std.proofs.lemmas.Bool.Decides.{nat_tests}
 use Rattle.std.proofs.lemmas.Grind.{common_steps}
 use Rattle.std.proofs.lemmas.List.{length-append}
 use Rattle.std.proofs.lemmas.List.Recursion.{is_count_by}
-use Rattle.std.proofs.lemmas.Str.Pattern.{IsSplitOnceResult, split_parts}
+use Rattle.std.proofs.lemmas.List.Sums.{prefix_len-le-length, prefix_len_stops}
+use Rattle.std.proofs.lemmas.Str.{IsCharBoundary-after_ascii, IsCharBoundary-before_ascii}
 use Rattle.sf_refusals.specs.declared.refusal.Refusal.{Refusal}
 use Rattle.sf_commands.specs.declared.head.Head.{Head}
-use Rattle.sf_commands.specs.Commands.{addressed, id_of}
-use Rattle.sf_commands.specs.Words.{words}
-use Rattle.sf_commands.specs.GroupTexts.{addressed_head, group_by_head, group_by_parts, group_of, head_by_words, head_of, if_count, is_return, members_behind, members_in, members_max, members_of, onto_first, parts_of}
+use Rattle.sf_wkt.specs.Tokens.{is_blank}
+use Rattle.sf_commands.specs.Commands.{addressed, by_digits, by_first_word, id_of}
+use Rattle.sf_commands.specs.Words.{at_blank, onto_first as onto_first_word, skip_word, words}
+use Rattle.sf_commands.specs.GroupTexts.{addressed_head, begins_as_head, count_of, group_by_head, group_by_parts, group_of, head_by_words, head_of, if_count, is_return, members_behind, members_in, members_max, members_of, onto_first, parts_of}
 
 -- ---- parts
 
@@ -89,13 +91,75 @@ no_return (b ∷ text) apart = by (no_return text (λ i inside. apart (suc i) (o
     by later true is = absurd (apart 0 (omega arith) (is-return is))
     by later false is = ap (λ x. x || list_any is_return text) is ∙ later
 
--- a text cut at its first return
-pub return-split : (text : List ℕ) (r : Option (Bor (List ℕ) × Bor (List ℕ))) → IsSplitOnceResult 13 text r
-    → MatchOption r (list_any is_return text ≡ false) (λ parts. (list_any is_return parts.0.now ≡ false) × (text ≡ parts.0.now ++ 13 ∷ parts.1.now))
-return-split text None h = no_return text (split_parts 13 text None h (omega arith))
-return-split text (Some x) h =
-    let cut = split_parts 13 text (Some x) h (omega arith) in
-    (no_return x.0.now cut.1, cut.0)
+-- no return
+abbrev pub is_kept : ℕ → Bool
+is_kept b = not (is_return b)
+
+-- a text cut at this place, before a return
+abbrev pub CutAt : List ℕ → ℕ → Type 0
+CutAt text n = (list_any is_return (take n text) ≡ false) × (text ≡ take n text ++ 13 ∷ drop (n + 1) text)
+
+one_more : (n : ℕ) → 1 + n ≡ suc n
+one_more n = omega arith
+
+return_is : (b : ℕ) → is_return b ≡ true → b ≡ 13
+return_is b is = grind (arith, common_steps)
+
+cut-later : (b : ℕ) (text : List ℕ) (n : ℕ) → is_return b ≡ false → CutAt text n → CutAt (b ∷ text) (1 + n)
+cut-later b text n is rest =
+    subst (λ m. (list_any is_return (take m (b ∷ text)) ≡ false) × (b ∷ text ≡ take m (b ∷ text) ++ 13 ∷ drop (1 + n + 1) (b ∷ text))) (sym (one_more n)) (
+      ap (λ x. x || list_any is_return (take n text)) is ∙ rest.0,
+      ap (λ t. b ∷ t) rest.1 ∙ ap (λ (t : List ℕ). b ∷ (take n text ++ 13 ∷ t)) (sym (ap (λ m. drop m (b ∷ text)) (two_more n))),
+    )
+  where
+    two_more : (n : ℕ) → 1 + n + 1 ≡ suc (n + 1)
+    two_more n = omega arith
+
+-- what stands before the first return, and behind it
+pub cut-at : (text : List ℕ) → prefix_len is_kept text ≢ length text → CutAt text (prefix_len is_kept text)
+cut-at [] other = absurd (other refl)
+cut-at (b ∷ text) other = by (cut-at text) (is_return b) refl other
+  where
+    by : (prefix_len is_kept text ≢ length text → CutAt text (prefix_len is_kept text)) → (x : Bool) → is_return b ≡ x
+        → cond (not x) (1 + prefix_len is_kept text) 0 ≢ length (b ∷ text) → CutAt (b ∷ text) (cond (not x) (1 + prefix_len is_kept text) 0)
+    by later true is some = (refl, ap (λ c. c ∷ text) (return_is b is))
+    by later false is some =
+        let rest = later (λ same. some (ap (λ n. 1 + n) same ∙ one_more (length text))) in
+        cut-later b text (prefix_len is_kept text) is rest
+
+-- none where all is before it
+pub kept-whole : (text : List ℕ) → prefix_len is_kept text ≡ length text → list_any is_return text ≡ false
+kept-whole [] all = refl
+kept-whole (b ∷ text) all = by (kept-whole text) (is_return b) refl all
+  where
+    by : (prefix_len is_kept text ≡ length text → list_any is_return text ≡ false) → (x : Bool) → is_return b ≡ x
+        → cond (not x) (1 + prefix_len is_kept text) 0 ≡ length (b ∷ text) → list_any is_return (b ∷ text) ≡ false
+    by later true is same = absurd (omega (arith, same))
+    by later false is same = ap (λ x. x || list_any is_return text) is ∙ later (omega (arith, same))
+
+-- the byte behind what is kept is a return
+kept-return : (text : List ℕ) → prefix_len is_kept text < length text → get_or text (prefix_len is_kept text) 0 ≡ 13
+kept-return text inside = return_is _ (turned (is_return (get_or text (prefix_len is_kept text) 0)) (prefix_len_stops is_kept text 0 inside))
+  where
+    turned : (x : Bool) → not x ≡ false → x ≡ true
+    turned true is = refl
+    turned false is = cc
+
+return_ascii : (b : ℕ) → b ≡ 13 → b < 128
+return_ascii b is = omega (arith, is)
+
+-- a text may be cut before its first return, and behind it
+pub boundary-before : (text : List ℕ) → IsCharBoundary text (prefix_len is_kept text)
+boundary-before text = (
+  prefix_len-le-length is_kept text,
+  λ inside. (IsCharBoundary-before_ascii text (prefix_len is_kept text) inside (return_ascii _ (kept-return text inside))).1 inside,
+)
+
+pub boundary-behind : (text : List ℕ) → IsUtf8 text → prefix_len is_kept text ≢ length text → IsCharBoundary text (prefix_len is_kept text + 1)
+boundary-behind text is_text other =
+    let within = prefix_len-le-length is_kept text in
+    let inside : prefix_len is_kept text < length text = omega (arith, within, other) in
+    IsCharBoundary-after_ascii text (prefix_len is_kept text) is_text inside (return_ascii _ (kept-return text inside))
 
 -- ---- heads
 
@@ -151,6 +215,59 @@ unless_has_members false head some = some
 pub head_has_members : (text : List ℕ) (head : Head) → head_of text ≡ Some head → 0 < head.members
 head_has_members text head is =
     subst HasMembers is (unless_has_members (list_any is_return text) (addressed_head (addressed text)) (addressed_has_members (addressed text)))
+
+-- ---- texts that begin otherwise
+
+-- words of which the first begins with a byte
+abbrev BeginWith : ℕ → List (List ℕ) → Type 0
+BeginWith b all = (word : List ℕ) × (more : List (List ℕ)) × (all ≡ (b ∷ word) ∷ more)
+
+begin-with : (b : ℕ) (ends : Bool) (rest : List (List ℕ)) → BeginWith b (if ends then (b ∷ []) ∷ rest else onto_first_word b rest)
+begin-with b true rest = ([], rest, refl)
+begin-with b false [] = ([], [], refl)
+begin-with b false (word ∷ more) = (word, more, refl)
+
+no-head : (b : ℕ) (word : List ℕ) (more : List (List ℕ)) → nat_eq b 116 ≡ false → head_by_words 0 ((b ∷ word) ∷ more) ≡ None
+no-head b word [] other = refl
+no-head b word (count ∷ []) other =
+    ap (λ x. if x && bytes_eq word (codes "ogether") then option_map (λ members. record { editor = 0; members = members }) (count_of count) else None) other
+no-head b word (count ∷ next ∷ more) other = refl
+
+no-addressed : (b : ℕ) (bytes : List ℕ) → is_blank b ≡ false → nat_eq b 64 ≡ false → nat_eq b 116 ≡ false → addressed_head (addressed (b ∷ bytes)) ≡ None
+no-addressed b bytes letter apart other =
+    let begun = begin-with b (at_blank bytes) (words bytes) in
+    let is : words (b ∷ bytes) ≡ (b ∷ begun.0) ∷ begun.1 =
+    ap (λ x. if x then words bytes else if at_blank bytes then (b ∷ []) ∷ words bytes else onto_first_word b (words bytes)) letter ∙ begun.2 in
+    ap (λ all. addressed_head (by_first_word all (b ∷ bytes))) is
+    ∙ ap (λ x. addressed_head (by_digits (if x then Some begun.0 else None) (skip_word (b ∷ bytes)) (b ∷ bytes))) apart
+    ∙ ap (head_by_words 0) is
+    ∙ no-head b begun.0 begun.1 other
+
+neither : (x y : Bool) → (x || y) ≡ false → (x ≡ false) × (y ≡ false)
+neither true y is = cc
+neither false y is = (refl, is)
+
+-- a text that begins as no head does is none
+pub headless : (text : List ℕ) → begins_as_head text ≡ false → head_of text ≡ None
+headless [] apart = refl
+headless (b ∷ bytes) apart =
+    let parts = neither (is_blank b) (nat_eq b 64 || nat_eq b 116) apart in
+    let bytes_apart = neither (nat_eq b 64) (nat_eq b 116) parts.1 in
+    unless (list_any is_return (b ∷ bytes)) (no-addressed b bytes parts.0 bytes_apart.0 bytes_apart.1)
+  where
+    unless : (x : Bool) → addressed_head (addressed (b ∷ bytes)) ≡ None → (if x then None else addressed_head (addressed (b ∷ bytes))) ≡ None
+    unless true none = refl
+    unless false none = none
+
+-- nor has it one in front
+pub groupless : (text : List ℕ) → begins_as_head text ≡ false → group_of text ≡ None
+groupless [] apart = refl
+groupless (b ∷ bytes) apart = by (is_return b) (parts_of bytes)
+  where
+    by : (x : Bool) (rest : List (List ℕ)) → group_by_parts (parts_with b rest x) (b ∷ bytes) ≡ None
+    by true rest = refl
+    by false [] = ap (λ found. group_by_head found (b ∷ bytes) 0) (headless (b ∷ []) apart)
+    by false (part ∷ rest) = ap (λ found. group_by_head found (b ∷ bytes) (length rest)) (headless (b ∷ part) apart)
 
 -- ---- groups
 

@@ -1,9 +1,10 @@
 -- A group of edits as one text: its head, and its members, with carriage returns between them.
-use Rattle.std.specs.Prelude.{◌≡◌, ℕ, ◌+◌, Bool, ◌&&◌, ◌==◌, List, [], ◌∷◌, ◌++◌, length, Option, None, Some, Result, Ok, Err, nat_eq, nat_lt, nat_le, option_and_then, option_map, bytes_eq, codes, if◌then◌else◌}
+use Rattle.std.specs.Prelude.{◌≡◌, ℕ, ◌+◌, Bool, false, ◌&&◌, ◌||◌, ◌==◌, List, [], ◌∷◌, ◌++◌, length, Option, None, Some, Result, Ok, Err, nat_eq, nat_lt, nat_le, option_and_then, option_map, bytes_eq, codes, if◌then◌else◌}
 use Rattle.std.specs.List.{list_any}
 use Rattle.sf_refusals.specs.declared.refusal.Refusal.{Refusal}
 use Rattle.sf_refusals.specs.declared.refusal.Refusal.TheVariants.{BadCommand}
 use Rattle.sf_refusals.specs.declared.refusal.Refusal.TheVariants as refusals
+use Rattle.sf_wkt.specs.Tokens.{is_blank}
 use Rattle.sf_groups.specs.declared.member.Member.{Member as GroupMember}
 use Rattle.sf_groups.specs.declared.group.NotTaken.{NotTaken}
 use Rattle.sf_groups.specs.declared.group.NotTaken.TheVariants.{Misplaced, Memory as NoRoom}
@@ -47,6 +48,11 @@ is_return b = b == 13
 -- the head that a text is
 abbrev pub head_of : List ℕ → Option Head
 head_of text = if list_any is_return text then None else addressed_head (addressed text)
+
+-- whether a text begins as a head may: with a blank, or with the first byte of an editor's word or of `together`
+abbrev pub begins_as_head : List ℕ → Bool
+begins_as_head [] = false
+begins_as_head (b ∷ bytes) = is_blank b || (nat_eq b 64 || nat_eq b 116)
 
 -- ---- the parts of a text
 

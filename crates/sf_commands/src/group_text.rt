@@ -1,12 +1,12 @@
 //! Several edits on one text: a head, and members behind it, with carriage returns between them.
-ghost use Rattle.std.specs.Prelude.{◌≡◌, [], ◌∷◌, List, MatchOption, MatchResult, None, Some, Ok, Err, Result, length};
-ghost use Rattle.std.specs.List.{count_by};
+ghost use Rattle.std.specs.Prelude.{◌≡◌, [], ◌∷◌, List, MatchOption, MatchResult, None, Some, Ok, Err, Result, ◌++◌, false, length, not};
+ghost use Rattle.std.specs.List.{count_by, list_any, prefix_len};
 ghost use Rattle.sf_groups.specs.declared.member.Member.{Member};
 ghost use Rattle.sf_commands.specs.Commands.{OrMemory};
 ghost use Rattle.sf_commands.specs.GroupTexts.{group_of, is_return, members_behind, members_of, parts_of, placed, refusal_of_member, refusal_of_not_taken, OrNoMemory, WasPlaced};
 ghost use Rattle.sf_commands.specs.Members.{member_of};
 
-use super::head::head_of;
+use super::head::{begins_as_head, head_of};
 use super::members::parse_member;
 use sf_groups::{Group, Member, NotTaken};
 use sf_refusals::Refusal;
@@ -34,12 +34,37 @@ pub fn parse_group(alloc: Global, text: &str) -> Option<(u8, Result<Group, Group
         (λ group. (expected : Result (List Member) GroupRefusal) × (group_of text.now ≡ Some (group.0, expected))
         × OrNoMemory expected group.1) }
 {
-    let (head, members) = text.split_once('\r')?;
+    if begins_as_head(text.as_bytes()) {
+        split_group(alloc, text)
+    } else {
+        None
+    }
+}
+
+/// The same of a text that is searched for a carriage return.
+fn split_group(alloc: Global, text: &str) -> Option<(u8, Result<Group, GroupRefusal>)>
+    ensures { MatchOption result
+        (group_of text.now ≡ None)
+        (λ group. (expected : Result (List Member) GroupRefusal) × (group_of text.now ≡ Some (group.0, expected))
+        × OrNoMemory expected group.1) }
+{
+    let (head, members) = split_part(text)?;
     let head = head_of(head)?;
-    if parts_count(members) != usize::from(head.members) {
+    let group = group_of_parts(alloc, members);
+    if members_count(&group, members) != usize::from(head.members) {
         return None;
     }
-    Some((head.editor, group_of_parts(alloc, members)))
+    Some((head.editor, group))
+}
+
+/// How many parts a text has, of which this came: where it is a group, as many as members.
+fn members_count(group: &Result<Group, GroupRefusal>, text: &str) -> usize
+    ensures { OrNoMemory (members_behind [] (parts_of text.now)) group.now → result ≡ length (parts_of text.now) }
+{
+    match group {
+        Ok(group) => group.members().len(),
+        Err(_) => parts_count(text),
+    }
 }
 
 /// The members of a text, which stand behind its first carriage return; none where it has none.
@@ -50,7 +75,7 @@ pub fn parse_group(alloc: Global, text: &str) -> Option<(u8, Result<Group, Group
 pub fn parse_members(alloc: Global, text: &str) -> Result<Group, GroupRefusal>
     ensures { OrNoMemory (members_of text.now) result }
 {
-    match text.split_once('\r') {
+    match split_part(text) {
         Some((_, members)) => group_of_parts(alloc, members),
         None => Ok(Group::new(alloc)),
     }
@@ -62,7 +87,7 @@ fn group_of_parts(alloc: Global, text: &str) -> Result<Group, GroupRefusal>
 {
     let mut group = Group::new(alloc);
     let mut rest = text;
-    while let Some((member, more)) = rest.split_once('\r') {
+    while let Some((member, more)) = split_part(rest) {
         push_member(alloc, &mut group, member)?;
         rest = more;
     }
@@ -120,6 +145,26 @@ fn refused(number: usize, refusal: Refusal) -> GroupRefusal
         Refusal::Memory => GroupRefusal::Memory,
         refusal => GroupRefusal::Member { number, refusal },
     }
+}
+
+/// What stands before the first carriage return of a text, and what behind it; None where it has none.
+fn split_part(text: &str) -> Option<(&str, &str)>
+    ensures { MatchOption result
+        (list_any is_return text.now ≡ false)
+        (λ parts. (list_any is_return parts.0.now ≡ false) × (text.now ≡ parts.0.now ++ 13 ∷ parts.1.now)) }
+{
+    let end = part_len(text.as_bytes());
+    if end == text.len() {
+        return None;
+    }
+    Some((&text[..end], &text[end + 1..]))
+}
+
+/// How many bytes stand before the first carriage return.
+fn part_len(bytes: &[u8]) -> usize
+    ensures { result ≡ prefix_len (λ byte. not (is_return byte)) bytes.now }
+{
+    bytes.iter().take_while(|byte| **byte != b'\r').count()
 }
 
 /// How many parts a text has, between carriage returns.

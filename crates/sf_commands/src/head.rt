@@ -1,11 +1,11 @@
 //! The head of several lines that are one step.
-ghost use Rattle.std.specs.Prelude.{◌≡◌};
-ghost use Rattle.sf_commands.specs.GroupTexts.{count_of as count_spelled, head_by_words, head_of as head_spelled};
+ghost use Rattle.std.specs.Prelude.{◌≡◌, ◌∷◌, [], IsFalse, None};
+ghost use Rattle.sf_commands.specs.GroupTexts.{begins_as_head as begins_as_head_of, count_of as count_spelled, group_of, head_by_words, head_of as head_spelled};
 ghost use Rattle.sf_commands.specs.Words.{words as words_of};
 
 use super::addressing::addressed;
 use super::spelling::id_of;
-use super::words::Words;
+use super::words::{Words, is_blank};
 
 /// The first line of several that are one step: whose step it is, and how many members come.
 #[derive(Clone, Copy, Debug, PartialEq, Eq)]
@@ -27,6 +27,33 @@ pub fn head_of(text: &str) -> Option<Head>
     } else {
         Some(head)
     }
+}
+
+/// Whether bytes begin as a head may: with a blank, an editor's word or a `t`. Those of most lines do not, and are
+/// neither a head nor a group, which one look tells.
+pub fn begins_as_head(bytes: &[u8]) -> bool
+    ensures value { result ≡ begins_as_head_of bytes.now }
+    ensures head { IsFalse result → head_spelled bytes.now ≡ None }
+    ensures group { IsFalse result → group_of bytes.now ≡ None }
+{
+    begins(bytes)
+}
+
+/// Whether bytes begin with one with which a head may.
+fn begins(bytes: &[u8]) -> bool
+    ensures { result ≡ begins_as_head_of bytes.now }
+{
+    match bytes.first() {
+        Some(byte) => begins_head(*byte),
+        None => false,
+    }
+}
+
+/// Whether a head may begin with a byte.
+fn begins_head(byte: u8) -> bool
+    ensures { result ≡ begins_as_head_of (byte ∷ []) }
+{
+    is_blank(byte) || byte == b'@' || byte == b't'
 }
 
 /// The head that the words behind an editor's are.

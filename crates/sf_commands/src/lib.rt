@@ -26,9 +26,9 @@ mod words;
 
 pub use command::Command;
 pub use group_text::{GroupRefusal, parse_group, parse_members};
-pub use head::{Head, head_of};
+pub use head::{Head, begins_as_head, head_of};
 pub use identifiers::Identifiers;
 pub use members::parse_member;
 pub use parsing::parse;
 pub use sf_refusals::Refusal;
-pub use words::is_blank_text;
+pub use words::{are_blanks, is_blank_text};

@@ -80,11 +80,18 @@ impl<'a> Words<'a> {
 pub fn is_blank_text(text: &str) -> bool
     ensures { result ≡ list_all is_blank_byte text.now }
 {
-    text.as_bytes().iter().all(|byte| is_blank(*byte))
+    are_blanks(text.as_bytes())
+}
+
+/// Whether bytes are blanks alone, or none.
+pub fn are_blanks(bytes: &[u8]) -> bool
+    ensures { result ≡ list_all is_blank_byte bytes.now }
+{
+    bytes.iter().all(|byte| is_blank(*byte))
 }
 
 /// Whether a byte parts words: a space or a tab.
-fn is_blank(byte: u8) -> bool
+pub(crate) fn is_blank(byte: u8) -> bool
     ensures { result ≡ is_blank_byte byte }
 {
     byte == b' ' || byte == b'\t'

@@ -1,5 +1,6 @@
 //! A line, and its reply.
-ghost use Rattle.std.specs.Prelude.{◌≡◌, ◌⊎◌, ℕ, List, Ok, Err, false, true, map, option_copied, MatchResult};
+ghost use Rattle.std.specs.Prelude.{◌≡◌, ◌⊎◌, ℕ, List, Ok, Err, IsTrue, false, true, map, option_copied, MatchResult};
+ghost use Rattle.std.specs.Str.{is_utf8};
 ghost use Rattle.sf_layers.specs.Content.{layer_of};
 ghost use Rattle.sf_lines.specs.Lines.{HasNoFeed};
 ghost use Rattle.sf_lines.specs.Buffers.{IsBufferOf};
@@ -102,7 +103,7 @@ fn answer_asked(
     match asks {
         LineAsks::Nothing => Ok(Reply::Nothing),
         LineAsks::Itself => answer_alone(alloc, editor, line),
-        LineAsks::Group(text) => answer_text(alloc, editor, text.as_bytes()),
+        LineAsks::Group(text) => answer_said(alloc, editor, text.as_str()),
         LineAsks::Lost => Err(Refusal::Memory),
     }
 }
@@ -124,6 +125,13 @@ fn answer_text(alloc: Global, editor: &mut Editor, bytes: &[u8]) -> Result<Reply
     let Ok(text) = from_utf8(bytes) else {
         return Err(Refusal::BadCommand);
     };
+    answer_said(alloc, editor, text)
+}
+
+/// The same of a text that is known to be UTF-8.
+fn answer_said(alloc: Global, editor: &mut Editor, text: &str) -> Result<Reply, Refusal>
+    ensures { IsTrue (is_utf8 text.now) → IsAnswered editor.old (text_reading text.now) (reply_text result) editor.new }
+{
     if is_blank_text(text) {
         return Ok(Reply::Nothing);
     }

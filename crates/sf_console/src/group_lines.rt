@@ -4,10 +4,11 @@ ghost use Rattle.sf_commands.specs.declared.head.Head.{Head as HeadOf};
 ghost use Rattle.sf_lines.specs.Lines.{HasNoFeed, line_max};
 ghost use Rattle.sf_commands.specs.GroupTexts.{is_return};
 ghost use Rattle.std.specs.List.{list_any};
+ghost use Rattle.std.specs.Str.{is_utf8};
 ghost use Rattle.sf_console.specs.Requests.{Closed, Comes, Gathering, Open, gathered, gathered_on, is_member_text, is_passed_over as is_passed_over_of, line_head, member_text as member_text_of, with_member};
 ghost use Rattle.sf_console.specs.Gatherings.{Asks, IsGrown, IsHeld, IsOpen, IsUnfed};
 
-use sf_commands::{Head, head_of, is_blank_text};
+use sf_commands::{Head, are_blanks, begins_as_head, head_of};
 use sf_lines::LINE_MAX;
 use std::alloc::{AllocError, Global};
 use std::mem::replace;
@@ -102,6 +103,19 @@ fn head_of_bytes(bytes: &[u8]) -> Option<(&str, Head)>
         (line_head (Some bytes.now) ≡ None)
         (λ head. (bytes.now ≡ head.0.now) × (line_head (Some bytes.now) ≡ Some head.1)) }
 {
+    if begins_as_head(bytes) {
+        head_of_text(bytes)
+    } else {
+        None
+    }
+}
+
+/// The same, where the bytes are a text.
+fn head_of_text(bytes: &[u8]) -> Option<(&str, Head)>
+    ensures { MatchOption result
+        (line_head (Some bytes.now) ≡ None)
+        (λ head. (bytes.now ≡ head.0.now) × (line_head (Some bytes.now) ≡ Some head.1)) }
+{
     let Ok(text) = from_utf8(bytes) else {
         return None;
     };
@@ -191,10 +205,15 @@ fn is_passed_over(line: Option<&[u8]>) -> bool
 fn is_blank_line(bytes: &[u8]) -> bool
     ensures { result ≡ is_passed_over_of (Some bytes.now) }
 {
-    match from_utf8(bytes) {
-        Ok(text) => is_blank_text(text),
-        Err(_) => false,
-    }
+    // The first byte of most lines tells that they have more than blanks.
+    are_blanks(bytes) && is_text(bytes)
+}
+
+/// Whether bytes are UTF-8.
+fn is_text(bytes: &[u8]) -> bool
+    ensures { result ≡ is_utf8 bytes.now }
+{
+    from_utf8(bytes).is_ok()
 }
 
 /// Puts a further member behind the lines of a group.

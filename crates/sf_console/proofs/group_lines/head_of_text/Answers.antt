@@ -1,6 +1,6 @@
 use Rattle.std.proofs.Common.{sym}
 use Rattle.sf_console.proofs.GroupLaws.{line_head-bytes, line_head-text}
-use Rattle.sf_console.proofs.group_lines.head_of_bytes.Goals as goal
+use Rattle.sf_console.proofs.group_lines.head_of_text.Goals as goal
 
 pub returns-in_default : goal.returns-in_default
 returns-in_default c = line_head-bytes c.args.bytes.now c.in_default.ensures.cases.0
