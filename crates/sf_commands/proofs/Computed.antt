@@ -3,8 +3,8 @@ use Rattle.std.proofs.Common.{◌≡◌, pos, negsuc, Ok, Err, None, Some, [], �
 use Rattle.sf_refusals.specs.declared.refusal.Refusal.TheVariants.{Syntax, OffGrid, OutOfRange, BadCommand, BadPattern}
 use Rattle.sf_geometry.specs.declared.geometry.Geometry.TheVariants as geometries
 use Rattle.sf_geometry.specs.declared.kind.Kind.TheVariants as kinds
-use Rattle.sf_relate.specs.declared.letter.Letter.TheVariants.{Any, Empty, Filled}
-use Rattle.sf_relate.specs.declared.predicate.Predicate.TheVariants as predicates
+use Rattle.sf_known.specs.declared.letter.Letter.TheVariants.{Any, Empty, Filled}
+use Rattle.sf_known.specs.declared.predicate.Predicate.TheVariants as predicates
 use Rattle.sf_layers.specs.declared.layer_kind.LayerKind.TheVariants.{Only}
 use Rattle.sf_features.specs.declared.attr_value.AttrValue.TheVariants as values
 use Rattle.sf_features.specs.declared.column_type.ColumnType.TheVariants as types

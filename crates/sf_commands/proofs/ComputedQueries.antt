@@ -4,8 +4,8 @@ use Rattle.sf_refusals.specs.declared.refusal.Refusal.{Refusal}
 use Rattle.sf_refusals.specs.declared.refusal.Refusal.TheVariants.{Syntax, OffGrid, OutOfRange, Empty, UnsupportedType, ShortLine, OpenRing, ShortRing, RingNotSimple, HolesNested, BadCommand, BadPattern}
 use Rattle.sf_geometry.specs.declared.geometry.Geometry.{Geometry}
 use Rattle.sf_geometry.specs.declared.geometry.Geometry.TheVariants as geometries
-use Rattle.sf_relate.specs.declared.letter.Letter.TheVariants.{Any, Filled, Empty as Unfilled, Zero, One, Two}
-use Rattle.sf_relate.specs.declared.predicate.Predicate.TheVariants as predicates
+use Rattle.sf_known.specs.declared.letter.Letter.TheVariants.{Any, Filled, Empty as Unfilled, Zero, One, Two}
+use Rattle.sf_known.specs.declared.predicate.Predicate.TheVariants as predicates
 use Rattle.sf_commands.specs.declared.command.Command.TheVariants.{Relate, Match, Query}
 use Rattle.sf_commands.specs.Commands.{command_of}
 

@@ -11,10 +11,10 @@ use Rattle.sf_rules.specs.Verdicts.{first_fault}
 use Rattle.sf_validity.specs.declared.refusal.Refusal.{Refusal as ValidityRefusal}
 use Rattle.sf_validity.specs.declared.refusal.Refusal.TheVariants as validities
 use Rattle.sf_validity.specs.Refusals.{Refuses, refusal_of}
-use Rattle.sf_relate.specs.declared.letter.Letter.{Letter}
-use Rattle.sf_relate.specs.declared.refusal.Refusal.{Refusal as PatternRefusal}
-use Rattle.sf_relate.specs.declared.refusal.Refusal.TheVariants as patterns
-use Rattle.sf_relate.specs.Patterns.{pattern_of}
+use Rattle.sf_known.specs.declared.letter.Letter.{Letter}
+use Rattle.sf_known.specs.declared.refusal.Refusal.{Refusal as PatternRefusal}
+use Rattle.sf_known.specs.declared.refusal.Refusal.TheVariants as patterns
+use Rattle.sf_known.specs.Patterns.{pattern_of}
 use Rattle.sf_wkt.specs.declared.fault.WktFault.{WktFault}
 use Rattle.sf_steps.proofs.Judged.{its_fault, no_fault}
 use Rattle.sf_commands.specs.declared.command.Command.{Command}

@@ -13,10 +13,10 @@ use Rattle.sf_geometry.specs.declared.kind.Kind.TheVariants as kinds
 use Rattle.sf_rules.specs.declared.fault.Fault.{Fault}
 use Rattle.sf_rules.specs.Faults.{refusal_of as refusal_of_fault}
 use Rattle.sf_rules.specs.Verdicts.{first_fault}
-use Rattle.sf_relate.specs.declared.predicate.Predicate.{Predicate}
-use Rattle.sf_relate.specs.declared.predicate.Predicate.TheVariants as predicates
-use Rattle.sf_relate.specs.declared.letter.Letter.{Letter}
-use Rattle.sf_relate.specs.Patterns.{pattern_of}
+use Rattle.sf_known.specs.declared.predicate.Predicate.{Predicate}
+use Rattle.sf_known.specs.declared.predicate.Predicate.TheVariants as predicates
+use Rattle.sf_known.specs.declared.letter.Letter.{Letter}
+use Rattle.sf_known.specs.Patterns.{pattern_of}
 use Rattle.sf_lines.specs.Lines.{line_max}
 use Rattle.sf_wkt.specs.declared.fault.WktFault.{WktFault}
 use Rattle.sf_wkt.specs.Faults.{refusal_of}

@@ -1,6 +1,6 @@
 //! Commands that compare the features of two layers.
 ghost use Rattle.std.specs.Prelude.{◌≡◌, ok_or};
-ghost use Rattle.sf_relate.specs.Patterns.{pattern_of};
+ghost use Rattle.sf_known.specs.Patterns.{pattern_of};
 ghost use Rattle.sf_refusals.specs.declared.refusal.Refusal.TheVariants.{BadPattern};
 ghost use Rattle.sf_commands.specs.Commands.{beside_of as beside_spelled, join_arguments as join_command_of, join_asked, join_matching, join_named, OrMemory};
 ghost use Rattle.sf_commands.specs.Words.{words as words_of};

@@ -4,7 +4,7 @@ use Rattle.std.specs.Result.{IsErrAnd}
 use Rattle.sf_refusals.specs.declared.refusal.Refusal.{Refusal}
 use Rattle.sf_refusals.specs.declared.refusal.Refusal.TheVariants.{Memory}
 use Rattle.sf_geometry.specs.declared.geometry.Geometry.{Geometry}
-use Rattle.sf_relate.specs.declared.matrix.Matrix.{Matrix}
+use Rattle.sf_known.specs.declared.matrix.Matrix.{Matrix}
 use Rattle.sf_features.specs.Features.{FeatureContent}
 use Rattle.sf_layers.specs.Content.{LayerContent, feature_of}
 use Rattle.sf_query.specs.declared.ask.Ask.{Ask}

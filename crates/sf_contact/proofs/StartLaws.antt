@@ -21,7 +21,7 @@ use Rattle.sf_paths.proofs.SlantLaws.{is_grid}
 use Rattle.sf_relate.specs.Contact.{SharePoint, is_in}
 use Rattle.sf_contact.specs.EdgeContact.{Share}
 use Rattle.sf_relate.specs.Matrices.{matrix_of}
-use Rattle.sf_relate.specs.Patterns.{has_contact}
+use Rattle.sf_known.specs.Patterns.{has_contact}
 use Rattle.sf_relate.proofs.PlaceLaws.{tight-of}
 use Rattle.sf_relate.proofs.SharedLaws.{contact_is_shared}
 use Rattle.sf_contact.specs.Absence.{begins_in, has_start_in, on_edges}

@@ -3,7 +3,7 @@
 ghost use Rattle.std.specs.Prelude.{◌≡◌, ◌||◌, IfSome, is_some, nat_le};
 ghost use Rattle.sf_geometry.specs.Size.{point_count};
 ghost use Rattle.sf_relate.specs.Matrices.{matrix_of};
-ghost use Rattle.sf_relate.specs.Patterns.{has_contact};
+ghost use Rattle.sf_known.specs.Patterns.{has_contact};
 ghost use Rattle.sf_contact.specs.Few.{few_points};
 
 use super::edges::edges_meet;

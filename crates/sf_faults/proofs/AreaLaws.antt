@@ -13,7 +13,7 @@ use Rattle.sf_geometry.proofs.ListLaws.{edges-step, same-is}
 use Rattle.sf_plane.specs.declared.dim.Dim.{Dim}
 use Rattle.sf_plane.specs.Dimension.{HasDimension, PointSet}
 use Rattle.sf_relate.specs.Matrices.{both, matrix_of}
-use Rattle.sf_relate.specs.Patterns.{is_filled}
+use Rattle.sf_known.specs.Patterns.{is_filled}
 use Rattle.sf_relate.proofs.SetLaws.{matrices_are_over_the_plane}
 use Rattle.sf_relate.proofs.SharedLaws.{filled, fills}
 use Rattle.sf_rules.specs.Conditions.{Applies, AtPoint}

@@ -4,7 +4,7 @@ use Rattle.sf_geometry.specs.declared.geometry.Geometry.TheVariants.{Point}
 use Rattle.sf_features.specs.Features.{FeatureContent}
 use Rattle.sf_layers.specs.Content.{LayerContent}
 use Rattle.sf_layers.specs.declared.layer_kind.LayerKind.TheVariants.{Any}
-use Rattle.sf_relate.specs.declared.predicate.Predicate.TheVariants.{Equals, Disjoint, Intersects}
+use Rattle.sf_known.specs.declared.predicate.Predicate.TheVariants.{Equals, Disjoint, Intersects}
 use Rattle.sf_query.specs.declared.ask.Ask.TheVariants.{Named}
 use Rattle.sf_joins.specs.Joins.{pairs_found, found_beside}
 

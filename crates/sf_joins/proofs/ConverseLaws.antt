@@ -3,13 +3,13 @@ use Rattle.std.proofs.Common.{◌≡◌, ℕ, zero, suc, Bool, true, false, ◌&
 use Rattle.sf_plane.specs.declared.dim.Dim.{Dim}
 use Rattle.sf_plane.specs.declared.dim.Dim.TheVariants as dims
 use Rattle.sf_relate.specs.Matrices.{matrix_of}
-use Rattle.sf_relate.specs.Patterns.{admits, matches}
-use Rattle.sf_relate.specs.declared.letter.Letter.{Letter}
-use Rattle.sf_relate.specs.declared.letter.Letter.TheVariants.{Any, Filled, Empty, Zero, One}
-use Rattle.sf_relate.specs.declared.predicate.Predicate.{Predicate}
-use Rattle.sf_relate.specs.declared.predicate.Predicate.TheVariants.{Equals, Disjoint, Intersects, Touches, Within, Contains, Crosses, Overlaps}
-use Rattle.sf_relate.specs.Predicates.{is_like, crosses, overlaps, touches, holds}
-use Rattle.sf_relate.specs.Transposed.{transposed}
+use Rattle.sf_known.specs.Patterns.{admits, matches}
+use Rattle.sf_known.specs.declared.letter.Letter.{Letter}
+use Rattle.sf_known.specs.declared.letter.Letter.TheVariants.{Any, Filled, Empty, Zero, One}
+use Rattle.sf_known.specs.declared.predicate.Predicate.{Predicate}
+use Rattle.sf_known.specs.declared.predicate.Predicate.TheVariants.{Equals, Disjoint, Intersects, Touches, Within, Contains, Crosses, Overlaps}
+use Rattle.sf_known.specs.Predicates.{is_like, crosses, overlaps, touches, holds}
+use Rattle.sf_known.specs.Transposed.{transposed}
 use Rattle.sf_prepared.proofs.TransposedLaws.{matrices_are_transposed}
 use Rattle.sf_query.specs.declared.ask.Ask.TheVariants.{Matching, Named}
 use Rattle.sf_query.specs.Answers.{dim_of_geometry}

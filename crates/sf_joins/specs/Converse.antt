@@ -2,9 +2,9 @@
 -- An ask the other way round: of the second geometry with the first.
 use Rattle.std.specs.Prelude.{◌≡◌, length}
 use Rattle.sf_geometry.specs.declared.geometry.Geometry.{Geometry}
-use Rattle.sf_relate.specs.declared.predicate.Predicate.{Predicate}
-use Rattle.sf_relate.specs.declared.predicate.Predicate.TheVariants.{Within, Contains}
-use Rattle.sf_relate.specs.Transposed.{transposed}
+use Rattle.sf_known.specs.declared.predicate.Predicate.{Predicate}
+use Rattle.sf_known.specs.declared.predicate.Predicate.TheVariants.{Within, Contains}
+use Rattle.sf_known.specs.Transposed.{transposed}
 use Rattle.sf_query.specs.declared.ask.Ask.{Ask}
 use Rattle.sf_query.specs.declared.ask.Ask.TheVariants.{Matching, Named}
 use Rattle.sf_query.specs.Answers.{is_asked}

@@ -7,10 +7,10 @@ use Rattle.sf_geometry.specs.PointSets.{in_boundary, in_exterior, in_interior}
 use Rattle.sf_plane.specs.declared.dim.Dim.{Dim}
 use Rattle.sf_plane.specs.Dimension.{HasDimension, PointSet}
 use Rattle.sf_relate.specs.Matrices.{IsMatrix, both, matrix_of}
-use Rattle.sf_relate.specs.declared.matrix.Matrix.{Matrix}
+use Rattle.sf_known.specs.declared.matrix.Matrix.{Matrix}
 use Rattle.sf_relate.proofs.SetLaws.{matrices_are_over_the_plane}
 use Rattle.sf_prepared.specs.Transposed.{MatricesAreTransposed}
-use Rattle.sf_relate.specs.Transposed.{transposed}
+use Rattle.sf_known.specs.Transposed.{transposed}
 
 turned : (s t : PointSet) (d : Dim) → HasDimension (both s t) d → HasDimension (both t s) d
 turned s t d h = subst (λ (set : PointSet). HasDimension set d) (fun_ext (λ q. and_comm (s q) (t q))) h

@@ -3,7 +3,7 @@
 use Rattle.std.specs.Prelude.{◌≡◌}
 use Rattle.sf_geometry.specs.declared.geometry.Geometry.{Geometry}
 use Rattle.sf_relate.specs.Matrices.{matrix_of}
-use Rattle.sf_relate.specs.Transposed.{transposed}
+use Rattle.sf_known.specs.Transposed.{transposed}
 
 -- the columns of the one are the rows of the other
 abbrev pub MatricesAreTransposed : Type 0

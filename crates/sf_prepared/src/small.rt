@@ -4,7 +4,6 @@ ghost use Rattle.std.specs.Prelude.{◌≡◌, IfSome};
 ghost use Rattle.sf_relate.specs.declared.shape.Shape.TheVariants.{Areas};
 ghost use Rattle.sf_relate.specs.Matrices.{matrix_of};
 ghost use Rattle.sf_relate.specs.Places.{shape_of};
-ghost use Rattle.sf_relate.specs.Transposed.{transposed};
 
 use crate::nearby::{MOST_NEARBY, columns_over, one_leaves};
 use sf_crossing::edges_meeting;
@@ -24,7 +23,7 @@ pub fn matrix_nearby(alloc: Global, area: &Valid, small: &Valid) -> Option<Matri
             let Some(matrix) = walked_over(alloc, small, area) else {
                 return None;
             };
-            Some(transposed(&matrix))
+            Some(matrix.transposed())
         }
         _ => None,
     }
@@ -48,12 +47,4 @@ fn walked_over(alloc: Global, small: &Valid, area: &Valid) -> Option<Matrix>
         return None;
     }
     relate_nearby(alloc, small, area, edges).ok()
-}
-
-/// A matrix with its columns as rows: that of the two geometries the other way round.
-fn transposed(matrix: &Matrix) -> Matrix
-    ensures { result.0 ≡ transposed matrix.now.0 }
-{
-    let [ii, ib, ie, bi, bb, be, ei, eb, ee] = matrix.0;
-    Matrix([ii, bi, ei, ib, bb, eb, ie, be, ee])
 }

@@ -6,8 +6,8 @@ use Rattle.sf_geometry.specs.declared.geometry.Geometry.TheVariants.{Point, Poly
 use Rattle.sf_features.specs.Features.{plain_feature}
 use Rattle.sf_layers.specs.declared.layer_kind.LayerKind.TheVariants.{Any}
 use Rattle.sf_layers.specs.Content.{LayerContent}
-use Rattle.sf_relate.specs.declared.predicate.Predicate.TheVariants.{Disjoint, Intersects}
-use Rattle.sf_relate.specs.Patterns.{pattern_of}
+use Rattle.sf_known.specs.declared.predicate.Predicate.TheVariants.{Disjoint, Intersects}
+use Rattle.sf_known.specs.Patterns.{pattern_of}
 use Rattle.sf_query.specs.declared.ask.Ask.TheVariants.{Matching, Named}
 use Rattle.sf_query.specs.Answers.{ids_found, looked_at}
 

@@ -6,7 +6,7 @@ use Rattle.sf_geometry.specs.declared.geometry.Geometry.TheVariants.{Point, Poly
 use Rattle.sf_features.specs.Features.{FeatureContent, plain_feature}
 use Rattle.sf_layers.specs.declared.layer_kind.LayerKind.TheVariants.{Any}
 use Rattle.sf_layers.specs.Content.{LayerContent}
-use Rattle.sf_relate.specs.declared.predicate.Predicate.TheVariants.{Disjoint, Intersects}
+use Rattle.sf_known.specs.declared.predicate.Predicate.TheVariants.{Disjoint, Intersects}
 use Rattle.sf_query.specs.declared.ask.Ask.TheVariants.{Named}
 use Rattle.sf_query.specs.Answers.{ids_found, looked_at}
 

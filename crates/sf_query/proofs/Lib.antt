@@ -1,4 +1,5 @@
 pub mod FilterLaws
+pub mod EvidenceLaws
 pub mod QueryLaws
 pub mod Computed
 pub mod ComputedThousand

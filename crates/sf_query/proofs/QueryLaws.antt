@@ -18,18 +18,17 @@ use Rattle.sf_rtree.specs.Indexes.{Boxes, ids_meeting}
 use Rattle.sf_layers.specs.Boxes.{box_entry, boxes_of}
 use Rattle.sf_layers.specs.Content.{Content, LayerContent, feature_of, layer_of}
 use Rattle.sf_layers.specs.WellFormed.{IsFeature, IsLayer, IsWellFormed}
-use Rattle.sf_relate.specs.declared.matrix.Matrix.{Matrix}
+use Rattle.sf_known.specs.declared.matrix.Matrix.{Matrix}
 use Rattle.sf_relate.specs.declared.place.Place.{Place}
 use Rattle.sf_relate.specs.declared.place.Place.TheVariants.{Boundary, Exterior, Interior}
-use Rattle.sf_relate.specs.declared.predicate.Predicate.{Predicate}
-use Rattle.sf_relate.specs.declared.predicate.Predicate.TheVariants.{Disjoint, Intersects}
+use Rattle.sf_known.specs.declared.predicate.Predicate.{Predicate}
+use Rattle.sf_known.specs.declared.predicate.Predicate.TheVariants.{Disjoint, Intersects}
 use Rattle.sf_relate.specs.Matrices.{IsMatrix, matrix_of}
-use Rattle.sf_relate.specs.Patterns.{has_contact}
+use Rattle.sf_known.specs.Patterns.{has_contact}
 use Rattle.sf_relate.specs.Places.{IsPlaceOf}
-use Rattle.sf_relate.specs.PointPredicates.{TellsOfPoint, needs_matrix}
-use Rattle.sf_relate.specs.Predicates.{holds}
+use Rattle.sf_known.specs.Predicates.{holds}
 use Rattle.sf_relate.specs.Told.{ShareNone}
-use Rattle.sf_relate.proofs.ContactLaws.{patterns_need_contact, predicates_need_contact}
+use Rattle.sf_known.proofs.ContactLaws.{patterns_need_contact, predicates_need_contact}
 use Rattle.sf_relate.proofs.EnvelopeLaws.{apart_has_no_contact, valid-closed}
 use Rattle.sf_relate.proofs.SetLaws.{matrices_are_over_the_plane}
 use Rattle.sf_relate.proofs.SharedLaws.{contact_is_shared}
@@ -40,57 +39,11 @@ use Rattle.sf_query.specs.Answers.{IsAnswer, dim_of_geometry, is_answered, is_as
 use Rattle.sf_query.specs.Replies.{AnswersAreOverThePlane, AreFound, IsQueried, IsRelated, IsRelatedTo}
 use Rattle.sf_query.proofs.FilterLaws.{IsFoundIn, each-filter, each-found, each-map, each-value, entry-at, filter-within, found-passes, passes-found, rising-filter, some-at, taken-found, taken-other, value-found, viewed}
 
--- ---- what tells without a matrix
-
--- a Point's place tells of the matrix
-pub told-of-point : (answer : Option Bool) (predicate : Predicate) (place : Place) (a b : Geometry) (p : Coordinates) → a ≡ Point p
-    → IfSome answer (TellsOfPoint predicate place) → IsPlaceOf b (grid_point p) place
-    → IfSome answer (λ r. r ≡ holds predicate (dim_of_geometry a) (dim_of_geometry b) (matrix_of a b))
-told-of-point None predicate place a b p is told at = tt
-told-of-point (Some r) predicate place a b p is told at =
-    subst (λ g. r ≡ holds predicate (dim_of_geometry g) (dim_of_geometry b) (matrix_of g b)) (sym is) (told p b (dim_of_geometry b) at)
-
--- a point has one place in a geometry
-one-place : (b : Geometry) (q : PlanePoint) (first second : Place) → IsPlaceOf b q first → IsPlaceOf b q second → first ≡ second
-one-place b q Interior Interior h k = refl
-one-place b q Boundary Boundary h k = refl
-one-place b q Exterior Exterior h k = refl
-one-place b q Interior Boundary h k = absurd (both_ways (in_interior b q) k.interior h.interior)
-one-place b q Interior Exterior h k = absurd (both_ways (in_interior b q) k.interior h.interior)
-one-place b q Boundary Interior h k = absurd (both_ways (in_interior b q) h.interior k.interior)
-one-place b q Exterior Interior h k = absurd (both_ways (in_interior b q) h.interior k.interior)
-one-place b q Boundary Exterior h k = absurd (both_ways (in_boundary b q) k.boundary h.boundary)
-one-place b q Exterior Boundary h k = absurd (both_ways (in_boundary b q) h.boundary k.boundary)
-
--- a Point's place gives an answer where the predicate needs no matrix
-pub placed-answers : (answer : Option Bool) (predicate : Predicate) (found place : Place) (a b : Geometry) (p q : Coordinates) → a ≡ Point p → a ≡ Point q
-    → IsPlaceOf b (grid_point p) found → IsPlaceOf b (grid_point q) place → ((answer ≡ None) ↔ IsTrue (needs_matrix predicate found)) → needs_matrix predicate place ≡ false → is_some answer ≡ true
-placed-answers (Some r) predicate found place a b p q is other at there needed free = refl
-placed-answers None predicate found place a b p q is other at there needed free =
-    absurd (both_ways (needs_matrix predicate place) free (sym (ap (needs_matrix predicate) same) ∙ needed.0 refl))
-  where
-    one : p ≡ q
-    one = cc
-
-    same : found ≡ place
-    same = one-place b (grid_point p) found place at (subst (λ x. IsPlaceOf b (grid_point x) place) (sym one) there)
-
--- and contact tells whether geometries intersect or are disjoint
-pub intersects-told : (predicate : Predicate) (a b : Geometry) (d e : Dim) → predicate ≡ Intersects → IsTrue (has_contact (matrix_of a b)) → true ≡ holds predicate d e (matrix_of a b)
-intersects-told predicate a b d e is contact =
-    sym (ap (λ p. holds p d e (matrix_of a b)) is ∙ (contact_is_shared a b).intersects d e ∙ contact)
-
-pub disjoint-told : (predicate : Predicate) (a b : Geometry) (d e : Dim) → predicate ≡ Disjoint → IsTrue (has_contact (matrix_of a b)) → false ≡ holds predicate d e (matrix_of a b)
-disjoint-told predicate a b d e is contact =
-    sym (ap (λ p. holds p d e (matrix_of a b)) is ∙ (contact_is_shared a b).disjoint d e ∙ ap not contact)
+-- ---- what is known without a walk
 
 -- where contact is denied no point is shared
 pub apart-known : (told : Bool) (a b : Geometry) → told ≡ has_contact (matrix_of a b) → told ≡ false → ShareNone a b
 apart-known told a b is none share = both_ways told none (is ∙ (contact_is_shared a b).shared.1 share)
-
--- the matrix of a feature's geometry tells whether it is as asked
-pub told-by-matrix : (ask : Ask) (a b : Geometry) (matrix : Matrix) (r : Bool) → matrix.0 ≡ matrix_of a b → r ≡ is_answered ask a b matrix.0 → r ≡ is_asked ask a b
-told-by-matrix ask a b matrix r is e = e ∙ ap (is_answered ask a b) is
 
 -- ---- what may be passed over
 

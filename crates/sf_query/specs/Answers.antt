@@ -9,9 +9,9 @@ use Rattle.sf_layers.specs.Content.{LayerContent}
 use Rattle.sf_plane.specs.declared.dim.Dim.{Dim}
 use Rattle.sf_plane.specs.Unions.{dim_of}
 use Rattle.sf_relate.specs.Matrices.{matrix_of}
-use Rattle.sf_relate.specs.Patterns.{asks_contact, matches}
-use Rattle.sf_relate.specs.declared.predicate.Predicate.TheVariants.{Disjoint, Intersects}
-use Rattle.sf_relate.specs.Predicates.{holds, predicate_asks_contact}
+use Rattle.sf_known.specs.Patterns.{asks_contact, matches}
+use Rattle.sf_known.specs.declared.predicate.Predicate.TheVariants.{Disjoint, Intersects}
+use Rattle.sf_known.specs.Predicates.{holds, predicate_asks_contact}
 use Rattle.sf_query.specs.declared.ask.Ask.{Ask}
 use Rattle.sf_query.specs.declared.ask.Ask.TheVariants.{Matching, Named}
 use Rattle.sf_query.specs.declared.found.Found.{Found}

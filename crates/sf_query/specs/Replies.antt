@@ -7,7 +7,7 @@ use Rattle.sf_geometry.specs.declared.geometry.Geometry.{Geometry}
 use Rattle.sf_features.specs.Features.{FeatureContent}
 use Rattle.sf_layers.specs.Content.{LayerContent, feature_of}
 use Rattle.sf_plane.specs.declared.dim.Dim.{Dim}
-use Rattle.sf_relate.specs.declared.matrix.Matrix.{Matrix}
+use Rattle.sf_known.specs.declared.matrix.Matrix.{Matrix}
 use Rattle.sf_relate.specs.Matrices.{IsMatrix, matrix_of}
 use Rattle.sf_query.specs.declared.ask.Ask.{Ask}
 use Rattle.sf_query.specs.declared.found.Found.{Found}

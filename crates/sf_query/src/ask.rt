@@ -1,7 +1,9 @@
 ghost use Rattle.std.specs.Prelude.{◌≡◌};
-ghost use Rattle.sf_query.specs.Answers.{is_of_contact, needs_contact};
+ghost use Rattle.sf_known.specs.Goals.{AsksFor};
+ghost use Rattle.sf_query.specs.Answers.{is_answered, is_of_contact, needs_contact};
 
-use sf_relate::{Pattern, Predicate};
+use sf_relate::{Goal, Pattern, Predicate, dimension};
+use sf_validity::Valid;
 
 /// What is asked of the matrix of a feature with the given geometry.
 #[derive(Clone, Copy, Debug, PartialEq, Eq)]
@@ -22,6 +24,19 @@ impl Ask {
             Ask::Named(predicate) => predicate.needs_contact(),
         }
     }
+
+    /// What is asked of the matrix of these geometries.
+    pub(crate) fn goal(&self, a: &Valid, b: &Valid) -> Goal
+        ensures { AsksFor (is_answered self.now a.now b.now) result }
+    {
+        match self {
+            Ask::Matching(pattern) => Goal::Match(*pattern),
+            Ask::Named(predicate) => {
+                predicate.goal(dimension(a.geometry()), dimension(b.geometry()))
+            }
+        }
+    }
+
     /// Whether contact is all that is asked for, or its absence, by name.
     pub(crate) fn is_of_contact(&self) -> bool
         ensures { result ≡ is_of_contact self.now }

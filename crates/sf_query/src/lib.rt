@@ -3,8 +3,10 @@
 
 mod answering;
 mod ask;
+mod evidence;
 mod found;
 pub mod laws;
+mod order;
 mod queries;
 mod refusal;
 

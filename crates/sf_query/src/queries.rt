@@ -12,9 +12,11 @@ ghost use Rattle.sf_relate.specs.Matrices.{matrix_of};
 ghost use Rattle.sf_query.specs.Answers.{IsAnswer, needs_contact};
 ghost use Rattle.sf_query.specs.Replies.{IsQueried, IsRelated};
 
-use super::answering::{is_asked_beside, is_asked_prepared, told_nearby};
+use super::answering::{is_asked, is_asked_beside};
 use super::ask::Ask;
+use super::evidence::matrix_by_edges_nearby;
 use super::found::Found;
+use super::order::MANY_FEATURES;
 use super::refusal::Refusal;
 use sf_contact::FEW_POINTS;
 use sf_geometry::Extent;
@@ -24,9 +26,6 @@ use sf_relate::{Matrix, relate};
 use sf_rtree::{RTree, SpatialIndex};
 use sf_validity::Valid;
 use std::alloc::{AllocError, Global};
-
-/// How many features there are at least for what is made of the given geometry to pay.
-const MANY_FEATURES: usize = 8;
 
 /// The features of a layer whose matrix with the given geometry is as asked.
 ///
@@ -75,7 +74,7 @@ pub fn relate_one(
 fn matrix_with(alloc: Global, geometry: &Valid, given: &Valid) -> Result<Matrix, AllocError>
     ensures { IfOk result (λ matrix. matrix.0 ≡ matrix_of geometry.now given.now) }
 {
-    match told_nearby(alloc, geometry, given) {
+    match matrix_by_edges_nearby(alloc, geometry, given) {
         Some(matrix) => Ok(matrix),
         None => relate(alloc, geometry, given),
     }
@@ -142,7 +141,7 @@ fn found_among(
     let mut ids = Vec::new(alloc);
     for id in near {
         let feature = layer.feature(*id).unwrap();
-        if is_asked_prepared(alloc, ask, feature.valid(), given, prepared)? {
+        if is_asked(alloc, ask, feature.valid(), given, prepared)? {
             ids.push(*id)?;
         }
     }

@@ -1,7 +1,6 @@
--- The matrix of two areas that overlap, told before all items were handed out: by what was found of a part of them, and by
--- whether the boundaries run along one another.
+-- The matrix of two areas of which all is known but how their boundaries share points: whether these run along one another decides it.
 use Rattle.std.proofs.Common.{◌≡◌, refl, ap, sym, ◌∙◌, subst, Bool, true, false, ◌||◌, List, [], ◌∷◌}
-use Rattle.std.specs.Prelude.{◌↔◌, IsTrue, if◌then◌else◌}
+use Rattle.std.specs.Prelude.{◌↔◌, IsTrue, None, Option, Some, unwrap_or, if◌then◌else◌}
 use Rattle.std.specs.List.{flat_map, list_any}
 use Rattle.std.proofs.lemmas.Bool.{and_from, and_parts, both_ways}
 use Rattle.std.proofs.lemmas.List.Folds.{list_any-append}
@@ -24,19 +23,19 @@ use Rattle.sf_plane.proofs.UnionLaws.{samples_tell}
 use Rattle.sf_plane.specs.declared.dim.Dim.{Dim}
 use Rattle.sf_plane.specs.declared.dim.Dim.TheVariants as dims
 use Rattle.sf_plane.specs.Dimension.{HasDimension, HasSegment, HasTriangle, PointSet}
-use Rattle.sf_plane.specs.Unions.{IsUnionOfCells, dimension_by_samples, greater_dim}
+use Rattle.sf_plane.specs.Unions.{IsUnionOfCells, dimension_by_samples}
 use Rattle.sf_rules.proofs.MemberLaws.{any-one, in_map, one-any}
 use Rattle.sf_rules.specs.Validity.{IsValid}
-use Rattle.sf_relate.specs.declared.letter.Letter.TheVariants.{Filled, One, Two}
-use Rattle.sf_relate.specs.declared.place.Place.TheVariants.{Interior, Boundary, Exterior}
+use Rattle.sf_known.proofs.NineLaws.{boundaries-known}
+use Rattle.sf_known.specs.declared.aim.Aim.TheVariants.{ButBoundaries}
+use Rattle.sf_known.specs.declared.known.Known.{Known}
+use Rattle.sf_known.specs.declared.matrix.Matrix.{Matrix}
+use Rattle.sf_known.specs.Known.{Holds, have_most, is_enough}
 use Rattle.sf_relate.specs.declared.shape.Shape.TheVariants.{Areas}
 use Rattle.sf_relate.specs.AllPieces.{all_pieces, end_dots_of, pieces_of, with_ends}
-use Rattle.sf_relate.specs.Areas.{overlap_letters, overlapping_entries}
+use Rattle.sf_relate.specs.Areas.{Overlap, overlapping_entries, with_boundaries}
 use Rattle.sf_relate.specs.Matrices.{both, matrix_of}
-use Rattle.sf_relate.specs.Patterns.{admits}
 use Rattle.sf_relate.specs.Places.{shape_of}
-use Rattle.sf_relate.proofs.FoldLaws.{cons}
-use Rattle.sf_relate.proofs.MatrixLaws.{HadMost}
 use Rattle.sf_relate.proofs.MostLaws.{wider-triangle}
 use Rattle.sf_relate.proofs.SetLaws.{boundary_union, first_has, matrices_are_over_the_plane, second_has}
 
@@ -126,32 +125,7 @@ segment-along a b s t h =
           (some.0, some.1, some.2, some.3, ((e.passes, f.passes), some.4.1));
     }
 
--- ---- entries that have the most, and have grown
-grown-two : (d e : Dim) → admits Two d ≡ true → greater_dim d e ≡ e → dims.Two ≡ e
-grown-two dims.Two e h g = g
-grown-two dims.Nothing e h g = absurd cc
-grown-two dims.Zero e h g = absurd cc
-grown-two dims.One e h g = absurd cc
-
-grown-one : (d e : Dim) → admits One d ≡ true → greater_dim d e ≡ e → (e ≡ dims.Two → ⊥) → dims.One ≡ e
-grown-one dims.One dims.One h g n = refl
-grown-one dims.One dims.Two h g n = absurd (n refl)
-grown-one dims.One dims.Nothing h g n = absurd cc
-grown-one dims.One dims.Zero h g n = absurd cc
-grown-one dims.Nothing e h g n = absurd cc
-grown-one dims.Zero e h g n = absurd cc
-grown-one dims.Two e h g n = absurd cc
-
-grown-filled : (d e : Dim) → admits Filled d ≡ true → greater_dim d e ≡ e → e ≡ dims.Nothing → ⊥
-grown-filled d dims.Zero h g n = absurd cc
-grown-filled d dims.One h g n = absurd cc
-grown-filled d dims.Two h g n = absurd cc
-grown-filled dims.Nothing dims.Nothing h g n = absurd cc
-grown-filled dims.Zero dims.Nothing h g n = absurd cc
-grown-filled dims.One dims.Nothing h g n = absurd cc
-grown-filled dims.Two dims.Nothing h g n = absurd cc
-
--- the entry of the two boundaries
+-- ---- the entry of the two boundaries
 by-along : (set : PointSet) (d : Dim) (along : Bool) → HasDimension set d → (d ≡ dims.Nothing → ⊥) → (d ≡ dims.Two → ⊥)
     → (along ≡ true → HasSegment set) → (HasSegment set → along ≡ true) → (if along then dims.One else dims.Zero) ≡ d
 by-along set dims.Nothing along h m n f g = absurd (m refl)
@@ -161,33 +135,55 @@ by-along set dims.One true h m n f g = refl
 by-along set dims.One false h m n f g = absurd (both_ways false refl (g h.0))
 by-along set dims.Two along h m n f g = absurd (n refl)
 
-pub overlap-told : (a b : Geometry) (along : Bool) (had : List Dim) → IsValid a → IsValid b → shape_of a ≡ Areas → shape_of b ≡ Areas → HadMost overlap_letters had (matrix_of a b) → IsTrue along ↔ RunAlong a b →
-    overlapping_entries along ≡ matrix_of a b
-overlap-told a b along had v w s t h r =
-    let m = (matrices_are_over_the_plane a b).computed in
-    let g = h.grown in
-    let u = h.table in
-    let m0 = and_parts (admits Two (u Interior Interior)) _ h.matched in
-    let m1 = and_parts (admits One (u Interior Boundary)) _ m0.1 in
-    let m2 = and_parts (admits Two (u Interior Exterior)) _ m1.1 in
-    let m3 = and_parts (admits One (u Boundary Interior)) _ m2.1 in
-    let m4 = and_parts (admits Filled (u Boundary Boundary)) _ m3.1 in
-    let m5 = and_parts (admits One (u Boundary Exterior)) _ m4.1 in
-    let m6 = and_parts (admits Two (u Exterior Interior)) _ m5.1 in
-    let m7 = and_parts (admits One (u Exterior Boundary)) _ m6.1 in
-    let m8 = and_parts (admits Two (u Exterior Exterior)) _ m7.1 in
+-- the dimension of what the two boundaries have in common
+abbrev boundaries_dim : Geometry → Geometry → Dim
+boundaries_dim a b = dimension_by_samples (all_pieces a b) (both (in_boundary a) (in_boundary b))
+
+boundaries-entry : (a b : Geometry) (along : Bool) → IsValid a → IsValid b → shape_of a ≡ Areas → shape_of b ≡ Areas → IsTrue along ↔ RunAlong a b
+    → (boundaries_dim a b ≡ dims.Nothing → ⊥) → (if along then dims.One else dims.Zero) ≡ boundaries_dim a b
+boundaries-entry a b along v w s t r filled =
+    let is = (matrices_are_over_the_plane a b).computed.1.1.1.1.0 in
+    by-along (both (in_boundary a) (in_boundary b)) (boundaries_dim a b) along is filled (first-thin a (in_boundary b) (boundaries_dim a b) v s is)
+    (λ k. along-segment a b s t (r.0 k)) (λ k. r.1 (segment-along a b s t k))
+
+-- ---- the matrix
+fifth : List Dim → Dim
+fifth (a ∷ b ∷ c ∷ d ∷ e ∷ ds) = e
+fifth ds = dims.Nothing
+
+shared-point : (along : Bool) (d : Dim) → d ≡ (if along then dims.One else dims.Zero) → d ≡ dims.Nothing → ⊥
+shared-point true d e f = absurd cc
+shared-point false d e f = absurd cc
+
+-- of areas that overlap
+pub overlap-told : (a b : Geometry) (along : Bool) → IsValid a → IsValid b → shape_of a ≡ Areas → shape_of b ≡ Areas → Overlap a b → IsTrue along ↔ RunAlong a b
+    → overlapping_entries along ≡ matrix_of a b
+unfolding fifth
+overlap-told a b along v w s t h r =
+    let is : boundaries_dim a b ≡ (if h.along then dims.One else dims.Zero) = ap fifth h.matrix in
+    ap (λ d. dims.Two ∷ dims.One ∷ dims.Two ∷ dims.One ∷ d ∷ dims.One ∷ dims.Two ∷ dims.One ∷ dims.Two ∷ [])
+    (boundaries-entry a b along v w s t r (shared-point h.along (boundaries_dim a b) is) ∙ is)
+    ∙ sym h.matrix
+
+-- what is said where all entries are known, and where they are not
+abbrev matrix_if : Bool → List Dim → Option Matrix
+matrix_if all entries = if all then Some (record { 0 = entries }) else None
+
+pub matrix-given : (all : Bool) (entries : List Dim) (matrix : Matrix) → Some matrix ≡ matrix_if all entries → (all ≡ true) × (matrix.0 ≡ entries)
+matrix-given true entries matrix h = (refl, ap (λ o. (unwrap_or o matrix).0) h)
+matrix-given false entries matrix h = absurd cc
+
+pub matrix-missing : (all : Bool) (entries : List Dim) → ◌≡◌ {A = Option Matrix} None (matrix_if all entries) → all ≡ false
+matrix-missing true entries h = absurd cc
+matrix-missing false entries h = refl
+
+-- of areas of which all is known but how their boundaries share points
+pub boundaries-left : (a b : Geometry) (known : Known) (along : Bool) → IsValid a → IsValid b → shape_of a ≡ Areas → shape_of b ≡ Areas → Holds known (matrix_of a b)
+    → is_enough known ButBoundaries ≡ true → have_most known.least known.most ≡ false → IsTrue along ↔ RunAlong a b → with_boundaries known.least along ≡ matrix_of a b
+boundaries-left a b known along v w s t holds enough left r =
     let d = λ (x y : PointSet). dimension_by_samples (all_pieces a b) (both x y) in
-    cons _ _ _ _ (grown-two (u Interior Interior) (d (in_interior a) (in_interior b)) m0.0 g.0)
-    (cons _ _ _ _ (grown-one (u Interior Boundary) (d (in_interior a) (in_boundary b)) m1.0 g.1.0 (second-thin b (in_interior a) _ w t m.1.0))
-    (cons _ _ _ _ (grown-two (u Interior Exterior) (d (in_interior a) (in_exterior b)) m2.0 g.1.1.0)
-    (cons _ _ _ _ (grown-one (u Boundary Interior) (d (in_boundary a) (in_interior b)) m3.0 g.1.1.1.0 (first-thin a (in_interior b) _ v s m.1.1.1.0))
-    (cons _ _ _ _
-    (by-along (both (in_boundary a) (in_boundary b)) (d (in_boundary a) (in_boundary b)) along m.1.1.1.1.0
-    (grown-filled (u Boundary Boundary) (d (in_boundary a) (in_boundary b)) m4.0 g.1.1.1.1.0)
-    (first-thin a (in_boundary b) _ v s m.1.1.1.1.0)
-    (λ k. along-segment a b s t (r.0 k))
-    (λ k. r.1 (segment-along a b s t k)))
-    (cons _ _ _ _ (grown-one (u Boundary Exterior) (d (in_boundary a) (in_exterior b)) m5.0 g.1.1.1.1.1.0 (first-thin a (in_exterior b) _ v s m.1.1.1.1.1.0))
-    (cons _ _ _ _ (grown-two (u Exterior Interior) (d (in_exterior a) (in_interior b)) m6.0 g.1.1.1.1.1.1.0)
-    (cons _ _ _ _ (grown-one (u Exterior Boundary) (d (in_exterior a) (in_boundary b)) m7.0 g.1.1.1.1.1.1.1.0 (second-thin b (in_exterior a) _ w t m.1.1.1.1.1.1.1.0))
-    (cons _ _ _ _ (grown-two (u Exterior Exterior) (d (in_exterior a) (in_exterior b)) m8.0 g.1.1.1.1.1.1.1.1.0) refl))))))))
+    boundaries-known known.least known.most
+    (d (in_interior a) (in_interior b)) (d (in_interior a) (in_boundary b)) (d (in_interior a) (in_exterior b))
+    (d (in_boundary a) (in_interior b)) (d (in_boundary a) (in_boundary b)) (d (in_boundary a) (in_exterior b))
+    (d (in_exterior a) (in_interior b)) (d (in_exterior a) (in_boundary b)) (d (in_exterior a) (in_exterior b))
+    (if along then dims.One else dims.Zero) holds.least holds.most enough left (boundaries-entry a b along v w s t r)

@@ -4,10 +4,11 @@ use Rattle.sf_grid.specs.Plane.{Coordinates}
 use Rattle.sf_cells.specs.Groups.{Item}
 use Rattle.sf_geometry.specs.declared.geometry.Geometry.{Geometry}
 use Rattle.sf_geometry.specs.declared.geometry.Geometry.TheVariants.{Point, LineString, Polygon, MultiPoint, MultiLineString, MultiPolygon}
-use Rattle.sf_relate.specs.Matrices.{character_of}
+use Rattle.sf_known.specs.Entries.{character_of}
 use Rattle.sf_pieces.specs.Marked.{items_of}
 use Rattle.sf_relate.specs.AllPieces.{all_grouped}
-use Rattle.sf_relate.specs.Places.{no_entries, shape_of, with_item}
+use Rattle.sf_known.specs.Known.{no_entries}
+use Rattle.sf_relate.specs.Places.{shape_of, with_item}
 
 at : ℤ → ℤ → Coordinates
 at x y = record { x = x; y = y }

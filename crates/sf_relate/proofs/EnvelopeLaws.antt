@@ -29,7 +29,7 @@ use Rattle.sf_polygons.proofs.TestLaws.{any-follows}
 use Rattle.sf_validity.specs.Beside.{box_of_extent}
 use Rattle.sf_relate.specs.Contact.{ApartHasNoContact, LiesInBox}
 use Rattle.sf_relate.specs.Matrices.{matrix_of}
-use Rattle.sf_relate.specs.Patterns.{has_contact}
+use Rattle.sf_known.specs.Patterns.{has_contact}
 use Rattle.sf_geometry.proofs.ListLaws.{not-false}
 use Rattle.sf_relate.proofs.PlaceLaws.{end-on, odd-some-count}
 use Rattle.sf_relate.proofs.SharedLaws.{contact_is_shared}

@@ -15,7 +15,7 @@ use Rattle.sf_rules.specs.Validity.{IsValid}
 use Rattle.sf_strands.proofs.EndLaws.{grid-IsPoint, start-on}
 use Rattle.sf_relate.specs.Contact.{FirstPointIsIn, SharePoint, is_in}
 use Rattle.sf_relate.specs.Matrices.{matrix_of}
-use Rattle.sf_relate.specs.Patterns.{has_contact}
+use Rattle.sf_known.specs.Patterns.{has_contact}
 use Rattle.sf_relate.specs.Places.{IsPlaceOf, is_place}
 use Rattle.sf_relate.specs.declared.place.Place.{Place}
 use Rattle.sf_relate.specs.declared.place.Place.TheVariants.{Interior, Boundary}

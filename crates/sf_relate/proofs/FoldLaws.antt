@@ -28,7 +28,9 @@ use Rattle.sf_relate.specs.declared.shape.Shape.{Shape}
 use Rattle.sf_relate.specs.declared.shape.Shape.TheVariants.{Points, Lines, Areas}
 use Rattle.sf_relate.specs.AllPieces.{all_grouped}
 use Rattle.sf_relate.specs.Matrices.{both, matrix_of}
-use Rattle.sf_relate.specs.Places.{IsPlaceOf, entry_place, first_place, is_areal, is_place, no_entries, place_by, raised, second_place, shape_of, with_item}
+use Rattle.sf_known.specs.Known.{raised}
+use Rattle.sf_relate.specs.Places.{IsPlaceOf, entry_place, first_place, is_areal, is_place, place_by, second_place, shape_of, with_item}
+use Rattle.sf_known.proofs.OrderLaws.{greater-greater}
 use Rattle.sf_relate.proofs.GroupLaws.{first-place, pieces-are, second-place}
 use Rattle.sf_relate.proofs.PlaceLaws.{counts_tell_places}
 
@@ -79,30 +81,6 @@ greater-nothing Nothing = refl
 greater-nothing Zero = refl
 greater-nothing One = refl
 greater-nothing Two = refl
-
-pub greater-greater : (c d e : Dim) → greater_dim (greater_dim c d) e ≡ greater_dim c (greater_dim d e)
-greater-greater Nothing d e = refl
-greater-greater Zero Nothing e = refl
-greater-greater Zero Zero Nothing = refl
-greater-greater Zero Zero Zero = refl
-greater-greater Zero Zero One = refl
-greater-greater Zero Zero Two = refl
-greater-greater Zero One Nothing = refl
-greater-greater Zero One Zero = refl
-greater-greater Zero One One = refl
-greater-greater Zero One Two = refl
-greater-greater Zero Two e = refl
-greater-greater One Nothing e = refl
-greater-greater One Zero Nothing = refl
-greater-greater One Zero Zero = refl
-greater-greater One Zero One = refl
-greater-greater One Zero Two = refl
-greater-greater One One Nothing = refl
-greater-greater One One Zero = refl
-greater-greater One One One = refl
-greater-greater One One Two = refl
-greater-greater One Two e = refl
-greater-greater Two d e = refl
 
 pub fold-listed : (a b : Shape) (t : Table) (is : List Item) → fold (with_item a b) (listed t) is ≡ listed (λ p q. greater_dim (t p q) (greatest_at a b is p q))
 fold-listed a b t [] = listed-same t (λ p q. greater_dim (t p q) Nothing) (λ p q. sym (greater-nothing (t p q)))
@@ -185,14 +163,14 @@ all-placed a b v w =
     (recursion_from_All P (samples (pieces_of ms)) (every_sample (pieces_of ms)))
 
 -- ---- the matrix
-pub matrix-of-items : (a b : Geometry) (items : List Item) → IsValid a → IsValid b → Represent (areal_of (shape_of a) (shape_of b)) items (items_of (all_grouped a b)) →
-    fold (with_item (shape_of a) (shape_of b)) no_entries items ≡ matrix_of a b
-matrix-of-items a b items v w h =
+-- what items that represent the cells of two valid geometries have found is their matrix
+pub table-of-items : (a b : Geometry) (items : List Item) → IsValid a → IsValid b → Represent (areal_of (shape_of a) (shape_of b)) items (items_of (all_grouped a b)) →
+    listed (greatest_at (shape_of a) (shape_of b) items) ≡ matrix_of a b
+table-of-items a b items v w h =
     let f = shape_of a in
     let g = shape_of b in
     let ms = all_grouped a b in
-    fold-listed f g (λ p q. Nothing) items
-    ∙ listed-same (λ p q. greatest_at f g items p q) (λ p q. dimension_by_samples (pieces_of ms) (both (set_of a p) (set_of b q)))
+    listed-same (λ p q. greatest_at f g items p q) (λ p q. dimension_by_samples (pieces_of ms) (both (set_of a p) (set_of b q)))
     (λ p q.
     (represent-answers (areal_of f g) items (items_of ms) h).greatest (is_at f g p q) (places-of-classes f g p q)
     ∙ greatest-samples a b ms (samples (pieces_of ms)) p q (all-placed a b v w))

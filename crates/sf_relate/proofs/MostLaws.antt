@@ -1,7 +1,7 @@
--- No entry has more than the most, so what has the most of each entry is the matrix.
-use Rattle.std.proofs.Common.{◌≡◌, refl, ap, sym, ◌∙◌, subst, Bool, true, false, ◌⊎◌, inl, inr, List, [], ◌∷◌, ◌++◌, map}
+-- No entry has more than the most that the kinds of the geometries allow.
+use Rattle.std.proofs.Common.{◌≡◌, refl, ap, sym, ◌∙◌, subst, Bool, true, false, ◌⊎◌, inl, inr, List, [], ◌∷◌}
 use Rattle.std.specs.Prelude.{if◌then◌else◌}
-use Rattle.std.proofs.lemmas.Bool.{and_parts}
+use Rattle.std.proofs.lemmas.Bool.{and_parts, both_ways}
 use Rattle.sf_geometry.specs.declared.geometry.Geometry.{Geometry}
 use Rattle.sf_geometry.specs.declared.geometry.Geometry.TheVariants.{Point, LineString, Polygon, MultiPoint, MultiLineString, MultiPolygon}
 use Rattle.sf_geometry.specs.PointSets.{in_boundary, in_exterior, in_interior}
@@ -14,24 +14,14 @@ use Rattle.sf_plane.specs.declared.dim.Dim.TheVariants as dims
 use Rattle.sf_plane.specs.Dimension.{HasDimension, HasPoint, HasSegment, HasTriangle, PointSet}
 use Rattle.sf_plane.specs.Unions.{greater_dim}
 use Rattle.sf_rules.specs.Validity.{IsValid}
-use Rattle.sf_relate.specs.declared.letter.Letter.{Letter}
-use Rattle.sf_relate.specs.Contact.{own_rows}
+use Rattle.sf_known.proofs.OrderLaws.{greater-same, through}
+use Rattle.sf_known.specs.Entries.{lesser_dim}
+use Rattle.sf_known.specs.Known.{AreAtMost, Holds, IsAtMost}
 use Rattle.sf_relate.specs.Matrices.{both, matrix_of}
-use Rattle.sf_relate.specs.Most.{boundary_most, lesser_dim, letter_for, most_entries, most_letters, own_most_letters}
-use Rattle.sf_relate.specs.Patterns.{admits, matches}
-use Rattle.sf_relate.specs.Places.{Gathered}
-use Rattle.sf_relate.proofs.FoldLaws.{Table, cons, greater-greater, listed}
-use Rattle.sf_relate.proofs.MatrixLaws.{HadMost, IsGatheredOf}
-use Rattle.sf_relate.proofs.QuestionLaws.{HaveGrown, greater-same}
+use Rattle.sf_relate.specs.Most.{boundary_most, known_of_kinds, most_entries}
 use Rattle.sf_relate.proofs.SetLaws.{matrices_are_over_the_plane}
 
 -- ---- dimensions in order
-abbrev IsAtMost : Dim → Dim → Type 0
-IsAtMost d m = greater_dim d m ≡ m
-
-through : (d k m : Dim) → IsAtMost d k → IsAtMost k m → IsAtMost d m
-through d k m h j = ap (greater_dim d) (sym j) ∙ sym (greater-greater d k m) ∙ ap (λ x. greater_dim x m) h ∙ j
-
 lesser-is : (m n : Dim) → (lesser_dim m n ≡ m) ⊎ (lesser_dim m n ≡ n)
 lesser-is dims.Nothing n = inl refl
 lesser-is dims.Zero dims.Nothing = inr refl
@@ -104,7 +94,7 @@ boundary-at_most (Polygon rings) = refl
 boundary-at_most (MultiPolygon polygons) = refl
 
 -- ---- the entries of two valid geometries
-pub entries-at_most : (a b : Geometry) → IsValid a → IsValid b → HaveGrown (matrix_of a b) (most_entries a b)
+pub entries-at_most : (a b : Geometry) → IsValid a → IsValid b → AreAtMost (matrix_of a b) (most_entries a b)
 entries-at_most a b v w =
     let m = (matrices_are_over_the_plane a b).computed in
     let first_interior : (t : PointSet) (d : Dim) → HasDimension (both (in_interior a) t) d → IsAtMost d (interior_dim a) =
@@ -142,80 +132,11 @@ entries-at_most a b v w =
       ),
     )
 
--- ---- entries that have the most
-entry-is : (d m : Dim) → admits (letter_for m) d ≡ true → d ≡ m
-entry-is dims.Nothing dims.Nothing h = refl
-entry-is dims.Zero dims.Zero h = refl
-entry-is dims.One dims.One h = refl
-entry-is dims.Two dims.Two h = refl
-entry-is dims.Nothing dims.Zero h = absurd cc
-entry-is dims.Nothing dims.One h = absurd cc
-entry-is dims.Nothing dims.Two h = absurd cc
-entry-is dims.Zero dims.Nothing h = absurd cc
-entry-is dims.Zero dims.One h = absurd cc
-entry-is dims.Zero dims.Two h = absurd cc
-entry-is dims.One dims.Nothing h = absurd cc
-entry-is dims.One dims.Zero h = absurd cc
-entry-is dims.One dims.Two h = absurd cc
-entry-is dims.Two dims.Nothing h = absurd cc
-entry-is dims.Two dims.Zero h = absurd cc
-entry-is dims.Two dims.One h = absurd cc
-
-greater-swap : (d e : Dim) → greater_dim d e ≡ greater_dim e d
-greater-swap dims.Nothing dims.Nothing = refl
-greater-swap dims.Nothing dims.Zero = refl
-greater-swap dims.Nothing dims.One = refl
-greater-swap dims.Nothing dims.Two = refl
-greater-swap dims.Zero dims.Nothing = refl
-greater-swap dims.Zero dims.Zero = refl
-greater-swap dims.Zero dims.One = refl
-greater-swap dims.Zero dims.Two = refl
-greater-swap dims.One dims.Nothing = refl
-greater-swap dims.One dims.Zero = refl
-greater-swap dims.One dims.One = refl
-greater-swap dims.One dims.Two = refl
-greater-swap dims.Two dims.Nothing = refl
-greater-swap dims.Two dims.Zero = refl
-greater-swap dims.Two dims.One = refl
-greater-swap dims.Two dims.Two = refl
-
--- it is the most, has grown to another, and that is at most the most
-entry-stays : (d e m : Dim) → admits (letter_for m) d ≡ true → IsAtMost d e → IsAtMost e m → d ≡ e
-entry-stays d e m h grown most = let is = entry-is d m h in is ∙ sym most ∙ greater-swap e m ∙ ap (λ x. greater_dim x e) (sym is) ∙ grown
-
-pub most-stays : (ds es ms : List Dim) → matches (map letter_for ms) ds ≡ true → HaveGrown ds es → HaveGrown es ms → ds ≡ es
-most-stays [] es ms h grown most = sym grown
-most-stays (d ∷ ds) [] ms h grown most = absurd grown
-most-stays (d ∷ ds) (e ∷ es) [] h grown most = absurd most
-most-stays (d ∷ ds) (e ∷ es) (m ∷ ms) h grown most =
-    let parts = and_parts (admits (letter_for m) d) (matches (map letter_for ms) ds) h in
-    cons d e ds es (entry-stays d e m parts.0 grown.0 most.0) (most-stays ds es ms parts.1 grown.1 most.1)
-
--- ---- what a sink has in the end
-by-told : (most : List Letter) (entries : List Dim) (g : Gathered) (P : List Dim → Type 0) → IsGatheredOf most entries g → P entries → (HadMost most g.entries entries → P g.entries) → P g.entries
-by-told most entries g P h whole part = by_value g.told refl
-  where
-    by_value : (told : Bool) → g.told ≡ told → P g.entries
-    by_value true e = part (h.part e)
-    by_value false e = subst P (sym (h.whole e)) whole
-
-pub matrix-left : (a b : Geometry) (g : Gathered) → IsValid a → IsValid b → IsGatheredOf (most_letters a b) (matrix_of a b) g → g.entries ≡ matrix_of a b
-matrix-left a b g v w h =
-    by-told (most_letters a b) (matrix_of a b) g (λ es. es ≡ matrix_of a b) h refl
-    (λ had. had.is ∙ most-stays (listed had.table) (matrix_of a b) (most_entries a b) had.matched had.grown (entries-at_most a b v w))
-
--- the first two rows, with a third one
-pub own-rows-left : (a b : Geometry) (g : Gathered) (t : Table) (third : List Dim) → IsValid a → IsValid b → IsGatheredOf (own_most_letters a b) (listed t) g →
-    own_rows (listed t) ++ third ≡ matrix_of a b → own_rows g.entries ++ third ≡ matrix_of a b
-own-rows-left a b g t third v w h is =
-    by-told (own_most_letters a b) (listed t) g (λ es. own_rows es ++ third ≡ matrix_of a b) h is
-    (λ had.
-    let u = had.table in
-    let k = had.grown in
-    let most : HaveGrown (own_rows (listed t) ++ third) (most_entries a b) = subst (λ es. HaveGrown es (most_entries a b)) (sym is) (entries-at_most a b v w) in
-    ap (λ es. own_rows es ++ third) had.is
-    ∙ ap (λ es. es ++ third)
-    (most-stays (own_rows (listed u)) (own_rows (listed t)) (own_rows (most_entries a b)) had.matched
-    (k.0, (k.1.0, (k.1.1.0, (k.1.1.1.0, (k.1.1.1.1.0, (k.1.1.1.1.1.0, refl))))))
-    (most.0, (most.1.0, (most.1.1.0, (most.1.1.1.0, (most.1.1.1.1.0, (most.1.1.1.1.1.0, refl)))))))
-    ∙ is)
+-- what their kinds say holds of the matrix
+pub kinds-hold : (a b : Geometry) → IsValid a → IsValid b → Holds (known_of_kinds a b) (matrix_of a b)
+kinds-hold a b v w =
+    record {
+      least = (refl, (refl, (refl, (refl, (refl, (refl, (refl, (refl, (refl, refl)))))))));
+      most = entries-at_most a b v w;
+      contact = λ c. absurd (both_ways false refl c);
+    }

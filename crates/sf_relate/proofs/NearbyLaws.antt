@@ -1,6 +1,6 @@
 -- The entries gathered from a geometry's pieces and the edges of an area that tell the places of its points: the rows of its
 -- interior and its boundary are those of the matrix; the third row is told by parts of the area beyond the geometry.
-use Rattle.std.proofs.Common.{◌≡◌, ℕ, ◌+◌, ◌<◌, ◌≤◌, ◌==◌, ◌⊎◌, inl, inr, arith, refl, ap, sym, ◌∙◌, subst, Bool, true, false, ◌&&◌, List, [], ◌∷◌, ◌++◌, map, fold, length, nat_lt}
+use Rattle.std.proofs.Common.{◌≡◌, ℕ, ◌+◌, ◌<◌, ◌≤◌, ◌==◌, ◌⊎◌, inl, inr, arith, refl, ap, sym, ◌∙◌, subst, Bool, true, false, ◌&&◌, List, [], ◌∷◌, ◌++◌, map, fold, get_or, length, nat_lt}
 use Rattle.std.specs.Prelude.{if◌then◌else◌, slice_index}
 use Rattle.std.specs.List.{AllByRecursion, count_by, list_any}
 use Rattle.std.proofs.lemmas.Bool.{and_parts, or_left, or_right}
@@ -36,11 +36,16 @@ use Rattle.sf_plane.specs.Dimension.{HasDimension, HasTriangle}
 use Rattle.sf_plane.specs.Unions.{IsUnionOfCells, dim_of, dimension_by_samples, greater_dim, greatest_dim}
 use Rattle.sf_rules.specs.Validity.{IsValid}
 use Rattle.sf_rules.proofs.MemberLaws.{each-from_in, each-of_map}
-use Rattle.sf_interiors.specs.Dimensions.{boundary_dim}
+use Rattle.sf_interiors.specs.Dimensions.{boundary_dim, interior_dim}
 use Rattle.sf_interiors.proofs.DimensionLaws.{boundary_has_dimension}
 use Rattle.sf_pieces.specs.Marked.{HasGroups, Marked, groups_of, item_at, items_of, marked, piece_of, pieces_of as pieces_among}
 use Rattle.sf_pieces.proofs.CountLaws.{items-count}
 use Rattle.sf_polygons.proofs.TestLaws.{any-map, count-map, map-join, some-count}
+use Rattle.sf_known.proofs.NineLaws.{nine-listed, same-length, six-known}
+use Rattle.sf_known.specs.declared.aim.Aim.TheVariants.{Entries}
+use Rattle.sf_known.specs.declared.known.Known.{Known}
+use Rattle.sf_known.specs.Entries.{lesser_dim}
+use Rattle.sf_known.specs.Known.{AreAtMost, have_most}
 use Rattle.sf_relate.specs.declared.place.Place.{Place}
 use Rattle.sf_relate.specs.declared.place.Place.TheVariants.{Interior, Boundary, Exterior}
 use Rattle.sf_relate.specs.declared.shape.Shape.TheVariants.{Areas}
@@ -48,15 +53,15 @@ use Rattle.sf_relate.specs.AllPieces.{all_pieces, end_dots_of, grouped, pieces_o
 use Rattle.sf_relate.specs.Contact.{is_in, own_rows}
 use Rattle.sf_relate.specs.Locating.{area_place, edges_place}
 use Rattle.sf_relate.specs.Matrices.{both, matrix_of}
-use Rattle.sf_relate.specs.Most.{own_most_letters}
+use Rattle.sf_relate.specs.Most.{beyond_row, boundary_most, known_beyond, most_entries}
 use Rattle.sf_relate.specs.Nearby.{ReachesBeyond, TellPlaces, nearby_grouped, nearby_pieces}
 use Rattle.sf_relate.specs.Places.{Gathered, IsPlaceOf, begun, first_place, is_areal, is_place, place_at, place_by, second_place, shape_of, with_cell}
 use Rattle.sf_relate.proofs.FoldLaws.{Table, areal_of, fold-listed, greatest_at, is_at, listed, listed-same, of_place, places-of-classes, set_of}
 use Rattle.sf_relate.proofs.GroupLaws.{one-are, passing, passing-append, passing-marked, passing-one, places-of, unmarked}
-use Rattle.sf_relate.proofs.MatrixLaws.{IsGatheredOf, gathered-left}
-use Rattle.sf_relate.proofs.MostLaws.{own-rows-left}
+use Rattle.sf_relate.proofs.MostLaws.{entries-at_most}
 use Rattle.sf_relate.proofs.PlaceLaws.{counts_tell_places}
 use Rattle.sf_relate.proofs.SetLaws.{HasAll, boundary_union, interior_union, matrices_are_over_the_plane}
+use Rattle.sf_relate.proofs.SinkLaws.{IsGatheredOf, gathered-from}
 use Rattle.sf_relate.proofs.SizeLaws.{CanWalk, each-joined, each-marked, ends-pairs, few-with_ends, length-grouped, some-piece}
 use Rattle.sf_relate.proofs.ToldLaws.{outside-both}
 
@@ -281,19 +286,69 @@ reaching-is a area es items v w s tell beyond h = listed-same (reaching (greates
     same Exterior Boundary = beyond-boundary a area w (area-edge area s) beyond
     same Exterior Exterior = beyond-both a area v w
 
--- what a sink has in the end, with that third row
+-- ---- what a sink has in the end
+-- two rows that have their most
+own-known : (l1 l2 l3 l4 l5 l6 l7 l8 l9 d1 d2 d3 d4 d5 d6 d7 d8 d9 k1 k2 k3 k4 k5 k6 : Dim) (ks : List Dim) → AreAtMost (l1 ∷ l2 ∷ l3 ∷ l4 ∷ l5 ∷ l6 ∷ l7 ∷ l8 ∷ l9 ∷ []) (d1 ∷ d2 ∷ d3 ∷ d4 ∷ d5 ∷ d6 ∷ d7 ∷ d8 ∷ d9 ∷ [])
+    → AreAtMost (d1 ∷ d2 ∷ d3 ∷ d4 ∷ d5 ∷ d6 ∷ []) (k1 ∷ k2 ∷ k3 ∷ k4 ∷ k5 ∷ k6 ∷ []) → have_most (l1 ∷ l2 ∷ l3 ∷ l4 ∷ l5 ∷ l6 ∷ l7 ∷ l8 ∷ l9 ∷ []) (k1 ∷ k2 ∷ k3 ∷ k4 ∷ k5 ∷ k6 ∷ ks) ≡ true
+    → own_rows (l1 ∷ l2 ∷ l3 ∷ l4 ∷ l5 ∷ l6 ∷ l7 ∷ l8 ∷ l9 ∷ []) ≡ d1 ∷ d2 ∷ d3 ∷ d4 ∷ d5 ∷ d6 ∷ []
+own-known l1 l2 l3 l4 l5 l6 l7 l8 l9 d1 d2 d3 d4 d5 d6 d7 d8 d9 k1 k2 k3 k4 k5 k6 ks g h n =
+    six-known l1 l2 l3 l4 l5 l6 d1 d2 d3 d4 d5 d6 k1 k2 k3 k4 k5 k6 (l7 ∷ l8 ∷ l9 ∷ []) ks (g.0, (g.1.0, (g.1.1.0, (g.1.1.1.0, (g.1.1.1.1.0, (g.1.1.1.1.1.0, refl)))))) h n
+
+-- nothing is known of the first two rows
+begun_table : Table
+begun_table Exterior Interior = Two
+begun_table Exterior Boundary = One
+begun_table Exterior Exterior = Two
+begun_table Interior r = Nothing
+begun_table Boundary r = Nothing
+
+from_begun : Table → Table
+from_begun found p q = greater_dim (begun_table p q) (found p q)
+
+own-left : (a area : Geometry) (found : Table) (ls : List Dim) → listed (reaching found) ≡ matrix_of a area → IsValid a → IsValid area
+    → AreAtMost ls (listed (from_begun found)) → have_most ls (known_beyond a area).most ≡ true → own_rows ls ++ beyond_row ≡ matrix_of a area
+unfolding begun_table from_begun
+own-left a area found ls is v w g n =
+    let k : AreAtMost (listed (reaching found)) (most_entries a area) = subst (λ es. AreAtMost es (most_entries a area)) (sym is) (entries-at_most a area v w) in
+    let nine = nine-listed ls (same-length ls (listed (from_begun found)) g) in
+    let Own : List Dim → Type 0 = λ cs. AreAtMost cs (listed (from_begun found)) → have_most cs (known_beyond a area).most ≡ true → own_rows cs ≡ own_rows (listed found) in
+    ap (λ rows. rows ++ beyond_row)
+    (subst Own (sym nine)
+    (λ gg nn. own-known (get_or ls 0 Nothing) (get_or ls 1 Nothing) (get_or ls 2 Nothing) (get_or ls 3 Nothing) (get_or ls 4 Nothing) (get_or ls 5 Nothing) (get_or ls 6 Nothing) (get_or ls 7 Nothing) (get_or ls 8 Nothing)
+    (from_begun found Interior Interior) (from_begun found Interior Boundary) (from_begun found Interior Exterior) (from_begun found Boundary Interior) (from_begun found Boundary Boundary) (from_begun found Boundary Exterior) (from_begun found Exterior Interior) (from_begun found Exterior Boundary) (from_begun found Exterior Exterior)
+    (lesser_dim (interior_dim a) (interior_dim area)) (lesser_dim (interior_dim a) (boundary_most area)) (interior_dim a)
+    (lesser_dim (boundary_most a) (interior_dim area)) (lesser_dim (boundary_most a) (boundary_most area)) (boundary_most a) beyond_row gg (k.0, (k.1.0, (k.1.1.0, (k.1.1.1.0, (k.1.1.1.1.0, (k.1.1.1.1.1.0, refl)))))) nn)
+    g n)
+    ∙ is
+
+-- the first two rows of what it has, with that third row
 pub nearby-left : (a area : Geometry) (es : List Edge) (ms : List Marked) (areal : List Bool) (old new : Gathered) → IsValid a → IsValid area → shape_of area ≡ Areas →
-    TellPlaces a area es → ReachesBeyond a area → ms ≡ nearby_grouped a es → areal ≡ is_areal (shape_of a) ∷ true ∷ [] → old ≡ begun (shape_of a) Areas (own_most_letters a area) →
-    WereHanded (pieces_among ms) (groups_of ms) areal with_cell old new → own_rows new.entries ++ Two ∷ One ∷ Two ∷ [] ≡ matrix_of a area
-nearby-left a area es ms areal old new v w s tell beyond e f o h =
-    let P : List Marked → Type 0 = λ ns. Represent areal h.items (items_of ns) in
-    let Q : List Bool → Type 0 = λ bs. Represent bs h.items (items_of (nearby_grouped a es)) in
-    let most = own_most_letters a area in
-    own-rows-left a area new (greatest_at (shape_of a) Areas h.items) (Two ∷ One ∷ Two ∷ []) v w
-    (subst (IsGatheredOf most (listed (greatest_at (shape_of a) Areas h.items))) (sym (h.handed ∙ ap (λ g. fold with_cell g h.items) o))
-    (subst (λ ds. IsGatheredOf most ds (fold with_cell (begun (shape_of a) Areas most) h.items)) (fold-listed (shape_of a) Areas (λ p q. Nothing) h.items)
-    (gathered-left (shape_of a) Areas most h.items (λ p q. Nothing) false (λ k. absurd cc))))
-    (reaching-is a area es h.items v w s tell beyond (subst Q f (subst P e h.represent)))
+    TellPlaces a area es → ReachesBeyond a area → ms ≡ nearby_grouped a es → areal ≡ is_areal (shape_of a) ∷ true ∷ [] → old ≡ begun (shape_of a) Areas Entries (known_beyond a area) →
+    WereHanded (pieces_among ms) (groups_of ms) areal with_cell old new → own_rows new.known.least ++ beyond_row ≡ matrix_of a area
+unfolding begun_table from_begun
+nearby-left a area es ms areal old new v w s tell beyond e f o h = by_value new.full refl
+  where
+    found : Table
+    found = greatest_at (shape_of a) Areas h.items
+
+    is : listed (reaching found) ≡ matrix_of a area
+    is =
+        let P : List Marked → Type 0 = λ ns. Represent areal h.items (items_of ns) in
+        let Q : List Bool → Type 0 = λ bs. Represent bs h.items (items_of (nearby_grouped a es)) in
+        reaching-is a area es h.items v w s tell beyond (subst Q f (subst P e h.represent))
+
+    gathered : IsGatheredOf (known_beyond a area) Entries (listed (from_begun found)) new
+    gathered =
+        subst (IsGatheredOf (known_beyond a area) Entries (listed (from_begun found))) (sym (h.handed ∙ ap (λ g. fold with_cell g h.items) o))
+        (subst (λ ds. IsGatheredOf (known_beyond a area) Entries ds (fold with_cell (begun (shape_of a) Areas Entries (known_beyond a area)) h.items))
+        (fold-listed (shape_of a) Areas begun_table h.items)
+        (gathered-from (shape_of a) Areas Entries (known_beyond a area) h.items refl))
+
+    by_value : (full : Bool) → new.full ≡ full → own_rows new.known.least ++ beyond_row ≡ matrix_of a area
+    by_value true k =
+        own-left a area found new.known.least is v w gathered.grown
+        (subst (λ ds. have_most new.known.least ds ≡ true) (ap (λ (known : Known). known.most) gathered.same) (gathered.enough k))
+    by_value false k = ap (λ ds. own_rows ds ++ beyond_row) (gathered.whole k) ∙ is
 
 -- ---- the walk over these pieces
 length-nearby : (a : Geometry) (es : List Edge) → length (nearby_grouped a es) ≡ length es + (length (pieces_of a) + length (ends_of a))

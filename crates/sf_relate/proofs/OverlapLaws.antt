@@ -27,16 +27,13 @@ use Rattle.sf_rules.specs.Validity.{IsValid}
 use Rattle.sf_relate.specs.declared.place.Place.TheVariants.{Interior, Exterior}
 use Rattle.sf_relate.specs.declared.shape.Shape.TheVariants.{Areas}
 use Rattle.sf_relate.specs.AllPieces.{all_pieces}
-use Rattle.sf_relate.specs.Areas.{CrossingAreasOverlap, Overlap, overlap_letters, overlapping_entries}
+use Rattle.sf_relate.specs.Areas.{CrossingAreasOverlap, Overlap, overlapping_entries}
 use Rattle.sf_relate.specs.Locating.{area_place, edges_place, place_by_tests}
 use Rattle.sf_relate.specs.Matrices.{both, matrix_of}
-use Rattle.sf_relate.specs.Patterns.{matches}
 use Rattle.sf_relate.specs.Places.{IsPlaceOf, shape_of}
 use Rattle.sf_relate.proofs.AreasLaws.{by-edges, first-thin, second-thin}
-use Rattle.sf_relate.proofs.MatrixLaws.{HadMost}
 use Rattle.sf_relate.proofs.EnvelopeLaws.{valid-closed}
 use Rattle.sf_relate.proofs.FoldLaws.{cons, set_of}
-use Rattle.sf_relate.proofs.QuestionLaws.{same-grown}
 use Rattle.sf_relate.proofs.SectorLaws.{IsAt, crossing-piece, crossing-triangle, swapped}
 use Rattle.sf_relate.proofs.SetLaws.{matrices_are_over_the_plane}
 use Rattle.sf_relate.proofs.TestedPlaces.{tests_tell_places}
@@ -150,17 +147,3 @@ crossing_areas_overlap a b v w s t h =
           (λ q i on f. and_from (in_exterior a q) (in_boundary b q) (outside-at a q v s i f) (on-boundary b h.second q t second on))))
           (cons _ _ _ _ (two (both (in_exterior a) (in_exterior b)) _ m.1.1.1.1.1.1.1.1.0 (outside-both a b v w)) refl))))))));
     }
-
--- ---- what areas that overlap have
-pub overlap-had : (a b : Geometry) → Overlap a b → HadMost overlap_letters (matrix_of a b) (matrix_of a b)
-overlap-had a b h =
-    record {
-      table = λ p q. dimension_by_samples (all_pieces a b) (both (set_of a p) (set_of b q));
-      is = refl;
-      matched = ap (matches overlap_letters) h.matrix ∙ most h.along;
-      grown = same-grown (matrix_of a b);
-    }
-  where
-    most : (along : Bool) → matches overlap_letters (overlapping_entries along) ≡ true
-    most true = refl
-    most false = refl

@@ -1,6 +1,6 @@
--- Which entries of a Point's matrix are filled, and which predicates hold of it by its place in the other geometry.
-use Rattle.std.proofs.Common.{◌≡◌, refl, ap, sym, ◌∙◌, Bool, true, false, ◌&&◌, not, List, [], ◌∷◌}
-use Rattle.std.specs.Prelude.{◌↔◌, Option, Some, None, IsTrue}
+-- Which entries of a Point's matrix are filled, and what its place in the other geometry says of it.
+use Rattle.std.proofs.Common.{◌≡◌, refl, ap, sym, ◌∙◌, subst, Bool, true, false, ◌&&◌, not, List, [], ◌∷◌}
+use Rattle.std.specs.Prelude.{IsTrue}
 use Rattle.std.proofs.lemmas.Bool.{and_from, and_parts, both_ways, false_from_ne_true}
 use Rattle.sf_grid.specs.Plane.{Coordinates, grid_point, same_point}
 use Rattle.sf_grid.proofs.CallerLemmas.{same_point_is_equivalence, same_tests}
@@ -15,16 +15,20 @@ use Rattle.sf_plane.specs.Unions.{IsUnionOfCells, dimension_by_samples}
 use Rattle.sf_strands.proofs.EndLaws.{grid-IsPoint}
 use Rattle.sf_relate.specs.declared.place.Place.{Place}
 use Rattle.sf_relate.specs.declared.place.Place.TheVariants.{Interior, Boundary, Exterior}
-use Rattle.sf_relate.specs.declared.predicate.Predicate.{Predicate}
-use Rattle.sf_relate.specs.declared.predicate.Predicate.TheVariants.{Equals, Contains, Crosses, Overlaps}
 use Rattle.sf_relate.specs.AllPieces.{all_pieces}
 use Rattle.sf_relate.specs.Contact.{PointFillsItsPlace}
-use Rattle.sf_relate.specs.Matrices.{both}
-use Rattle.sf_relate.specs.Patterns.{is_filled}
-use Rattle.sf_relate.specs.Places.{is_place}
-use Rattle.sf_relate.specs.PointPredicates.{TellsOfPoint, holds_at, needs_matrix}
-use Rattle.sf_relate.specs.Predicates.{holds}
-use Rattle.sf_relate.proofs.ContactLaws.{empty-entry}
+use Rattle.sf_relate.specs.Matrices.{both, matrix_of}
+use Rattle.sf_known.specs.Patterns.{has_contact, is_filled}
+use Rattle.sf_relate.specs.Places.{IsPlaceOf, is_place}
+use Rattle.sf_relate.specs.Most.{boundary_most, most_entries}
+use Rattle.sf_relate.specs.Placed.{PlacesAreKnown, known_of_place}
+use Rattle.sf_relate.proofs.MostLaws.{entries-at_most}
+use Rattle.sf_known.proofs.OrderLaws.{at-most-two, through}
+use Rattle.sf_known.specs.Entries.{lesser_dim}
+use Rattle.sf_known.specs.Known.{AreAtMost, Holds, IsAtMost}
+use Rattle.sf_rules.specs.Validity.{IsValid}
+use Rattle.sf_interiors.specs.Dimensions.{interior_dim}
+use Rattle.sf_known.proofs.ContactLaws.{empty-entry}
 use Rattle.sf_relate.proofs.SetLaws.{boundary_union, exterior_union, interior_union, matrices_are_over_the_plane, second_has}
 use Rattle.sf_relate.proofs.SharedLaws.{filled, fills, one_cell}
 
@@ -89,64 +93,61 @@ point_fills_its_place p b =
     let r = rows p b in
     six _ _ _ _ _ _ _ _ _ _ _ _ r.inside r.edge r.outside r.no_inside r.no_edge r.no_outside
 
--- ---- predicates, where one entry of the first row is filled and none of the second
-inside-tells : (q : Predicate) (d ii ei eb ee : Dim) → is_filled ii ≡ true → needs_matrix q Interior ≡ false →
-    holds_at q Interior ≡ holds q dims.Zero d (ii ∷ dims.Nothing ∷ dims.Nothing ∷ dims.Nothing ∷ dims.Nothing ∷ dims.Nothing ∷ ei ∷ eb ∷ ee ∷ [])
-inside-tells q d dims.Nothing ei eb ee f n = absurd (both_ways false refl f)
-inside-tells Equals d ii ei eb ee f n = absurd (both_ways true n refl)
-inside-tells Contains d ii ei eb ee f n = absurd (both_ways true n refl)
-inside-tells Crosses dims.Zero ii ei eb ee f n = refl
-inside-tells Overlaps dims.Zero ii ei eb ee f n = refl
-inside-tells q d ii ei eb ee f n = refl
+-- ---- what is known by its place
+-- an entry of dimension 0 at most that is filled, and one that is not
+at-least-zero : (d : Dim) → is_filled d ≡ true → IsAtMost dims.Zero d
+at-least-zero dims.Nothing h = absurd (both_ways false refl h)
+at-least-zero dims.Zero h = refl
+at-least-zero dims.One h = refl
+at-least-zero dims.Two h = refl
 
-edge-tells : (q : Predicate) (d ib ei eb ee : Dim) → is_filled ib ≡ true →
-    holds_at q Boundary ≡ holds q dims.Zero d (dims.Nothing ∷ ib ∷ dims.Nothing ∷ dims.Nothing ∷ dims.Nothing ∷ dims.Nothing ∷ ei ∷ eb ∷ ee ∷ [])
-edge-tells q d dims.Nothing ei eb ee f = absurd (both_ways false refl f)
-edge-tells Crosses dims.Zero ib ei eb ee f = refl
-edge-tells Overlaps dims.Zero ib ei eb ee f = refl
-edge-tells q d ib ei eb ee f = refl
+at-most-nothing : (d : Dim) → is_filled d ≡ false → IsAtMost d dims.Nothing
+at-most-nothing d h = subst (λ e. IsAtMost e dims.Nothing) (sym (empty-entry d h)) refl
 
-outside-tells : (q : Predicate) (d ie ei eb ee : Dim) → is_filled ie ≡ true →
-    holds_at q Exterior ≡ holds q dims.Zero d (dims.Nothing ∷ dims.Nothing ∷ ie ∷ dims.Nothing ∷ dims.Nothing ∷ dims.Nothing ∷ ei ∷ eb ∷ ee ∷ [])
-outside-tells q d dims.Nothing ei eb ee f = absurd (both_ways false refl f)
-outside-tells Crosses dims.Zero ie ei eb ee f = refl
-outside-tells Overlaps dims.Zero ie ei eb ee f = refl
-outside-tells q d ie ei eb ee f = refl
+lesser-zero : (d e : Dim) → IsAtMost d (lesser_dim dims.Zero e) → IsAtMost d dims.Zero
+lesser-zero d dims.Nothing h = through d dims.Nothing dims.Zero h refl
+lesser-zero d dims.Zero h = h
+lesser-zero d dims.One h = h
+lesser-zero d dims.Two h = h
 
-nine : (a b c d e f a' b' c' d' e' f' x y z : Dim) → a ≡ a' → b ≡ b' → c ≡ c' → d ≡ d' → e ≡ e' → f ≡ f' →
-    a ∷ b ∷ c ∷ d ∷ e ∷ f ∷ x ∷ y ∷ z ∷ [] ≡ a' ∷ b' ∷ c' ∷ d' ∷ e' ∷ f' ∷ x ∷ y ∷ z ∷ []
-nine a b c d e f a' b' c' d' e' f' x y z h1 h2 h3 h4 h5 h6 = cc
+no-share : (m : List Dim) → IsTrue false → IsTrue (has_contact m)
+no-share m h = absurd (both_ways false refl h)
 
--- an entry that is not filled is empty
-empty : (d : Dim) → is_filled d ≡ false → dims.Nothing ≡ d
-empty d h = sym (empty-entry d h)
+pub places_are_known : PlacesAreKnown
+places_are_known p b place v w is = by_place place (r.inside ∙ is.interior) (r.edge ∙ is.boundary) outside
+  where
+    r : Rows p b (entry p b (in_interior (Point p)) (in_interior b)) (entry p b (in_interior (Point p)) (in_boundary b)) (entry p b (in_interior (Point p)) (in_exterior b))
+        (entry p b (in_boundary (Point p)) (in_interior b)) (entry p b (in_boundary (Point p)) (in_boundary b)) (entry p b (in_boundary (Point p)) (in_exterior b))
+    r = rows p b
 
-by_place : (q : Predicate) (place : Place) (d ii ib ie bi bb be ei eb ee : Dim) → is_filled ii ≡ is_place Interior place → is_filled ib ≡ is_place Boundary place →
-    is_filled ie ≡ (not (is_place Interior place) && not (is_place Boundary place)) → is_filled bi ≡ false → is_filled bb ≡ false → is_filled be ≡ false →
-    needs_matrix q place ≡ false → holds_at q place ≡ holds q dims.Zero d (ii ∷ ib ∷ ie ∷ bi ∷ bb ∷ be ∷ ei ∷ eb ∷ ee ∷ [])
-by_place q Interior d ii ib ie bi bb be ei eb ee i b e x y z n =
-    inside-tells q d ii ei eb ee i n
-    ∙ ap (holds q dims.Zero d) (nine ii _ _ _ _ _ ii ib ie bi bb be ei eb ee refl (empty ib b) (empty ie e) (empty bi x) (empty bb y) (empty be z))
-by_place q Boundary d ii ib ie bi bb be ei eb ee i b e x y z n =
-    edge-tells q d ib ei eb ee b
-    ∙ ap (holds q dims.Zero d) (nine _ ib _ _ _ _ ii ib ie bi bb be ei eb ee (empty ii i) refl (empty ie e) (empty bi x) (empty bb y) (empty be z))
-by_place q Exterior d ii ib ie bi bb be ei eb ee i b e x y z n =
-    outside-tells q d ie ei eb ee e
-    ∙ ap (holds q dims.Zero d) (nine _ _ ie _ _ _ ii ib ie bi bb be ei eb ee (empty ii i) (empty ib b) refl (empty bi x) (empty bb y) (empty be z))
+    most : AreAtMost (matrix_of (Point p) b) (most_entries (Point p) b)
+    most = entries-at_most (Point p) b v w
 
-pub tells : (q : Predicate) (place : Place) (answer : Bool) → answer ≡ holds_at q place → needs_matrix q place ≡ false → TellsOfPoint q place answer
-tells q place answer h n p b d is =
-    let r = rows p b in
-    h
-    ∙ by_place q place d (entry p b (in_interior (Point p)) (in_interior b)) (entry p b (in_interior (Point p)) (in_boundary b)) (entry p b (in_interior (Point p)) (in_exterior b))
-    (entry p b (in_boundary (Point p)) (in_interior b)) (entry p b (in_boundary (Point p)) (in_boundary b)) (entry p b (in_boundary (Point p)) (in_exterior b))
-    (entry p b (in_exterior (Point p)) (in_interior b)) (entry p b (in_exterior (Point p)) (in_boundary b)) (entry p b (in_exterior (Point p)) (in_exterior b))
-    (r.inside ∙ is.interior) (r.edge ∙ is.boundary)
-    (r.outside ∙ ap (λ t. not t && not (in_boundary b (grid_point p))) is.interior ∙ ap (λ t. not (is_place Interior place) && not t) is.boundary)
-    r.no_inside r.no_edge r.no_outside n
+    outside : is_filled (entry p b (in_interior (Point p)) (in_exterior b)) ≡ (not (is_place Interior place) && not (is_place Boundary place))
+    outside = r.outside ∙ ap (λ t. not t && not (in_boundary b (grid_point p))) is.interior ∙ ap (λ t. not (is_place Interior place) && not t) is.boundary
 
-pub needed-none : (r : Option Bool) (n : Bool) → r ≡ None → n ≡ true → (r ≡ None) ↔ IsTrue n
-needed-none r n e h = (λ k. h, λ t. e)
+    third : AreAtMost (entry p b (in_exterior (Point p)) (in_interior b) ∷ entry p b (in_exterior (Point p)) (in_boundary b) ∷ entry p b (in_exterior (Point p)) (in_exterior b) ∷ []) (dims.Two ∷ dims.Two ∷ dims.Two ∷ [])
+    third = (at-most-two _, (at-most-two _, (at-most-two _, refl)))
 
-pub needed-some : (r n : Bool) → n ≡ false → (Some r ≡ None) ↔ IsTrue n
-needed-some r n h = (λ e. absurd (cc), λ t. absurd (both_ways n h t))
+    by_place : (place : Place) → is_filled (entry p b (in_interior (Point p)) (in_interior b)) ≡ is_place Interior place
+        → is_filled (entry p b (in_interior (Point p)) (in_boundary b)) ≡ is_place Boundary place
+        → is_filled (entry p b (in_interior (Point p)) (in_exterior b)) ≡ (not (is_place Interior place) && not (is_place Boundary place))
+        → Holds (known_of_place place) (matrix_of (Point p) b)
+    by_place Interior i e o =
+        record {
+          least = (at-least-zero _ i, (refl, (refl, (refl, (refl, (refl, (refl, (refl, (refl, refl)))))))));
+          most = (lesser-zero _ (interior_dim b) most.0, (at-most-nothing _ e, (at-most-nothing _ o, (at-most-nothing _ r.no_inside, (at-most-nothing _ r.no_edge, (at-most-nothing _ r.no_outside, third))))));
+          contact = no-share (matrix_of (Point p) b);
+        }
+    by_place Boundary i e o =
+        record {
+          least = (refl, (at-least-zero _ e, (refl, (refl, (refl, (refl, (refl, (refl, (refl, refl)))))))));
+          most = (at-most-nothing _ i, (lesser-zero _ (boundary_most b) most.1.0, (at-most-nothing _ o, (at-most-nothing _ r.no_inside, (at-most-nothing _ r.no_edge, (at-most-nothing _ r.no_outside, third))))));
+          contact = no-share (matrix_of (Point p) b);
+        }
+    by_place Exterior i e o =
+        record {
+          least = (refl, (refl, (at-least-zero _ o, (refl, (refl, (refl, (refl, (refl, (refl, refl)))))))));
+          most = (at-most-nothing _ i, (at-most-nothing _ e, (most.1.1.0, (at-most-nothing _ r.no_inside, (at-most-nothing _ r.no_edge, (at-most-nothing _ r.no_outside, third))))));
+          contact = no-share (matrix_of (Point p) b);
+        }

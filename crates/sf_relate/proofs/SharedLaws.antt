@@ -16,12 +16,12 @@ use Rattle.sf_plane.specs.declared.dim.Dim.{Dim}
 use Rattle.sf_plane.specs.declared.dim.Dim.TheVariants as dims
 use Rattle.sf_plane.specs.Dimension.{HasDimension, HasPoint, PointSet}
 use Rattle.sf_plane.specs.Unions.{AreInOneCell, dimension_by_samples}
-use Rattle.sf_relate.specs.declared.predicate.Predicate.TheVariants.{Disjoint, Intersects}
+use Rattle.sf_known.specs.declared.predicate.Predicate.TheVariants.{Disjoint, Intersects}
 use Rattle.sf_relate.specs.AllPieces.{all_pieces}
 use Rattle.sf_relate.specs.Contact.{ContactIsShared, PointHasContact, SharePoint, is_in}
 use Rattle.sf_relate.specs.Matrices.{both, matrix_of}
-use Rattle.sf_relate.specs.Patterns.{has_contact, is_filled}
-use Rattle.sf_relate.specs.Predicates.{holds}
+use Rattle.sf_known.specs.Patterns.{has_contact, is_filled}
+use Rattle.sf_known.specs.Predicates.{holds}
 use Rattle.sf_relate.proofs.SetLaws.{boundary_union, interior_union, matrices_are_over_the_plane, second_has}
 
 -- an entry is filled just where its set has a point

@@ -1,7 +1,7 @@
 -- Internal: who wants to trust the program need not read this file.
 -- The matrix of two areas, told before all their cells were handed out, or with no cells at all: once each entry has the most
 -- that areas allow, but that of the two boundaries, of which it is known that they share a point.
-use Rattle.std.specs.Prelude.{◌≡◌, Bool, List, [], ◌∷◌, if◌then◌else◌}
+use Rattle.std.specs.Prelude.{◌≡◌, Bool, List, [], ◌∷◌, slice_set, if◌then◌else◌}
 use Rattle.std.specs.Int.{int_max, int_min}
 use Rattle.sf_crossing.specs.Crossing.{HaveCrossing}
 use Rattle.sf_geometry.specs.declared.extent.Extent.{Extent}
@@ -9,23 +9,21 @@ use Rattle.sf_geometry.specs.declared.geometry.Geometry.{Geometry}
 use Rattle.sf_geometry.specs.Parts.{edges_of}
 use Rattle.sf_plane.specs.declared.dim.Dim.{Dim}
 use Rattle.sf_plane.specs.declared.dim.Dim.TheVariants as dims
-use Rattle.sf_relate.specs.declared.letter.Letter.{Letter}
-use Rattle.sf_relate.specs.declared.letter.Letter.TheVariants.{Filled, One, Two}
 use Rattle.sf_relate.specs.declared.shape.Shape.TheVariants.{Areas}
 use Rattle.sf_relate.specs.Matrices.{matrix_of}
 use Rattle.sf_relate.specs.Places.{shape_of}
 use Rattle.sf_rules.specs.Validity.{IsValid}
 
--- the most that each entry can have of two areas; the two boundaries share a point
-abbrev pub overlap_letters : List Letter
-overlap_letters = Two ∷ One ∷ Two ∷ One ∷ Filled ∷ One ∷ Two ∷ One ∷ Two ∷ []
-
--- those entries, by whether the boundaries share a piece
+-- the most that each entry can have of two areas; that of the boundaries by whether these share a piece
 abbrev pub overlapping_entries : Bool → List Dim
 overlapping_entries along =
     dims.Two ∷ dims.One ∷ dims.Two
     ∷ dims.One ∷ (if along then dims.One else dims.Zero) ∷ dims.One
     ∷ dims.Two ∷ dims.One ∷ dims.Two ∷ []
+
+-- these entries, with that of the boundaries by whether they share a piece
+abbrev pub with_boundaries : List Dim → Bool → List Dim
+with_boundaries entries along = slice_set entries 4 (if along then dims.One else dims.Zero)
 
 -- the matrix has these entries
 pub record Overlap (a b : Geometry) : Type 0 where

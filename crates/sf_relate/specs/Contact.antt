@@ -13,10 +13,10 @@ use Rattle.sf_plane.specs.declared.dim.Dim.{Dim}
 use Rattle.sf_plane.specs.Boxes.{in_box}
 use Rattle.sf_rules.specs.Validity.{IsValid}
 use Rattle.sf_validity.specs.Beside.{box_of_extent}
-use Rattle.sf_relate.specs.declared.predicate.Predicate.TheVariants.{Disjoint, Intersects}
+use Rattle.sf_known.specs.declared.predicate.Predicate.TheVariants.{Disjoint, Intersects}
 use Rattle.sf_relate.specs.Matrices.{matrix_of}
-use Rattle.sf_relate.specs.Patterns.{has_contact, is_filled}
-use Rattle.sf_relate.specs.Predicates.{holds}
+use Rattle.sf_known.specs.Patterns.{has_contact, is_filled}
+use Rattle.sf_known.specs.Predicates.{holds}
 
 -- q is in the interior or the boundary
 abbrev pub is_in : Geometry → PlanePoint → Bool

@@ -1,10 +1,9 @@
 -- DE-9IM matrices (6.1.15.2): the dimensions of the nine intersections of interior, boundary and exterior, row by row.
-use Rattle.std.specs.Prelude.{◌≡◌, ℕ, ◌&&◌, List, [], ◌∷◌, map}
+use Rattle.std.specs.Prelude.{◌≡◌, ◌&&◌, List, [], ◌∷◌, map}
 use Rattle.std.specs.List.{flat_map}
 use Rattle.sf_geometry.specs.declared.geometry.Geometry.{Geometry}
 use Rattle.sf_geometry.specs.PointSets.{in_boundary, in_exterior, in_interior}
 use Rattle.sf_plane.specs.declared.dim.Dim.{Dim}
-use Rattle.sf_plane.specs.declared.dim.Dim.TheVariants.{Nothing, Zero, One, Two}
 use Rattle.sf_plane.specs.Dimension.{HasDimension, PointSet}
 use Rattle.sf_plane.specs.Unions.{dimension_by_samples}
 use Rattle.sf_relate.specs.AllPieces.{all_pieces}
@@ -35,13 +34,6 @@ IsMatrix a b entries = AreDimensions (intersections a b) entries
 -- computes the entries (IsMatrix), as MatricesAreOverThePlane below says: from the samples of the pieces of both
 abbrev pub matrix_of : Geometry → Geometry → List Dim
 matrix_of a b = map (dimension_by_samples (all_pieces a b)) (intersections a b)
-
--- the character of an entry
-abbrev pub character_of : Dim → ℕ
-character_of Nothing = 70
-character_of Zero = 48
-character_of One = 49
-character_of Two = 50
 
 -- what is computed is the matrix over the plane, and no other is
 pub record MatrixIsOverThePlane (a b : Geometry) : Type 0 where

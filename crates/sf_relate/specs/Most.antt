@@ -1,23 +1,15 @@
 -- Internal: who wants to trust the program need not read this file.
--- The most that each entry of a matrix can have: a walk that has found it of each entry has found the matrix.
-use Rattle.std.specs.Prelude.{List, [], ◌∷◌, ◌++◌, map}
+-- The most that each entry of a matrix can have, by the kinds of the geometries.
+use Rattle.std.specs.Prelude.{List, [], ◌∷◌, ◌++◌, false}
 use Rattle.sf_geometry.specs.declared.geometry.Geometry.{Geometry}
 use Rattle.sf_geometry.specs.declared.geometry.Geometry.TheVariants.{MultiLineString}
 use Rattle.sf_interiors.specs.Dimensions.{boundary_dim, interior_dim}
 use Rattle.sf_plane.specs.declared.dim.Dim.{Dim}
 use Rattle.sf_plane.specs.declared.dim.Dim.TheVariants as dims
-use Rattle.sf_relate.specs.declared.letter.Letter.{Letter}
-use Rattle.sf_relate.specs.declared.letter.Letter.TheVariants.{Any, Empty, Zero, One, Two}
+use Rattle.sf_known.specs.declared.known.Known.{Known}
+use Rattle.sf_known.specs.Entries.{lesser_dim}
+use Rattle.sf_known.specs.Known.{at_most, no_entries}
 use Rattle.sf_relate.specs.Contact.{own_rows}
-
--- the lesser of two dimensions
-abbrev pub lesser_dim : Dim → Dim → Dim
-lesser_dim dims.Nothing e = dims.Nothing
-lesser_dim dims.Zero dims.Nothing = dims.Nothing
-lesser_dim dims.Zero e = dims.Zero
-lesser_dim dims.One dims.Two = dims.One
-lesser_dim dims.One e = e
-lesser_dim dims.Two e = e
 
 -- the most that a boundary can have; the ends of several lines are not counted
 abbrev pub boundary_most : Geometry → Dim
@@ -35,17 +27,15 @@ most_entries a b =
     ∷ lesser_dim ba ib ∷ lesser_dim ba bb ∷ ba
     ∷ ib ∷ bb ∷ dims.Two ∷ []
 
--- the letter that asks for just this entry
-abbrev pub letter_for : Dim → Letter
-letter_for dims.Nothing = Empty
-letter_for dims.Zero = Zero
-letter_for dims.One = One
-letter_for dims.Two = Two
+-- what is known of two geometries by their kinds
+abbrev pub known_of_kinds : Geometry → Geometry → Known
+known_of_kinds a b = at_most (most_entries a b)
 
--- the pattern that asks for the most of each entry
-abbrev pub most_letters : Geometry → Geometry → List Letter
-most_letters a b = map letter_for (most_entries a b)
+-- the third row of an area that has parts of its interior and of its boundary outside of the other geometry
+abbrev pub beyond_row : List Dim
+beyond_row = dims.Two ∷ dims.One ∷ dims.Two ∷ []
 
--- the same of the first two rows alone
-abbrev pub own_most_letters : Geometry → Geometry → List Letter
-own_most_letters a b = own_rows (most_letters a b) ++ Any ∷ Any ∷ Any ∷ []
+-- what is known of such an area
+abbrev pub known_beyond : Geometry → Geometry → Known
+known_beyond a area =
+    record { least = own_rows no_entries ++ beyond_row; most = own_rows (most_entries a area) ++ beyond_row; contact = false }

@@ -1,7 +1,7 @@
 -- Internal: who wants to trust the program need not read this file.
 -- Where a cell lies in a geometry, by counts alone: whether something of it is on the cell, and the parities of its ends
 -- there and of its edges above.
-use Rattle.std.specs.Prelude.{◌≡◌, ℕ, ◌+◌, ◌*◌, Bool, true, false, ◌&&◌, List, nat_lt, slice_index, slice_index_or, slice_set, if◌then◌else◌, replicate}
+use Rattle.std.specs.Prelude.{◌≡◌, ℕ, ◌+◌, ◌*◌, Bool, true, false, ◌&&◌, List, nat_lt, slice_index, slice_index_or, if◌then◌else◌}
 use Rattle.std.specs.List.{count_by}
 use Rattle.sf_grid.specs.EvenOdd.{is_odd}
 use Rattle.sf_grid.specs.Plane.{IsPoint, Point as PlanePoint}
@@ -12,16 +12,18 @@ use Rattle.sf_geometry.specs.declared.geometry.Geometry.TheVariants.{Point, Line
 use Rattle.sf_geometry.specs.PointSets.{in_boundary, in_interior}
 use Rattle.sf_plane.specs.declared.dim.Dim.{Dim}
 use Rattle.sf_plane.specs.declared.dim.Dim.TheVariants.{Nothing, Zero, One, Two}
-use Rattle.sf_plane.specs.Unions.{dim_of, greater_dim}
+use Rattle.sf_plane.specs.Unions.{dim_of}
 use Rattle.sf_rules.specs.Validity.{IsValid}
-use Rattle.sf_relate.specs.declared.letter.Letter.{Letter}
 use Rattle.sf_relate.specs.declared.place.Place.{Place}
 use Rattle.sf_relate.specs.declared.place.Place.TheVariants.{Interior, Boundary, Exterior}
 use Rattle.sf_relate.specs.declared.shape.Shape.{Shape}
 use Rattle.sf_relate.specs.declared.shape.Shape.TheVariants.{Points, Lines, Areas}
-use Rattle.sf_relate.specs.declared.sink.MatrixSink.{MatrixSink}
+use Rattle.sf_relate.specs.declared.sink.KnownSink.{KnownSink}
 use Rattle.sf_relate.specs.AllPieces.{end_dots_of, pieces_of}
-use Rattle.sf_relate.specs.Patterns.{matches}
+use Rattle.sf_known.specs.declared.aim.Aim.{Aim}
+use Rattle.sf_known.specs.declared.known.Known.{Known}
+use Rattle.sf_known.specs.Entries.{exceeds}
+use Rattle.sf_known.specs.Known.{is_enough, known_with, raised, settled}
 
 -- ---- the place of a cell
 -- what a geometry is made of
@@ -83,49 +85,36 @@ row_of Exterior = 2
 abbrev pub entry_place : Place → Place → ℕ
 entry_place p q = 3 * row_of p + row_of q
 
--- the entries with a dimension at one of them, unless a greater one is there
-abbrev pub raised : List Dim → ℕ → Dim → List Dim
-raised entries place d = slice_set entries place (greater_dim (slice_index_or entries place Nothing) d)
-
 -- the entries once an item was handed out
 abbrev pub with_item : Shape → Shape → List Dim → Item → List Dim
 with_item a b entries i = raised entries (entry_place (first_place a i) (second_place b i)) (dim_of i.dim)
 
--- the first dimension is the greater one
-abbrev pub exceeds : Dim → Dim → Bool
-exceeds Two Two = false
-exceeds Two e = true
-exceeds One Nothing = true
-exceeds One Zero = true
-exceeds Zero Nothing = true
-exceeds d e = false
-
--- no entry
-abbrev pub no_entries : List Dim
-no_entries = replicate 9 Nothing
-
--- what a sink has: the shapes of the geometries, the pattern of the most that the entries can have, the entries so far, and whether
--- these match it
+-- what a sink has: the shapes of the geometries, what is to be found out, what is known so far, and whether that is enough
 pub record Gathered : Type 0 where
   pub first : Shape
   pub second : Shape
-  pub most : List Letter
-  pub entries : List Dim
-  pub told : Bool
+  pub aim : Aim
+  pub known : Known
+  pub full : Bool
 
-abbrev pub gathered_by : MatrixSink → Gathered
-gathered_by s = record { first = s.first; second = s.second; most = s.most; entries = s.matrix.0; told = s.told }
+abbrev pub gathered_by : KnownSink → Gathered
+gathered_by s = record { first = s.first; second = s.second; aim = s.aim; known = s.known; full = s.full }
 
 -- nothing gathered yet
-abbrev pub begun : Shape → Shape → List Letter → Gathered
-begun first second most = record { first = first; second = second; most = most; entries = no_entries; told = false }
+abbrev pub begun : Shape → Shape → Aim → Known → Gathered
+begun first second aim known = record { first = first; second = second; aim = aim; known = known; full = false }
 
--- with a dimension at one of the entries
+-- an entry has at least a dimension
 abbrev pub with_entry : Gathered → ℕ → Dim → Gathered
 with_entry g place d =
-    let entries = raised g.entries place d in
-    record g { entries = entries; told = exceeds d (slice_index_or g.entries place Nothing) && matches g.most entries }
+    let known = known_with g.known place d in
+    record g { known = known; full = exceeds d (slice_index_or g.known.least place Nothing) && is_enough known g.aim }
 
--- once an item was handed out; what is told already stays as it is
+-- once an item was handed out; what is enough stays as it is
 abbrev pub with_cell : Gathered → Item → Gathered
-with_cell g i = if g.told then g else with_entry g (entry_place (first_place g.first i) (second_place g.second i)) (dim_of i.dim)
+with_cell g i = if g.full then g else with_entry g (entry_place (first_place g.first i) (second_place g.second i)) (dim_of i.dim)
+
+-- what is known once all cells of two geometries were handed out, or as many as were enough: in the one case each entry has what
+-- was found of it, and no more
+abbrev pub found_by : Gathered → Known
+found_by g = if g.full then g.known else settled g.known

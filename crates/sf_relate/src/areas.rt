@@ -3,19 +3,18 @@
 //! run along one another decide that one.
 
 ghost use Rattle.std.specs.Prelude.{◌≡◌, IfOk, IsTrue};
-ghost use Rattle.sf_relate.specs.Areas.{Overlap, common_extent, overlapping_entries};
+ghost use Rattle.sf_relate.specs.Areas.{Overlap, common_extent, overlapping_entries, with_boundaries};
 ghost use Rattle.sf_relate.specs.Matrices.{matrix_of};
 ghost use Rattle.sf_relate.specs.Places.{shape_of};
 ghost use Rattle.sf_relate.specs.declared.shape.Shape.TheVariants.{Areas};
 
-use super::grouping::pieces_of;
-use super::matrix::Matrix;
-use super::pattern::Pattern;
+use super::at_most::known_of_kinds;
 use super::shape::Shape;
-use super::sink::MatrixSink;
+use super::walking::walked;
 use sf_along::run_along;
 use sf_crossing::have_crossing;
 use sf_geometry::Extent;
+use sf_known::{Aim, Known, Matrix};
 use sf_plane::Dim;
 use sf_validity::Valid;
 use std::alloc::{AllocError, Global};
@@ -76,13 +75,21 @@ pub(crate) fn relate_areas(alloc: Global, a: &Valid, b: &Valid) -> Result<Matrix
     if are_known_to_overlap(alloc, a, b)? {
         return Ok(matrix_overlapping(run_along(alloc, first, second)?));
     }
-    let pieces = pieces_of(alloc, first, second)?;
-    let mut sink = MatrixSink::new(Shape::Areas, Shape::Areas, Pattern::of_overlap());
-    pieces.walk(alloc, &[true, true], &mut sink)?;
-    if !sink.told {
-        return Ok(sink.matrix);
+    let known = known_of_kinds(a, b);
+    let found = walked(alloc, a, b, &Aim::ButBoundaries, &known)?;
+    match found.matrix() {
+        Some(matrix) => Ok(matrix),
+        None => Ok(matrix_along(&found, run_along(alloc, first, second)?)),
     }
-    Ok(matrix_overlapping(run_along(alloc, first, second)?))
+}
+
+/// The matrix of which all is known but how the boundaries of two areas share points, by whether they run along one another.
+fn matrix_along(known: &Known, along: bool) -> Matrix
+    ensures { result.0 ≡ with_boundaries known.now.least along }
+{
+    let mut entries = known.least;
+    entries[4] = if along { Dim::One } else { Dim::Zero };
+    Matrix(entries)
 }
 
 /// The matrix of two areas that overlap, by whether their boundaries run along one another.

@@ -1,23 +1,26 @@
-//! The most that each entry of a matrix can have, by the kinds of the two geometries, so that a walk which has found
-//! that much has found the matrix.
+//! What is known of a matrix at first: the most that each entry can have, by the kinds of the two geometries.
 
 ghost use Rattle.std.specs.Prelude.{◌≡◌};
-ghost use Rattle.sf_relate.specs.Most.{boundary_most, lesser_dim, most_entries, most_letters};
+ghost use Rattle.sf_known.specs.Known.{Holds};
+ghost use Rattle.sf_relate.specs.Matrices.{matrix_of};
+ghost use Rattle.sf_relate.specs.Most.{boundary_most, known_of_kinds, most_entries};
 
-use super::pattern::Pattern;
 use super::told::{boundary_dim, interior_dim};
 use sf_geometry::Geometry;
+use sf_known::{Known, lesser};
 use sf_plane::Dim;
+use sf_validity::Valid;
 
-/// The pattern that asks for the most that each entry of two valid geometries can have.
-pub fn most(a: &Geometry, b: &Geometry) -> Pattern
-    ensures { result ≡ most_letters a.now b.now }
+/// What is known of the matrix of two valid geometries by their kinds.
+pub fn known_of_kinds(a: &Valid, b: &Valid) -> Known
+    ensures value { result ≡ known_of_kinds a.now b.now }
+    ensures holds { Holds result (matrix_of a.now b.now) }
 {
-    Pattern::of_entries(most_entries(a, b))
+    Known::at_most(most_entries(a.geometry(), b.geometry()))
 }
 
 /// The most that each entry can have: what two sets have in common has at most the dimension of each.
-fn most_entries(a: &Geometry, b: &Geometry) -> [Dim; 9]
+pub(crate) fn most_entries(a: &Geometry, b: &Geometry) -> [Dim; 9]
     ensures { result ≡ most_entries a.now b.now }
 {
     let ia = interior_dim(a);
@@ -45,17 +48,5 @@ fn boundary_most(geometry: &Geometry) -> Dim
     match geometry {
         Geometry::MultiLineString(_) => Dim::Zero,
         _ => boundary_dim(geometry),
-    }
-}
-
-/// The lesser of two dimensions.
-fn lesser(a: Dim, b: Dim) -> Dim
-    ensures { result ≡ lesser_dim a b }
-{
-    match (a, b) {
-        (Dim::Nothing, _) | (_, Dim::Nothing) => Dim::Nothing,
-        (Dim::Zero, _) | (_, Dim::Zero) => Dim::Zero,
-        (Dim::One, _) | (_, Dim::One) => Dim::One,
-        _ => Dim::Two,
     }
 }

@@ -4,7 +4,7 @@ ghost use Rattle.std.specs.Prelude.{◌≡◌, ◌||◌, IsTrue};
 ghost use Rattle.sf_grid.specs.Plane.{grid_point};
 ghost use Rattle.sf_relate.specs.Contact.{SharePoint, has_first_point_in, is_in};
 ghost use Rattle.sf_relate.specs.Matrices.{matrix_of};
-ghost use Rattle.sf_relate.specs.Patterns.{has_contact};
+ghost use Rattle.sf_known.specs.Patterns.{has_contact};
 
 use super::locating::locate;
 use sf_grid::GridPoint;

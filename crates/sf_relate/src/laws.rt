@@ -4,9 +4,8 @@ ghost use Rattle.sf_geometry.specs.declared.geometry.Geometry.{Geometry};
 ghost use Rattle.sf_relate.specs.Areas.{CrossingAreasOverlap};
 ghost use Rattle.sf_relate.specs.Contact.{ApartHasNoContact, ContactIsShared, FirstPointIsIn, LiesInBox, PointFillsItsPlace, PointHasContact};
 ghost use Rattle.sf_relate.specs.Matrices.{MatricesAreOverThePlane};
-ghost use Rattle.sf_relate.specs.Patterns.{PatternsNeedContact};
+ghost use Rattle.sf_relate.specs.Placed.{PlacesAreKnown};
 ghost use Rattle.sf_relate.specs.Places.{CountsTellPlaces};
-ghost use Rattle.sf_relate.specs.Predicates.{PredicatesNeedContact};
 ghost use Rattle.sf_relate.specs.Told.{ApartIsTold, WithinIsTold};
 
 /// The entries as they are computed are the matrix over the plane, and no others are, of all
@@ -18,16 +17,6 @@ pub fn matrices_are_over_the_plane()
 /// Of a valid geometry the counts at a point give its place.
 pub fn counts_tell_places()
     ensures { CountsTellPlaces }
-{}
-
-/// A pattern that needs contact matches no matrix without it.
-pub fn patterns_need_contact()
-    ensures { PatternsNeedContact }
-{}
-
-/// A predicate that needs contact holds of no matrix without it.
-pub fn predicates_need_contact()
-    ensures { PredicatesNeedContact }
 {}
 
 /// Two geometries have contact just where they share a point of their interiors or boundaries;
@@ -45,6 +34,11 @@ pub fn point_has_contact()
 /// boundary never are.
 pub fn point_fills_its_place()
     ensures { PointFillsItsPlace }
+{}
+
+/// What a Point's place says of its matrix holds of it.
+pub fn places_are_known()
+    ensures { PlacesAreKnown }
 {}
 
 /// The first point of a valid geometry is in it.

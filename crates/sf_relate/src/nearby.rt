@@ -1,25 +1,25 @@
 //! The matrix of a geometry with an area, by a walk over those edges of the area alone that can be on a point of
 //! the geometry or above one.
 
-ghost use Rattle.std.specs.Prelude.{◌≡◌, ◌≤◌, ◌∷◌, [], ◌++◌, IfOk, IsFalse, OnOk, length, map};
+ghost use Rattle.std.specs.Prelude.{◌≡◌, ◌≤◌, ◌++◌, IfOk, IsFalse, OnOk, length, map};
 ghost use Rattle.std.specs.List.{AllByRecursion};
 ghost use Rattle.sf_geometry.specs.Lists.{is_same};
 ghost use Rattle.sf_geometry.specs.Parts.{edge_of};
 ghost use Rattle.sf_pieces.specs.Marked.{marked, piece_of};
-ghost use Rattle.sf_plane.specs.declared.dim.Dim.TheVariants.{One, Two};
 ghost use Rattle.sf_relate.specs.Contact.{own_rows};
 ghost use Rattle.sf_relate.specs.Matrices.{matrix_of};
+ghost use Rattle.sf_relate.specs.Most.{beyond_row, known_beyond};
 ghost use Rattle.sf_relate.specs.Nearby.{ReachesBeyond, TellPlaces, nearby_grouped};
 ghost use Rattle.sf_relate.specs.Places.{shape_of};
 ghost use Rattle.sf_relate.specs.declared.shape.Shape.TheVariants.{Areas};
 
-use super::at_most::most;
+use super::at_most::most_entries;
 use super::grouping::{FIRST, FIRST_ENDS, SECOND, push_grouped};
-use super::matrix::Matrix;
 use super::shape::Shape;
-use super::sink::MatrixSink;
+use super::sink::KnownSink;
 use sf_geometry::Geometry;
 use sf_grid::GridPoint;
+use sf_known::{Aim, Known, Matrix};
 use sf_pieces::GroupedPieces;
 use sf_plane::Dim;
 use sf_validity::Valid;
@@ -50,19 +50,33 @@ pub fn relate_nearby(
     let second = area.geometry();
     let first_shape = Shape::of(first);
     let second_shape = Shape::of(second);
-    let own_rows = most(first, second).of_own_rows();
-    let mut sink = MatrixSink::new(first_shape, second_shape, own_rows);
+    let known = known_beyond(first, second);
+    let mut sink = KnownSink::new(first_shape, second_shape, Aim::Entries, known);
     let areal = [first_shape.is_areal(), second_shape.is_areal()];
     pieces.walk(alloc, &areal, &mut sink)?;
-    Ok(reaching_beyond(sink.matrix.0))
+    let entries = reaching_beyond(sink.known.least);
+    Ok(Matrix(entries))
+}
+
+/// What is known of the matrix of a geometry with an area that reaches beyond it.
+fn known_beyond(a: &Geometry, area: &Geometry) -> Known
+    ensures { result ≡ known_beyond a.now area.now }
+{
+    let least = reaching_beyond([Dim::Nothing; 9]);
+    let most = reaching_beyond(most_entries(a, area));
+    Known {
+        least,
+        most,
+        contact: false,
+    }
 }
 
 /// The first two rows of these entries, and the third one of an area that reaches beyond the other geometry.
-fn reaching_beyond(entries: [Dim; 9]) -> Matrix
-    ensures { result.0 ≡ own_rows entries ++ Two ∷ One ∷ Two ∷ [] }
+fn reaching_beyond(entries: [Dim; 9]) -> [Dim; 9]
+    ensures { result ≡ own_rows entries ++ beyond_row }
 {
     let [ii, ib, ie, bi, bb, be, _, _, _] = entries;
-    Matrix([ii, ib, ie, bi, bb, be, Dim::Two, Dim::One, Dim::Two])
+    [ii, ib, ie, bi, bb, be, Dim::Two, Dim::One, Dim::Two]
 }
 
 /// The pieces of a geometry with its ends, and these edges, by groups.

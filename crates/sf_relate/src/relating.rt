@@ -4,12 +4,10 @@ ghost use Rattle.std.specs.Prelude.{◌≡◌, IfOk};
 ghost use Rattle.sf_relate.specs.Matrices.{IsMatrix, matrix_of};
 
 use super::areas::{are_areas, relate_areas};
-use super::at_most::most;
-use super::grouping::pieces_of;
-use super::matrix::Matrix;
-use super::shape::Shape;
-use super::sink::MatrixSink;
+use super::at_most::known_of_kinds;
 use super::told::matrix_by_boxes;
+use super::walking::walked;
+use sf_known::{Aim, Matrix};
 use sf_validity::Valid;
 use std::alloc::{AllocError, Global};
 
@@ -28,22 +26,16 @@ pub fn relate(alloc: Global, a: &Valid, b: &Valid) -> Result<Matrix, AllocError>
     if are_areas(a, b) {
         relate_areas(alloc, a, b)
     } else {
-        walked(alloc, a, b)
+        matrix_walked(alloc, a, b)
     }
 }
 
-/// The matrix of two geometries, by a walk over the pieces of both that ends once each entry has the most that it can.
-fn walked(alloc: Global, a: &Valid, b: &Valid) -> Result<Matrix, AllocError>
-    ensures plane { IfOk result (λ matrix. IsMatrix a.now b.now matrix.0) }
-    ensures computed { IfOk result (λ matrix. matrix.0 ≡ matrix_of a.now b.now) }
+/// The matrix of two geometries, by a walk over the pieces of both.
+fn matrix_walked(alloc: Global, a: &Valid, b: &Valid) -> Result<Matrix, AllocError>
+    ensures { IfOk result (λ matrix. matrix.0 ≡ matrix_of a.now b.now) }
 {
-    let first = a.geometry();
-    let second = b.geometry();
-    let pieces = pieces_of(alloc, first, second)?;
-    let first_shape = Shape::of(first);
-    let second_shape = Shape::of(second);
-    let mut sink = MatrixSink::new(first_shape, second_shape, most(first, second));
-    let areal = [first_shape.is_areal(), second_shape.is_areal()];
-    pieces.walk(alloc, &areal, &mut sink)?;
-    Ok(sink.matrix)
+    let known = known_of_kinds(a, b);
+    let found = walked(alloc, a, b, &Aim::Entries, &known)?;
+    let entries = found.least;
+    Ok(Matrix(entries))
 }

@@ -1,48 +1,56 @@
-//! The matrix of two geometries from the cells of their pieces.
+//! What is known of the matrix of two geometries, from the cells of their pieces.
 
-ghost use Rattle.std.specs.Prelude.{◌≡◌, ◌<◌, slice_index, slice_index_or};
-ghost use Rattle.sf_plane.specs.Unions.{dim_of as dim_of_number, greater_dim};
-ghost use Rattle.sf_plane.specs.declared.dim.Dim.TheVariants.{Nothing};
-ghost use Rattle.sf_relate.specs.Places.{begun, entry_place, exceeds, gathered_by, place_by, raised};
+ghost use Rattle.std.specs.Prelude.{◌≡◌, ◌<◌, slice_index};
+ghost use Rattle.sf_plane.specs.Unions.{dim_of as dim_of_number};
+ghost use Rattle.sf_relate.specs.Places.{begun, entry_place, found_by, gathered_by, place_by};
 
 use super::grouping::{FIRST, FIRST_ENDS, SECOND, SECOND_ENDS};
-use super::matrix::Matrix;
-use super::pattern::Pattern;
 use super::place::Place;
 use super::shape::Shape;
+use sf_known::{Aim, Known};
 use sf_pieces::CellSink;
 use sf_plane::Dim;
-use std::marker::Model;
 
-/// The matrix of geometries of two shapes as far as it is found, until its entries have the most that they can.
+/// What is known of the matrix of geometries of two shapes, raised by each cell until it is enough.
 #[derive(Drop)]
-pub struct MatrixSink {
+pub struct KnownSink {
     pub(crate) first: Shape,
     pub(crate) second: Shape,
-    /// The most that each entry can have.
-    pub(crate) most: Pattern,
-    /// What was found so far.
-    pub matrix: Matrix,
-    /// Whether the entries match that, so that no further cell is looked at.
-    pub(crate) told: bool,
+    /// What is to be found out.
+    pub(crate) aim: Aim,
+    /// What is known so far.
+    pub(crate) known: Known,
+    /// Whether that is enough, so that no further cell is looked at.
+    pub(crate) full: bool,
 }
 
-impl MatrixSink {
-    /// One with no entry yet.
-    pub fn new(first: Shape, second: Shape, most: Pattern) -> MatrixSink
-        ensures { gathered_by result ≡ begun first second most }
+impl KnownSink {
+    /// One that was handed no cell yet.
+    pub fn new(first: Shape, second: Shape, aim: Aim, known: Known) -> KnownSink
+        ensures { gathered_by result ≡ begun first second aim known }
     {
-        MatrixSink {
+        KnownSink {
             first,
             second,
-            most,
-            matrix: Matrix([Dim::Nothing; 9]),
-            told: false,
+            aim,
+            known,
+            full: false,
+        }
+    }
+
+    /// What is known once all cells were handed out, or as many as were enough.
+    pub fn found(&self) -> Known
+        ensures { result ≡ found_by (gathered_by self.now) }
+    {
+        if self.full {
+            self.known
+        } else {
+            self.known.settled()
         }
     }
 }
 
-impl CellSink for MatrixSink {
+impl CellSink for KnownSink {
     ghost use Rattle.sf_relate.specs.Places.{Gathered, with_cell};
 
     ghost Content = { Gathered };
@@ -52,43 +60,21 @@ impl CellSink for MatrixSink {
     ghost after = { with_cell };
 
     fn cell(&mut self, dim: u8, on: &[u32], above: &[u32]) {
-        if self.told {
+        if self.full {
             return;
         }
         let entry = entry_of_cell(self.first, self.second, on, above);
-        let rose = raise(&mut self.matrix.0, entry, dim_of(dim));
-        self.told = rose && self.most.matches(&self.matrix);
+        let rose = self.known.raise(entry, dim_of(dim));
+        self.full = rose && self.known.is_enough(&self.aim);
     }
 
     fn is_full(&self) -> bool {
-        self.told
-    }
-}
-
-/// Raises an entry to a dimension, and says whether it had less before.
-pub(crate) fn raise(entries: &mut [Dim; 9], entry: usize, dim: Dim) -> bool
-    requires { entry < 9 }
-    ensures raised { entries.new ≡ raised entries.old entry dim }
-    ensures rose { result ≡ exceeds dim (slice_index_or entries.old entry Nothing) }
-{
-    let before = entries[entry];
-    entries[entry] = greater(before, dim);
-    exceeds(dim, before)
-}
-
-/// Whether the first dimension is the greater one.
-fn exceeds(dim: Dim, other: Dim) -> bool
-    ensures { result ≡ exceeds dim other }
-{
-    match (dim, other) {
-        (Dim::Two, Dim::Two) => false,
-        (Dim::Two, _) | (Dim::One, Dim::Nothing | Dim::Zero) | (Dim::Zero, Dim::Nothing) => true,
-        _ => false,
+        self.full
     }
 }
 
 /// Which of the nine entries is that of a cell, by the counts on it and above it.
-pub(crate) fn entry_of_cell(first: Shape, second: Shape, on: &[u32], above: &[u32]) -> usize
+fn entry_of_cell(first: Shape, second: Shape, on: &[u32], above: &[u32]) -> usize
     ensures value { result ≡ entry_place
         (place_by first (slice_index on.now 0) (slice_index on.now 2) (slice_index above.now 0))
         (place_by second (slice_index on.now 1) (slice_index on.now 3) (slice_index above.now 1)) }
@@ -124,20 +110,8 @@ fn entry_of(first: Place, second: Place) -> usize
     3 * first.row() + second.row()
 }
 
-/// The greater of two dimensions.
-fn greater(a: Dim, b: Dim) -> Dim
-    ensures { result ≡ greater_dim a b }
-{
-    match (a, b) {
-        (Dim::Two, _) | (_, Dim::Two) => Dim::Two,
-        (Dim::One, _) | (_, Dim::One) => Dim::One,
-        (Dim::Zero, _) | (_, Dim::Zero) => Dim::Zero,
-        _ => Dim::Nothing,
-    }
-}
-
 /// A number as a dimension.
-pub(crate) fn dim_of(dim: u8) -> Dim
+fn dim_of(dim: u8) -> Dim
     ensures { result ≡ dim_of_number dim }
 {
     match dim {

@@ -13,9 +13,9 @@ ghost use Rattle.sf_relate.specs.Matrices.{matrix_of};
 ghost use Rattle.sf_relate.specs.Told.{IsWithin, ShareNone, has_odd_end, is_odd_end};
 
 use super::locating::is_end;
-use super::matrix::Matrix;
 use sf_geometry::{Extent, Geometry, Sequence};
 use sf_grid::GridPoint;
+use sf_known::Matrix;
 use sf_plane::Dim;
 use sf_validity::Valid;
 

@@ -1,7 +1,7 @@
 //! Contact of small geometries of each kind with one another, beside what a walk tells.
 
 use sf_contact::contact_between;
-use sf_relate::{Predicate, holds_between};
+use sf_relate::{Predicate, dimension, meets};
 use sf_validity::{Valid, validate};
 use std::alloc::Global;
 use std::test::Fail;
@@ -68,7 +68,8 @@ fn valid(alloc: Global, text: &str) -> Result<Valid, Fail> {
 fn is_told_alike(alloc: Global, first: &str, second: &str) -> Result<bool, Fail> {
     let a = valid(alloc, first)?;
     let b = valid(alloc, second)?;
-    let walked = holds_between(alloc, Predicate::Intersects, &a, &b)?;
+    let goal = Predicate::Intersects.goal(dimension(a.geometry()), dimension(b.geometry()));
+    let walked = meets(alloc, &goal, &a, &b)?;
     Ok(contact_between(&a, &b) == Some(walked) && contact_between(&b, &a) == Some(walked))
 }
 

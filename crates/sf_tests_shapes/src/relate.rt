@@ -4,8 +4,9 @@ use sf_geometry::{Geometry, Sequence};
 use sf_grid::GridPoint;
 use sf_pieces::CellSink;
 use sf_relate::{
-    Dim, MatrixSink, Pattern, Place, Predicate, Refusal, Shape, are_known_to_overlap, dimension,
-    holds, holds_between, holds_of_point, locate, match_between, most, relate, shares_first_point,
+    Aim, Dim, Goal, KnownSink, Matrix, Pattern, Place, Predicate, Refusal, Shape,
+    are_known_to_overlap, dimension, holds, known_of_kinds, known_of_place, locate, meets, relate,
+    shares_first_point,
 };
 use sf_validity::{Valid, validate};
 use std::alloc::Global;
@@ -583,17 +584,24 @@ fn shape_of(geometry: &Geometry) -> Shape {
 }
 
 /// A sink of two geometries that has been handed these cells, and whether it was full after each.
-fn filled(alloc: Global, filling: &Filling) -> Result<(MatrixSink, Vec<bool>), Fail> {
-    let first = filling.first.geometry(alloc)?;
-    let second = filling.second.geometry(alloc)?;
-    let shapes = (shape_of(&first), shape_of(&second));
-    let mut sink = MatrixSink::new(shapes.0, shapes.1, most(&first, &second));
+fn filled(alloc: Global, filling: &Filling) -> Result<(KnownSink, Vec<bool>), Fail> {
+    let first = filling.first.valid(alloc)?;
+    let second = filling.second.valid(alloc)?;
+    let shapes = (shape_of(first.geometry()), shape_of(second.geometry()));
+    let known = known_of_kinds(&first, &second);
+    let mut sink = KnownSink::new(shapes.0, shapes.1, Aim::Entries, known);
     let mut full = Vec::new(alloc);
     for (dim, on, above) in filling.cells {
         sink.cell(*dim, on, above);
         full.push(sink.is_full())?;
     }
     Ok((sink, full))
+}
+
+/// The entries that a sink has found, as characters.
+fn found_by(sink: &KnownSink) -> [u8; 9] {
+    let entries = sink.found().least;
+    Matrix(entries).text()
 }
 
 #[test]
@@ -604,9 +612,9 @@ fn sink_is_full_at_the_most(rt: HostRuntime) -> Result<(), Fail> {
         for (place, is_full) in full.iter().enumerate() {
             assert_eq!(rt; *is_full, place == last, "{} at {}", filling.matrix, place);
         }
-        assert_eq!(rt; sink.matrix.text().as_slice(), filling.matrix.as_bytes());
+        assert_eq!(rt; found_by(&sink).as_slice(), filling.matrix.as_bytes());
         sink.cell(2, &SHARED, &OUTSIDE);
-        assert_eq!(rt; sink.matrix.text().as_slice(), filling.matrix.as_bytes());
+        assert_eq!(rt; found_by(&sink).as_slice(), filling.matrix.as_bytes());
     }
     Ok(())
 }
@@ -685,12 +693,13 @@ fn is_answered_alike(alloc: Global, case: &Case) -> Result<bool, Fail> {
         let Ok(pattern) = Pattern::parse(text) else {
             return Err("no pattern".into());
         };
-        if match_between(alloc, &[pattern], &first, &second)? != pattern.matches(&matrix) {
+        if meets(alloc, &Goal::Match(pattern), &first, &second)? != pattern.matches(&matrix) {
             return Ok(false);
         }
     }
     for predicate in PREDICATES.iter() {
-        let holds = holds_between(alloc, *predicate, &first, &second)?;
+        let goal = predicate.goal(dimension(first.geometry()), dimension(second.geometry()));
+        let holds = meets(alloc, &goal, &first, &second)?;
         if holds != case.predicates.contains(predicate) {
             return Ok(false);
         }
@@ -787,9 +796,10 @@ fn areas_that_are_known_to_overlap(rt: HostRuntime) -> Result<(), Fail> {
 #[test]
 fn predicates_of_points(rt: HostRuntime) -> Result<(), Fail> {
     for (predicate, [inside, boundary, outside]) in TOLD {
-        assert_eq!(rt; holds_of_point(predicate, Place::Interior), inside);
-        assert_eq!(rt; holds_of_point(predicate, Place::Boundary), boundary);
-        assert_eq!(rt; holds_of_point(predicate, Place::Exterior), outside);
+        let goal = predicate.goal(Dim::Zero, Dim::Two);
+        assert_eq!(rt; known_of_place(Place::Interior).answer(&goal), inside);
+        assert_eq!(rt; known_of_place(Place::Boundary).answer(&goal), boundary);
+        assert_eq!(rt; known_of_place(Place::Exterior).answer(&goal), outside);
     }
     Ok(())
 }

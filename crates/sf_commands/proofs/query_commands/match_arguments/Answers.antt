@@ -2,7 +2,7 @@ use Rattle.std.proofs.Common.{◌∙◌, Ok, Result, ap, subst, sym}
 use Rattle.std.specs.Option.{ok_or}
 use Rattle.sf_refusals.specs.declared.refusal.Refusal.{Refusal}
 use Rattle.sf_refusals.specs.declared.refusal.Refusal.TheVariants.{BadPattern}
-use Rattle.sf_relate.specs.Patterns.{pattern_of}
+use Rattle.sf_known.specs.Patterns.{pattern_of}
 use Rattle.sf_wkt.specs.Grammar.{read}
 use Rattle.sf_commands.specs.declared.command.Command.{Command}
 use Rattle.sf_commands.specs.declared.command.Command.TheVariants.{Match}

@@ -1,6 +1,8 @@
-use Rattle.sf_query.proofs.QueryLaws.{told-by-matrix}
+use Rattle.std.proofs.Common.{◌∙◌, ap}
+use Rattle.sf_relate.specs.Matrices.{matrix_of}
+use Rattle.sf_known.specs.Goals.{is_met}
 use Rattle.sf_query.proofs.answering.is_asked_beside.Goals as goal
 
-pub returns-then-are_apart : goal.returns-then-are_apart
-returns-then-are_apart c =
-    told-by-matrix c.args.ask.now c.args.geometry.now c.args.given.now c.matrix_apart-matrix.result c.is_answered.result c.matrix_apart-matrix.ensures c.is_answered.ensures
+pub returns-in-Some : goal.returns-in-Some
+returns-in-Some c =
+    c.is_met.ensures ∙ ap (is_met c.goal.result) c.in-Some.ensures.shown ∙ c.goal.ensures (matrix_of c.args.geometry.now c.args.given.now)

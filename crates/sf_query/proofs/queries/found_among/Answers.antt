@@ -25,13 +25,13 @@ loop-id-preserved c =
     let ids = c.loop-id.ids.items in
     elim c.if-branch.branch [
       | then-branch+in_ok-push w ↦
-          found-more c.args.layer.now c.args.ask.now c.valid.result.now c.args.given.now items ids c.if-branch.ids.items c.loop-id.id-index c.unwrap-feature.result.now c.in_ok-is_asked_prepared.field-0
-          (near at.Start) c.loop-id-test.true (feature at.After-unwrap-feature) c.in_ok-is_asked_prepared.ensures c.valid.ensures.same w.if-branch.true
+          found-more c.args.layer.now c.args.ask.now c.valid.result.now c.args.given.now items ids c.if-branch.ids.items c.loop-id.id-index c.unwrap-feature.result.now c.in_ok-is_asked.field-0
+          (near at.Start) c.loop-id-test.true (feature at.After-unwrap-feature) c.in_ok-is_asked.ensures c.valid.ensures.same w.if-branch.true
           (ap (λ v. v.items) w.ids-is ∙ w.in_ok-push.ensures.items) c.loop-id.invariant
       | else-branch w ↦
           subst (λ v. AreFoundTo c.args.layer.now c.args.ask.now c.args.given.now (c.loop-id.id-index + 1) v.items) (sym w.ids-is)
-          (found-other c.args.layer.now c.args.ask.now c.valid.result.now c.args.given.now items ids c.loop-id.id-index c.unwrap-feature.result.now c.in_ok-is_asked_prepared.field-0
-          (near at.Start) c.loop-id-test.true (feature at.After-unwrap-feature) c.in_ok-is_asked_prepared.ensures c.valid.ensures.same w.if-branch.false c.loop-id.invariant)
+          (found-other c.args.layer.now c.args.ask.now c.valid.result.now c.args.given.now items ids c.loop-id.id-index c.unwrap-feature.result.now c.in_ok-is_asked.field-0
+          (near at.Start) c.loop-id-test.true (feature at.After-unwrap-feature) c.in_ok-is_asked.ensures c.valid.ensures.same w.if-branch.false c.loop-id.invariant)
     ]
 
 pub returns : goal.returns

@@ -8,7 +8,7 @@ use Rattle.sf_geometry.specs.Parts.{edge_of, edges_of}
 use Rattle.sf_relate.specs.Areas.{Overlap, common_extent}
 use Rattle.sf_relate.proofs.CommonBoxLaws.{crossing-of-all}
 use Rattle.sf_relate.proofs.OverlapLaws.{crossing_areas_overlap}
-use Rattle.sf_relate.proofs.QuestionLaws.{answered}
+use Rattle.sf_relate.proofs.ResultLaws.{answered}
 use Rattle.sf_relate.proofs.SectorLaws.{swapped}
 use Rattle.sf_relate.proofs.areas.are_known_to_overlap.Goals as goal
 use Rattle.sf_relate.proofs.areas.are_known_to_overlap.Goals.{After-common_extent-common}

@@ -1,12 +1,10 @@
-use Rattle.std.proofs.Common.{◌≡◌, ap, ◌∙◌, List, [], ◌∷◌, ◌++◌, map}
+use Rattle.std.proofs.Common.{◌≡◌, ap, ◌∙◌, [], ◌∷◌, map}
 use Rattle.sf_geometry.specs.Parts.{edge_of}
-use Rattle.sf_relate.specs.declared.letter.Letter.{Letter}
-use Rattle.sf_relate.specs.declared.letter.Letter.TheVariants.{Any}
 use Rattle.sf_relate.specs.declared.shape.Shape.TheVariants.{Areas}
 use Rattle.sf_relate.specs.Nearby.{nearby_grouped}
-use Rattle.sf_relate.specs.Contact.{own_rows}
-use Rattle.sf_relate.specs.Most.{most_letters, own_most_letters}
-use Rattle.sf_relate.specs.Places.{gathered_by, is_areal, shape_of}
+use Rattle.sf_known.specs.declared.aim.Aim.TheVariants.{Entries}
+use Rattle.sf_relate.specs.Most.{known_beyond}
+use Rattle.sf_relate.specs.Places.{begun, gathered_by, is_areal, shape_of}
 use Rattle.sf_relate.proofs.MatrixLaws.{begun-with}
 use Rattle.sf_relate.proofs.NearbyLaws.{can-nearby, nearby-left}
 use Rattle.sf_relate.proofs.SizeLaws.{CanWalk}
@@ -30,15 +28,16 @@ pub returns : goal.returns
 returns c =
     let at = goal.at.returns c in
     let a = c.args.a.now in
+    let area = c.args.area.now in
     let first : c.of-first_shape.result ≡ shape_of a = c.of-first_shape.ensures ∙ ap shape_of c.geometry-first.ensures.same in
     let second : c.of-second_shape.result ≡ Areas = c.of-second_shape.ensures ∙ ap shape_of c.geometry-second.ensures.same ∙ c.requires.areal in
-    let rows : List Letter → List Letter = λ letters. own_rows letters ++ Any ∷ Any ∷ Any ∷ [] in
-    let most : c.of_own_rows-own_rows.result ≡ own_most_letters a c.args.area.now =
-    c.of_own_rows-own_rows.ensures
-    ∙ ap rows (c.most.ensures ∙ ap (λ g. most_letters g c.geometry-second.result.now) c.geometry-first.ensures.same ∙ ap (most_letters a) c.geometry-second.ensures.same) in
-    c.reaching_beyond.ensures
-    ∙ nearby-left a c.args.area.now (map edge_of c.args.edges.now) c.in_ok-pieces.pieces (c.is_areal.result ∷ c.is_areal-2.result ∷ []) (gathered_by c.new-sink.result) (gathered_by c.walk.new.sink)
+    let known : c.known_beyond-known.result ≡ known_beyond a area =
+    c.known_beyond-known.ensures ∙ ap (λ g. known_beyond g c.geometry-second.result.now) c.geometry-first.ensures.same ∙ ap (known_beyond a) c.geometry-second.ensures.same in
+    c.reaching_beyond-entries.ensures
+    ∙ nearby-left a area (map edge_of c.args.edges.now) c.in_ok-pieces.pieces (c.is_areal.result ∷ c.is_areal-2.result ∷ []) (gathered_by c.new-sink.result) (gathered_by c.walk.new.sink)
     c.geometry-first.ensures.valid.valid c.geometry-second.ensures.valid.valid c.requires.areal c.requires.places c.requires.beyond (grouped at.After-is_areal-2)
     (ap (λ x. x ∷ c.is_areal-2.result ∷ []) (c.is_areal.ensures ∙ ap is_areal first) ∙ ap (λ x. is_areal (shape_of a) ∷ x ∷ []) (c.is_areal-2.ensures ∙ ap is_areal second))
-    (c.new-sink.ensures ∙ begun-with c.of-first_shape.result c.of-second_shape.result (shape_of a) Areas c.of_own_rows-own_rows.result (own_most_letters a c.args.area.now) first second most)
+    (c.new-sink.ensures
+    ∙ begun-with c.of-first_shape.result c.of-second_shape.result (shape_of a) Areas Entries c.known_beyond-known.result first second
+    ∙ ap (begun (shape_of a) Areas Entries) known)
     c.in_ok-walk.ensures.ok

@@ -1,0 +1,6 @@
+pub mod LetterLaws
+pub mod ContactLaws
+pub mod OrderLaws
+pub mod NineLaws
+pub mod KnownLaws
+pub mod ComputedPredicates

@@ -1,0 +1,40 @@
+//! In which order evidence is asked for before a walk, and from which sizes on. All of it lies in this file.
+
+use super::ask::Ask;
+use super::evidence::Evidence;
+
+/// How many features there are at least for what is made of the given geometry to pay.
+pub(crate) const MANY_FEATURES: usize = 8;
+
+/// How many points a feature has at least for the edges near the given geometry to be picked: with fewer, a walk over
+/// all of them is as quick.
+pub(crate) const MANY_POINTS: usize = 32;
+
+/// Where contact is asked for by name, the first edges that meet show it, and a first point shows it where both are large.
+/// Edges that cross come after, since they have to be searched in all of both.
+static OF_CONTACT: [Evidence; 6] = [
+    Evidence::Prepared,
+    Evidence::Place,
+    Evidence::Edges,
+    Evidence::FirstPoints,
+    Evidence::Crossing,
+    Evidence::Nearby,
+];
+
+/// Whatever else is asked, edges that cross show most of it. Edges that meet show no more than that there is contact.
+static OF_MATRIX: [Evidence; 5] = [
+    Evidence::Prepared,
+    Evidence::Crossing,
+    Evidence::Place,
+    Evidence::Edges,
+    Evidence::Nearby,
+];
+
+/// The order for what is asked. A walk comes after all of them.
+pub(crate) fn order_of(ask: &Ask) -> &'static [Evidence] {
+    if ask.is_of_contact() {
+        &OF_CONTACT
+    } else {
+        &OF_MATRIX
+    }
+}

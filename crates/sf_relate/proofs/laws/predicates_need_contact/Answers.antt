@@ -1,5 +1,0 @@
-use Rattle.sf_relate.proofs.ContactLaws.{predicates_need_contact}
-use Rattle.sf_relate.proofs.laws.predicates_need_contact.Goals as goal
-
-pub returns : goal.returns
-returns c = predicates_need_contact
