@@ -1,5 +1,5 @@
 -- A box that has others: what is apart from it is apart from those.
-use Rattle.std.proofs.Common.{◌≡◌, Bool, true, false, ◌&&◌, ℤ, refl, sym, ◌∙◌, IsTrue, arith, true≢false, int_le}
+use Rattle.std.proofs.Common.{Bool, true, false, ◌&&◌, ℤ, refl, sym, IsTrue, arith, true≢false, int_le}
 use Rattle.std.specs.Int.{int_max, int_min}
 use Rattle.std.proofs.lemmas.Int.{ints}
 use Rattle.sf_geometry.specs.declared.extent.Extent.{Extent}

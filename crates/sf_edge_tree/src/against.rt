@@ -24,7 +24,7 @@ impl<P: PairTest> EdgeTest for AgainstRun<'_, P> {
     ghost Passes = { λ s edge. HasNear s.others.now (extent_at_edge s.edges.now edge) s.start s.end
         (P.Passes s.test.now edge) };
 
-    fn test(&self, edge: usize) -> bool {
+    fn test(&self, edge: usize, looks: &mut usize) -> bool {
         let test = WithFirst {
             first: edge,
             test: self.test,
@@ -35,6 +35,7 @@ impl<P: PairTest> EdgeTest for AgainstRun<'_, P> {
             self.end,
             box_of(&self.edges[edge]),
             &test,
+            looks,
         )
     }
 }

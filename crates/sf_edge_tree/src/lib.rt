@@ -4,6 +4,7 @@
 
 mod against;
 mod boxes;
+mod budget;
 mod node;
 mod nodes;
 mod outcome;
@@ -12,6 +13,7 @@ mod search;
 mod tests;
 mod tree;
 
+pub use budget::Budget;
 pub use outcome::Outcome;
 pub use tests::{EdgeTest, PairTest};
 pub use tree::EdgeTree;

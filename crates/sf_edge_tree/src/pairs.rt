@@ -7,6 +7,7 @@ ghost use Rattle.sf_edge_tree.specs.Searches.{Answers, AreOneOfEach, AreTwoOf, H
 
 use crate::against::AgainstRun;
 use crate::boxes::{Edge, box_of};
+use crate::budget::Budget;
 use crate::node::Node;
 use crate::outcome::Outcome;
 use crate::search::{find_near, has_near};
@@ -17,16 +18,18 @@ pub(crate) fn find_pair<P: PairTest>(
     edges: &[Edge],
     nodes: &[Node],
     test: &P,
-    looks: &mut usize,
+    budget: &Budget,
 ) -> Outcome
     requires tree { IsTree edges.now nodes.now }
     requires can_test { (i j : ℕ) → i < j → j < length edges.now → P.CanTest test.now i j }
     ensures { Answers (HasPair edges.now edges.now (AreTwoOf edges.now) (P.Passes test.now)) result }
 {
+    let mut looks = budget.at_first;
     let mut left = nodes;
     while let Some((node, before)) = left.split_last() {
         if node.begin == before.len() {
-            let outcome = find_pair_at_run(edges, before, node, test, looks);
+            looks = looks.saturating_add(budget.for_each_run);
+            let outcome = find_pair_at_run(edges, before, node, test, &mut looks);
             if !outcome.is_absent() {
                 return outcome;
             }
@@ -43,17 +46,19 @@ pub(crate) fn find_pair_between<P: PairTest>(
     others: &[Edge],
     other_nodes: &[Node],
     test: &P,
-    looks: &mut usize,
+    budget: &Budget,
 ) -> Outcome
     requires tree { IsTree edges.now nodes.now }
     requires other_tree { IsTree others.now other_nodes.now }
     requires can_test { (i j : ℕ) → i < length edges.now → j < length others.now → P.CanTest test.now i j }
     ensures { Answers (HasPair edges.now others.now (AreOneOfEach edges.now others.now) (P.Passes test.now)) result }
 {
+    let mut looks = budget.at_first;
     let mut left = other_nodes;
     while let Some((node, before)) = left.split_last() {
         if node.begin == before.len() {
-            let outcome = find_pair_with_run(edges, nodes, others, node, test, looks);
+            looks = looks.saturating_add(budget.for_each_run);
+            let outcome = find_pair_with_run(edges, nodes, others, node, test, &mut looks);
             if !outcome.is_absent() {
                 return outcome;
             }
@@ -78,7 +83,7 @@ fn find_pair_at_run<P: PairTest>(
     requires can_test { (i j : ℕ) → i < j → j < run.now.end → P.CanTest test.now i j }
     ensures { Answers (HasPair edges.now edges.now (InRange IsEarlier run.now.start run.now.end) (P.Passes test.now)) result }
 {
-    if has_pair_within(edges, run.start, run.end, test) {
+    if has_pair_within(edges, run.start, run.end, test, looks) {
         Outcome::Found
     } else {
         find_pair_with_run(edges, before, edges, run, test, looks)
@@ -86,7 +91,13 @@ fn find_pair_at_run<P: PairTest>(
 }
 
 /// Whether two edges of a range pass a test whose boxes share a point.
-fn has_pair_within<P: PairTest>(edges: &[Edge], start: usize, end: usize, test: &P) -> bool
+fn has_pair_within<P: PairTest>(
+    edges: &[Edge],
+    start: usize,
+    end: usize,
+    test: &P,
+    looks: &mut usize,
+) -> bool
     requires within { end ≤ length edges.now }
     requires can_test { (i j : ℕ) → start ≤ i → i < j → j < end → P.CanTest test.now i j }
     ensures { IsTrue result ↔ HasPair edges.now edges.now (AreWithin start end) (P.Passes test.now) }
@@ -98,6 +109,7 @@ fn has_pair_within<P: PairTest>(edges: &[Edge], start: usize, end: usize, test: 
             end,
             box_of(&edges[first]),
             &WithFirst { first, test },
+            looks,
         ) {
             return true;
         }

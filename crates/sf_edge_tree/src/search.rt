@@ -7,33 +7,36 @@ ghost use Rattle.sf_edge_tree.specs.Searches.{Answers, HasNear};
 
 use crate::boxes::{Edge, box_of};
 use crate::node::Node;
-use crate::nodes::{RUN, front};
+use crate::nodes::front;
 use crate::outcome::Outcome;
 use crate::tests::EdgeTest;
 use sf_geometry::Extent;
 
-/// Whether an edge with a number in a range, whose box shares a point with a box, passes a test.
+/// Whether an edge with a number in a range, whose box shares a point with a box, passes a test. Each edge takes one of
+/// the looks.
 pub(crate) fn has_near<T: EdgeTest>(
     edges: &[Edge],
     start: usize,
     end: usize,
     extent: Extent,
     test: &T,
+    looks: &mut usize,
 ) -> bool
     requires within { end ≤ length edges.now }
     requires can_test { (i : ℕ) → start ≤ i → i < end → T.CanTest test.now i }
     ensures { IsTrue result ↔ HasNear edges.now extent start end (T.Passes test.now) }
 {
+    *looks = looks.saturating_sub(end.saturating_sub(start));
     for edge in start..end {
-        if box_of(&edges[edge]).meets(extent) && test.test(edge) {
+        if box_of(&edges[edge]).meets(extent) && test.test(edge, looks) {
             return true;
         }
     }
     false
 }
 
-/// Whether an edge below some nodes, whose box shares a point with a box, passes a test. Each node and each edge that is
-/// tested takes one of the looks.
+/// Whether an edge below some nodes, whose box shares a point with a box, passes a test. Each node takes one of the looks,
+/// and each edge of a run whose box shares a point with the box.
 pub(crate) fn find_near<T: EdgeTest>(
     edges: &[Edge],
     nodes: &[Node],
@@ -56,8 +59,7 @@ pub(crate) fn find_near<T: EdgeTest>(
             continue;
         }
         if node.begin == before.len() {
-            *looks = looks.saturating_sub(RUN);
-            if has_near(edges, node.start, node.end, extent, test) {
+            if has_near(edges, node.start, node.end, extent, test, looks) {
                 return Outcome::Found;
             }
         }

@@ -1,5 +1,8 @@
 //! What is asked of edges, by their numbers.
 
+/// How many looks a test of two edges takes: about as many boxes are compared in the same time.
+const LOOKS_FOR_A_PAIR: usize = 8;
+
 /// What is asked of single edges.
 pub trait EdgeTest {
     ghost use Rattle.std.specs.Prelude.{ℕ, ◌↔◌, IsTrue};
@@ -10,8 +13,8 @@ pub trait EdgeTest {
     /// Which edges are what is searched for.
     ghost Passes: { Self → ℕ → Type 0 };
 
-    /// Whether an edge is what is searched for, which ends the search.
-    fn test(&self, edge: usize) -> bool
+    /// Whether an edge is what is searched for, which ends the search. What it looks at may take looks.
+    fn test(&self, edge: usize, looks: &mut usize) -> bool
         requires { CanTest self.now edge }
         ensures { IsTrue result ↔ Passes self.now edge };
 }
@@ -44,7 +47,8 @@ impl<P: PairTest> EdgeTest for WithFirst<'_, P> {
 
     ghost Passes = { λ s edge. P.Passes s.test.now s.first edge };
 
-    fn test(&self, edge: usize) -> bool {
+    fn test(&self, edge: usize, looks: &mut usize) -> bool {
+        *looks = looks.saturating_sub(LOOKS_FOR_A_PAIR);
         self.test.test(self.first, edge)
     }
 }

@@ -2,6 +2,7 @@ ghost use Rattle.std.specs.Prelude.{◌≡◌, ◌<◌, ℕ, IfOk, length};
 ghost use Rattle.sf_edge_tree.specs.Searches.{Answers, AreOneOfEach, AreTwoOf, HasNear, HasPair};
 
 use crate::boxes::Edge;
+use crate::budget::Budget;
 use crate::node::Node;
 use crate::nodes::nodes_of;
 use crate::outcome::Outcome;
@@ -45,8 +46,8 @@ impl EdgeTree {
         Ok(EdgeTree { edges, nodes })
     }
 
-    /// Whether an edge passes a test whose box shares a point with a box. Each box and each edge that is looked at takes
-    /// one of the looks; where they are used up the search gives up.
+    /// Whether an edge passes a test whose box shares a point with a box. Each box that is looked at takes one of the looks;
+    /// where they are used up the search gives up.
     pub fn find_near<T: EdgeTest>(&self, extent: Extent, test: &T, looks: &mut usize) -> Outcome
         requires { (i : ℕ) → i < length self.now → T.CanTest test.now i }
         ensures { Answers (HasNear self.now extent 0 (length self.now) (T.Passes test.now)) result }
@@ -61,11 +62,11 @@ impl EdgeTree {
     }
 
     /// Whether two edges pass a test whose boxes share a point, the first of them standing before the second.
-    pub fn find_pair<P: PairTest>(&self, test: &P, looks: &mut usize) -> Outcome
+    pub fn find_pair<P: PairTest>(&self, test: &P, budget: &Budget) -> Outcome
         requires { (i j : ℕ) → i < j → j < length self.now → P.CanTest test.now i j }
         ensures { Answers (HasPair self.now self.now (AreTwoOf self.now) (P.Passes test.now)) result }
     {
-        find_pair(self.edges.as_slice(), self.nodes.as_slice(), test, looks)
+        find_pair(self.edges.as_slice(), self.nodes.as_slice(), test, budget)
     }
 
     /// Whether an edge of this tree, and one of another, pass a test whose boxes share a point.
@@ -73,7 +74,7 @@ impl EdgeTree {
         &self,
         other: &EdgeTree,
         test: &P,
-        looks: &mut usize,
+        budget: &Budget,
     ) -> Outcome
         requires { (i j : ℕ) → i < length self.now → j < length other.now → P.CanTest test.now i j }
         ensures { Answers (HasPair self.now other.now (AreOneOfEach self.now other.now) (P.Passes test.now)) result }
@@ -84,7 +85,7 @@ impl EdgeTree {
             other.edges.as_slice(),
             other.nodes.as_slice(),
             test,
-            looks,
+            budget,
         )
     }
 }

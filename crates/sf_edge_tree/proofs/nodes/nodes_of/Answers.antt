@@ -1,4 +1,4 @@
-use Rattle.std.proofs.Common.{◌≡◌, ◌∙◌, arith, length, vec_len}
+use Rattle.std.proofs.Common.{◌∙◌, arith}
 use Rattle.sf_edge_tree.proofs.NodeLaws.{pushed-run}
 use Rattle.sf_edge_tree.proofs.nodes.nodes_of.Goals as goal
 

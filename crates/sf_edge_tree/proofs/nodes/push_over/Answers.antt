@@ -1,5 +1,3 @@
-use Rattle.std.proofs.Common.{◌∙◌}
-use Rattle.sf_edge_tree.specs.Nodes.{AreNodes, IsOver}
 use Rattle.sf_edge_tree.proofs.NodeLaws.{pushed-over, read-over}
 use Rattle.sf_edge_tree.proofs.nodes.push_over.Goals as goal
 

@@ -1,5 +1,5 @@
 use Rattle.std.proofs.Common.{arith, sym, ◌∙◌}
-use Rattle.sf_edge_tree.proofs.SearchLaws.{IsLast, found-below, last-left, left-apart, left-first, left-inner, left-none, left-run}
+use Rattle.sf_edge_tree.proofs.SearchLaws.{last-left, left-apart, left-first, left-inner, left-none, left-run}
 use Rattle.sf_edge_tree.proofs.search.find_near.Goals as goal
 
 pub loop-node-init : goal.loop-node-init

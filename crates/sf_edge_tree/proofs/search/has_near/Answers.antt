@@ -1,4 +1,4 @@
-use Rattle.std.proofs.Common.{◌≡◌, arith, sym, ◌∙◌, ap, false, true≢false}
+use Rattle.std.proofs.Common.{◌≡◌, arith, sym, ◌∙◌, ap, true≢false}
 use Rattle.sf_geometry.specs.Envelope.{extents_meet}
 use Rattle.sf_edge_tree.specs.Boxes.{extent_at_edge}
 use Rattle.sf_edge_tree.proofs.SearchLaws.{box-read, none-more}
