@@ -3,6 +3,7 @@
 
 mod changed;
 pub mod laws;
+mod near;
 mod pairs;
 mod strands;
 mod tangles;
