@@ -1,6 +1,6 @@
 use crate::boxes::{Edge, box_of};
 use crate::search::has_near;
-use crate::tests::{EdgeTest, PairTest, WithFirst};
+use crate::tests::{EdgeTest, LOOKS_FOR_A_PAIR, PairTest, WithFirst};
 
 /// Single edges, each asked about together with the edges of a run of others: whether one of those has a box that meets
 /// its own, and passes with it.
@@ -25,6 +25,10 @@ impl<P: PairTest> EdgeTest for AgainstRun<'_, P> {
         (P.Passes s.test.now edge) };
 
     fn test(&self, edge: usize, looks: &mut usize) -> bool {
+        *looks = looks.saturating_sub(LOOKS_FOR_A_PAIR);
+        if self.test.is_clear(edge, self.start, self.end) {
+            return false;
+        }
         let test = WithFirst {
             first: edge,
             test: self.test,

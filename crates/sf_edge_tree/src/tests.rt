@@ -1,7 +1,7 @@
 //! What is asked of edges, by their numbers.
 
 /// How many looks a test of two edges takes: about as many boxes are compared in the same time.
-const LOOKS_FOR_A_PAIR: usize = 8;
+pub(crate) const LOOKS_FOR_A_PAIR: usize = 8;
 
 /// What is asked of single edges.
 pub trait EdgeTest {
@@ -21,7 +21,7 @@ pub trait EdgeTest {
 
 /// What is asked of two edges.
 pub trait PairTest {
-    ghost use Rattle.std.specs.Prelude.{ℕ, ◌↔◌, IsTrue};
+    ghost use Rattle.std.specs.Prelude.{ℕ, ◌↔◌, ◌<◌, ◌≤◌, IsTrue};
 
     /// Which pairs may be asked about.
     ghost CanTest: { Self → ℕ → ℕ → Type 0 };
@@ -33,6 +33,12 @@ pub trait PairTest {
     fn test(&self, first: usize, second: usize) -> bool
         requires { CanTest self.now first second }
         ensures { IsTrue result ↔ Passes self.now first second };
+
+    /// Whether a look at all edges of a range shows that the first edge passes with none of them.
+    fn is_clear(&self, first: usize, start: usize, end: usize) -> bool
+        requires { (second : ℕ) → start ≤ second → second < end → CanTest self.now first second }
+        ensures { IsTrue result → (second : ℕ) → start ≤ second → second < end
+            → ¬ (Passes self.now first second) };
 }
 
 /// Single edges, each asked about together with one edge, the first of the two.

@@ -1,12 +1,12 @@
 -- Pairs of edges whose boxes meet: two edges that share a point are such a pair.
-use Rattle.std.proofs.Common.{◌≡◌, ℕ, zero, suc, ◌+◌, ◌<◌, refl, ap, sym, ◌∙◌, ℤ, subst, arith, Bool, true, false, List, [], ◌∷◌, length, drop, IsTrue, int_le}
+use Rattle.std.proofs.Common.{◌≡◌, ℕ, zero, suc, ◌+◌, ◌<◌, ◌≤◌, ◌⊎◌, inl, inr, refl, ap, sym, ◌∙◌, ℤ, pos, subst, arith, Bool, true, false, ◌&&◌, List, [], ◌∷◌, length, drop, get_or, IsTrue, int_le, int_lt}
 use Rattle.std.specs.Int.{int_max, int_min}
 use Rattle.std.specs.List.{zip}
-use Rattle.std.proofs.lemmas.Bool.{and_from, and_parts}
+use Rattle.std.proofs.lemmas.Bool.{and_from, and_parts, cases_lt, or_left, or_right}
 use Rattle.std.proofs.lemmas.Int.{ints}
-use Rattle.sf_grid.specs.Plane.{Coordinates, IsPoint, Point, x_of, y_of}
-use Rattle.sf_grid.specs.Edge.{Edge}
-use Rattle.sf_grid.proofs.ApartLaws.{are_apart, no_shared_number}
+use Rattle.sf_grid.specs.Plane.{Coordinates, IsPoint, Point, grid_point, x_of, y_of}
+use Rattle.sf_grid.specs.Edge.{Edge, cross}
+use Rattle.sf_grid.proofs.ApartLaws.{apart-one_sided, are_apart, no_shared_number}
 use Rattle.sf_grid.proofs.CallerLemmas.{lies}
 use Rattle.sf_geometry.specs.Lists.{edges_of, is_closed}
 use Rattle.sf_geometry.specs.Envelope.{extents_meet}
@@ -16,11 +16,12 @@ use Rattle.sf_edge_tree.specs.Searches.{Answers, AreTwoOf, HasPair}
 use Rattle.sf_edge_tree.proofs.PairLaws.{answers-as}
 use Rattle.sf_rules.specs.Conditions.{Applies, AtPoint}
 use Rattle.sf_rules.specs.Shapes.{meets_itself, on_both}
+use Rattle.sf_strands.specs.Beside.{AreBeside, is_left, is_right}
 use Rattle.sf_strands.specs.Pairs.{edge_at, pair_meets, point_of}
 use Rattle.sf_strands.specs.Tight.{IsTight}
 use Rattle.sf_strands.proofs.NumberedLaws.{meet_apart}
 use Rattle.sf_strands.proofs.PairLaws.{HasTwo, any_edge, pair-found, pair-is, two-from}
-use Rattle.sf_strands.proofs.PlaceLaws.{edges-more}
+use Rattle.sf_strands.proofs.PlaceLaws.{differ, edges-more, others, read-is}
 
 -- ---- boxes of edges that share a point
 not_true : (b : Bool) → (b ≡ true → ⊥) → b ≡ false
@@ -98,3 +99,36 @@ pub near-answers : (ps : List Coordinates) (edges : List (Coordinates × Coordin
     → Answers (Applies (AtPoint (meets_itself ps))) r
 near-answers ps edges r t is a =
     answers-as r (pair-gives ps t) (pair-there ps t) (subst (λ es. Answers (HasPair es es (AreTwoOf es) (PairMeets ps)) r) is a)
+
+-- ---- edges between points on one side of an edge's line
+clear-left : (ps : List Coordinates) (i j : ℕ) → IsTight ps → j + 1 < length ps → IsTrue (is_left (point_of ps i) (point_of ps (i + 1)) (point_of ps j)) → IsTrue (is_left (point_of ps i) (point_of ps (i + 1)) (point_of ps (j + 1))) → ¬ (PairMeets ps i j)
+clear-left ps i j t h from to (p, is, m) =
+    let both = and_parts _ _ (and_parts _ _ m).0 in
+    apart-one_sided (edge_at ps j) (edge_at ps i) (differ _ _ (others ps j t h)) (or_left _ _ (and_from _ _ from to)) p is (both.1, both.0)
+
+clear-right : (ps : List Coordinates) (i j : ℕ) → IsTight ps → j + 1 < length ps → IsTrue (is_right (point_of ps i) (point_of ps (i + 1)) (point_of ps j)) → IsTrue (is_right (point_of ps i) (point_of ps (i + 1)) (point_of ps (j + 1))) → ¬ (PairMeets ps i j)
+clear-right ps i j t h from to (p, is, m) =
+    let both = and_parts _ _ (and_parts _ _ m).0 in
+    apart-one_sided (edge_at ps j) (edge_at ps i) (differ _ _ (others ps j t h)) (or_right (int_lt (pos 0) (cross (point_of ps i) (point_of ps (i + 1)) (grid_point (point_of ps j))) && int_lt (pos 0) (cross (point_of ps i) (point_of ps (i + 1)) (grid_point (point_of ps (j + 1))))) _ (and_from _ _ from to)) p is (both.1, both.0)
+
+pub clear-beside : (ps : List Coordinates) (i start end : ℕ) → IsTight ps → end < length ps → AreBeside ps i start end → (j : ℕ) → start ≤ j → j < end → ¬ (PairMeets ps i j)
+clear-beside ps i start end t h (inl all) j from to = clear-left ps i j t (omega (arith, h, to)) (all j from (omega (arith, to))) (all (j + 1) (omega (arith, from)) (omega (arith, to)))
+clear-beside ps i start end t h (inr all) j from to = clear-right ps i j t (omega (arith, h, to)) (all j from (omega (arith, to))) (all (j + 1) (omega (arith, from)) (omega (arith, to)))
+
+-- one point more is on the side
+pub side-more : (test : Coordinates → Coordinates → Coordinates → Bool) (ps : List Coordinates) (i from n : ℕ) (a b p : Coordinates) (r : Bool) → i + 1 < length ps → n < length ps
+    → a ≡ get_or ps i a → b ≡ get_or ps (i + 1) b → p ≡ get_or ps n p → r ≡ test a b p → r ≡ true
+    → ((k : ℕ) → from ≤ k → k < n → IsTrue (test (point_of ps i) (point_of ps (i + 1)) (point_of ps k)))
+    → (k : ℕ) → from ≤ k → k < n + 1 → IsTrue (test (point_of ps i) (point_of ps (i + 1)) (point_of ps k))
+side-more test ps i from n a b p r h l first second third is told before k low high = by (cases_lt k n)
+  where
+    here : test (point_of ps i) (point_of ps (i + 1)) (point_of ps n) ≡ true
+    here =
+        ap (λ q. test q (point_of ps (i + 1)) (point_of ps n)) (read-is ps i a (omega (arith, h)) first) ∙ ap (λ q. test a q (point_of ps n)) (read-is ps (i + 1) b h second)
+        ∙ ap (test a b) (read-is ps n p l third) ∙ sym is ∙ told
+
+    by : (k < n) ⊎ (n ≤ k) → IsTrue (test (point_of ps i) (point_of ps (i + 1)) (point_of ps k))
+    by (inl m) = before k low m
+    by (inr m) =
+        let at : n ≡ k = omega (arith, m, high) in
+        subst (λ j. IsTrue (test (point_of ps i) (point_of ps (i + 1)) (point_of ps j))) at here

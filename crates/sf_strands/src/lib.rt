@@ -1,6 +1,7 @@
 //! Whether lines and rings meet themselves or one another.
 #![tactic(auto)]
 
+mod beside;
 mod changed;
 pub mod laws;
 mod near;

@@ -7,15 +7,16 @@ ghost use Rattle.sf_rules.specs.Shapes.{meets_itself as meets_itself_at};
 ghost use Rattle.sf_edge_tree.specs.Searches.{Answers};
 ghost use Rattle.sf_strands.specs.Tight.{IsTight};
 
+use crate::beside::is_beside;
 use crate::pairs::does_pair_meet;
 use sf_edge_tree::{Budget, EdgeTree, Outcome, PairTest};
 use sf_grid::GridPoint;
 use std::alloc::{AllocError, Global};
 
-/// What a search costs at most. As measured, pairs of some 200 edges are found sooner than a walk ends, however far they
-/// reach; of more edges those that reach far are given up within a tenth of the time that a walk takes.
+/// What a search costs at most. As measured, pairs of some 1,000 edges are found sooner than a walk ends, however far they
+/// reach; of more edges those that reach far are given up after a small part of the time that a walk takes.
 const BUDGET: Budget = Budget {
-    at_first: 65_536,
+    at_first: 131_072,
     for_each_run: 2_048,
 };
 
@@ -63,5 +64,9 @@ impl PairTest for NearPairs<'_> {
 
     fn test(&self, first: usize, second: usize) -> bool {
         does_pair_meet(self.points, first, second)
+    }
+
+    fn is_clear(&self, first: usize, start: usize, end: usize) -> bool {
+        start < end && is_beside(self.points, first, start, end)
     }
 }
