@@ -10,6 +10,7 @@ pub mod CountedLaws
 pub mod WalkLaws
 pub mod PushLaws
 pub mod MeetingLaws
+pub mod NearLaws
 pub mod PlaceLaws
 pub mod PairLaws
 pub mod ChangedLaws

@@ -4,3 +4,4 @@ pub mod Tight
 pub mod Walks
 pub mod Pairs
 pub mod Changed
+pub mod Beside

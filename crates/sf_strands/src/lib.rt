@@ -1,8 +1,10 @@
 //! Whether lines and rings meet themselves or one another.
 #![tactic(auto)]
 
+mod beside;
 mod changed;
 pub mod laws;
+mod near;
 mod pairs;
 mod strands;
 mod tangles;

@@ -2,18 +2,20 @@ ghost use Rattle.std.specs.Prelude.{◌↔◌, ◌≤◌, IfOk, IsTrue, length};
 ghost use Rattle.sf_geometry.specs.Parts.{joined};
 ghost use Rattle.sf_rules.specs.Conditions.{Applies, Condition};
 ghost use Rattle.sf_rules.specs.Shapes.{meets_itself as meets_itself_at};
+ghost use Rattle.sf_strands.specs.Tight.{IsTight};
 ghost use Rattle.sf_strands.specs.Tangles.{are_tangled as are_tangled_at};
 
+use crate::near::some_near_pair_meets;
 use crate::pairs::some_pair_meets;
 use crate::strands::{push_strands, some_tangle, two_strands_meet};
+use sf_edge_tree::Outcome;
 use sf_geometry::{Sequence, tight};
 use sf_grid::GridPoint;
 use sf_pieces::GroupedPieces;
 use std::alloc::{AllocError, Global};
 
-/// How many edges are compared in pairs at most: of many more a walk takes less time than all their
-/// pairs. As measured, a smooth ring takes as long either way at some 80 edges, a star at more.
-const PAIRS_MAX: usize = 64;
+/// How many edges are all compared in pairs at most: of more edges those whose boxes meet are found sooner.
+const PAIRS_MAX: usize = 12;
 
 /// Whether a line or ring meets itself: whether two of its edges share a point that isn't their
 /// common vertex as neighbours. It fails only where memory is wanting.
@@ -22,10 +24,22 @@ pub fn meets_itself(alloc: Global, points: &[GridPoint]) -> Result<bool, AllocEr
     ensures { IfOk result (λ found. IsTrue found ↔ Applies (Condition.AtPoint (meets_itself_at points.now))) }
 {
     let points = tight(alloc, points)?;
+    does_tight_meet_itself(alloc, points.as_slice())
+}
+
+/// Whether a line or ring, given as a tight list, meets itself.
+fn does_tight_meet_itself(alloc: Global, points: &[GridPoint]) -> Result<bool, AllocError>
+    requires tight { IsTight points.now }
+    requires few { length points.now ≤ 4096 }
+    ensures { IfOk result (λ found. IsTrue found ↔ Applies (Condition.AtPoint (meets_itself_at points.now))) }
+{
     if points.len() <= PAIRS_MAX + 1 {
-        Ok(some_pair_meets(points.as_slice()))
-    } else {
-        two_strands_meet(alloc, points.as_slice())
+        return Ok(some_pair_meets(points));
+    }
+    match some_near_pair_meets(alloc, points)? {
+        Outcome::Found => Ok(true),
+        Outcome::Absent => Ok(false),
+        Outcome::GaveUp => two_strands_meet(alloc, points),
     }
 }
 

@@ -1,0 +1,5 @@
+pub mod BoxLaws
+mod Computed
+pub mod NodeLaws
+pub mod PairLaws
+pub mod SearchLaws

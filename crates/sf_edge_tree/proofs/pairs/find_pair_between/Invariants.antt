@@ -1,0 +1,11 @@
+use Rattle.std.proofs.Common.{length}
+use Rattle.sf_edge_tree.specs.Nodes.{end_of}
+use Rattle.sf_edge_tree.specs.Ranges.{IsBelow}
+use Rattle.sf_edge_tree.proofs.PairLaws.{IsLeftOf}
+use Rattle.sf_edge_tree.proofs.pairs.find_pair_between.Given as goal
+
+abbrev pub invariant-loop-node : goal.invariant-loop-node
+invariant-loop-node g l = IsLeftOf l.edges l.others l.other_nodes l.left (IsBelow (end_of l.nodes)) (g.P.PairTest.Passes l.test)
+
+abbrev pub decreases-loop-node : goal.decreases-loop-node
+decreases-loop-node g l = length l.left

@@ -1,0 +1,4 @@
+pub mod Boxes
+pub mod Searches
+pub mod Nodes
+pub mod Ranges
