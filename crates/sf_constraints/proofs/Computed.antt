@@ -1,0 +1,70 @@
+-- Rules computed, of squares and wells.
+use Rattle.std.proofs.Common.{◌≡◌, ℕ, List, [], ◌∷◌, pos, Some, None, codes, refl}
+use Rattle.sf_grid.specs.Plane.{Coordinates}
+use Rattle.sf_geometry.specs.declared.geometry.Geometry.TheVariants.{Point, Polygon}
+use Rattle.sf_features.specs.Features.{FeatureContent}
+use Rattle.sf_layers.specs.Content.{Content, LayerContent}
+use Rattle.sf_layers.specs.declared.layer_kind.LayerKind.TheVariants.{Any}
+use Rattle.sf_known.specs.declared.predicate.Predicate.TheVariants.{Intersects}
+use Rattle.sf_known.specs.declared.letter.Letter.TheVariants as letters
+use Rattle.sf_query.specs.declared.ask.Ask.{Ask}
+use Rattle.sf_query.specs.declared.ask.Ask.TheVariants.{Matching, Named}
+use Rattle.sf_constraints.specs.declared.breaks.Break.TheVariants.{Alone, Pair}
+use Rattle.sf_constraints.specs.declared.rule.Form.TheVariants.{Each, Never}
+use Rattle.sf_constraints.specs.declared.rule.Rule.{Rule}
+use Rattle.sf_constraints.specs.Rules.{break_of, first_broken}
+
+abbrev at : ℕ → ℕ → Coordinates
+at x y = record { x = pos x; y = pos y }
+
+-- a square from a west to an east side, from 0 to 10
+abbrev square : ℕ → ℕ → FeatureContent
+square west east = record { geometry = Polygon ((at west 0 ∷ at east 0 ∷ at east 10 ∷ at west 10 ∷ at west 0 ∷ []) ∷ []); values = [] }
+
+abbrev well : ℕ → ℕ → FeatureContent
+well x y = record { geometry = Point (at x y); values = [] }
+
+abbrev layer : List (ℕ × FeatureContent) → LayerContent
+layer features = record { kind = Any; next_id = 9; next_column = 1; columns = []; features = features }
+
+abbrev map_with : List (ℕ × FeatureContent) → List (ℕ × FeatureContent) → Content
+map_with parcels wells = (codes "parcels", layer parcels) ∷ (codes "wells", layer wells) ∷ []
+
+-- interiors that meet
+abbrev overlapping : Ask
+overlapping = Matching (letters.Filled ∷ letters.Any ∷ letters.Any ∷ letters.Any ∷ letters.Any ∷ letters.Any ∷ letters.Any ∷ letters.Any ∷ letters.Any ∷ [])
+
+-- no two parcels overlap
+abbrev apart : Rule
+apart = record { name = codes "apart"; form = Never; first = codes "parcels"; ask = overlapping; second = codes "parcels" }
+
+-- each well is in some parcel, or on its boundary
+abbrev reached : Rule
+reached = record { name = codes "reached"; form = Each; first = codes "wells"; ask = Named Intersects; second = codes "parcels" }
+
+abbrev two : List (ℕ × FeatureContent)
+two = (1, square 0 10) ∷ (2, square 10 20) ∷ []
+
+abbrev three : List (ℕ × FeatureContent)
+three = (1, square 0 10) ∷ (2, square 10 20) ∷ (3, square 5 15) ∷ []
+
+touching_is_fine : break_of (map_with two []) apart ≡ None
+touching_is_fine = refl
+
+overlap_breaks : break_of (map_with three []) apart ≡ Some (Pair 1 3)
+overlap_breaks = refl
+
+on_the_boundary : break_of (map_with two ((1, well 10 5) ∷ [])) reached ≡ None
+on_the_boundary = refl
+
+outside : break_of (map_with two ((1, well 10 5) ∷ (2, well 50 50) ∷ [])) reached ≡ Some (Alone 2)
+outside = refl
+
+first_of_both : first_broken (map_with three ((2, well 50 50) ∷ [])) (reached ∷ apart ∷ []) ≡ Some (record { place = 0; least = Alone 2 })
+first_of_both = refl
+
+second_of_both : first_broken (map_with three ((2, well 5 5) ∷ [])) (reached ∷ apart ∷ []) ≡ Some (record { place = 1; least = Pair 1 3 })
+second_of_both = refl
+
+layer_that_is_not_there : break_of ((codes "wells", layer []) ∷ []) reached ≡ None
+layer_that_is_not_there = refl

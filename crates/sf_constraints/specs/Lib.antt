@@ -1,0 +1,7 @@
+pub mod Rules
+pub mod Holds
+pub mod Breaks
+pub mod Near
+pub mod Looks
+pub mod Underway
+pub mod Halves

@@ -1,0 +1,99 @@
+//! Whether a rule holds of all features.
+
+ghost use Rattle.std.specs.Prelude.{◌≡◌, IfOk, None, flat_map};
+ghost use Rattle.sf_layers.specs.WellFormed.{IsLayer};
+ghost use Rattle.sf_constraints.specs.Rules.{break_of, first_of};
+ghost use Rattle.sf_constraints.specs.Looks.{alone_of_entry, pairs_of_entry};
+ghost use Rattle.sf_constraints.specs.Underway.{IsBetweenOrMissing};
+
+use super::alone::least_if_alone;
+use super::between::Between;
+use super::breaks::Break;
+use super::converse::converse;
+use super::pairs::least_with;
+use super::rule::{Form, Rule};
+use sf_layers::Store;
+use sf_patches::Slot;
+use std::alloc::{AllocError, Global};
+
+/// What breaks a rule first, of all features: the least pair, or the least feature without a partner. It is None where the rule
+/// holds, or a layer of it is not there.
+///
+/// # Errors
+///
+/// Out of memory alone.
+pub fn first_break(alloc: Global, store: &Store, rule: &Rule) -> Result<Option<Break>, AllocError>
+    ensures { IfOk result (λ found. found ≡ break_of store.now rule.now) }
+{
+    let Some(between) = layers_of(store, rule, &[]) else {
+        return Ok(None);
+    };
+    match rule.form {
+        Form::Never => first_pair(alloc, &between),
+        Form::Each => first_alone(alloc, &between),
+    }
+}
+
+/// The two layers of a rule, or None where one is not there.
+pub(crate) fn layers_of<'a>(
+    store: &'a Store,
+    rule: &Rule,
+    leaving: &'a [Slot],
+) -> Option<Between<'a>>
+    ensures { IsBetweenOrMissing store.now rule.now leaving.now result }
+{
+    let Some(first) = store.layer(rule.first.as_str()) else {
+        return None;
+    };
+    let Some(first_place) = store.place(rule.first.as_str()) else {
+        return None;
+    };
+    let Some(second) = store.layer(rule.second.as_str()) else {
+        return None;
+    };
+    let Some(second_place) = store.place(rule.second.as_str()) else {
+        return None;
+    };
+    let one = rule.first.as_str() == rule.second.as_str();
+    let converse = converse(&rule.ask);
+    Some(Between {
+        first,
+        first_place,
+        second,
+        second_place,
+        one,
+        ask: rule.ask,
+        converse,
+        leaving,
+    })
+}
+
+/// The first pair of two layers.
+fn first_pair(alloc: Global, between: &Between<'_>) -> Result<Option<Break>, AllocError>
+    requires { IsLayer between.now.second.now }
+    ensures { IfOk result (λ found. found ≡ first_of
+        (flat_map (pairs_of_entry between.now) between.now.first.now.features)) }
+{
+    for (id, feature) in between.first.features() {
+        let least = least_with(alloc, between, *id, feature.valid(), None)?;
+        if least.is_some() {
+            return Ok(least);
+        }
+    }
+    Ok(None)
+}
+
+/// The first feature of the first layer that has no partner.
+fn first_alone(alloc: Global, between: &Between<'_>) -> Result<Option<Break>, AllocError>
+    requires { IsLayer between.now.second.now }
+    ensures { IfOk result (λ found. found ≡ first_of
+        (flat_map (alone_of_entry between.now) between.now.first.now.features)) }
+{
+    for (id, feature) in between.first.features() {
+        let least = least_if_alone(alloc, between, *id, feature, None)?;
+        if least.is_some() {
+            return Ok(least);
+        }
+    }
+    Ok(None)
+}
