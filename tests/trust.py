@@ -57,7 +57,7 @@ SUBJECTS: list[tuple[str, list[str]]] = [
     ("The plane", ["sf_grid", "sf_plane"]),
     ("Geometries", ["sf_geometry"]),
     ("Validity and simplicity", ["sf_rules", "sf_validity", "sf_faults"]),
-    ("Matrices and predicates", ["sf_relate", "sf_query", "sf_joins"]),
+    ("Matrices and predicates", ["sf_known", "sf_relate", "sf_query", "sf_joins"]),
     (
         "Features, layers, edits and their inverses",
         ["sf_refusals", "sf_features", "sf_layers", "sf_steps", "sf_edits"],
