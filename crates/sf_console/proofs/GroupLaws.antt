@@ -6,6 +6,7 @@ use lib.Utf8.{encode}
 use Rattle.std.proofs.lemmas.Str.{IsUtf8-append, IsUtf8-from_is_utf8, IsUtf8-nil, is_utf8-from_IsUtf8}
 use Rattle.std.proofs.lemmas.Grind.{common_steps}
 use Rattle.std.proofs.lemmas.List.{length-append, take-append-drop}
+use Rattle.sf_refusals.specs.declared.refusal.Refusal.TheVariants.{BadCommand}
 use Rattle.sf_lines.specs.Lines.{HasNoFeed, Line, line_max, text_of, without_return}
 use Rattle.sf_lines.specs.Buffers.{Buffered, IsBufferOf, line_buffered, nothing_buffered}
 use Rattle.sf_lines.proofs.LineLemmas.{HasNoFeed-append}
@@ -21,7 +22,7 @@ use Rattle.sf_console.specs.declared.group_lines.GroupLines.{GroupLines}
 use Rattle.sf_console.specs.declared.group_lines.GroupLines.TheVariants as lines
 use Rattle.sf_console.specs.declared.group_lines.LineAsks.{LineAsks}
 use Rattle.sf_console.specs.declared.group_lines.LineAsks.TheVariants as asks
-use Rattle.sf_console.specs.Readings.{Blank, Reading, by_group, line_text, text_reading}
+use Rattle.sf_console.specs.Readings.{Blank, Grouped, Reading, Unreadable, by_group, line_text, text_reading}
 use Rattle.sf_console.specs.Requests.{Closed, Comes, Ends, Gathering, Open, Request, gathered, gathered_on, is_member_text, is_passed_over, line_head, member_text, nothing_asked, readings, requests_from, with_member}
 use Rattle.sf_console.specs.Gatherings.{Asks, IsAnsweredOnce, IsGrouped, IsGrown, IsHeld, IsLastAnswered, IsOpen, IsTaken, IsUnfed}
 use Rattle.sf_console.specs.Session.{IsAnswered}
@@ -156,6 +157,14 @@ whole_group text first members head parts is_head count =
 
     nat_eq-same : (a b : ℕ) → a ≡ b → nat_eq a b ≡ true
     nat_eq-same a b same = grind (arith, common_steps)
+
+-- a text that is a group is UTF-8
+pub grouped-is_text : (text : List ℕ) → IsGrouped (text_reading text) → is_utf8 text ≡ true
+grouped-is_text text (editor, group, is) = by (is_utf8 text) is
+  where
+    by : (utf8 : Bool) → cond (not utf8) (Unreadable BadCommand) (cond (list_all is_blank text) Blank (by_group text (group_of text))) ≡ Grouped editor group → utf8 ≡ true
+    by true same = refl
+    by false same = cc
 
 pub IsGrouped-grown : (text : List ℕ) → IsGrown text 0 → IsGrouped (text_reading text)
 IsGrouped-grown text g = (
@@ -348,6 +357,14 @@ line_head-text bytes text head same is_text is =
 pub line_head-bytes : (bytes : List ℕ) → (IsUtf8 bytes → ⊥) → line_head (Some bytes) ≡ None
 line_head-bytes bytes none = ap (λ b. cond b (head_of bytes) None) (not_utf8 bytes none)
 
+-- bytes that are no head are none as a line
+pub line_head-none : (bytes : List ℕ) → head_of bytes ≡ None → line_head (Some bytes) ≡ None
+line_head-none bytes none = by (is_utf8 bytes)
+  where
+    by : (utf8 : Bool) → cond utf8 (head_of bytes) None ≡ None
+    by true = none
+    by false = refl
+
 -- the head of a line opens a group
 pub IsOpen-line : (text : List ℕ) (members : ℕ) (head : Head) → line_head (Some text) ≡ Some head → head.members ≡ members → HasNoFeed text → IsOpen text members
 IsOpen-line text members head is count unfed = subst (IsOpen text) count (by_test (is_utf8 text) refl is)
@@ -356,12 +373,15 @@ IsOpen-line text members head is count unfed = subst (IsOpen text) count (by_tes
     by_test true is_text h = IsOpen-head text head h is_text unfed
     by_test false is_text h = absurd cc
 
-pub passed-text : (bytes text : List ℕ) (blank : Bool) → text ≡ bytes → IsUtf8 bytes → blank ≡ list_all is_blank text → blank ≡ is_passed_over (Some bytes)
-passed-text bytes text blank same is_text is =
-    is ∙ ap (list_all is_blank) same ∙ sym (ap (λ b. b && list_all is_blank bytes) (is_utf8-from_IsUtf8 bytes is_text))
-
-pub passed-bytes : (bytes : List ℕ) → (IsUtf8 bytes → ⊥) → false ≡ is_passed_over (Some bytes)
-passed-bytes bytes none = sym (ap (λ b. b && list_all is_blank bytes) (not_utf8 bytes none))
+-- blanks alone, which are a text
+pub passed-blanks : (bytes : List ℕ) → (list_all is_blank bytes && is_utf8 bytes) ≡ is_passed_over (Some bytes)
+passed-blanks bytes = turned (list_all is_blank bytes) (is_utf8 bytes)
+  where
+    turned : (x y : Bool) → (x && y) ≡ (y && x)
+    turned true true = refl
+    turned true false = refl
+    turned false true = refl
+    turned false false = refl
 
 pub member_text-text : (bytes text found : List ℕ) → text ≡ bytes → IsUtf8 bytes → found ≡ cond (list_any is_return text) [] text → found ≡ member_text (Some bytes)
 member_text-text bytes text found same is_text is =
