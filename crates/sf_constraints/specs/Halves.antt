@@ -1,3 +1,4 @@
+-- Internal: who wants to trust the program need not read this file.
 -- Patches in two halves, exchanged under rules.
 use Rattle.std.specs.Prelude.{◌≡◌, List, None, Some}
 use Rattle.sf_layers.specs.Content.{Content}
@@ -40,6 +41,6 @@ abbrev pub IsRefusedUnder : Content → List Rule → NotExchanged → Type 0
 IsRefusedUnder content rules (Broken broken) = first_broken content rules ≡ Some broken
 IsRefusedUnder content rules Memory = Unit {0}
 
--- Internal: the rules held before the exchanges that these take back.
+-- the rules held before the exchanges that these take back
 abbrev pub ComesOfGrowing : Content → List Slot → List Rule → Type 0
 ComesOfGrowing now made rules = (old : Content) × ComesOf old now made × (first_broken old rules ≡ None)

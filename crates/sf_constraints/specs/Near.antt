@@ -1,3 +1,4 @@
+-- Internal: who wants to trust the program need not read this file.
 -- What is near a change: features that were changed, and those whose boxes meet the box of one as it was.
 use Rattle.std.specs.Prelude.{◌≡◌, ℕ, Bool, false, true, ◌&&◌, ◌||◌, List, filter, flat_map, map, None, nat_eq, if◌then◌else◌}
 use Rattle.std.specs.List.{list_any}
