@@ -1,13 +1,16 @@
 //! What shows something of the matrix of a feature's geometry with the given one, without a walk over both.
 
-ghost use Rattle.std.specs.Prelude.{◌≡◌, IfSome, is_some, not, option_map, true};
+ghost use Rattle.std.specs.Prelude.{◌≡◌, ◌||◌, IfSome, is_some, nat_le, not, option_map, true};
 ghost use Rattle.sf_grid.specs.Plane.{Coordinates};
 ghost use Rattle.sf_geometry.specs.declared.geometry.Geometry.TheVariants.{Point};
 ghost use Rattle.sf_geometry.specs.Envelope.{envelope_of, extents_meet};
+ghost use Rattle.sf_geometry.specs.Size.{point_count};
 ghost use Rattle.sf_rules.specs.Validity.{IsValid};
 ghost use Rattle.sf_known.specs.Goals.{is_met};
 ghost use Rattle.sf_known.specs.Known.{Holds, exactly};
+ghost use Rattle.sf_relate.specs.Contact.{has_first_point_in};
 ghost use Rattle.sf_relate.specs.Matrices.{matrix_of};
+ghost use Rattle.sf_contact.specs.Few.{few_points};
 ghost use Rattle.sf_prepared.specs.Boxes.{AreEdgesOf};
 ghost use Rattle.sf_query.specs.Evidence.{known_overlapping};
 
@@ -153,7 +156,9 @@ fn by_edges(geometry: &Valid, given: &Valid) -> Option<Known>
 
 /// Whether two geometries have contact shows at least that, where one of them is small.
 fn by_contact(geometry: &Valid, given: &Valid) -> Option<Known>
-    ensures { IfSome result (λ known. Holds known (matrix_of geometry.now given.now)) }
+    ensures holds { IfSome result (λ known. Holds known (matrix_of geometry.now given.now)) }
+    ensures answers { is_some result
+        ≡ (nat_le (point_count given.now) few_points || nat_le (point_count geometry.now) few_points) }
 {
     let Some(has_contact) = contact_between(geometry, given) else {
         return None;
@@ -166,7 +171,9 @@ fn by_contact(geometry: &Valid, given: &Valid) -> Option<Known>
 
 /// First points that lie in the other geometry show contact.
 fn by_first_points(geometry: &Valid, given: &Valid) -> Option<Known>
-    ensures { IfSome result (λ known. Holds known (matrix_of geometry.now given.now)) }
+    ensures holds { IfSome result (λ known. Holds known (matrix_of geometry.now given.now)) }
+    ensures answers { is_some result
+        ≡ (has_first_point_in geometry.now given.now || has_first_point_in given.now geometry.now) }
 {
     if shares_first_point(geometry, given) {
         Some(Known::sharing_point())
