@@ -1,5 +1,5 @@
 -- The parts of a text, between carriage returns, and the groups that they make.
-use Rattle.std.proofs.Common.{◌≡◌, ◌≢◌, ℕ, suc, ◌+◌, ◌-◌, ◌<◌, Bool, true, false, ◌||◌, ◌&&◌, cond, nat_eq, nat_lt, nat_le, List, [], ◌∷◌, ◌++◌, length, take, drop, get_or, not, Option, Some, None, Result, Ok, Err, MatchOption, option_map, option_and_then, bytes_eq, codes, if◌then◌else◌, refl, sym, ap, ◌∙◌, subst, eq-eqb, arith}
+use Rattle.std.proofs.Common.{◌≡◌, ◌≢◌, ℕ, suc, ◌+◌, ◌-◌, ◌<◌, Bool, true, false, ◌||◌, ◌&&◌, cond, nat_eq, nat_lt, nat_le, List, [], ◌∷◌, ◌++◌, length, take, drop, get_or, not, Option, Some, None, Result, Ok, Err, option_map, option_and_then, bytes_eq, codes, if◌then◌else◌, refl, sym, ap, ◌∙◌, subst, eq-eqb, arith}
 use Rattle.std.specs.List.{count_by, list_any, prefix_len}
 use Rattle.std.specs.Str.{IsCharBoundary, IsUtf8}
 use Rattle.std.proofs.lemmas.Bool.Decides.{nat_tests}

@@ -30,6 +30,6 @@ returns c =
     let same : c.members_count.result ≡ c.in_ok-head-2.head.members = c.if-members_count-from.false ∙ c.from.ensures in (
       members_of text,
       group_of-counted text c.in_ok-head.head.now c.in_ok-head.members.now c.in_ok-head-2.head c.members_count.result cut.0 cut.1 (sym c.head_of.ensures ∙ c.in_ok-head-2.was)
-      (c.members_count.ensures c.group_of_parts-group.ensures) same,
+          (c.members_count.ensures c.group_of_parts-group.ensures) same,
       subst (λ expected. OrNoMemory expected c.group_of_parts-group.result) (sym (members_of-cut text c.in_ok-head.head.now c.in_ok-head.members.now cut.0 cut.1)) c.group_of_parts-group.ensures,
     )

@@ -1,4 +1,4 @@
-use Rattle.std.proofs.Common.{◌≡◌, ◌≢◌, ◌∙◌, ◌+◌, ℕ, ap, sym, subst, length, take, drop, arith, List, ◌∷◌, ◌++◌, false}
+use Rattle.std.proofs.Common.{◌≡◌, ◌≢◌, ◌∙◌, ◌+◌, ℕ, ap, sym, subst, length, take, drop, arith, List, ◌∷◌, ◌++◌}
 use Rattle.std.specs.List.{list_any, prefix_len}
 use Rattle.std.specs.Str.{IsCharBoundary}
 use Rattle.std.proofs.lemmas.Grind.{common_steps}
