@@ -3,8 +3,8 @@
 ghost use Rattle.std.specs.Prelude.{◌≡◌};
 ghost use Rattle.sf_joins.specs.Converse.{HasNineLetters, converse as converse_of, converse_predicate as converse_predicate_of};
 
-use sf_query::Ask;
 use sf_known::Predicate;
+use sf_query::Ask;
 
 /// What is asked of the second geometry with the first where this is asked of the first with the second.
 pub(crate) fn converse(ask: &Ask) -> Ask
