@@ -213,7 +213,10 @@ fn is_blank_line(bytes: &[u8]) -> bool
 fn is_text(bytes: &[u8]) -> bool
     ensures { result ≡ is_utf8 bytes.now }
 {
-    from_utf8(bytes).is_ok()
+    match from_utf8(bytes) {
+        Ok(_) => true,
+        Err(_) => false,
+    }
 }
 
 /// Puts a further member behind the lines of a group.

@@ -1,4 +1,4 @@
-use Rattle.std.proofs.Common.{◌≡◌, ◌∙◌, true, false, sym, subst, refl, [], Ok, Err}
+use Rattle.std.proofs.Common.{◌≡◌, ◌∙◌, true, false, sym, subst, refl, [], Ok}
 use Rattle.std.specs.List.{list_all}
 use Rattle.sf_wkt.specs.Tokens.{is_blank}
 use Rattle.sf_commands.specs.Commands.{command_of, takes_memory}
@@ -27,7 +27,7 @@ returns-in_err-asker c = λ text.
     let line = c.args.text.now in
     let command : list_all is_blank line ≡ false = sym c.is_blank_text.ensures ∙ c.if-is_blank_text.false in
     subst (λ r. IsAnswered c.args.editor.now r (reply_text c.from_residual.result) c.args.editor.now)
-    (sym (text_reading-alone line text command c.in_default-parse_group.ensures))
+    (sym (text_reading-alone line text command c.in_default.ensures))
     (IsAnswered-refused (takes_memory line) c.args.editor.now (command_of line) c.in_err-asker.field-0.0 c.from_residual.result c.in_err-asker.ensures c.from_residual.ensures.1)
 
 pub returns : goal.returns
@@ -35,5 +35,5 @@ returns c = λ text.
     let line = c.args.text.now in
     let command : list_all is_blank line ≡ false = sym c.is_blank_text.ensures ∙ c.if-is_blank_text.false in
     subst (λ r. IsAnswered c.args.editor.now r (reply_text c.execute.result) c.execute.new.editor)
-    (sym (text_reading-alone line text command c.in_default-parse_group.ensures))
+    (sym (text_reading-alone line text command c.in_default.ensures))
     (IsAnswered-asked (takes_memory line) c.args.editor.now c.execute.new.editor (reply_text c.execute.result) (command_of line) (Ok (c.in_ok-asker.asker, c.in_ok-asker.command)) c.in_ok-asker.ensures c.execute.ensures)
