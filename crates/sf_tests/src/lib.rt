@@ -1,25 +1,15 @@
-//! Tests that cross crates: the console in long sessions, and with readers and writers of every kind. Sessions and
-//! tables of lines are those of `sf_sessions`.
+//! Tests that cross crates and look within: readers and writers of every kind, whose steps are whose, what inverses weigh, what an
+//! index finds. What the console can be asked is asked of the program (`tests/test_sizes.py`, `tests/test_shapes.py`).
 #![tactic(auto)]
 
 #[cfg(test)]
-mod calls;
-#[cfg(test)]
 mod dialogs;
-#[cfg(test)]
-mod editing;
 #[cfg(test)]
 mod editors;
 #[cfg(test)]
 mod faults;
 #[cfg(test)]
 mod indexes;
-#[cfg(test)]
-mod limits;
-#[cfg(test)]
-mod queries;
-#[cfg(test)]
-mod sizes;
 #[cfg(test)]
 mod support;
 #[cfg(test)]

@@ -1,9 +1,5 @@
-//! Tests of features, and of queries over layers of a few shapes, a thousand points and a town.
+//! Tests of queries over layers of a few shapes and a thousand points: what they find, and how many features they look at.
 #![tactic(auto)]
 
 #[cfg(test)]
-mod features;
-#[cfg(test)]
 mod queries;
-#[cfg(test)]
-mod town;

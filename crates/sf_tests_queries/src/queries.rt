@@ -58,7 +58,7 @@ const ANSWERS: &[(Predicate, &'static [u32], usize)] = &[
 ];
 
 /// The points at these places.
-pub(crate) fn points(alloc: Global, places: Places) -> Result<Sequence<GridPoint>, Fail> {
+fn points(alloc: Global, places: Places) -> Result<Sequence<GridPoint>, Fail> {
     let mut points = Vec::new(alloc);
     for (x, y) in places {
         points.push(GridPoint::new(*x, *y).ok_or("off the grid")?)?;
@@ -90,7 +90,7 @@ fn valid_shape(alloc: Global, places: Places) -> Result<Valid, Fail> {
 }
 
 /// Puts a geometry into a layer of all kinds, as its next feature.
-pub(crate) fn push(alloc: Global, layer: &mut Layer, geometry: Geometry) -> Result<(), Fail>
+fn push(alloc: Global, layer: &mut Layer, geometry: Geometry) -> Result<(), Fail>
     requires fits { IsLayer layer.old }
     requires kind { layer.old.kind ≡ Any }
     ensures fits { IsLayer layer.new }
@@ -109,7 +109,7 @@ pub(crate) fn push(alloc: Global, layer: &mut Layer, geometry: Geometry) -> Resu
 }
 
 /// A store of one layer.
-pub(crate) fn stored(alloc: Global, layer: Layer) -> Result<Store, Fail>
+fn stored(alloc: Global, layer: Layer) -> Result<Store, Fail>
     requires { IsLayer layer }
 {
     let mut store = Store::new(alloc);

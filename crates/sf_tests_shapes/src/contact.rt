@@ -1,8 +1,8 @@
 //! Contact of small geometries of each kind with one another, beside what a walk tells.
 
+use super::made::valid;
 use sf_contact::contact_between;
 use sf_relate::{Predicate, dimension, meets};
-use sf_validity::{Valid, validate};
 use std::alloc::Global;
 use std::test::Fail;
 
@@ -52,17 +52,6 @@ const BOUND: &str =
 /// A polygon of 17 points.
 const LARGE: &str =
     "POLYGON ((0 0, 1 0, 2 0, 3 0, 4 0, 5 0, 6 0, 7 0, 8 0, 8 1, 8 2, 8 3, 8 4, 8 5, 8 6, 8 7, 0 0))";
-
-/// The geometry of a text.
-fn valid(alloc: Global, text: &str) -> Result<Valid, Fail> {
-    let Ok(geometry) = sf_wkt::read(alloc, text) else {
-        return Err("no geometry".into());
-    };
-    let Ok(valid) = validate(alloc, geometry) else {
-        return Err("not valid".into());
-    };
-    Ok(valid)
-}
 
 /// Whether contact of two geometries is told, and as a walk tells it, whichever comes first.
 fn is_told_alike(alloc: Global, first: &str, second: &str) -> Result<bool, Fail> {

@@ -1,13 +1,11 @@
-//! Tests of valid geometries, of where faults are, and of matrices.
+//! Tests of contact, of prepared geometries, and of what decides matrices before a walk is over.
 #![tactic(auto)]
 
 #[cfg(test)]
 mod contact;
 #[cfg(test)]
-mod places;
+mod made;
 #[cfg(test)]
 mod prepared;
 #[cfg(test)]
 mod relate;
-#[cfg(test)]
-mod validity;
