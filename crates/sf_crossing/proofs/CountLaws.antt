@@ -1,37 +1,39 @@
--- How many of the first members of a list's image pass a test, one member on.
-use Rattle.std.proofs.Common.{◌≡◌, refl, ap, sym, ◌∙◌, subst, ℕ, ◌+◌, ◌<◌, ◌≤◌, arith, Bool, true, false, cond, List, map, take, length, get_or}
+-- Of edges none of which has a point but one, at most one is counted.
+use Rattle.std.proofs.Common.{◌≡◌, ◌≢◌, ℕ, zero, suc, ◌+◌, ◌<◌, ◌≤◌, arith, refl, sym, subst, Bool, true, false, cond, List, [], ◌∷◌, map, length}
 use Rattle.std.specs.List.{count_by}
-use Rattle.std.proofs.lemmas.Bool.{both_ways, false_from_ne_true}
-use Rattle.std.proofs.lemmas.List.{get_or-map, length-map}
-use Rattle.std.proofs.lemmas.List.Sums.{count_by_more_no, count_by_more_yes}
+use Rattle.std.proofs.lemmas.Bool.{false_from_ne_true}
+use Rattle.std.proofs.lemmas.List.Sums.{sum_by-cons}
+use Rattle.sf_grid.specs.Edge.{IsOnEdge, on_edge}
+use Rattle.sf_grid.specs.Plane.{Coordinates, Point}
+use Rattle.sf_geometry.specs.Parts.{edge_of}
+use Rattle.sf_edge_tree.specs.Boxes.{edge_at}
 
-module _ {X Y : Type 0} (t : Y → Bool) (f : X → Y) (xs : List X) (i : ℕ) (x : X) (within : i < length xs) (is : x ≡ get_or xs i x) where
-  within-map : i < length (map f xs)
-  within-map = subst (λ n. i < n) (sym (length-map xs f)) within
+module _ (q : Point) where
+  abbrev counted : List (Coordinates × Coordinates) → ℕ
+  counted es = count_by (λ e. on_edge e q) (map edge_of es)
 
-  test-is : t (get_or (map f xs) i (f x)) ≡ t (f x)
-  test-is = ap t (get_or-map f xs i x (f x) within ∙ ap f (sym is))
+  one-more : (b : Bool) (n : ℕ) → n ≡ 0 → cond b 1 0 + n ≤ 1
+  one-more true n h = omega (arith, h)
+  one-more false n h = omega (arith, h)
 
-  -- the next member doesn't pass
-  pub counted-no : t (f x) ≡ false → count_by t (take (i + 1) (map f xs)) ≡ count_by t (take i (map f xs))
-  counted-no h = count_by_more_no t (map f xs) i (f x) within-map (test-is ∙ h)
+  not-counted : (b : Bool) (n m : ℕ) → b ≡ false → n ≤ m → cond b 1 0 + n ≤ m
+  not-counted true n m h l = cc
+  not-counted false n m h l = omega (arith, l)
 
-  -- whether it passes or not
-  pub counted-one : count_by t (take (i + 1) (map f xs)) ≤ count_by t (take i (map f xs)) + 1
-  counted-one = by_test (t (f x)) refl
-    where
-      by_test : (b : Bool) → t (f x) ≡ b → count_by t (take (i + 1) (map f xs)) ≤ count_by t (take i (map f xs)) + 1
-      by_test true h = omega (arith, count_by_more_yes t (map f xs) i (f x) within-map (test-is ∙ h))
-      by_test false h = omega (arith, counted-no h)
+  next : (e : Coordinates × Coordinates) (es : List (Coordinates × Coordinates)) → counted (e ∷ es) ≡ cond (on_edge (edge_of e) q) 1 0 + counted es
+  next e es = sum_by-cons (λ e. cond (on_edge e q) 1 0) (edge_of e) (map edge_of es)
 
-  -- the first that may pass
-  pub counted-first : (b r : Bool) → b ≡ false → r ≡ true → count_by t (take i (map f xs)) ≤ cond b 1 0 → count_by t (take (i + 1) (map f xs)) ≤ cond r 1 0
-  counted-first false true e g h = omega (arith, counted-one)
-  counted-first true r e g h = cc
-  counted-first false false e g h = cc
+  count-none : (es : List (Coordinates × Coordinates)) → ((k : ℕ) → k < length es → ¬ (IsOnEdge (edge_of (edge_at es k)) q)) → counted es ≡ 0
+  count-none [] h = refl
+  count-none (e ∷ es) h =
+      let rest = count-none es (λ k l. h (suc k) (omega (arith, l))) in
+      let most : counted (e ∷ es) ≤ 0 = subst (λ n. n ≤ 0) (sym (next e es)) (not-counted (on_edge (edge_of e) q) (counted es) 0 (false_from_ne_true (on_edge (edge_of e) q) (h 0 (omega arith))) (omega (arith, rest))) in
+      omega (arith, most)
 
-  -- one that doesn't
-  pub counted-same : (b q r : Bool) → (t (f x) ≡ true → q ≡ true) → q ≡ false → r ≡ b → count_by t (take i (map f xs)) ≤ cond b 1 0 → count_by t (take (i + 1) (map f xs)) ≤ cond r 1 0
-  counted-same b q r passes e g h =
-      let same = counted-no (false_from_ne_true (t (f x)) (λ k. both_ways q e (passes k))) in
-      subst (λ c. count_by t (take (i + 1) (map f xs)) ≤ cond c 1 0) (sym g) (subst (λ n. n ≤ cond b 1 0) (sym same) h)
+  pub count-one : (es : List (Coordinates × Coordinates)) (i : ℕ) → ((k : ℕ) → k < length es → k ≢ i → ¬ (IsOnEdge (edge_of (edge_at es k)) q)) → counted es ≤ 1
+  count-one [] i h = omega arith
+  count-one (e ∷ es) zero h = subst (λ n. n ≤ 1) (sym (next e es)) (one-more (on_edge (edge_of e) q) (counted es) (count-none es (λ k l. h (suc k) (omega (arith, l)) (λ s. omega (arith, s)))))
+  count-one (e ∷ es) (suc i) h =
+      subst (λ n. n ≤ 1) (sym (next e es))
+      (not-counted (on_edge (edge_of e) q) (counted es) 1 (false_from_ne_true (on_edge (edge_of e) q) (h 0 (omega arith) (λ s. omega (arith, s))))
+      (count-one es i (λ k l n. h (suc k) (omega (arith, l)) (λ s. n (omega (arith, s))))))

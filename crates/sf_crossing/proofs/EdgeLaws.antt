@@ -1,5 +1,5 @@
 -- The ends of each edge of a geometry differ.
-use Rattle.std.proofs.Common.{◌≡◌, ◌≢◌, refl, subst, Bool, true, false, List, [], ◌∷◌, ◌++◌, map}
+use Rattle.std.proofs.Common.{◌≡◌, ◌≢◌, ℕ, zero, suc, ◌<◌, arith, refl, sym, subst, Bool, true, false, List, [], ◌∷◌, ◌++◌, map, length, get_or}
 use Rattle.std.specs.Prelude.{if◌then◌else◌}
 use Rattle.std.specs.List.{AllByRecursion, filter, flat_map}
 use Rattle.std.proofs.lemmas.Bool.{and_from, both_ways}
@@ -12,7 +12,9 @@ use Rattle.sf_geometry.specs.declared.geometry.Geometry.TheVariants.{Point, Line
 use Rattle.sf_geometry.specs.Envelope.{extents_meet}
 use Rattle.sf_geometry.specs.Lists.{before_tight, edges_between, edges_from, edges_of as edges_of_list, is_same, tight}
 use Rattle.sf_geometry.specs.Parts.{edges_of, joined}
-use Rattle.sf_crossing.specs.Meeting.{ends_meeting, ends_of_edge, extent_of_edge}
+use Rattle.sf_edge_tree.specs.Boxes.{edge_at, extent_of_edge}
+use Rattle.sf_edge_tree.proofs.SearchLaws.{edge-read}
+use Rattle.sf_crossing.specs.Meeting.{ends_meeting, ends_of_edge}
 
 -- ---- neighbours of a tight list differ
 -- no point of the list is the one after it
@@ -86,3 +88,12 @@ long-kept keep (pair ∷ pairs) h = by_test (keep pair) (long-kept keep pairs h.
 
 pub long-meeting : (box : Extent) (geometry : Geometry) → AreLong (ends_meeting box (edges_of geometry))
 long-meeting box geometry = long-kept (λ pair. extents_meet (extent_of_edge pair) box) (map ends_of_edge (edges_of geometry)) (long-ends (edges_of geometry) (lengths geometry))
+
+-- so do those of each that is read
+long-at : (pairs : List (Coordinates × Coordinates)) (i : ℕ) → AreLong pairs → i < length pairs → (edge_at pairs i).0 ≢ (edge_at pairs i).1
+long-at [] i h l = absurd (omega (arith, l))
+long-at (pair ∷ pairs) zero h l = h.0
+long-at (pair ∷ pairs) (suc i) h l = long-at pairs i h.1 (omega (arith, l))
+
+pub long-read : (pairs : List (Coordinates × Coordinates)) (i : ℕ) (pair : Coordinates × Coordinates) → AreLong pairs → i < length pairs → pair ≡ get_or pairs i pair → pair.0 ≢ pair.1
+long-read pairs i pair h l is = subst (λ (p : Coordinates × Coordinates). p.0 ≢ p.1) (sym (edge-read pairs i pair l is)) (long-at pairs i h l)

@@ -3,4 +3,3 @@ pub mod EdgeLaws
 pub mod CountLaws
 pub mod AloneLaws
 pub mod MeetingLaws
-pub mod RunLaws

@@ -10,7 +10,8 @@ use Rattle.sf_geometry.specs.declared.extent.Extent.{Extent}
 use Rattle.sf_geometry.specs.Envelope.{extents_meet}
 use Rattle.sf_geometry.specs.Lists.{edges_of as edges_of_list, is_same}
 use Rattle.sf_geometry.proofs.ListLaws.{edges-step}
-use Rattle.sf_crossing.specs.Meeting.{ends_meeting, ends_of_edge, extent_of_edge}
+use Rattle.sf_edge_tree.specs.Boxes.{extent_of_edge}
+use Rattle.sf_crossing.specs.Meeting.{ends_meeting, ends_of_edge}
 
 -- ---- of several lists
 pub meeting-append : (box : Extent) (es fs : List Line) → ends_meeting box (es ++ fs) ≡ ends_meeting box es ++ ends_meeting box fs

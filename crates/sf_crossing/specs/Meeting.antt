@@ -5,15 +5,13 @@ use Rattle.std.specs.List.{filter}
 use Rattle.sf_grid.specs.Edge.{Edge}
 use Rattle.sf_grid.specs.Plane.{Coordinates}
 use Rattle.sf_geometry.specs.declared.extent.Extent.{Extent}
-use Rattle.sf_geometry.specs.Envelope.{extent_at, extent_with, extents_meet}
+use Rattle.sf_geometry.specs.Envelope.{extents_meet}
+-- the box of an edge, by its ends
+pub use Rattle.sf_edge_tree.specs.Boxes.{extent_of_edge}
 
 -- the ends of an edge
 abbrev pub ends_of_edge : Edge → Coordinates × Coordinates
 ends_of_edge e = (e.a, e.b)
-
--- the box of an edge, by its ends
-abbrev pub extent_of_edge : Coordinates × Coordinates → Extent
-extent_of_edge pair = extent_with (extent_at pair.0) pair.1
 
 -- of some edges those whose boxes share a point with a box, by their ends, in order
 abbrev pub ends_meeting : Extent → List Edge → List (Coordinates × Coordinates)

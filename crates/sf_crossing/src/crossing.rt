@@ -1,22 +1,26 @@
 //! Edges of two geometries that cross at a point of no other edge.
 
 ghost use Rattle.std.specs.Prelude.{◌≡◌, ◌≢◌, map, IfOk, IsTrue};
-ghost use Rattle.std.specs.List.{AllByRecursion, Contains, position};
+ghost use Rattle.std.specs.List.{AllByRecursion};
 ghost use Rattle.sf_geometry.specs.Parts.{edge_of, edges_of};
-ghost use Rattle.sf_crossing.specs.Crossing.{HaveCrossing, do_cross};
+ghost use Rattle.sf_crossing.specs.Crossing.{HaveCrossing};
 ghost use Rattle.sf_crossing.specs.Meeting.{ends_meeting};
 
 use crate::meeting::edges_meeting;
-use crate::pair::has_one_at_most;
-use crate::runs::find_crossing;
+use crate::pair::{Edge, cross_alone};
+use sf_edge_tree::{Budget, EdgeTree, Outcome, PairTest};
 use sf_geometry::{Extent, Geometry};
-use sf_grid::edges::meet;
-use sf_grid::{GridPoint, Meet};
 use std::alloc::{AllocError, Global};
 
+/// How many pairs of edges are all tried: that takes less time than trees of them.
+const FEW_PAIRS: usize = 256;
+
+/// How many looks there are for each edge of the two lists, on the average, before a search is given up.
+const LOOKS_FOR_EACH: usize = 16;
+
 /// Whether an edge of one geometry is found that crosses an edge of the other at a point that no other edge has, of the
-/// edges whose boxes share a point with a box. Two that cross are looked for among edges near one another, and the search
-/// is given up where that takes long: where none is found nothing is known.
+/// edges whose boxes share a point with a box. Of many edges those are tried that are near one another, and the search is
+/// given up where it takes long: where none is found nothing is known.
 ///
 /// # Errors
 ///
@@ -37,40 +41,94 @@ pub fn have_crossing(
 }
 
 /// Whether an edge of the first is found that crosses one of the second at a point of no other edge.
-fn are_crossed(
+fn are_crossed(alloc: Global, first: &[Edge], second: &[Edge]) -> Result<bool, AllocError>
+    requires first_long { AllByRecursion (λ pair. pair.0 ≢ pair.1) first.now }
+    requires second_long { AllByRecursion (λ pair. pair.0 ≢ pair.1) second.now }
+    ensures { IfOk result (λ told. IsTrue told → HaveCrossing
+        (map edge_of first.now) (map edge_of second.now)) }
+{
+    if first.len().saturating_mul(second.len()) <= FEW_PAIRS {
+        Ok(some_pair_crosses(first, second))
+    } else {
+        some_near_pair_crosses(alloc, first, second)
+    }
+}
+
+/// The same, where all pairs are tried.
+fn some_pair_crosses(first: &[Edge], second: &[Edge]) -> bool
+    requires first_long { AllByRecursion (λ pair. pair.0 ≢ pair.1) first.now }
+    requires second_long { AllByRecursion (λ pair. pair.0 ≢ pair.1) second.now }
+    ensures { IsTrue result → HaveCrossing (map edge_of first.now) (map edge_of second.now) }
+{
+    for i in 0..first.len() {
+        for j in 0..second.len() {
+            if cross_alone(first, second, i, j) {
+                return true;
+            }
+        }
+    }
+    false
+}
+
+/// The same, where those are tried whose boxes meet.
+fn some_near_pair_crosses(
     alloc: Global,
-    first: &[(GridPoint, GridPoint)],
-    second: &[(GridPoint, GridPoint)],
+    first: &[Edge],
+    second: &[Edge],
 ) -> Result<bool, AllocError>
     requires first_long { AllByRecursion (λ pair. pair.0 ≢ pair.1) first.now }
     requires second_long { AllByRecursion (λ pair. pair.0 ≢ pair.1) second.now }
     ensures { IfOk result (λ told. IsTrue told → HaveCrossing
         (map edge_of first.now) (map edge_of second.now)) }
 {
-    match find_crossing(alloc, first, second)? {
-        Some((edge, other)) => Ok(is_alone(first, second, &edge, &other)),
-        None => Ok(false),
+    let tree = tree_of(alloc, first)?;
+    let other = tree_of(alloc, second)?;
+    let budget = Budget {
+        at_first: LOOKS_FOR_EACH.saturating_mul(first.len().saturating_add(second.len())),
+        for_each_run: 0,
+    };
+    match tree.find_pair_with(&other, &PairsOf { first, second }, &budget) {
+        Outcome::Found => Ok(true),
+        Outcome::Absent | Outcome::GaveUp => Ok(false),
     }
 }
 
-/// Whether no other edges have the point where two of them cross.
-fn is_alone(
-    first: &[(GridPoint, GridPoint)],
-    second: &[(GridPoint, GridPoint)],
-    edge: &(GridPoint, GridPoint),
-    other: &(GridPoint, GridPoint),
-) -> bool
-    requires first_long { AllByRecursion (λ pair. pair.0 ≢ pair.1) first.now }
-    requires second_long { AllByRecursion (λ pair. pair.0 ≢ pair.1) second.now }
-    requires of_first { Contains first.now edge.now }
-    requires of_second { Contains second.now other.now }
-    requires crossing { IsTrue (do_cross (edge_of edge.now) (edge_of other.now)) }
-    ensures { IsTrue result → HaveCrossing (map edge_of first.now) (map edge_of second.now) }
+/// The tree of a copy of edges.
+fn tree_of(alloc: Global, edges: &[Edge]) -> Result<EdgeTree, AllocError>
+    ensures { IfOk result (λ tree. tree ≡ edges.now) }
 {
-    match meet(*edge, *other) {
-        Meet::At(point) => {
-            has_one_at_most(first, other, &point) && has_one_at_most(second, edge, &point)
-        }
-        Meet::Apart | Meet::Along(..) => false,
+    EdgeTree::new(alloc, copy_of(alloc, edges)?)
+}
+
+/// A copy of edges.
+fn copy_of(alloc: Global, edges: &[Edge]) -> Result<Vec<Edge>, AllocError>
+    ensures { IfOk result (λ copy. copy.items ≡ edges.now) }
+{
+    edges.iter().copied().collect(alloc)
+}
+
+/// Pairs of edges of two lists, asked whether they cross at a point of no other edge.
+#[derive(Drop)]
+struct PairsOf<'a> {
+    first: &'a [Edge],
+    second: &'a [Edge],
+}
+
+impl PairTest for PairsOf<'_> {
+    ghost use Rattle.std.specs.Prelude.{◌≢◌, ◌<◌, length};
+    ghost use Rattle.std.specs.List.{AllByRecursion};
+    ghost use Rattle.sf_crossing.specs.Crossing.{CrossAlone};
+
+    ghost CanTest = { λ s i j. AllByRecursion (λ pair. pair.0 ≢ pair.1) s.first.now
+        × AllByRecursion (λ pair. pair.0 ≢ pair.1) s.second.now × (i < length s.first.now) × (j < length s.second.now) };
+
+    ghost Passes = { λ s i j. CrossAlone s.first.now s.second.now i j };
+
+    fn test(&self, first: usize, second: usize) -> bool {
+        cross_alone(self.first, self.second, first, second)
+    }
+
+    fn is_clear(&self, _first: usize, _start: usize, _end: usize) -> bool {
+        false
     }
 }

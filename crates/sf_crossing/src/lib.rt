@@ -5,7 +5,6 @@
 mod crossing;
 mod meeting;
 mod pair;
-mod runs;
 
 pub use crossing::have_crossing;
 pub use meeting::edges_meeting;

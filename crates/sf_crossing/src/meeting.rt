@@ -5,7 +5,8 @@ ghost use Rattle.std.specs.List.{flat_map};
 ghost use Rattle.sf_geometry.specs.Envelope.{extents_meet};
 ghost use Rattle.sf_geometry.specs.Lists.{edges_of as edges_of_list, is_same};
 ghost use Rattle.sf_geometry.specs.Parts.{edges_of, joined};
-ghost use Rattle.sf_crossing.specs.Meeting.{ends_meeting, extent_of_edge};
+ghost use Rattle.sf_edge_tree.specs.Boxes.{extent_of_edge};
+ghost use Rattle.sf_crossing.specs.Meeting.{ends_meeting};
 
 use sf_geometry::{Extent, Geometry, Sequence};
 use sf_grid::GridPoint;
