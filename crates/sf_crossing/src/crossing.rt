@@ -12,8 +12,8 @@ use sf_edge_tree::{Budget, EdgeTree, Outcome, PairTest};
 use sf_geometry::{Extent, Geometry};
 use std::alloc::{AllocError, Global};
 
-/// How many pairs of edges are all tried: that takes less time than trees of them.
-const FEW_PAIRS: usize = 256;
+/// Of how few edges each is tried with all of the other list: that takes less time than a tree of those.
+const FEW_EDGES: usize = 6;
 
 /// How many looks there are for each edge of the two lists, on the average, before a search is given up.
 const LOOKS_FOR_EACH: usize = 16;
@@ -47,7 +47,7 @@ fn are_crossed(alloc: Global, first: &[Edge], second: &[Edge]) -> Result<bool, A
     ensures { IfOk result (λ told. IsTrue told → HaveCrossing
         (map edge_of first.now) (map edge_of second.now)) }
 {
-    if first.len().saturating_mul(second.len()) <= FEW_PAIRS {
+    if first.len().min(second.len()) <= FEW_EDGES {
         Ok(some_pair_crosses(first, second))
     } else {
         some_near_pair_crosses(alloc, first, second)
