@@ -77,7 +77,7 @@ set-append [] b x v n is = ap (λ m. slice_set (x ∷ b) m v) (sym is)
 set-append (y ∷ a) b x v zero is = absurd (omega (arith, is))
 set-append (y ∷ a) b x v (suc n) is = ap (λ rest. y ∷ rest) (set-append a b x v n (omega (arith, is)))
 
-befores-append : (content : Content) (a b : List Slot) → befores content (a ++ b) ≡ befores content a ++ befores (patched content a) b
+pub befores-append : (content : Content) (a b : List Slot) → befores content (a ++ b) ≡ befores content a ++ befores (patched content a) b
 befores-append content [] b = refl
 befores-append content (slot ∷ a) b = ap (λ rest. before content slot ∷ rest) (befores-append (with_slot slot content) a b)
 

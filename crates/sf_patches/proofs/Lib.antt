@@ -6,3 +6,4 @@ pub mod MergedLaws
 pub mod SwapLaws
 pub mod ExchangeLaws
 pub mod TakenBack
+pub mod HalvesLaws

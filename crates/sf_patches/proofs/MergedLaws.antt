@@ -60,7 +60,7 @@ state-found id None layer rising = lookup-remove_entry-same id layer.features ri
 state-found id (Some feature) layer rising = lookup-insert_entry id feature layer.features
 
 -- and all others are as they were
-state-other : (id other : ℕ) (state : Option FeatureContent) (layer : LayerContent) → nat_eq id other ≡ false → feature_of (put_state id state layer) other ≡ feature_of layer other
+pub state-other : (id other : ℕ) (state : Option FeatureContent) (layer : LayerContent) → nat_eq id other ≡ false → feature_of (put_state id state layer) other ≡ feature_of layer other
 state-other id other None layer apart = lookup-remove_entry-other other id layer.features (apart-turned id other apart)
   where
     apart-turned : (m n : ℕ) → nat_eq m n ≡ false → nat_eq n m ≡ false
@@ -90,7 +90,7 @@ nat_eq-suc m n = by (nat_eq m n) (nat_eq (suc m) (suc n)) refl refl
     by false true is js = let same : suc m ≡ suc n = eqb-true (suc m) (suc n) js in let less : m ≡ n = omega (arith, same) in let yes : nat_eq m n ≡ true = eq-eqb m n less in cc
 
 -- a change at one place leaves the layers at others
-layer_at-change_at-other : (content : Content) (place other : ℕ) (f : LayerContent → LayerContent) → nat_eq place other ≡ false → layer_at (change_at place f content) other ≡ layer_at content other
+pub layer_at-change_at-other : (content : Content) (place other : ℕ) (f : LayerContent → LayerContent) → nat_eq place other ≡ false → layer_at (change_at place f content) other ≡ layer_at content other
 layer_at-change_at-other [] place other f apart = refl
 layer_at-change_at-other (e ∷ es) zero zero f apart = cc
 layer_at-change_at-other (e ∷ es) zero (suc other) f apart = refl
@@ -169,7 +169,7 @@ feature_at-with_state c d place id state h rising is = ap (option_and_then (λ l
     by (Some layer) at = state-found id state layer (layer_at-rising c place layer rising at) ∙ is
 
 -- under other identifiers all is as it was
-feature_at-other : (c : Content) (place id p i : ℕ) (state : Option FeatureContent) → nat_eq p place && nat_eq i id ≡ false → feature_at (with_slot (State p i state) c) place id ≡ feature_at c place id
+pub feature_at-other : (c : Content) (place id p i : ℕ) (state : Option FeatureContent) → nat_eq p place && nat_eq i id ≡ false → feature_at (with_slot (State p i state) c) place id ≡ feature_at c place id
 feature_at-other c place id p i state apart = by (nat_eq p place) refl apart
   where
     by : (b : Bool) → nat_eq p place ≡ b → b && nat_eq i id ≡ false → feature_at (with_slot (State p i state) c) place id ≡ feature_at c place id
@@ -185,7 +185,7 @@ feature_at-other c place id p i state apart = by (nat_eq p place) refl apart
         there (Some layer) = state-other i id state layer h
 
 -- a counter that is set leaves the features
-feature_at-counter : (c : Content) (place id p n : ℕ) → feature_at (with_slot (Counter p n) c) place id ≡ feature_at c place id
+pub feature_at-counter : (c : Content) (place id p n : ℕ) → feature_at (with_slot (Counter p n) c) place id ≡ feature_at c place id
 feature_at-counter c place id p n = by (nat_eq p place) refl
   where
     by : (b : Bool) → nat_eq p place ≡ b → feature_at (with_slot (Counter p n) c) place id ≡ feature_at c place id

@@ -108,14 +108,16 @@ grows-before content (State place id (Some feature)) h = by (feature_at content 
     by None is = refl
     by (Some old) is = ap (λ o. not (is_some o)) (some-after content place id feature old is)
 
-NoneRemoves-undoing_onto : (content : Content) (slots others : List Slot) → AreRising content → KeepRising content slots → NoneGrows content slots → NoneRemoves content others
+-- what takes back exchanges that put nothing where none is removes nothing
+pub NoneRemoves-undoing_onto : (content : Content) (slots others : List Slot) → AreRising content → KeepRising content slots → NoneGrows content slots → NoneRemoves content others
     → NoneRemoves (patched content slots) (undoing_onto content slots others)
 NoneRemoves-undoing_onto content [] others rising keep none h = h
 NoneRemoves-undoing_onto content (slot ∷ slots) others rising keep none h =
     NoneRemoves-undoing_onto (with_slot slot content) slots (before content slot ∷ others) keep.0 keep.1 none.1
     (removes-before content slot none.0, subst (λ c. NoneRemoves c others) (sym (with_slot-before content slot rising)) h)
 
-NoneGrows-undoing_onto : (content : Content) (slots others : List Slot) → AreRising content → KeepRising content slots → NoneRemoves content slots → NoneGrows content others
+-- and what takes back exchanges that remove nothing puts nothing where none is
+pub NoneGrows-undoing_onto : (content : Content) (slots others : List Slot) → AreRising content → KeepRising content slots → NoneRemoves content slots → NoneGrows content others
     → NoneGrows (patched content slots) (undoing_onto content slots others)
 NoneGrows-undoing_onto content [] others rising keep none h = h
 NoneGrows-undoing_onto content (slot ∷ slots) others rising keep none h =

@@ -11,7 +11,8 @@ use Rattle.sf_patches.proofs.PatchLaws.{with_slot-before, patched-undoing, Grows
 use Rattle.sf_patches.proofs.MergedLaws.{patched-all_changes}
 use Rattle.sf_patches.proofs.ExchangeLaws.{AreRising-fine, KeepRising-fine, IsAt-back, before-before, undone_by-undoing}
 
-IsWellFormed-patched : (content : Content) (slots : List Slot) → IsWellFormed content → StayFine content slots → IsWellFormed (patched content slots)
+-- exchanges that can be made leave a well-formed content
+pub IsWellFormed-patched : (content : Content) (slots : List Slot) → IsWellFormed content → StayFine content slots → IsWellFormed (patched content slots)
 IsWellFormed-patched content [] fine stay = fine
 IsWellFormed-patched content (slot ∷ slots) fine stay = IsWellFormed-patched (with_slot slot content) slots stay.1 stay.2
 
