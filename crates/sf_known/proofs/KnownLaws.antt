@@ -2,11 +2,11 @@
 use Rattle.std.proofs.Common.{◌≡◌, refl, ap, sym, ◌∙◌, subst, Bool, true, false, ◌&&◌, ◌||◌, ◌⊎◌, inl, inr, not, List, [], ◌∷◌, Option, Some, None, option_map}
 use Rattle.std.specs.Prelude.{IsTrue, is_some, unwrap_or, if◌then◌else◌}
 use Rattle.std.specs.List.{list_any}
-use Rattle.std.proofs.lemmas.Bool.{and_parts, or_cases, or_parts}
+use Rattle.std.proofs.lemmas.Bool.{and_parts, both_ways, or_cases, or_parts}
 use Rattle.sf_plane.specs.declared.dim.Dim.{Dim}
 use Rattle.sf_plane.specs.declared.dim.Dim.TheVariants as dims
 use Rattle.sf_plane.specs.Unions.{greater_dim}
-use Rattle.sf_known.proofs.OrderLaws.{above, at-most-if, both-at-most, same-at-most}
+use Rattle.sf_known.proofs.OrderLaws.{above, at-most-if, at-most-lesser, both-at-most, same-at-most}
 use Rattle.sf_known.specs.declared.aim.Aim.{Aim}
 use Rattle.sf_known.specs.declared.aim.Aim.TheVariants.{Answer, Entries, ButBoundaries}
 use Rattle.sf_known.specs.declared.goal.Goal.{Goal}
@@ -16,7 +16,7 @@ use Rattle.sf_known.specs.declared.letter.Letter.{Letter}
 use Rattle.sf_known.specs.declared.letter.Letter.TheVariants.{Any, Filled, Empty, Zero, One, Two}
 use Rattle.sf_known.specs.Entries.{exceeds, lesser_dim}
 use Rattle.sf_known.specs.Goals.{is_met}
-use Rattle.sf_known.specs.Known.{AnswersAreTrue, AnswersWhereAllAgree, AreAtMost, ContactAnswers, Holds, IsAtMost, SettledIsEnough, allows_contact, answer_of, but_boundaries, exceeds_letters, falls_short, have_most, highest, is_enough, is_matched, is_missed, lowest, pattern_answer, settled}
+use Rattle.sf_known.specs.Known.{AnswersAreTrue, AnswersWhereAllAgree, AreAtMost, BothHold, ContactAnswers, Holds, IsAtMost, SettledIsEnough, allows_contact, answer_of, but_boundaries, exceeds_letters, falls_short, greatest_each, have_most, highest, is_enough, is_matched, is_missed, known_by_both, least_each, lowest, pattern_answer, settled}
 use Rattle.sf_known.specs.Patterns.{admits, has_contact, is_filled, matches}
 
 -- ---- letters admit dimensions in a row
@@ -299,22 +299,22 @@ not-true false h = refl
 
 pub missed-is : (known : Known) (letters : List Letter) (m : List Dim) → Holds known m → is_missed known letters ≡ true → matches letters m ≡ false
 missed-is known letters m holds h =
-    elim (or_cases (exceeds_letters letters known.least || falls_short letters known.most) (known.contact && not (allows_contact letters)) h) [
-      | inl g ↦ elim (or_cases (exceeds_letters letters known.least) (falls_short letters known.most) g) [
-        | inl k ↦ exceeds-misses letters known.least m holds.least k
-        | inr k ↦ falls-misses letters m known.most holds.most k
+    elim (or_cases ((known.contact && not (allows_contact letters)) || exceeds_letters letters known.least) (falls_short letters known.most) h) [
+      | inl g ↦ elim (or_cases (known.contact && not (allows_contact letters)) (exceeds_letters letters known.least) g) [
+        | inl k ↦ let parts = and_parts known.contact (not (allows_contact letters)) k in
+            contact-misses letters m (not-true (allows_contact letters) parts.1) (holds.contact parts.0)
+        | inr k ↦ exceeds-misses letters known.least m holds.least k
       ]
-      | inr g ↦ let parts = and_parts known.contact (not (allows_contact letters)) g in
-          contact-misses letters m (not-true (allows_contact letters) parts.1) (holds.contact parts.0)
+      | inr g ↦ falls-misses letters m known.most holds.most g
     ]
 
 some-is : (a b : Bool) → ◌≡◌ {A = Option Bool} (Some a) (Some b) → a ≡ b
 some-is a b h = ap (λ o. unwrap_or o false) h
 
-by-tests : (matched missed v answer : Bool) → (matched ≡ true → v ≡ true) → (missed ≡ true → v ≡ false)
-    → ◌≡◌ {A = Option Bool} (if matched then Some true else (if missed then Some false else None)) (Some answer) → answer ≡ v
-by-tests true missed v answer f g h = sym (some-is true answer h) ∙ sym (f refl)
-by-tests false true v answer f g h = sym (some-is false answer h) ∙ sym (g refl)
+by-tests : (missed matched v answer : Bool) → (missed ≡ true → v ≡ false) → (matched ≡ true → v ≡ true)
+    → ◌≡◌ {A = Option Bool} (if missed then Some false else (if matched then Some true else None)) (Some answer) → answer ≡ v
+by-tests true matched v answer f g h = sym (some-is false answer h) ∙ sym (f refl)
+by-tests false true v answer f g h = sym (some-is true answer h) ∙ sym (g refl)
 by-tests false false v answer f g h = absurd (none h)
   where
     none : ◌≡◌ {A = Option Bool} None (Some answer) → ⊥
@@ -322,7 +322,7 @@ by-tests false false v answer f g h = absurd (none h)
 
 pattern-answered : (known : Known) (letters : List Letter) (m : List Dim) (answer : Bool) → Holds known m → pattern_answer known letters ≡ Some answer → answer ≡ matches letters m
 pattern-answered known letters m answer holds h =
-    by-tests (is_matched known letters) (is_missed known letters) (matches letters m) answer (matched-is known letters m holds) (missed-is known letters m holds) h
+    by-tests (is_missed known letters) (is_matched known letters) (matches letters m) answer (missed-is known letters m holds) (matched-is known letters m holds) h
 
 not-answered : (o : Option Bool) (v answer : Bool) → ((b : Bool) → o ≡ Some b → b ≡ v) → option_map not o ≡ Some answer → answer ≡ not v
 not-answered None v answer f h = absurd cc
@@ -347,12 +347,12 @@ and-missed p q r v w x f g h k =
 pub answers_are_true : AnswersAreTrue
 answers_are_true known (Match letters) m answer holds h = pattern-answered known letters m answer holds h
 answers_are_true known (MatchOne one other third) m answer holds h =
-    by-tests (is_matched known one || is_matched known other || is_matched known third) (is_missed known one && is_missed known other && is_missed known third)
+    by-tests (is_missed known one && is_missed known other && is_missed known third) (is_matched known one || is_matched known other || is_matched known third)
     (matches one m || matches other m || matches third m) answer
-    (or-matched (is_matched known one) (is_matched known other) (is_matched known third) (matches one m) (matches other m) (matches third m)
-    (matched-is known one m holds) (matched-is known other m holds) (matched-is known third m holds))
     (and-missed (is_missed known one) (is_missed known other) (is_missed known third) (matches one m) (matches other m) (matches third m)
-    (missed-is known one m holds) (missed-is known other m holds) (missed-is known third m holds)) h
+    (missed-is known one m holds) (missed-is known other m holds) (missed-is known third m holds))
+    (or-matched (is_matched known one) (is_matched known other) (is_matched known third) (matches one m) (matches other m) (matches third m)
+    (matched-is known one m holds) (matched-is known other m holds) (matched-is known third m holds)) h
 answers_are_true known (Miss letters) m answer holds h = not-answered (pattern_answer known letters) (matches letters m) answer (λ b. pattern-answered known letters m b holds) h
 answers_are_true known Never m answer holds h = sym (some-is false answer h)
 
@@ -389,39 +389,64 @@ closest-matches (l ∷ ls) (d ∷ ds) h =
 no-contact : (known : Known) (m : List Dim) → known.contact ≡ false → IsTrue known.contact → IsTrue (has_contact m)
 no-contact known m h k = absurd cc
 
+is-false : (v : Bool) → (v ≡ true → ⊥) → v ≡ false
+is-false true f = absurd (f refl)
+is-false false f = refl
+
+-- where contact is not known, a broken letter alone misses
+missed-by : (known : Known) (letters : List Letter) (over short : Bool) → known.contact ≡ false → exceeds_letters letters known.least ≡ over → falls_short letters known.most ≡ short
+    → is_missed known letters ≡ (over || short)
+missed-by known letters over short apart e f =
+    ap (λ v. (v && not (allows_contact letters)) || exceeds_letters letters known.least || falls_short letters known.most) apart
+    ∙ ap (λ v. v || falls_short letters known.most) e
+    ∙ ap (λ v. over || v) f
+
 pub answers_where_all_agree : AnswersWhereAllAgree
 answers_where_all_agree known letters true ordered apart agree =
     let low = agree known.least (record { least = same-at-most known.least; most = ordered; contact = no-contact known known.least apart }) in
     let high = agree known.most (record { least = ordered; most = same-at-most known.most; contact = no-contact known known.most apart }) in
-    ap (λ v. if v && matches letters known.most then Some true else (if is_missed known letters then Some false else None)) low
-    ∙ ap (λ v. if v then Some true else (if is_missed known letters then Some false else None)) high
-answers_where_all_agree known letters false ordered apart agree =
-    let low = agree known.least (record { least = same-at-most known.least; most = ordered; contact = no-contact known known.least apart }) in
-    ap (λ v. if v && matches letters known.most then Some true else (if is_missed known letters then Some false else None)) low
-    ∙ by_value (exceeds_letters letters known.least) (falls_short letters known.most) refl refl
+    let over = is-false (exceeds_letters letters known.least) (λ h. both_ways (matches letters known.least) (exceeds-misses letters known.least known.least (same-at-most known.least) h) low) in
+    let short = is-false (falls_short letters known.most) (λ h. both_ways (matches letters known.most) (falls-misses letters known.most known.most (same-at-most known.most) h) high) in
+    ap (λ v. if v then Some false else (if is_matched known letters then Some true else None)) (missed-by known letters false false apart over short)
+    ∙ ap (λ v. if v && matches letters known.most then Some true else None) low
+    ∙ ap (λ v. if v then Some true else None) high
+answers_where_all_agree known letters false ordered apart agree = by_value (exceeds_letters letters known.least) (falls_short letters known.most) refl refl
   where
-    by_value : (over short : Bool) → exceeds_letters letters known.least ≡ over → falls_short letters known.most ≡ short
-        → ◌≡◌ {A = Option Bool} (if is_missed known letters then Some false else None) (Some false)
-    by_value true short e f = ap (λ v. if v || falls_short letters known.most || (known.contact && not (allows_contact letters)) then Some false else None) e
-    by_value false true e f =
-        ap (λ v. if exceeds_letters letters known.least || v || (known.contact && not (allows_contact letters)) then Some false else None) f
-        ∙ ap (λ v. if v || true || (known.contact && not (allows_contact letters)) then Some false else None) e
+    by_value : (over short : Bool) → exceeds_letters letters known.least ≡ over → falls_short letters known.most ≡ short → pattern_answer known letters ≡ Some false
+    by_value true short e f = ap (λ v. if v then Some false else (if is_matched known letters then Some true else None)) (missed-by known letters true short apart e f)
+    by_value false true e f = ap (λ v. if v then Some false else (if is_matched known letters then Some true else None)) (missed-by known letters false true apart e f)
     by_value false false e f =
         let m = closest letters known.least in
         let is = agree m (record { least = closest-least letters known.least; most = closest-most letters known.least known.most ordered f; contact = no-contact known m apart }) in
-        absurd (wrong (sym (closest-matches letters known.least e) ∙ is))
-      where
-        wrong : true ≡ false → ⊥
-        wrong h = absurd cc
+        absurd (both_ways (matches letters m) is (closest-matches letters known.least e))
 
 -- ---- contact
 pub contact_answers : ContactAnswers
-contact_answers known letters contact none unmatched =
-    ap (λ v. if v then Some true else (if is_missed known letters then Some false else None)) unmatched
-    ∙ ap (λ v. if v then Some false else None) (or-true (exceeds_letters letters known.least || falls_short letters known.most) (known.contact && not (allows_contact letters)) both)
-  where
-    both : (known.contact && not (allows_contact letters)) ≡ true
-    both = ap (λ v. v && not (allows_contact letters)) contact ∙ ap not none
+contact_answers known letters contact none =
+    let broken = λ (v : Bool). v || exceeds_letters letters known.least || falls_short letters known.most in
+    ap (λ v. if broken (v && not (allows_contact letters)) then Some false else (if is_matched known letters then Some true else None)) contact
+    ∙ ap (λ v. if broken (not v) then Some false else (if is_matched known letters then Some true else None)) none
+
+-- ---- what two say together
+greatest-low : (xs ys ds : List Dim) → AreAtMost xs ds → AreAtMost ys ds → AreAtMost (greatest_each xs ys) ds
+greatest-low [] ys ds g h = g
+greatest-low (x ∷ xs) [] ds g h = absurd (subst (AreAtMost (x ∷ xs)) h g)
+greatest-low (x ∷ xs) (y ∷ ys) [] g h = absurd g
+greatest-low (x ∷ xs) (y ∷ ys) (d ∷ ds) g h = (both-at-most x y d g.0 h.0, greatest-low xs ys ds g.1 h.1)
+
+least-high : (ds xs ys : List Dim) → AreAtMost ds xs → AreAtMost ds ys → AreAtMost ds (least_each xs ys)
+least-high [] xs ys g h = ap (λ zs. least_each zs ys) g
+least-high (d ∷ ds) [] ys g h = absurd g
+least-high (d ∷ ds) (x ∷ xs) [] g h = absurd h
+least-high (d ∷ ds) (x ∷ xs) (y ∷ ys) g h = (at-most-lesser d x y g.0 h.0, least-high ds xs ys g.1 h.1)
+
+pub both_hold : BothHold
+both_hold known other m holds others =
+    record {
+      least = greatest-low known.least other.least m holds.least others.least;
+      most = least-high m known.most other.most holds.most others.most;
+      contact = λ h. elim (or_cases known.contact other.contact h) [ inl k ↦ holds.contact k | inr k ↦ others.contact k ];
+    }
 
 -- ---- where each entry has its least and no more
 not-admitted : (l : Letter) (d : Dim) → admits l d ≡ false → (exceeds d (highest l) || exceeds (lowest l) d) ≡ true
@@ -477,18 +502,22 @@ fixed ds contact = record { least = ds; most = ds; contact = contact }
 
 decided : (ds : List Dim) (contact : Bool) (ls : List Letter) → is_matched (fixed ds contact) ls ≡ false → is_missed (fixed ds contact) ls ≡ true
 decided ds contact ls h =
-    ap (λ v. v || (contact && not (allows_contact ls))) (not-matched ls ds (both-same (matches ls ds) h))
+    or-more (contact && not (allows_contact ls)) (exceeds_letters ls ds) (falls_short ls ds) (not-matched ls ds (both-same (matches ls ds) h))
   where
+    or-more : (x y z : Bool) → (y || z) ≡ true → (x || y || z) ≡ true
+    or-more true y z k = refl
+    or-more false y z k = k
+
     both-same : (v : Bool) → (v && v) ≡ false → v ≡ false
     both-same true k = k
     both-same false k = refl
 
 abbrev by-two : Bool → Bool → Option Bool
-by-two matched missed = if matched then Some true else (if missed then Some false else None)
+by-two matched missed = if missed then Some false else (if matched then Some true else None)
 
 one-some : (matched missed : Bool) → (matched ≡ false → missed ≡ true) → is_some (by-two matched missed) ≡ true
-one-some true missed f = refl
-one-some false true f = refl
+one-some matched true f = refl
+one-some true false f = refl
 one-some false false f = f refl
 
 none-some : (o : Option Bool) → is_some o ≡ true → is_some (option_map not o) ≡ true

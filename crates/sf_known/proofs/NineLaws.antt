@@ -1,6 +1,6 @@
 -- What a function gives of nine entries, one by one.
 use Rattle.std.proofs.Common.{◌≡◌, List, [], ◌∷◌, length, map, get_or, refl, ap, sym, ◌∙◌, arith, subst, Bool, true, false, ◌&&◌, not}
-use Rattle.std.specs.Prelude.{slice_set}
+use Rattle.std.specs.Prelude.{slice_set, zip}
 use Rattle.sf_known.proofs.OrderLaws.{entries-known, entry-known}
 use Rattle.sf_known.specs.Entries.{exceeds, lesser_dim}
 use Rattle.sf_known.specs.Known.{AreAtMost, IsAtMost, but_boundaries, have_most}
@@ -30,6 +30,15 @@ nine-listed ds n = sym (map-id ds) ∙ nine (λ d. d) ds n
     map-id : (es : List Dim) → map (λ d. d) es ≡ es
     map-id [] = refl
     map-id (e ∷ es) = ap (λ fs. e ∷ fs) (map-id es)
+
+-- what a function gives of each two entries of nine
+pub nine-pairs : (f : Dim → Dim → Dim) (ds es : List Dim) → length ds ≡ 9 → length es ≡ 9 → map (λ (pair : Dim × Dim). f pair.0 pair.1) (zip ds es)
+    ≡ f (get_or ds 0 Nothing) (get_or es 0 Nothing) ∷ f (get_or ds 1 Nothing) (get_or es 1 Nothing) ∷ f (get_or ds 2 Nothing) (get_or es 2 Nothing)
+    ∷ f (get_or ds 3 Nothing) (get_or es 3 Nothing) ∷ f (get_or ds 4 Nothing) (get_or es 4 Nothing) ∷ f (get_or ds 5 Nothing) (get_or es 5 Nothing)
+    ∷ f (get_or ds 6 Nothing) (get_or es 6 Nothing) ∷ f (get_or ds 7 Nothing) (get_or es 7 Nothing) ∷ f (get_or ds 8 Nothing) (get_or es 8 Nothing) ∷ []
+nine-pairs f ds es n k =
+    ap (λ xs. map (λ (pair : Dim × Dim). f pair.0 pair.1) (zip xs es)) (nine-listed ds n)
+    ∙ ap (λ ys. map (λ (pair : Dim × Dim). f pair.0 pair.1) (zip (get_or ds 0 Nothing ∷ get_or ds 1 Nothing ∷ get_or ds 2 Nothing ∷ get_or ds 3 Nothing ∷ get_or ds 4 Nothing ∷ get_or ds 5 Nothing ∷ get_or ds 6 Nothing ∷ get_or ds 7 Nothing ∷ get_or ds 8 Nothing ∷ []) ys)) (nine-listed es k)
 
 cons : {A : Type 0} (x y : A) (xs ys : List A) → x ≡ y → xs ≡ ys → x ∷ xs ≡ y ∷ ys
 cons x y xs ys e f = ap (λ v. v ∷ xs) e ∙ ap (λ vs. y ∷ vs) f

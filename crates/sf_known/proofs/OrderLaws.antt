@@ -1,10 +1,10 @@
 -- Dimensions and lists of them in order.
-use Rattle.std.proofs.Common.{◌≡◌, refl, ap, sym, ◌∙◌, subst, Bool, true, false, ◌&&◌, not, List, [], ◌∷◌}
+use Rattle.std.proofs.Common.{◌≡◌, refl, ap, sym, ◌∙◌, subst, Bool, true, false, ◌&&◌, ◌⊎◌, inl, inr, not, List, [], ◌∷◌}
 use Rattle.std.proofs.lemmas.Bool.{and_parts}
 use Rattle.sf_plane.specs.declared.dim.Dim.{Dim}
 use Rattle.sf_plane.specs.declared.dim.Dim.TheVariants as dims
 use Rattle.sf_plane.specs.Unions.{greater_dim}
-use Rattle.sf_known.specs.Entries.{exceeds}
+use Rattle.sf_known.specs.Entries.{exceeds, lesser_dim}
 use Rattle.sf_known.specs.Known.{AreAtMost, IsAtMost, have_most}
 
 -- ---- dimensions
@@ -76,6 +76,26 @@ greater-same dims.Two = refl
 
 pub both-at-most : (x a b : Dim) → IsAtMost x b → IsAtMost a b → IsAtMost (greater_dim x a) b
 both-at-most x a b h k = greater-greater x a b ∙ ap (greater_dim x) k ∙ h
+
+lesser-is : (m n : Dim) → (lesser_dim m n ≡ m) ⊎ (lesser_dim m n ≡ n)
+lesser-is dims.Nothing n = inl refl
+lesser-is dims.Zero dims.Nothing = inr refl
+lesser-is dims.Zero dims.Zero = inl refl
+lesser-is dims.Zero dims.One = inl refl
+lesser-is dims.Zero dims.Two = inl refl
+lesser-is dims.One dims.Nothing = inr refl
+lesser-is dims.One dims.Zero = inr refl
+lesser-is dims.One dims.One = inl refl
+lesser-is dims.One dims.Two = inl refl
+lesser-is dims.Two n = inr refl
+
+-- what is at most two dimensions is at most the lesser one
+pub at-most-lesser : (d m n : Dim) → IsAtMost d m → IsAtMost d n → IsAtMost d (lesser_dim m n)
+at-most-lesser d m n h j = by_one (lesser-is m n)
+  where
+    by_one : (lesser_dim m n ≡ m) ⊎ (lesser_dim m n ≡ n) → IsAtMost d (lesser_dim m n)
+    by_one (inl e) = subst (IsAtMost d) (sym e) h
+    by_one (inr e) = subst (IsAtMost d) (sym e) j
 
 pub same-at-most : (ds : List Dim) → AreAtMost ds ds
 same-at-most [] = refl

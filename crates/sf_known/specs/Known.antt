@@ -1,6 +1,6 @@
 -- Internal: who wants to trust the program need not read this file.
 -- What is known of a matrix: each entry lies between a least and a most, and the geometries may be known to share a point.
-use Rattle.std.specs.Prelude.{◌≡◌, ℕ, Bool, true, false, ◌&&◌, ◌||◌, not, List, [], ◌∷◌, Option, Some, None, IsTrue, IsFalse, length, option_map, is_some, replicate, slice_index_or, slice_set, zip, if◌then◌else◌}
+use Rattle.std.specs.Prelude.{◌≡◌, ℕ, Bool, true, false, ◌&&◌, ◌||◌, not, List, [], ◌∷◌, Option, Some, None, IsTrue, IsFalse, length, option_map, is_some, map, replicate, slice_index_or, slice_set, zip, if◌then◌else◌}
 use Rattle.std.specs.List.{list_all, list_any}
 use Rattle.sf_plane.specs.declared.dim.Dim.{Dim}
 use Rattle.sf_plane.specs.declared.dim.Dim.TheVariants as dims
@@ -52,9 +52,9 @@ at_most entries = record { least = no_entries; most = entries; contact = false }
 abbrev pub exactly : List Dim → Known
 exactly entries = record { least = entries; most = entries; contact = false }
 
--- the geometries share a point
-abbrev pub sharing_point : Known
-sharing_point = record { least = no_entries; most = replicate 9 dims.Two; contact = true }
+-- of no entry anything
+abbrev pub nothing_known : Known
+nothing_known = at_most (replicate 9 dims.Two)
 
 -- each entry has its least and no more
 abbrev pub settled : Known → Known
@@ -67,6 +67,21 @@ raised entries place d = slice_set entries place (greater_dim (slice_index_or en
 -- one entry has at least this
 abbrev pub known_with : Known → ℕ → Dim → Known
 known_with known place d = record known { least = raised known.least place d }
+
+-- of each entry the greater one, or the lesser one, of both
+abbrev pub greatest_each : List Dim → List Dim → List Dim
+greatest_each entries others = map (λ pair. greater_dim pair.0 pair.1) (zip entries others)
+
+abbrev pub least_each : List Dim → List Dim → List Dim
+least_each entries others = map (λ pair. lesser_dim pair.0 pair.1) (zip entries others)
+
+-- what two say together
+abbrev pub known_by_both : Known → Known → Known
+known_by_both known other = record {
+  least = greatest_each known.least other.least;
+  most = least_each known.most other.most;
+  contact = known.contact || other.contact;
+}
 
 -- ---- what it says of a goal
 -- the dimensions that a letter admits go from its lowest to its highest one
@@ -100,20 +115,20 @@ abbrev pub allows_contact : List Letter → Bool
 allows_contact (ii ∷ ib ∷ ie ∷ bi ∷ bb ∷ rest) = list_any (λ letter. is_filled (highest letter)) (ii ∷ ib ∷ bi ∷ bb ∷ [])
 allows_contact letters = true
 
--- no matrix of which it holds matches: an entry is broken, or the pattern asks for geometries that share no point
+-- no matrix of which it holds matches: the pattern asks for geometries that share no point, or an entry is broken
 abbrev pub is_missed : Known → List Letter → Bool
 is_missed known letters =
-    exceeds_letters letters known.least || falls_short letters known.most || (known.contact && not (allows_contact letters))
+    (known.contact && not (allows_contact letters)) || exceeds_letters letters known.least || falls_short letters known.most
 
 -- whether the matrix matches, as far as that is known
 abbrev pub pattern_answer : Known → List Letter → Option Bool
-pattern_answer known letters = if is_matched known letters then Some true else (if is_missed known letters then Some false else None)
+pattern_answer known letters = if is_missed known letters then Some false else (if is_matched known letters then Some true else None)
 
 -- whether it matches one of three
 abbrev pub one_answer : Known → List Letter → List Letter → List Letter → Option Bool
 one_answer known one other third =
-    if is_matched known one || is_matched known other || is_matched known third then Some true
-    else (if is_missed known one && is_missed known other && is_missed known third then Some false else None)
+    if is_missed known one && is_missed known other && is_missed known third then Some false
+    else (if is_matched known one || is_matched known other || is_matched known third then Some true else None)
 
 -- each entry has its most
 abbrev pub have_most : List Dim → List Dim → Bool
@@ -149,11 +164,14 @@ AnswersWhereAllAgree =
     (known : Known) (letters : List Letter) (answer : Bool) → AreAtMost known.least known.most → IsFalse known.contact
     → ((m : List Dim) → Holds known m → matches letters m ≡ answer) → answer_of known (Match letters) ≡ Some answer
 
+-- what two say together holds of a matrix of which both hold
+abbrev pub BothHold : Type 0
+BothHold = (known other : Known) (m : List Dim) → Holds known m → Holds other m → Holds (known_by_both known other) m
+
 -- where contact is known, so is the answer to a pattern that allows none
 abbrev pub ContactAnswers : Type 0
 ContactAnswers =
-    (known : Known) (letters : List Letter) → IsTrue known.contact → IsFalse (allows_contact letters) → IsFalse (is_matched known letters)
-    → answer_of known (Match letters) ≡ Some false
+    (known : Known) (letters : List Letter) → IsTrue known.contact → IsFalse (allows_contact letters) → answer_of known (Match letters) ≡ Some false
 
 -- where each entry has its least and no more, whatever is asked is known
 abbrev pub SettledIsEnough : Type 0

@@ -1,9 +1,9 @@
 //! What is known of a matrix before all of it is: each entry lies between a least and a most dimension.
 
-ghost use Rattle.std.specs.Prelude.{◌≡◌, ◌<◌, ◌&&◌, Some, None, not, slice_index_or, if◌then◌else◌};
+ghost use Rattle.std.specs.Prelude.{◌≡◌, ◌<◌, ◌&&◌, ◌||◌, Some, None, not, slice_index_or, if◌then◌else◌};
 ghost use Rattle.sf_plane.specs.declared.dim.Dim.TheVariants.{Nothing};
 ghost use Rattle.sf_known.specs.Entries.{exceeds};
-ghost use Rattle.sf_known.specs.Known.{allows_contact, answer_of, at_most, but_boundaries, exactly, have_most, is_enough, is_matched, is_missed, known_with, one_answer, pattern_answer, settled, sharing_point};
+ghost use Rattle.sf_known.specs.Known.{allows_contact, answer_of, at_most, but_boundaries, exactly, have_most, greatest_each, is_enough, is_matched, is_missed, known_by_both, known_with, least_each, nothing_known, one_answer, pattern_answer, settled};
 
 use super::aim::Aim;
 use super::entries::{exceeds, greater, lesser};
@@ -46,14 +46,21 @@ impl Known {
         }
     }
 
-    /// That the geometries share a point.
-    pub fn sharing_point() -> Known
-        ensures { result ≡ sharing_point }
+    /// Of no entry anything.
+    pub fn nothing() -> Known
+        ensures { result ≡ nothing_known }
+    {
+        Known::at_most([Dim::Two; 9])
+    }
+
+    /// What this and another one say together: it holds of those matrices of which both hold.
+    pub fn and(&self, other: &Known) -> Known
+        ensures { result ≡ known_by_both self.now other.now }
     {
         Known {
-            least: [Dim::Nothing; 9],
-            most: [Dim::Two; 9],
-            contact: true,
+            least: greatest_each(&self.least, &other.least),
+            most: least_each(&self.most, &other.most),
+            contact: self.contact || other.contact,
         }
     }
 
@@ -118,10 +125,10 @@ impl Known {
     fn pattern_answer(&self, pattern: &Pattern) -> Option<bool>
         ensures { result ≡ pattern_answer self.now pattern.now }
     {
-        if self.is_matched(pattern) {
-            Some(true)
-        } else if self.is_missed(pattern) {
+        if self.is_missed(pattern) {
             Some(false)
+        } else if self.is_matched(pattern) {
+            Some(true)
         } else {
             None
         }
@@ -131,10 +138,10 @@ impl Known {
     fn one_answer(&self, one: &Pattern, other: &Pattern, third: &Pattern) -> Option<bool>
         ensures { result ≡ one_answer self.now one.now other.now third.now }
     {
-        if self.is_matched(one) || self.is_matched(other) || self.is_matched(third) {
-            Some(true)
-        } else if self.is_missed(one) && self.is_missed(other) && self.is_missed(third) {
+        if self.is_missed(one) && self.is_missed(other) && self.is_missed(third) {
             Some(false)
+        } else if self.is_matched(one) || self.is_matched(other) || self.is_matched(third) {
+            Some(true)
         } else {
             None
         }
@@ -144,16 +151,16 @@ impl Known {
     fn is_matched(&self, pattern: &Pattern) -> bool
         ensures { result ≡ is_matched self.now pattern.now }
     {
-        pattern.matches(&Matrix(self.least)) && pattern.matches(&Matrix(self.most))
+        pattern.admits(&self.least) && pattern.admits(&self.most)
     }
 
     /// Whether none does.
     fn is_missed(&self, pattern: &Pattern) -> bool
         ensures { result ≡ is_missed self.now pattern.now }
     {
-        pattern.is_exceeded(&self.least)
+        self.is_missed_by_contact(pattern)
+            || pattern.is_exceeded(&self.least)
             || pattern.is_fallen_short(&self.most)
-            || self.is_missed_by_contact(pattern)
     }
 
     /// Whether the geometries share a point, and the pattern asks for such as share none.
@@ -172,6 +179,44 @@ fn have_most(least: &[Dim; 9], most: &[Dim; 9]) -> bool
         .iter()
         .zip(most.iter())
         .all(|(least, most)| !exceeds(*most, *least))
+}
+
+/// Of each entry the greater one of both.
+fn greatest_each(a: &[Dim; 9], b: &[Dim; 9]) -> [Dim; 9]
+    ensures { result ≡ greatest_each a.now b.now }
+{
+    let [ii, ib, ie, bi, bb, be, ei, eb, ee] = *a;
+    let [ii2, ib2, ie2, bi2, bb2, be2, ei2, eb2, ee2] = *b;
+    [
+        greater(ii, ii2),
+        greater(ib, ib2),
+        greater(ie, ie2),
+        greater(bi, bi2),
+        greater(bb, bb2),
+        greater(be, be2),
+        greater(ei, ei2),
+        greater(eb, eb2),
+        greater(ee, ee2),
+    ]
+}
+
+/// Of each entry the lesser one of both.
+fn least_each(a: &[Dim; 9], b: &[Dim; 9]) -> [Dim; 9]
+    ensures { result ≡ least_each a.now b.now }
+{
+    let [ii, ib, ie, bi, bb, be, ei, eb, ee] = *a;
+    let [ii2, ib2, ie2, bi2, bb2, be2, ei2, eb2, ee2] = *b;
+    [
+        lesser(ii, ii2),
+        lesser(ib, ib2),
+        lesser(ie, ie2),
+        lesser(bi, bi2),
+        lesser(bb, bb2),
+        lesser(be, be2),
+        lesser(ei, ei2),
+        lesser(eb, eb2),
+        lesser(ee, ee2),
+    ]
 }
 
 /// The most of each entry but that of the two boundaries, of which it is enough to have a point.

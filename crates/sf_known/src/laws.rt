@@ -1,6 +1,6 @@
 //! Laws of patterns, predicates and what is known of a matrix, each the contract of a function that does nothing.
 
-ghost use Rattle.sf_known.specs.Known.{AnswersAreTrue, AnswersWhereAllAgree, ContactAnswers, SettledIsEnough};
+ghost use Rattle.sf_known.specs.Known.{AnswersAreTrue, AnswersWhereAllAgree, BothHold, ContactAnswers, SettledIsEnough};
 ghost use Rattle.sf_known.specs.Patterns.{PatternsNeedContact};
 ghost use Rattle.sf_known.specs.Predicates.{PredicatesNeedContact};
 
@@ -23,6 +23,11 @@ pub fn answers_are_true()
 /// not known.
 pub fn answers_where_all_agree()
     ensures { AnswersWhereAllAgree }
+{}
+
+/// What two say together holds of each matrix of which both hold.
+pub fn both_hold()
+    ensures { BothHold }
 {}
 
 /// Where contact is known, no pattern is matched that allows none.

@@ -63,9 +63,16 @@ impl Pattern {
     pub fn matches(&self, matrix: &Matrix) -> bool
         ensures { result ≡ matches self.now matrix.now.0 }
     {
+        self.admits(&matrix.0)
+    }
+
+    /// Whether each entry is as its letter asks.
+    pub(crate) fn admits(&self, entries: &[Dim; 9]) -> bool
+        ensures { result ≡ matches self.now entries.now }
+    {
         self.letters
             .iter()
-            .zip(matrix.0.iter())
+            .zip(entries.iter())
             .all(|(letter, dim)| letter.admits(*dim))
     }
 

@@ -1,32 +1,22 @@
 -- What a query may pass over, and that its answers are those over the plane.
-use Rattle.std.proofs.Common.{◌≡◌, ◌∙◌, ℕ, ◌+◌, ◌<◌, ◌≤◌, ◌++◌, ◌&&◌, Bool, Bor, true, false, List, [], ◌∷◌, filter, length, take, take_all, get_or, option_copied, Option, None, Some, Ok, IfSome, IsSome, is_some, IsTrue, IsFalse, refl, ap, sym, subst, arith}
+use Rattle.std.proofs.Common.{◌≡◌, ◌∙◌, ℕ, ◌+◌, ◌<◌, ◌≤◌, ◌++◌, ◌&&◌, Bool, Bor, true, false, List, [], ◌∷◌, filter, length, take, take_all, get_or, option_copied, Option, None, Some, Ok, IsSome, IsTrue, IsFalse, refl, ap, sym, subst, arith}
 use Rattle.std.proofs.lemmas.Bool.{both_ways, false≢true, not-false}
 use Rattle.std.proofs.lemmas.Map.Entries.{length-keys_of}
-use Rattle.std.specs.Prelude.{◌↔◌, bytes_eq, cond, not}
+use Rattle.std.specs.Prelude.{bytes_eq, cond, not}
 use Rattle.std.specs.List.{AllByRecursion}
 use Rattle.std.specs.Map.{keys_of}
-use Rattle.sf_grid.specs.Plane.{Coordinates, Point as PlanePoint, grid_point}
 use Rattle.sf_geometry.specs.declared.extent.Extent.{Extent}
 use Rattle.sf_geometry.specs.declared.geometry.Geometry.{Geometry}
-use Rattle.sf_geometry.specs.declared.geometry.Geometry.TheVariants.{Point}
 use Rattle.sf_geometry.specs.Envelope.{envelope_of, extents_meet}
-use Rattle.sf_geometry.specs.PointSets.{in_boundary, in_interior}
 use Rattle.sf_rules.specs.Validity.{IsValid}
-use Rattle.sf_plane.specs.declared.dim.Dim.{Dim}
 use Rattle.sf_features.specs.Features.{FeatureContent}
 use Rattle.sf_rtree.specs.Indexes.{Boxes, ids_meeting}
 use Rattle.sf_layers.specs.Boxes.{box_entry, boxes_of}
 use Rattle.sf_layers.specs.Content.{Content, LayerContent, feature_of, layer_of}
 use Rattle.sf_layers.specs.WellFormed.{IsFeature, IsLayer, IsWellFormed}
 use Rattle.sf_known.specs.declared.matrix.Matrix.{Matrix}
-use Rattle.sf_relate.specs.declared.place.Place.{Place}
-use Rattle.sf_relate.specs.declared.place.Place.TheVariants.{Boundary, Exterior, Interior}
-use Rattle.sf_known.specs.declared.predicate.Predicate.{Predicate}
-use Rattle.sf_known.specs.declared.predicate.Predicate.TheVariants.{Disjoint, Intersects}
 use Rattle.sf_relate.specs.Matrices.{IsMatrix, matrix_of}
 use Rattle.sf_known.specs.Patterns.{has_contact}
-use Rattle.sf_relate.specs.Places.{IsPlaceOf}
-use Rattle.sf_known.specs.Predicates.{holds}
 use Rattle.sf_relate.specs.Told.{ShareNone}
 use Rattle.sf_known.proofs.ContactLaws.{patterns_need_contact, predicates_need_contact}
 use Rattle.sf_relate.proofs.EnvelopeLaws.{apart_has_no_contact, valid-closed}

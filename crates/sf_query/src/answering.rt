@@ -1,17 +1,20 @@
-//! Whether a geometry is as asked: by the first evidence that decides it, and else by a walk.
+//! What is asked of a geometry: by one evidence after another until that is enough, and else by a walk.
 
 ghost use Rattle.std.specs.Prelude.{◌≡◌, IfOk, IfSome};
 ghost use Rattle.sf_geometry.specs.Envelope.{envelope_of};
 ghost use Rattle.sf_rules.specs.Validity.{IsValid};
 ghost use Rattle.sf_prepared.specs.Boxes.{AreEdgesOf};
+ghost use Rattle.sf_relate.specs.Matrices.{matrix_of};
 ghost use Rattle.sf_query.specs.Answers.{is_asked};
+ghost use Rattle.sf_query.specs.Evidence.{IsGathered};
 
 use super::ask::Ask;
-use super::evidence::matrix_by_boxes;
-use super::order::order_of;
+use super::evidence::Evidence;
+use super::order::{order_of, order_of_entries};
+use super::shown::{Gathered, Shown};
 use sf_geometry::Extent;
 use sf_prepared::Prepared;
-use sf_relate::meets;
+use sf_relate::{Aim, Known, Matrix, matrix_by_boxes, meets_from, relate_from};
 use sf_validity::Valid;
 use std::alloc::{AllocError, Global};
 
@@ -49,10 +52,56 @@ pub(crate) fn is_asked(
     ensures { IfOk result (λ answer. answer ≡ is_asked ask.now geometry.now given.now) }
 {
     let goal = ask.goal(geometry, given);
-    for evidence in order_of(ask) {
-        if let Some(answer) = evidence.answer(alloc, &goal, geometry, given, prepared) {
-            return Ok(answer);
+    let aim = Aim::Answer(goal);
+    match gathered(alloc, &aim, order_of(ask), geometry, given, prepared) {
+        Gathered::Matrix(matrix) => Ok(goal.is_met(&matrix)),
+        Gathered::Entries(known) => match known.answer(&goal) {
+            Some(answer) => Ok(answer),
+            None => meets_from(alloc, &goal, geometry, given, &known),
+        },
+    }
+}
+
+/// The matrix of a feature's geometry with the given one.
+pub(crate) fn matrix_with(
+    alloc: Global,
+    geometry: &Valid,
+    given: &Valid,
+) -> Result<Matrix, AllocError>
+    ensures { IfOk result (λ matrix. matrix.0 ≡ matrix_of geometry.now given.now) }
+{
+    let order = order_of_entries(given.geometry().point_count());
+    match gathered(alloc, &Aim::Entries, order, geometry, given, &None) {
+        Gathered::Matrix(matrix) => Ok(matrix),
+        Gathered::Entries(known) => relate_from(alloc, geometry, given, &known),
+    }
+}
+
+/// What evidence in this order shows of the matrix, until that is enough for what is to be found out.
+fn gathered(
+    alloc: Global,
+    aim: &Aim,
+    order: &[Evidence],
+    geometry: &Valid,
+    given: &Valid,
+    prepared: &Option<Prepared>,
+) -> Gathered
+    requires prepared { IfSome prepared.now (AreEdgesOf given.now) }
+    requires valid { IsValid given.now }
+    ensures { IsGathered (matrix_of geometry.now given.now) result }
+{
+    let mut known = Known::nothing();
+    for evidence in order {
+        let Some(shown) = evidence.shown(alloc, geometry, given, prepared) else {
+            continue;
+        };
+        if let Shown::Whole(matrix) = shown {
+            return Gathered::Matrix(matrix);
+        }
+        shown.add_to(&mut known);
+        if known.is_enough(aim) {
+            break;
         }
     }
-    meets(alloc, &goal, geometry, given)
+    Gathered::Entries(known)
 }

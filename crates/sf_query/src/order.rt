@@ -2,6 +2,7 @@
 
 use super::ask::Ask;
 use super::evidence::Evidence;
+use sf_contact::FEW_POINTS;
 
 /// How many features there are at least for what is made of the given geometry to pay.
 pub(crate) const MANY_FEATURES: usize = 8;
@@ -30,11 +31,38 @@ static OF_MATRIX: [Evidence; 5] = [
     Evidence::Nearby,
 ];
 
+/// Where all entries of one feature are asked, and the given geometry has few points: edges nearby show all of them, whether or not
+/// boxes meet. For one feature nothing is prepared.
+static OF_ENTRIES_OF_FEW: [Evidence; 5] = [
+    Evidence::Place,
+    Evidence::Nearby,
+    Evidence::Boxes,
+    Evidence::Edges,
+    Evidence::Crossing,
+];
+
+/// Where it has many, boxes come first.
+static OF_ENTRIES_OF_MANY: [Evidence; 4] = [
+    Evidence::Boxes,
+    Evidence::Place,
+    Evidence::Edges,
+    Evidence::Crossing,
+];
+
 /// The order for what is asked. A walk comes after all of them.
 pub(crate) fn order_of(ask: &Ask) -> &'static [Evidence] {
     if ask.is_of_contact() {
         &OF_CONTACT
     } else {
         &OF_MATRIX
+    }
+}
+
+/// The order for all entries of one feature, where the given geometry has so many points.
+pub(crate) fn order_of_entries(points: usize) -> &'static [Evidence] {
+    if points <= FEW_POINTS {
+        &OF_ENTRIES_OF_FEW
+    } else {
+        &OF_ENTRIES_OF_MANY
     }
 }

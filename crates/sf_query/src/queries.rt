@@ -8,13 +8,11 @@ ghost use Rattle.sf_layers.specs.Boxes.{boxes_of};
 ghost use Rattle.sf_layers.specs.Content.{layer_of};
 ghost use Rattle.sf_layers.specs.WellFormed.{IsLayer};
 ghost use Rattle.sf_prepared.specs.Boxes.{AreEdgesOf};
-ghost use Rattle.sf_relate.specs.Matrices.{matrix_of};
 ghost use Rattle.sf_query.specs.Answers.{IsAnswer, needs_contact};
 ghost use Rattle.sf_query.specs.Replies.{IsQueried, IsRelated};
 
-use super::answering::{is_asked, is_asked_beside};
+use super::answering::{is_asked, is_asked_beside, matrix_with};
 use super::ask::Ask;
-use super::evidence::matrix_by_edges_nearby;
 use super::found::Found;
 use super::order::MANY_FEATURES;
 use super::refusal::Refusal;
@@ -22,7 +20,7 @@ use sf_contact::FEW_POINTS;
 use sf_geometry::Extent;
 use sf_layers::{Layer, Store};
 use sf_prepared::Prepared;
-use sf_relate::{Matrix, relate};
+use sf_relate::Matrix;
 use sf_rtree::{RTree, SpatialIndex};
 use sf_validity::Valid;
 use std::alloc::{AllocError, Global};
@@ -68,16 +66,6 @@ pub fn relate_one(
         return Err(Refusal::NoFeature);
     };
     Ok(matrix_with(alloc, feature.valid(), given)?)
-}
-
-/// The matrix of a feature's geometry with the given one. Where that is small beside an area, the edges near it show it.
-fn matrix_with(alloc: Global, geometry: &Valid, given: &Valid) -> Result<Matrix, AllocError>
-    ensures { IfOk result (λ matrix. matrix.0 ≡ matrix_of geometry.now given.now) }
-{
-    match matrix_by_edges_nearby(alloc, geometry, given) {
-        Some(matrix) => Ok(matrix),
-        None => relate(alloc, geometry, given),
-    }
 }
 
 /// The features of a layer of a store whose matrix with the given geometry is as asked.

@@ -33,7 +33,7 @@ use Rattle.sf_known.specs.declared.matrix.Matrix.{Matrix}
 use Rattle.sf_known.specs.Known.{Holds, have_most, is_enough}
 use Rattle.sf_relate.specs.declared.shape.Shape.TheVariants.{Areas}
 use Rattle.sf_relate.specs.AllPieces.{all_pieces, end_dots_of, pieces_of, with_ends}
-use Rattle.sf_relate.specs.Areas.{Overlap, overlapping_entries, with_boundaries}
+use Rattle.sf_relate.specs.Areas.{with_boundaries}
 use Rattle.sf_relate.specs.Matrices.{both, matrix_of}
 use Rattle.sf_relate.specs.Places.{shape_of}
 use Rattle.sf_relate.proofs.MostLaws.{wider-triangle}
@@ -147,24 +147,6 @@ boundaries-entry a b along v w s t r filled =
     (λ k. along-segment a b s t (r.0 k)) (λ k. r.1 (segment-along a b s t k))
 
 -- ---- the matrix
-fifth : List Dim → Dim
-fifth (a ∷ b ∷ c ∷ d ∷ e ∷ ds) = e
-fifth ds = dims.Nothing
-
-shared-point : (along : Bool) (d : Dim) → d ≡ (if along then dims.One else dims.Zero) → d ≡ dims.Nothing → ⊥
-shared-point true d e f = absurd cc
-shared-point false d e f = absurd cc
-
--- of areas that overlap
-pub overlap-told : (a b : Geometry) (along : Bool) → IsValid a → IsValid b → shape_of a ≡ Areas → shape_of b ≡ Areas → Overlap a b → IsTrue along ↔ RunAlong a b
-    → overlapping_entries along ≡ matrix_of a b
-unfolding fifth
-overlap-told a b along v w s t h r =
-    let is : boundaries_dim a b ≡ (if h.along then dims.One else dims.Zero) = ap fifth h.matrix in
-    ap (λ d. dims.Two ∷ dims.One ∷ dims.Two ∷ dims.One ∷ d ∷ dims.One ∷ dims.Two ∷ dims.One ∷ dims.Two ∷ [])
-    (boundaries-entry a b along v w s t r (shared-point h.along (boundaries_dim a b) is) ∙ is)
-    ∙ sym h.matrix
-
 -- what is said where all entries are known, and where they are not
 abbrev matrix_if : Bool → List Dim → Option Matrix
 matrix_if all entries = if all then Some (record { 0 = entries }) else None

@@ -8,6 +8,7 @@ pub mod SinkLaws
 pub mod SizeLaws
 pub mod MatrixLaws
 pub mod MostLaws
+pub mod FoundLaws
 pub mod SharedLaws
 pub mod EnvelopeLaws
 pub mod Computed
@@ -18,6 +19,7 @@ pub mod PointLaws
 pub mod FirstLaws
 pub mod ToldLaws
 pub mod NearbyLaws
+pub mod BeyondLaws
 pub mod AreasLaws
 pub mod CornerLaws
 pub mod SectorLaws

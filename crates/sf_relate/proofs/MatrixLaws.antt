@@ -11,8 +11,8 @@ use Rattle.sf_known.specs.Known.{AreAtMost, Holds}
 use Rattle.sf_relate.specs.declared.shape.Shape.{Shape}
 use Rattle.sf_relate.specs.AllPieces.{all_grouped}
 use Rattle.sf_relate.specs.Matrices.{IsMatrix, matrix_of}
-use Rattle.sf_relate.specs.Places.{Gathered, begun, found_by, is_areal, shape_of, with_cell, with_item}
-use Rattle.sf_relate.proofs.FoldLaws.{greatest_at, listed, table-of-items}
+use Rattle.sf_relate.specs.Places.{Gathered, begun, found_by, is_areal, shape_of, with_cell}
+use Rattle.sf_relate.proofs.FoldLaws.{table-of-items}
 use Rattle.sf_relate.proofs.SinkLaws.{IsFound, IsGatheredOf, fold-from, found-left, gathered-from}
 use Rattle.sf_relate.proofs.SetLaws.{matrices_are_over_the_plane}
 

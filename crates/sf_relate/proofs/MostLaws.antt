@@ -1,5 +1,5 @@
 -- No entry has more than the most that the kinds of the geometries allow.
-use Rattle.std.proofs.Common.{◌≡◌, refl, ap, sym, ◌∙◌, subst, Bool, true, false, ◌⊎◌, inl, inr, List, [], ◌∷◌}
+use Rattle.std.proofs.Common.{◌≡◌, refl, Bool, true, false}
 use Rattle.std.specs.Prelude.{if◌then◌else◌}
 use Rattle.std.proofs.lemmas.Bool.{and_parts, both_ways}
 use Rattle.sf_geometry.specs.declared.geometry.Geometry.{Geometry}
@@ -12,40 +12,12 @@ use Rattle.sf_plane.proofs.UnionLaws.{point_in_segment, segment_in_triangle}
 use Rattle.sf_plane.specs.declared.dim.Dim.{Dim}
 use Rattle.sf_plane.specs.declared.dim.Dim.TheVariants as dims
 use Rattle.sf_plane.specs.Dimension.{HasDimension, HasPoint, HasSegment, HasTriangle, PointSet}
-use Rattle.sf_plane.specs.Unions.{greater_dim}
 use Rattle.sf_rules.specs.Validity.{IsValid}
-use Rattle.sf_known.proofs.OrderLaws.{greater-same, through}
-use Rattle.sf_known.specs.Entries.{lesser_dim}
+use Rattle.sf_known.proofs.OrderLaws.{at-most-lesser, at-most-two, greater-same, through}
 use Rattle.sf_known.specs.Known.{AreAtMost, Holds, IsAtMost}
 use Rattle.sf_relate.specs.Matrices.{both, matrix_of}
 use Rattle.sf_relate.specs.Most.{boundary_most, known_of_kinds, most_entries}
 use Rattle.sf_relate.proofs.SetLaws.{matrices_are_over_the_plane}
-
--- ---- dimensions in order
-lesser-is : (m n : Dim) → (lesser_dim m n ≡ m) ⊎ (lesser_dim m n ≡ n)
-lesser-is dims.Nothing n = inl refl
-lesser-is dims.Zero dims.Nothing = inr refl
-lesser-is dims.Zero dims.Zero = inl refl
-lesser-is dims.Zero dims.One = inl refl
-lesser-is dims.Zero dims.Two = inl refl
-lesser-is dims.One dims.Nothing = inr refl
-lesser-is dims.One dims.Zero = inr refl
-lesser-is dims.One dims.One = inl refl
-lesser-is dims.One dims.Two = inl refl
-lesser-is dims.Two n = inr refl
-
-at_most_both : (d m n : Dim) → IsAtMost d m → IsAtMost d n → IsAtMost d (lesser_dim m n)
-at_most_both d m n h j = by_one (lesser-is m n)
-  where
-    by_one : (lesser_dim m n ≡ m) ⊎ (lesser_dim m n ≡ n) → IsAtMost d (lesser_dim m n)
-    by_one (inl e) = subst (IsAtMost d) (sym e) h
-    by_one (inr e) = subst (IsAtMost d) (sym e) j
-
-at_most_two : (d : Dim) → IsAtMost d dims.Two
-at_most_two dims.Nothing = refl
-at_most_two dims.Zero = refl
-at_most_two dims.One = refl
-at_most_two dims.Two = refl
 
 -- ---- a set among the points of another has at most its dimension
 abbrev IsAmong : PointSet → PointSet → Type 0
@@ -107,22 +79,22 @@ entries-at_most a b v w =
     let second_boundary : (s : PointSet) (d : Dim) → HasDimension (both s (in_boundary b)) d → IsAtMost d (boundary_most b) =
     λ s d h. through d (boundary_dim b) (boundary_most b)
     (among-at_most (both s (in_boundary b)) (in_boundary b) d (boundary_dim b) (in-second s (in_boundary b)) h (boundary_has_dimension b w)) (boundary-at_most b) in (
-      at_most_both _ _ _ (first_interior (in_interior b) _ m.0) (second_interior (in_interior a) _ m.0),
+      at-most-lesser _ _ _ (first_interior (in_interior b) _ m.0) (second_interior (in_interior a) _ m.0),
       (
-        at_most_both _ _ _ (first_interior (in_boundary b) _ m.1.0) (second_boundary (in_interior a) _ m.1.0),
+        at-most-lesser _ _ _ (first_interior (in_boundary b) _ m.1.0) (second_boundary (in_interior a) _ m.1.0),
         (
           first_interior (in_exterior b) _ m.1.1.0,
           (
-            at_most_both _ _ _ (first_boundary (in_interior b) _ m.1.1.1.0) (second_interior (in_boundary a) _ m.1.1.1.0),
+            at-most-lesser _ _ _ (first_boundary (in_interior b) _ m.1.1.1.0) (second_interior (in_boundary a) _ m.1.1.1.0),
             (
-              at_most_both _ _ _ (first_boundary (in_boundary b) _ m.1.1.1.1.0) (second_boundary (in_boundary a) _ m.1.1.1.1.0),
+              at-most-lesser _ _ _ (first_boundary (in_boundary b) _ m.1.1.1.1.0) (second_boundary (in_boundary a) _ m.1.1.1.1.0),
               (
                 first_boundary (in_exterior b) _ m.1.1.1.1.1.0,
                 (
                   second_interior (in_exterior a) _ m.1.1.1.1.1.1.0,
                   (
                     second_boundary (in_exterior a) _ m.1.1.1.1.1.1.1.0,
-                    (at_most_two _, refl),
+                    (at-most-two _, refl),
                   ),
                 ),
               ),

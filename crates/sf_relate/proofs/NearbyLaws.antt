@@ -233,11 +233,11 @@ own-entry a area es items p r v tell h own union =
     (entry-is a area p r)
 
 -- ---- the third row
-beyond-interior : (a area : Geometry) → ReachesBeyond a area → Two ≡ entry a area Exterior Interior
+pub beyond-interior : (a area : Geometry) → ReachesBeyond a area → Two ≡ entry a area Exterior Interior
 beyond-interior a area h = dimension_is_unique (both (in_exterior a) (in_interior area)) Two (entry a area Exterior Interior) h.interior (entry-is a area Exterior Interior)
 
 -- the boundary of an area has no triangle
-beyond-boundary : (a area : Geometry) → IsValid area → boundary_dim area ≡ One → ReachesBeyond a area → One ≡ entry a area Exterior Boundary
+pub beyond-boundary : (a area : Geometry) → IsValid area → boundary_dim area ≡ One → ReachesBeyond a area → One ≡ entry a area Exterior Boundary
 beyond-boundary a area w one h =
     dimension_is_unique (both (in_exterior a) (in_boundary area)) One (entry a area Exterior Boundary)
     (h.boundary, λ t. (subst (HasDimension (in_boundary area)) one (boundary_has_dimension area w)).1 (thinner t)) (entry-is a area Exterior Boundary)
@@ -255,7 +255,7 @@ beyond-boundary a area w one h =
           has = λ p i k. (and_parts (in_exterior a p) (in_boundary area p) (t.has p i k)).1;
         }
 
-beyond-both : (a area : Geometry) → IsValid a → IsValid area → Two ≡ entry a area Exterior Exterior
+pub beyond-both : (a area : Geometry) → IsValid a → IsValid area → Two ≡ entry a area Exterior Exterior
 beyond-both a area v w = dimension_is_unique (both (in_exterior a) (in_exterior area)) Two (entry a area Exterior Exterior) (outside-both a area v w) (entry-is a area Exterior Exterior)
 
 -- ---- the matrix
@@ -267,7 +267,7 @@ reaching t Exterior Exterior = Two
 reaching t Interior r = t Interior r
 reaching t Boundary r = t Boundary r
 
-area-edge : (area : Geometry) → shape_of area ≡ Areas → boundary_dim area ≡ One
+pub area-edge : (area : Geometry) → shape_of area ≡ Areas → boundary_dim area ≡ One
 area-edge (Point p) e = absurd cc
 area-edge (MultiPoint ps) e = absurd cc
 area-edge (LineString ps) e = absurd cc

@@ -27,13 +27,13 @@ use Rattle.sf_rules.specs.Validity.{IsValid}
 use Rattle.sf_relate.specs.declared.place.Place.TheVariants.{Interior, Exterior}
 use Rattle.sf_relate.specs.declared.shape.Shape.TheVariants.{Areas}
 use Rattle.sf_relate.specs.AllPieces.{all_pieces}
-use Rattle.sf_relate.specs.Areas.{CrossingAreasOverlap, Overlap, overlapping_entries}
+use Rattle.sf_relate.specs.Areas.{CrossingAreasOverlap}
 use Rattle.sf_relate.specs.Locating.{area_place, edges_place, place_by_tests}
-use Rattle.sf_relate.specs.Matrices.{both, matrix_of}
+use Rattle.sf_relate.specs.Matrices.{both}
 use Rattle.sf_relate.specs.Places.{IsPlaceOf, shape_of}
 use Rattle.sf_relate.proofs.AreasLaws.{by-edges, first-thin, second-thin}
 use Rattle.sf_relate.proofs.EnvelopeLaws.{valid-closed}
-use Rattle.sf_relate.proofs.FoldLaws.{cons, set_of}
+use Rattle.sf_relate.proofs.FoldLaws.{cons}
 use Rattle.sf_relate.proofs.SectorLaws.{IsAt, crossing-piece, crossing-triangle, swapped}
 use Rattle.sf_relate.proofs.SetLaws.{matrices_are_over_the_plane}
 use Rattle.sf_relate.proofs.TestedPlaces.{tests_tell_places}

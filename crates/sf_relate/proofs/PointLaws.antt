@@ -19,14 +19,13 @@ use Rattle.sf_relate.specs.AllPieces.{all_pieces}
 use Rattle.sf_relate.specs.Contact.{PointFillsItsPlace}
 use Rattle.sf_relate.specs.Matrices.{both, matrix_of}
 use Rattle.sf_known.specs.Patterns.{has_contact, is_filled}
-use Rattle.sf_relate.specs.Places.{IsPlaceOf, is_place}
+use Rattle.sf_relate.specs.Places.{is_place}
 use Rattle.sf_relate.specs.Most.{boundary_most, most_entries}
 use Rattle.sf_relate.specs.Placed.{PlacesAreKnown, known_of_place}
 use Rattle.sf_relate.proofs.MostLaws.{entries-at_most}
 use Rattle.sf_known.proofs.OrderLaws.{at-most-two, through}
 use Rattle.sf_known.specs.Entries.{lesser_dim}
 use Rattle.sf_known.specs.Known.{AreAtMost, Holds, IsAtMost}
-use Rattle.sf_rules.specs.Validity.{IsValid}
 use Rattle.sf_interiors.specs.Dimensions.{interior_dim}
 use Rattle.sf_known.proofs.ContactLaws.{empty-entry}
 use Rattle.sf_relate.proofs.SetLaws.{boundary_union, exterior_union, interior_union, matrices_are_over_the_plane, second_has}

@@ -1,12 +1,13 @@
 -- Internal: who wants to trust the program need not read this file.
 -- The matrix of two areas, told before all their cells were handed out, or with no cells at all: once each entry has the most
 -- that areas allow, but that of the two boundaries, of which it is known that they share a point.
-use Rattle.std.specs.Prelude.{◌≡◌, Bool, List, [], ◌∷◌, slice_set, if◌then◌else◌}
+use Rattle.std.specs.Prelude.{◌≡◌, Bool, false, true, List, [], ◌∷◌, slice_set, if◌then◌else◌}
 use Rattle.std.specs.Int.{int_max, int_min}
 use Rattle.sf_crossing.specs.Crossing.{HaveCrossing}
 use Rattle.sf_geometry.specs.declared.extent.Extent.{Extent}
 use Rattle.sf_geometry.specs.declared.geometry.Geometry.{Geometry}
 use Rattle.sf_geometry.specs.Parts.{edges_of}
+use Rattle.sf_known.specs.declared.known.Known.{Known}
 use Rattle.sf_plane.specs.declared.dim.Dim.{Dim}
 use Rattle.sf_plane.specs.declared.dim.Dim.TheVariants as dims
 use Rattle.sf_relate.specs.declared.shape.Shape.TheVariants.{Areas}
@@ -20,6 +21,10 @@ overlapping_entries along =
     dims.Two ∷ dims.One ∷ dims.Two
     ∷ dims.One ∷ (if along then dims.One else dims.Zero) ∷ dims.One
     ∷ dims.Two ∷ dims.One ∷ dims.Two ∷ []
+
+-- what is known of areas that overlap: all but whether their boundaries share a piece
+abbrev pub known_overlapping : Known
+known_overlapping = record { least = overlapping_entries false; most = overlapping_entries true; contact = false }
 
 -- these entries, with that of the boundaries by whether they share a piece
 abbrev pub with_boundaries : List Dim → Bool → List Dim

@@ -11,7 +11,7 @@ use Rattle.sf_geometry.specs.declared.geometry.Geometry.{Geometry}
 use Rattle.sf_geometry.specs.declared.geometry.Geometry.TheVariants.{Point, LineString, Polygon, MultiPoint, MultiLineString, MultiPolygon}
 use Rattle.sf_geometry.specs.PointSets.{in_boundary, in_interior}
 use Rattle.sf_plane.specs.declared.dim.Dim.{Dim}
-use Rattle.sf_plane.specs.declared.dim.Dim.TheVariants.{Nothing, Zero, One, Two}
+use Rattle.sf_plane.specs.declared.dim.Dim.TheVariants.{Nothing}
 use Rattle.sf_plane.specs.Unions.{dim_of}
 use Rattle.sf_rules.specs.Validity.{IsValid}
 use Rattle.sf_relate.specs.declared.place.Place.{Place}

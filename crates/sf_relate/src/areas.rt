@@ -2,15 +2,15 @@
 //! ends after a few columns: then each entry has the most that areas allow, but that of the two boundaries, and edges that
 //! run along one another decide that one.
 
-ghost use Rattle.std.specs.Prelude.{◌≡◌, IfOk, IsTrue};
-ghost use Rattle.sf_relate.specs.Areas.{Overlap, common_extent, overlapping_entries, with_boundaries};
+ghost use Rattle.std.specs.Prelude.{◌≡◌, IfOk, IfSome, IsTrue};
+ghost use Rattle.sf_known.specs.Known.{Holds};
+ghost use Rattle.sf_relate.specs.Areas.{Overlap, common_extent, known_overlapping, overlapping_entries, with_boundaries};
 ghost use Rattle.sf_relate.specs.Matrices.{matrix_of};
 ghost use Rattle.sf_relate.specs.Places.{shape_of};
 ghost use Rattle.sf_relate.specs.declared.shape.Shape.TheVariants.{Areas};
 
-use super::at_most::known_of_kinds;
 use super::shape::Shape;
-use super::walking::walked;
+use super::walking::found_from;
 use sf_along::run_along;
 use sf_crossing::have_crossing;
 use sf_geometry::Extent;
@@ -18,6 +18,21 @@ use sf_known::{Aim, Known, Matrix};
 use sf_plane::Dim;
 use sf_validity::Valid;
 use std::alloc::{AllocError, Global};
+
+/// What edges that cross show of the matrix of two areas: all but how their boundaries share points. None where none are
+/// found, and where no memory is.
+pub fn known_by_crossing(alloc: Global, a: &Valid, b: &Valid) -> Option<Known>
+    ensures { IfSome result (λ known. Holds known (matrix_of a.now b.now)) }
+{
+    let Ok(overlap) = are_known_to_overlap(alloc, a, b) else {
+        return None;
+    };
+    if overlap {
+        Some(known_overlapping())
+    } else {
+        None
+    }
+}
 
 /// Whether two geometries are areas of which edges are found that cross, so that they overlap. If not, nothing is known.
 ///
@@ -59,24 +74,25 @@ pub(crate) fn are_areas(a: &Valid, b: &Valid) -> bool
     Shape::of(a.geometry()).is_areal() && Shape::of(b.geometry()).is_areal()
 }
 
-/// The matrix of two areas: by edges that cross, or else by a walk over the pieces of both that ends once they are known
-/// to overlap.
+/// The matrix of two areas of which this is known: by a walk over the pieces of both that ends once they are known to overlap.
 ///
 /// # Errors
 ///
 /// Out of memory alone.
-pub(crate) fn relate_areas(alloc: Global, a: &Valid, b: &Valid) -> Result<Matrix, AllocError>
+pub(crate) fn relate_areas(
+    alloc: Global,
+    a: &Valid,
+    b: &Valid,
+    known: &Known,
+) -> Result<Matrix, AllocError>
     requires first { shape_of a.now ≡ Areas }
     requires second { shape_of b.now ≡ Areas }
+    requires known { Holds known.now (matrix_of a.now b.now) }
     ensures { IfOk result (λ matrix. matrix.0 ≡ matrix_of a.now b.now) }
 {
     let first = a.geometry();
     let second = b.geometry();
-    if are_known_to_overlap(alloc, a, b)? {
-        return Ok(matrix_overlapping(run_along(alloc, first, second)?));
-    }
-    let known = known_of_kinds(a, b);
-    let found = walked(alloc, a, b, &Aim::ButBoundaries, &known)?;
+    let found = found_from(alloc, a, b, &Aim::ButBoundaries, known)?;
     match found.matrix() {
         Some(matrix) => Ok(matrix),
         None => Ok(matrix_along(&found, run_along(alloc, first, second)?)),
@@ -92,11 +108,22 @@ fn matrix_along(known: &Known, along: bool) -> Matrix
     Matrix(entries)
 }
 
-/// The matrix of two areas that overlap, by whether their boundaries run along one another.
-pub fn matrix_overlapping(along: bool) -> Matrix
-    ensures { result.0 ≡ overlapping_entries along }
+/// What is known of areas that overlap.
+fn known_overlapping() -> Known
+    ensures { result ≡ known_overlapping }
 {
-    Matrix([
+    Known {
+        least: overlapping_entries(false),
+        most: overlapping_entries(true),
+        contact: false,
+    }
+}
+
+/// The entries of two areas that overlap, by whether their boundaries run along one another.
+fn overlapping_entries(along: bool) -> [Dim; 9]
+    ensures { result ≡ overlapping_entries along }
+{
+    [
         Dim::Two,
         Dim::One,
         Dim::Two,
@@ -106,5 +133,5 @@ pub fn matrix_overlapping(along: bool) -> Matrix
         Dim::Two,
         Dim::One,
         Dim::Two,
-    ])
+    ]
 }

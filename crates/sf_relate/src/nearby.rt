@@ -6,6 +6,7 @@ ghost use Rattle.std.specs.List.{AllByRecursion};
 ghost use Rattle.sf_geometry.specs.Lists.{is_same};
 ghost use Rattle.sf_geometry.specs.Parts.{edge_of};
 ghost use Rattle.sf_pieces.specs.Marked.{marked, piece_of};
+ghost use Rattle.sf_known.specs.Known.{Holds};
 ghost use Rattle.sf_relate.specs.Contact.{own_rows};
 ghost use Rattle.sf_relate.specs.Matrices.{matrix_of};
 ghost use Rattle.sf_relate.specs.Most.{beyond_row, known_beyond};
@@ -13,7 +14,7 @@ ghost use Rattle.sf_relate.specs.Nearby.{ReachesBeyond, TellPlaces, nearby_group
 ghost use Rattle.sf_relate.specs.Places.{shape_of};
 ghost use Rattle.sf_relate.specs.declared.shape.Shape.TheVariants.{Areas};
 
-use super::at_most::most_entries;
+use super::at_most::{known_of_kinds, most_entries};
 use super::grouping::{FIRST, FIRST_ENDS, SECOND, push_grouped};
 use super::shape::Shape;
 use super::sink::KnownSink;
@@ -56,6 +57,19 @@ pub fn relate_nearby(
     pieces.walk(alloc, &areal, &mut sink)?;
     let entries = reaching_beyond(sink.known.least);
     Ok(Matrix(entries))
+}
+
+/// What is known of the matrix of two geometries at first, by their kinds. Points leave an area parts of its interior and of its
+/// boundary.
+pub(crate) fn known_at_first(a: &Valid, b: &Valid) -> Known
+    ensures { Holds result (matrix_of a.now b.now) }
+{
+    let first = a.geometry();
+    let second = b.geometry();
+    match (Shape::of(first), Shape::of(second)) {
+        (Shape::Points, Shape::Areas) => known_beyond(first, second),
+        _ => known_of_kinds(a, b),
+    }
 }
 
 /// What is known of the matrix of a geometry with an area that reaches beyond it.

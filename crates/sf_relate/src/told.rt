@@ -61,7 +61,7 @@ pub fn matrix_within(a: &Valid, b: &Valid) -> Matrix
 }
 
 /// Whether the boxes of two geometries share no point, where `extent` is the second one's: then the geometries share none.
-pub fn are_apart(a: &Valid, b: &Valid, extent: Extent) -> bool
+fn are_apart(a: &Valid, b: &Valid, extent: Extent) -> bool
     requires extent { extent ≡ envelope_of b.now }
     requires valid { IsValid b.now }
     ensures apart { IsTrue result → ShareNone a.now b.now }
@@ -70,12 +70,14 @@ pub fn are_apart(a: &Valid, b: &Valid, extent: Extent) -> bool
     !a.geometry().envelope().meets(extent)
 }
 
-/// The matrix of two geometries whose boxes share no point, or None exactly where the boxes meet.
-pub(crate) fn matrix_by_boxes(a: &Valid, b: &Valid) -> Option<Matrix>
+/// The matrix of two geometries whose boxes share no point, where `extent` is the second one's: kinds and ends give it. None
+/// exactly where the boxes meet.
+pub fn matrix_by_boxes(a: &Valid, b: &Valid, extent: Extent) -> Option<Matrix>
+    requires extent { extent ≡ envelope_of b.now }
+    requires valid { IsValid b.now }
     ensures told { IfSome result (λ matrix. matrix.0 ≡ matrix_of a.now b.now) }
-    ensures boxes { is_some result ≡ not (extents_meet (envelope_of a.now) (envelope_of b.now)) }
+    ensures boxes { is_some result ≡ not (extents_meet (envelope_of a.now) extent) }
 {
-    let extent = b.geometry().envelope();
     if are_apart(a, b, extent) {
         Some(matrix_apart(a, b))
     } else {

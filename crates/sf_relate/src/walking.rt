@@ -5,8 +5,8 @@ ghost use Rattle.sf_known.specs.Goals.{is_met};
 ghost use Rattle.sf_known.specs.Known.{Holds, KnowsAsMuch, answer_of, is_enough};
 ghost use Rattle.sf_relate.specs.Matrices.{matrix_of};
 
-use super::at_most::known_of_kinds;
 use super::grouping::pieces_of;
+use super::nearby::known_at_first;
 use super::shape::Shape;
 use super::sink::KnownSink;
 use sf_known::{Aim, Goal, Known};
@@ -42,6 +42,34 @@ pub fn walked(
     Ok(sink.found())
 }
 
+/// What is known of the matrix of two geometries once what is to be found out is: from what is known already, with their kinds,
+/// and else by a walk.
+///
+/// # Errors
+///
+/// Out of memory alone.
+pub(crate) fn found_from(
+    alloc: Global,
+    a: &Valid,
+    b: &Valid,
+    aim: &Aim,
+    known: &Known,
+) -> Result<Known, AllocError>
+    requires { Holds known.now (matrix_of a.now b.now) }
+    ensures holds { IfOk result (λ found. Holds found (matrix_of a.now b.now)) }
+    ensures enough { IfOk result (λ found. IsTrue (is_enough found aim.now)) }
+{
+    if known.is_enough(aim) {
+        return Ok(*known);
+    }
+    let kinds = known_at_first(a, b);
+    let more = known.and(&kinds);
+    if more.is_enough(aim) {
+        return Ok(more);
+    }
+    walked(alloc, a, b, aim, &more)
+}
+
 /// Whether the matrix of two geometries is as is asked.
 ///
 /// # Errors
@@ -50,12 +78,26 @@ pub fn walked(
 pub fn meets(alloc: Global, goal: &Goal, a: &Valid, b: &Valid) -> Result<bool, AllocError>
     ensures { IfOk result (λ answer. answer ≡ is_met goal.now (matrix_of a.now b.now)) }
 {
-    let known = known_of_kinds(a, b);
-    if let Some(answer) = known.answer(goal) {
-        return Ok(answer);
-    }
+    meets_from(alloc, goal, a, b, &Known::nothing())
+}
+
+/// Whether the matrix of two geometries, of which this is known, is as is asked.
+///
+/// # Errors
+///
+/// Out of memory alone.
+pub fn meets_from(
+    alloc: Global,
+    goal: &Goal,
+    a: &Valid,
+    b: &Valid,
+    known: &Known,
+) -> Result<bool, AllocError>
+    requires { Holds known.now (matrix_of a.now b.now) }
+    ensures { IfOk result (λ answer. answer ≡ is_met goal.now (matrix_of a.now b.now)) }
+{
     let aim = Aim::Answer(*goal);
-    let found = walked(alloc, a, b, &aim, &known)?;
+    let found = found_from(alloc, a, b, &aim, known)?;
     Ok(answer_in(&found, goal))
 }
 

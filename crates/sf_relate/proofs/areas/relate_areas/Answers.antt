@@ -1,25 +1,16 @@
-use Rattle.std.proofs.Common.{◌≡◌, ap, ◌∙◌, subst, Bool}
+use Rattle.std.proofs.Common.{◌≡◌, ◌∙◌, subst, Bool}
 use Rattle.std.specs.Prelude.{◌↔◌, IsTrue}
 use Rattle.sf_along.specs.Along.{RunAlong}
 use Rattle.sf_geometry.specs.declared.geometry.Geometry.{Geometry}
 use Rattle.sf_known.specs.Known.{have_most}
 use Rattle.sf_known.proofs.OrderLaws.{entries-known}
 use Rattle.sf_relate.specs.Matrices.{matrix_of}
-use Rattle.sf_relate.proofs.AreasLaws.{boundaries-left, matrix-given, matrix-missing, overlap-told}
+use Rattle.sf_relate.proofs.AreasLaws.{boundaries-left, matrix-given, matrix-missing}
 use Rattle.sf_relate.proofs.areas.relate_areas.Goals as goal
 
 -- edges that run along one another are those of both
 along : (a b g k : Geometry) (told : Bool) → g ≡ a → k ≡ b → IsTrue told ↔ RunAlong g k → IsTrue told ↔ RunAlong a b
 along a b g k told e f r = subst (λ (h : Geometry). IsTrue told ↔ RunAlong a h) f (subst (λ (h : Geometry). IsTrue told ↔ RunAlong h k) e r)
-
-pub returns-then-branch : goal.returns-then-branch
-returns-then-branch c =
-    let a = c.args.a.now in
-    let b = c.args.b.now in
-    c.matrix_overlapping.ensures
-    ∙ overlap-told a b c.in_ok-run_along.field-0 c.geometry-first.ensures.valid.valid c.geometry-second.ensures.valid.valid c.requires.first c.requires.second
-    (c.in_ok-are_known_to_overlap.ensures c.if-branch.true)
-    (along a b c.geometry-first.result.now c.geometry-second.result.now c.in_ok-run_along.field-0 c.geometry-first.ensures.same c.geometry-second.ensures.same c.in_ok-run_along.ensures)
 
 pub returns-in-Some : goal.returns-in-Some
 returns-in-Some c =

@@ -1,12 +1,16 @@
+use Rattle.std.proofs.Common.{subst, sym}
+use Rattle.sf_known.specs.declared.known.Known.{Known}
+use Rattle.sf_known.specs.Known.{Holds}
+use Rattle.sf_relate.specs.Matrices.{matrix_of}
+use Rattle.sf_relate.proofs.FoundLaws.{nothing-holds}
 use Rattle.sf_relate.proofs.MatrixLaws.{matrix-over-plane}
-use Rattle.sf_relate.proofs.ResultLaws.{answered}
 use Rattle.sf_relate.proofs.relating.relate.Goals as goal
 
 pub returns-in-Some-clause-plane : goal.returns-in-Some-clause-plane
 returns-in-Some-clause-plane c = matrix-over-plane c.args.a.now c.args.b.now c.in-Some.matrix.0 c.in-Some.ensures.told
 
-pub returns-then-are_areas-clause-plane : goal.returns-then-are_areas-clause-plane
-returns-then-are_areas-clause-plane c = answered c.relate_areas.result (λ matrix computed. matrix-over-plane c.args.a.now c.args.b.now matrix.0 computed) c.relate_areas.ensures
-
-pub returns-else-are_areas-clause-plane : goal.returns-else-are_areas-clause-plane
-returns-else-are_areas-clause-plane c = answered c.matrix_walked.result (λ matrix computed. matrix-over-plane c.args.a.now c.args.b.now matrix.0 computed) c.matrix_walked.ensures
+pub relate_from-requires-in-None : goal.relate_from-requires-in-None
+relate_from-requires-in-None c =
+    let a = c.args.a.now in
+    let b = c.args.b.now in
+    subst (λ (k : Known). Holds k (matrix_of a b)) (sym c.nothing.ensures) (nothing-holds a b)

@@ -1,12 +1,12 @@
-use Rattle.std.proofs.Common.{sym}
-use Rattle.sf_known.proofs.KnownLaws.{answers_are_true}
+use Rattle.std.proofs.Common.{subst, sym}
+use Rattle.sf_known.specs.declared.known.Known.{Known}
+use Rattle.sf_known.specs.Known.{Holds}
 use Rattle.sf_relate.specs.Matrices.{matrix_of}
+use Rattle.sf_relate.proofs.FoundLaws.{nothing-holds}
 use Rattle.sf_relate.proofs.walking.meets.Goals as goal
 
-pub returns-in-Some : goal.returns-in-Some
-returns-in-Some c =
-    answers_are_true c.known_of_kinds-known.result c.args.goal.now (matrix_of c.args.a.now c.args.b.now) c.in-Some.answer c.known_of_kinds-known.ensures.holds (sym c.in-Some.ensures)
-
-pub returns : goal.returns
-returns c =
-    answers_are_true c.in_ok-found.found c.args.goal.now (matrix_of c.args.a.now c.args.b.now) c.answer_in.result c.in_ok-found.ensures.holds c.answer_in.ensures
+pub meets_from-requires : goal.meets_from-requires
+meets_from-requires c =
+    let a = c.args.a.now in
+    let b = c.args.b.now in
+    subst (λ (k : Known). Holds k (matrix_of a b)) (sym c.nothing.ensures) (nothing-holds a b)
