@@ -1,14 +1,63 @@
-//! Each kind of evidence shows something of some features of a town, and what it shows is so of the matrix that a walk finds.
+//! Each kind of evidence shows something of some pairs of geometries that look random, and what it shows is so of the matrix
+//! that a walk finds.
 
-use super::town::{ROW, feature, town, valid};
 use sf_query::{Shown, shown_by_each};
 use sf_relate::{Aim, Dim, Known, Matrix, Predicate, dimension, holds, known_of_kinds, walked};
-use sf_validity::Valid;
-use std::alloc::Global;
+use sf_validity::{Valid, validate};
+use std::alloc::{AllocError, Global};
 use std::test::Fail;
+
+/// How many pairs are looked at.
+const PAIRS: u32 = 20_000;
+
+/// A town of 36 points: a border with spikes, a hole, and an island in it.
+const TOWN: &str = "MULTIPOLYGON (((-40 -40, -21 -40, -20 -16, -18 -40, 10 -40, 10 -40, 10 -30, 25 -30, 40 -40, 33 -7, 40 0, 12 3, 40 11, 30 30, 40 40, 0 40, -1 22, -2 40, -40 40, -40 11, -24 10, -40 9, -40 -40), (-10 10, -10 20, -5 15, 0 20, 0 10, -5 12, -10 10)), ((-7 14, -5 13, -3 14, -5 14, -7 14)))";
 
 /// Of how many pairs each kind of evidence shows something.
 type Counts = [u32; 6];
+
+/// Numbers that look random (Knuth's and Lewis's generator modulo 2^32).
+struct Dice {
+    state: u32,
+}
+
+impl Dice {
+    /// A number from 0 up to this one, which is left out.
+    fn below(&mut self, end: u32) -> u32 {
+        self.state = self.state.wrapping_mul(1_664_525).wrapping_add(1_013_904_223);
+        (self.state >> 16).checked_rem(end).unwrap_or(0)
+    }
+
+    /// A coordinate in and round the town.
+    fn coordinate(&mut self) -> u32 {
+        self.below(48)
+    }
+}
+
+/// The text of a geometry, of one of six kinds.
+fn text(alloc: Global, dice: &mut Dice) -> Result<String, AllocError> {
+    let kind = dice.below(6);
+    let (a, b) = (dice.coordinate(), dice.coordinate());
+    let (c, d) = (dice.coordinate(), dice.coordinate());
+    let (e, f) = (dice.coordinate(), dice.coordinate());
+    match kind {
+        0 => format!(in alloc; "POINT ({a} -{b})"),
+        1 => format!(in alloc; "MULTIPOINT ((-{a} {b}), ({c} {d}))"),
+        2 => format!(in alloc; "LINESTRING ({a} -{b}, -{c} {d}, {e} {f})"),
+        3 => format!(in alloc; "POLYGON (({a} {b}, -{c} {d}, {e} -{f}, {a} {b}))"),
+        4 => format!(in alloc; "POLYGON ((-{a} -{b}, {c} -{b}, {c} {d}, -{a} {d}, -{a} -{b}))"),
+        _ => String::from_str(alloc, TOWN),
+    }
+}
+
+/// The geometry of such a text, where it is valid.
+fn made(alloc: Global, dice: &mut Dice) -> Result<Option<Valid>, Fail> {
+    let text = text(alloc, dice)?;
+    let Ok(geometry) = sf_wkt::read(alloc, text.as_str()) else {
+        return Err("no geometry".into());
+    };
+    Ok(validate(alloc, geometry).ok())
+}
 
 /// The matrix of two geometries, by a walk.
 fn matrix_walked(alloc: Global, a: &Valid, b: &Valid) -> Result<Matrix, Fail> {
@@ -42,14 +91,14 @@ fn count(alloc: Global, a: &Valid, b: &Valid, counts: &mut Counts) -> Result<(),
     Ok(())
 }
 
-/// The counts of the town with each small geometry across it, either way round.
+/// The counts of all pairs.
 fn counted(alloc: Global) -> Result<Counts, Fail> {
-    let town = valid(alloc, town(alloc)?)?;
+    let mut dice = Dice { state: 17 };
     let mut counts = [0; 6];
-    for number in 0..ROW * ROW {
-        let small = valid(alloc, feature(alloc, number)?)?;
-        count(alloc, &small, &town, &mut counts)?;
-        count(alloc, &town, &small, &mut counts)?;
+    for _ in 0..PAIRS {
+        if let (Some(a), Some(b)) = (made(alloc, &mut dice)?, made(alloc, &mut dice)?) {
+            count(alloc, &a, &b, &mut counts)?;
+        }
     }
     Ok(counts)
 }
