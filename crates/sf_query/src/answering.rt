@@ -62,7 +62,8 @@ pub(crate) fn is_asked(
     }
 }
 
-/// The matrix of a feature's geometry with the given one.
+/// The matrix of a feature's geometry with the given one. How the boundaries of two areas share points is left to edges that run along
+/// one another.
 pub(crate) fn matrix_with(
     alloc: Global,
     geometry: &Valid,
@@ -71,7 +72,7 @@ pub(crate) fn matrix_with(
     ensures { IfOk result (λ matrix. matrix.0 ≡ matrix_of geometry.now given.now) }
 {
     let order = order_of_entries(given.geometry().point_count());
-    match gathered(alloc, &Aim::Entries, order, geometry, given, &None) {
+    match gathered(alloc, &Aim::ButBoundaries, order, geometry, given, &None) {
         Gathered::Matrix(matrix) => Ok(matrix),
         Gathered::Entries(known) => relate_from(alloc, geometry, given, &known),
     }

@@ -37,16 +37,16 @@ static OF_ENTRIES_OF_FEW: [Evidence; 5] = [
     Evidence::Place,
     Evidence::Nearby,
     Evidence::Boxes,
-    Evidence::Edges,
     Evidence::Crossing,
+    Evidence::Edges,
 ];
 
 /// Where it has many, boxes come first.
 static OF_ENTRIES_OF_MANY: [Evidence; 4] = [
     Evidence::Boxes,
     Evidence::Place,
-    Evidence::Edges,
     Evidence::Crossing,
+    Evidence::Edges,
 ];
 
 /// The order for what is asked. A walk comes after all of them.
