@@ -1,5 +1,5 @@
 -- What was taken back is made again, and what was made again is taken back.
-use Rattle.std.proofs.Common.{◌≡◌, List, Ok, Option, None, Some, Result, IsOk, refl, ap, sym, ◌∙◌, subst}
+use Rattle.std.proofs.Common.{◌≡◌, Ok, Option, None, Some, Result, IsOk, refl, ap, sym, ◌∙◌, subst}
 use Rattle.std.specs.Option.{option_map_or}
 use Rattle.sf_layers.specs.Content.{Content}
 use Rattle.sf_steps.specs.declared.answer.Answer.{Answer}
@@ -8,10 +8,9 @@ use Rattle.sf_steps.specs.declared.inverse.Inverse.{Inverse}
 use Rattle.sf_steps.specs.declared.refusal.Refusal.{Refusal}
 use Rattle.sf_steps.specs.Steps.{step}
 use Rattle.sf_steps.specs.Inverses.{Carries, Restores, Reverts, answer_of, described}
-use Rattle.sf_patches.specs.declared.slot.Slot.{Slot}
-use Rattle.sf_patches.specs.Patches.{patched, undoing}
-use Rattle.sf_patches.specs.Fits.{FitsPatch}
-use Rattle.sf_patches.proofs.TakenBack.{patches-take_back}
+use Rattle.sf_patches.specs.declared.halves.Halves.{Halves}
+use Rattle.sf_patches.specs.Halves.{FitsHalves, after_halves, back_halves}
+use Rattle.sf_patches.proofs.HalvesLaws.{halves-take_back}
 use Rattle.sf_changes.specs.declared.undo.Undo.TheVariants as undos
 use Rattle.sf_changes.specs.declared.redo.Redo.TheVariants as redos
 use Rattle.sf_changes.specs.Changes.{MakesAgain, TakesBack, edit_led}
@@ -40,18 +39,18 @@ edit-made_again old new edit inverse h =
     }
 
 -- ---- several edits
-pub group-taken_back : (content : Content) (slots : List Slot) → FitsPatch content slots
-    → TakesBack content (undos.Group slots) (redos.Group (undoing content slots)) (patched content slots)
-group-taken_back content slots fits = let back = patches-take_back content slots fits in record {
+pub group-taken_back : (content : Content) (halves : Halves) → FitsHalves content halves
+    → TakesBack content (undos.Group halves) (redos.Group (back_halves content halves)) (after_halves content halves)
+group-taken_back content halves fits = let back = halves-take_back content halves fits in record {
   undone = refl;
   again = back.back;
-  fits = back.fits;
+  fits = back.fit;
 }
 
-pub group-made_again : (content : Content) (slots : List Slot) → FitsPatch content slots
-    → MakesAgain content (redos.Group slots) (undos.Group (undoing content slots)) (patched content slots)
-group-made_again content slots fits = let back = patches-take_back content slots fits in record {
+pub group-made_again : (content : Content) (halves : Halves) → FitsHalves content halves
+    → MakesAgain content (redos.Group halves) (undos.Group (back_halves content halves)) (after_halves content halves)
+group-made_again content halves fits = let back = halves-take_back content halves fits in record {
   redone = refl;
   back = back.back;
-  fits = back.fits;
+  fits = back.fit;
 }

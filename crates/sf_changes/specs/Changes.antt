@@ -8,8 +8,8 @@ use Rattle.sf_steps.specs.declared.refusal.Refusal.{Refusal}
 use Rattle.sf_steps.specs.Steps.{step}
 use Rattle.sf_steps.specs.Inverses.{described, frees_only, Fits}
 use Rattle.sf_edits.specs.Reverted.{takes_no_memory}
-use Rattle.sf_patches.specs.Patches.{NoneGrows, patched}
-use Rattle.sf_patches.specs.Fits.{FitsPatch}
+use Rattle.sf_patches.specs.Patches.{NoneGrows}
+use Rattle.sf_patches.specs.Halves.{FitsHalves, after_halves}
 use Rattle.sf_groups.specs.declared.member.Member.{Member}
 use Rattle.sf_groups.specs.Members.{Refused, together}
 use Rattle.sf_changes.specs.declared.undo.Undo.{Undo}
@@ -43,34 +43,34 @@ led_by content (OfGroup members) = group_led (together content members)
 -- the content that is led back to
 abbrev pub undone_by : Content → Undo → Content
 undone_by content (undos.Edit inverse) = described content inverse
-undone_by content (undos.Group slots) = patched content slots
+undone_by content (undos.Group halves) = after_halves content halves
 
 -- it can be carried out from a content
 abbrev pub FitsUndo : Content → Undo → Type 0
 FitsUndo content (undos.Edit inverse) = Fits content inverse
-FitsUndo content (undos.Group slots) = FitsPatch content slots
+FitsUndo content (undos.Group halves) = FitsHalves content halves
 
 -- it only removes and exchanges, for which no memory is needed
 abbrev pub FreesOnly : Content → Undo → Type 0
 FreesOnly content (undos.Edit inverse) = IsTrue (frees_only content inverse)
-FreesOnly content (undos.Group slots) = NoneGrows content slots
+FreesOnly content (undos.Group halves) = NoneGrows content halves.growing
 
 -- ---- what makes them again
 
 -- the content that is led to again
 abbrev pub redone_by : Content → Redo → Content
 redone_by content (redos.Edit edit) = option_map_or (λ next. next) (edit_led (step content edit)) content
-redone_by content (redos.Group slots) = patched content slots
+redone_by content (redos.Group halves) = after_halves content halves
 
 -- it can be carried out from a content
 abbrev pub FitsRedo : Content → Redo → Type 0
 FitsRedo content (redos.Edit edit) = IsOk (step content edit)
-FitsRedo content (redos.Group slots) = FitsPatch content slots
+FitsRedo content (redos.Group halves) = FitsHalves content halves
 
 -- it only removes and exchanges, for which no memory is needed
 abbrev pub TakesNoMemory : Content → Redo → Type 0
 TakesNoMemory content (redos.Edit edit) = IsTrue (takes_no_memory edit)
-TakesNoMemory content (redos.Group slots) = NoneGrows content slots
+TakesNoMemory content (redos.Group halves) = NoneGrows content halves.growing
 
 -- ---- the two calls
 

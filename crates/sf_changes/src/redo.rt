@@ -5,7 +5,7 @@ ghost use Rattle.sf_changes.specs.Changes.{FitsRedo, MakesAgain, TakesNoMemory};
 use super::undo::Undo;
 use sf_edits::{Reverted, reapply};
 use sf_layers::Store;
-use sf_patches::Patch;
+use sf_patches::Halves;
 use std::alloc::Global;
 
 /// What makes a change again that was taken back.
@@ -14,7 +14,7 @@ pub enum Redo {
     /// Of an edit.
     Edit(Reverted),
     /// Of several edits as one step.
-    Group(Patch),
+    Group(Halves),
 }
 
 /// Makes a change again that was taken back, and gives what takes it back: `take_back` carries that out.
@@ -32,7 +32,7 @@ pub fn make_again(alloc: Global, store: &mut Store, redo: Redo) -> Result<Undo, 
 {
     match redo {
         Redo::Edit(reverted) => make_edit_again(alloc, store, reverted),
-        Redo::Group(patch) => make_group_again(alloc, store, patch),
+        Redo::Group(halves) => make_group_again(alloc, store, halves),
     }
 }
 
@@ -50,15 +50,15 @@ fn make_edit_again(alloc: Global, store: &mut Store, reverted: Reverted) -> Resu
     }
 }
 
-// The same of several edits: what the patch holds afterwards takes them back.
-fn make_group_again(alloc: Global, store: &mut Store, patch: Patch) -> Result<Undo, Redo>
-    requires { FitsRedo store.old (Redo.Group patch) }
-    ensures made { IfOk result (λ undo. MakesAgain store.old (Redo.Group patch) undo store.new) }
-    ensures given_back { IfErr result (λ back. back ≡ Redo.Group patch) }
+// The same of several edits: what the halves hold afterwards takes them back.
+fn make_group_again(alloc: Global, store: &mut Store, halves: Halves) -> Result<Undo, Redo>
+    requires { FitsRedo store.old (Redo.Group halves) }
+    ensures made { IfOk result (λ undo. MakesAgain store.old (Redo.Group halves) undo store.new) }
+    ensures given_back { IfErr result (λ back. back ≡ Redo.Group halves) }
     ensures unchanged { OnErr result (store.new ≡ store.old) }
-    ensures always { TakesNoMemory store.old (Redo.Group patch) → IsOk result }
+    ensures always { TakesNoMemory store.old (Redo.Group halves) → IsOk result }
 {
-    let mut exchanged = patch;
+    let mut exchanged = halves;
     match exchanged.exchange(alloc, store) {
         Ok(()) => Ok(Undo::Group(exchanged)),
         Err(_) => Err(Redo::Group(exchanged)),

@@ -5,7 +5,7 @@ ghost use Rattle.sf_changes.specs.Changes.{FitsUndo, FreesOnly, TakesBack};
 use super::redo::Redo;
 use sf_edits::revert;
 use sf_layers::Store;
-use sf_patches::Patch;
+use sf_patches::Halves;
 use sf_steps::Inverse;
 use std::alloc::Global;
 
@@ -15,7 +15,7 @@ pub enum Undo {
     /// Of an edit.
     Edit(Inverse),
     /// Of several edits as one step.
-    Group(Patch),
+    Group(Halves),
 }
 
 /// Takes a change back, and gives what makes it again: `make_again` carries that out.
@@ -33,7 +33,7 @@ pub fn take_back(alloc: Global, store: &mut Store, undo: Undo) -> Result<Redo, U
 {
     match undo {
         Undo::Edit(inverse) => take_edit_back(alloc, store, inverse),
-        Undo::Group(patch) => take_group_back(alloc, store, patch),
+        Undo::Group(halves) => take_group_back(alloc, store, halves),
     }
 }
 
@@ -51,15 +51,15 @@ fn take_edit_back(alloc: Global, store: &mut Store, inverse: Inverse) -> Result<
     }
 }
 
-// The same of several edits: what the patch holds afterwards makes them again.
-fn take_group_back(alloc: Global, store: &mut Store, patch: Patch) -> Result<Redo, Undo>
-    requires { FitsUndo store.old (Undo.Group patch) }
-    ensures taken { IfOk result (λ redo. TakesBack store.old (Undo.Group patch) redo store.new) }
-    ensures given_back { IfErr result (λ back. back ≡ Undo.Group patch) }
+// The same of several edits: what the halves hold afterwards makes them again.
+fn take_group_back(alloc: Global, store: &mut Store, halves: Halves) -> Result<Redo, Undo>
+    requires { FitsUndo store.old (Undo.Group halves) }
+    ensures taken { IfOk result (λ redo. TakesBack store.old (Undo.Group halves) redo store.new) }
+    ensures given_back { IfErr result (λ back. back ≡ Undo.Group halves) }
     ensures unchanged { OnErr result (store.new ≡ store.old) }
-    ensures always { FreesOnly store.old (Undo.Group patch) → IsOk result }
+    ensures always { FreesOnly store.old (Undo.Group halves) → IsOk result }
 {
-    let mut exchanged = patch;
+    let mut exchanged = halves;
     match exchanged.exchange(alloc, store) {
         Ok(()) => Ok(Redo::Group(exchanged)),
         Err(_) => Err(Undo::Group(exchanged)),

@@ -195,12 +195,12 @@ impl Editor {
             return Err(GroupRefusal::Memory);
         }
         match together(alloc, &mut self.store, group) {
-            Ok(Together { ids, patch }) => {
+            Ok(Together { ids, halves }) => {
                 advance(
                     &mut self.done,
                     &mut self.undone,
                     &mut self.editors,
-                    Undo::Group(patch),
+                    Undo::Group(halves),
                     editor,
                 );
                 Ok(ids)

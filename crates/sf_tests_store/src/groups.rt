@@ -6,7 +6,7 @@ use sf_edits::{Edit, apply};
 use sf_groups::{Group, Member};
 use sf_layers::Store;
 use sf_steps::Refusal as StepRefusal;
-use sf_together::{Refusal, Together, together};
+use sf_together::{Plan, Refusal, Together, plan, together};
 use std::alloc::Global;
 
 /// The edits that make the store over which each group is tried.
@@ -154,12 +154,28 @@ fn is_carried_out(alloc: Global, lines: Lines, wanted: &[u32], after: Counts) ->
     let Some(group) = group_of(alloc, lines) else {
         return false;
     };
-    let Ok(Together { ids, mut patch }) = together(alloc, &mut store, group) else {
+    let Ok(Together { ids, mut halves }) = together(alloc, &mut store, group) else {
         return false;
     };
     let led = counts(&store);
-    let undone = patch.exchange(alloc, &mut store).is_ok();
+    let undone = halves.exchange(alloc, &mut store).is_ok();
     ids.as_slice() == wanted && led == after && undone && counts(&store) == AT_FIRST
+}
+
+/// Whether a group of these lines would give these identifiers and remove so many features, and nothing is changed yet.
+fn is_planned(alloc: Global, lines: Lines, wanted: &[u32], removed: usize) -> bool {
+    let Some(store) = made_store(alloc) else {
+        return false;
+    };
+    let Some(group) = group_of(alloc, lines) else {
+        return false;
+    };
+    let Ok(Plan { ids, halves }) = plan(alloc, &store, group) else {
+        return false;
+    };
+    ids.as_slice() == wanted
+        && halves.removing.slots().len() == removed
+        && counts(&store) == AT_FIRST
 }
 
 /// The member of these lines that is refused, by its number, and why; or nothing where none is.
@@ -183,6 +199,11 @@ fn groups_are_carried_out_and_taken_back(rt: HostRuntime) {
     for (lines, ids, after) in ACCEPTED {
         assert!(rt; is_carried_out(rt.alloc(), lines, ids, after));
     }
+}
+
+#[test]
+fn group_is_planned(rt: HostRuntime) {
+    assert!(rt; is_planned(rt.alloc(), SPLIT, &[3, 4, 1], 1));
 }
 
 #[test]

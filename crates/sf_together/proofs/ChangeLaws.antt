@@ -25,7 +25,8 @@ use Rattle.sf_groups.specs.Scratches.{Shows, ShowsLayer, ShowsThere, is_of_layer
 use Rattle.sf_groups.proofs.TogetherLaws.{and_true, or_left, or_right}
 use Rattle.sf_together.specs.declared.removals.Key.{Key}
 use Rattle.sf_together.specs.Copies.{CopiesLayer, IsCopied, IsScratchOf}
-use Rattle.sf_together.specs.Exchanges.{has_key, key_at, keys_in, layer_slots, put_at, puts, removal, removals_of, slots_between}
+use Rattle.sf_together.specs.Exchanges.{has_key, key_at, keys_in, layer_slots, put_at, puts, removal, removals_of}
+use Rattle.sf_together.proofs.Parts.{slots_between}
 use Rattle.sf_together.proofs.ListLaws.{all-append, all-filter, all-flat_map, all-found, all-found_rising, all-map, all-none, all-of_map, any-left, any-right, bytes_eq-turned}
 use Rattle.sf_together.proofs.FrameLaws.{Leaves}
 use Rattle.sf_together.proofs.FitLaws.{IsTakenFrom, issued-there, length-one_order}

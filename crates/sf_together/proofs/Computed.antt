@@ -11,15 +11,15 @@ use Rattle.sf_layers.specs.Content.{Content, LayerContent}
 use Rattle.sf_layers.specs.declared.layer_kind.LayerKind.TheVariants.{Only}
 use Rattle.sf_steps.specs.declared.edit.Edit.TheVariants.{AddFeature, DeleteFeature, SetValue}
 use Rattle.sf_steps.specs.declared.refusal.Refusal.TheVariants as steps
-use Rattle.sf_patches.specs.declared.slot.Slot.{Slot}
+use Rattle.sf_patches.specs.declared.halves.Halves.{Halves}
 use Rattle.sf_patches.specs.declared.slot.Slot.TheVariants.{Counter, State}
-use Rattle.sf_patches.specs.Patches.{patched, undoing}
+use Rattle.sf_patches.specs.Halves.{after_halves, back_halves}
 use Rattle.sf_groups.specs.declared.member.Member.{Member}
-use Rattle.sf_groups.specs.Groups.{content_weight, patch_weight, together_touched}
+use Rattle.sf_groups.specs.Groups.{content_weight, halves_weight, together_touched}
 use Rattle.sf_groups.specs.Members.{together}
 use Rattle.sf_together.specs.declared.outcome.Refusal.TheVariants as refusals
 use Rattle.sf_together.specs.Copies.{with_shown}
-use Rattle.sf_together.specs.Exchanges.{keys_in, slots_between}
+use Rattle.sf_together.specs.Exchanges.{halves_between, keys_in}
 use Rattle.sf_together.specs.Outcomes.{refused_as}
 
 abbrev at : ℕ → ℕ → Geometry
@@ -72,19 +72,22 @@ after = (codes "w", layer 9 ((7, sized (at 7 7) 4) ∷ (8, bare (at 8 8)) ∷ []
 carried_out : together scratch (added ∷ named ∷ again ∷ removed ∷ []) ≡ Ok (after, 8 ∷ [])
 carried_out = refl
 
--- the exchanges: the counter, the features as they are then, and the removal
-abbrev slots : List Slot
-slots = Counter 1 9 ∷ State 1 7 (Some (sized (at 7 7) 4)) ∷ State 1 8 (Some (bare (at 8 8))) ∷ State 1 1 None ∷ []
+-- the exchanges: the counter and the features as they are then, and the removal
+abbrev halves : Halves
+halves = record {
+  growing = Counter 1 9 ∷ State 1 7 (Some (sized (at 7 7) 4)) ∷ State 1 8 (Some (bare (at 8 8))) ∷ [];
+  removing = State 1 1 None ∷ [];
+}
 
-between : slots_between whole after (keys_in whole scratch) ≡ slots
+between : halves_between whole after (keys_in whole scratch) ≡ halves
 between = refl
 
 -- they lead where the members lead
-leads : together whole (added ∷ named ∷ again ∷ removed ∷ []) ≡ Ok (patched whole slots, 8 ∷ [])
+leads : together whole (added ∷ named ∷ again ∷ removed ∷ []) ≡ Ok (after_halves whole halves, 8 ∷ [])
 leads = refl
 
 -- and are taken back by what holds two points and a value, as the members name
-holds : patch_weight (undoing whole slots) ≡ 3
+holds : halves_weight (back_halves whole halves) ≡ 3
 holds = refl
 
 names_as_much : together_touched whole (added ∷ named ∷ again ∷ removed ∷ []) ≡ 3

@@ -233,13 +233,15 @@ IsTaken (Counter place n) = Unit {0}
 IsTaken (State place id None) = Unit {0}
 IsTaken (State place id (Some feature)) = ⊥
 
-NoneRemoves-put : (content : Content) (slots : List Slot) → AllByRecursion IsPut slots → NoneRemoves content slots
+-- what is put removes nothing
+pub NoneRemoves-put : (content : Content) (slots : List Slot) → AllByRecursion IsPut slots → NoneRemoves content slots
 NoneRemoves-put content [] all = tt
 NoneRemoves-put content (Counter place n ∷ slots) all = (refl, NoneRemoves-put (with_slot (Counter place n) content) slots all.1)
 NoneRemoves-put content (State place id None ∷ slots) all = absurd all.0
 NoneRemoves-put content (State place id (Some feature) ∷ slots) all = (refl, NoneRemoves-put (with_slot (State place id (Some feature)) content) slots all.1)
 
-NoneGrows-taken : (content : Content) (slots : List Slot) → AllByRecursion IsTaken slots → NoneGrows content slots
+-- and what is taken puts nothing
+pub NoneGrows-taken : (content : Content) (slots : List Slot) → AllByRecursion IsTaken slots → NoneGrows content slots
 NoneGrows-taken content [] all = tt
 NoneGrows-taken content (Counter place n ∷ slots) all = (refl, NoneGrows-taken (with_slot (Counter place n) content) slots all.1)
 NoneGrows-taken content (State place id None ∷ slots) all = (refl, NoneGrows-taken (with_slot (State place id None) content) slots all.1)

@@ -1,4 +1,5 @@
 pub mod ListLaws
+pub mod Parts
 pub mod FrameLaws
 pub mod FitLaws
 pub mod ChangeLaws

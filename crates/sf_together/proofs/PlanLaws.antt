@@ -8,8 +8,12 @@ use Rattle.sf_layers.specs.WellFormed.{IsWellFormed}
 use Rattle.sf_steps.specs.Laws.{BringsGridPoints}
 use Rattle.sf_patches.specs.declared.slot.Slot.{Slot}
 use Rattle.sf_patches.specs.Fits.{FitsPatch}
-use Rattle.sf_patches.specs.Patches.{patched, undoing}
-use Rattle.sf_patches.proofs.TakenBack.{patches-lead, patches-take_back}
+use Rattle.sf_patches.specs.Patches.{patched}
+use Rattle.sf_patches.specs.declared.halves.Halves.{Halves}
+use Rattle.sf_patches.specs.Halves.{IsRemoval, RemovesOnly, after_growing, after_halves, back_halves}
+use Rattle.sf_patches.proofs.HalvesLaws.{fits-cut, halves-take_back}
+use Rattle.sf_patches.proofs.PatchLaws.{patched-append}
+use Rattle.sf_patches.proofs.TakenBack.{patches-lead}
 use Rattle.sf_groups.specs.declared.member.Member.{Member}
 use Rattle.sf_groups.specs.Groups.{AcceptsGroup, content_weight, together_touched}
 use Rattle.sf_groups.specs.Members.{IsGroup, Refused, together}
@@ -19,16 +23,17 @@ use Rattle.sf_together.specs.declared.outcome.Refusal.{Refusal}
 use Rattle.sf_together.specs.declared.outcome.Refusal.TheVariants as refusals
 use Rattle.sf_together.specs.declared.removals.Key.{Key}
 use Rattle.sf_together.specs.Copies.{IsScratchOf}
-use Rattle.sf_together.specs.Exchanges.{AllThere, has_key, keys_in, layer_slots, put_at, puts, removal, removals_of, slots_between}
+use Rattle.sf_together.specs.Exchanges.{AllThere, halves_between, has_key, keys_in, layer_slots, put_at, puts, removal, removals_of}
+use Rattle.sf_together.proofs.Parts.{slots_between}
 use Rattle.sf_together.specs.Outcomes.{IsRefusedAs}
 use Rattle.sf_together.specs.Plans.{IsPlan}
 use Rattle.sf_together.proofs.ListLaws.{all-always, all-map}
 use Rattle.sf_together.proofs.FrameLaws.{Leaves-together}
-use Rattle.sf_together.proofs.FitLaws.{GrowsFirst-put, IsPut, IsTaken, RaisedFirst, RaisedFirst-append, StayFine-taken}
+use Rattle.sf_together.proofs.FitLaws.{GrowsFirst-put, NoneGrows-taken, NoneRemoves-put, IsPut, IsTaken, RaisedFirst, RaisedFirst-append, StayFine-taken}
 use Rattle.sf_together.proofs.ChangeLaws.{AreCarried, all-changes, all-puts, counters-below, keys-one_order, slots-taken}
 use Rattle.sf_together.proofs.CallLaws.{AllThere-part}
 use Rattle.sf_together.proofs.CopyLaws.{IsPart-scratch, IsScratchFor-scratch}
-use Rattle.sf_together.proofs.WeightLaws.{slots_between-weight, undoing-weight}
+use Rattle.sf_together.proofs.WeightLaws.{halves-weigh, slots_between-weight, undoing-weight}
 
 -- ---- the order of the exchanges
 
@@ -58,6 +63,11 @@ removals-taken whole after keys =
     all-map IsTaken removal (filter (λ key. not (has_key whole after key)) keys)
     (all-always (λ key. IsTaken (removal key)) (λ key. tt) (filter (λ key. not (has_key whole after key)) keys))
 
+removals-only : (whole after : Content) (keys : List Key) → RemovesOnly (removals_of whole after keys)
+removals-only whole after keys =
+    all-map IsRemoval removal (filter (λ key. not (has_key whole after key)) keys)
+    (all-always (λ key. IsRemoval (removal key)) (λ key. tt) (filter (λ key. not (has_key whole after key)) keys))
+
 -- ---- the plan
 
 record Fits (whole scratch new after : Content) (members : List Member) (ids : List ℕ) : Type 0 where
@@ -83,7 +93,7 @@ carried-fits members whole scratch new after ids c led =
     }
 
 pub planned : (whole scratch after : Content) (members : List Member) (ids : List ℕ) → IsGroup members → AllByRecursion (λ member. BringsGridPoints member.edit) members → IsWellFormed whole → IsWellFormed scratch
-    → IsScratchOf whole members scratch → content_weight scratch ≡ together_touched whole members → together scratch members ≡ Ok (after, ids) → IsPlan whole members (slots_between whole after (keys_in whole scratch)) ids
+    → IsScratchOf whole members scratch → content_weight scratch ≡ together_touched whole members → together scratch members ≡ Ok (after, ids) → IsPlan whole members (halves_between whole after (keys_in whole scratch)) ids
 planned whole scratch after members ids group brings fine fine' copied holds led =
     let alike = scratches-do_alike whole scratch members group brings fine fine' (IsScratchFor-scratch whole scratch members fine copied) in
     let done = alike.carried after ids led in
@@ -98,11 +108,16 @@ planned whole scratch after members ids group brings fine fine' copied holds led
       leaves_scratch = Leaves-together scratch after members ids group led;
     } in
     let fits = carried-fits members whole scratch done.0 after ids c done.1 in
+    let put : List Slot = puts whole after in
+    let taken : List Slot = removals_of whole after (keys_in whole scratch) in
+    let halves : Halves = halves_between whole after (keys_in whole scratch) in
     record {
-      led = fits.led;
-      fits = fits.fits;
+      led = fits.led ∙ ap (λ content. let r : Result (Content × List ℕ) Refused = Ok (content, ids) in r) (patched-append whole put taken);
+      fits = fits-cut whole halves fine fits.fits.fine (NoneRemoves-put whole put (puts-put whole after)) (NoneGrows-taken (after_growing whole halves) taken (removals-taken whole after (keys_in whole scratch)));
+      leaves = removals-only whole after (keys_in whole scratch);
       weight =
-          undoing-weight whole done.0 scratch after (slots_between whole after (keys_in whole scratch)) fine fits.fits.fine fits.leads (slots_between-weight whole after (keys_in whole scratch)) done.3 ∙ holds;
+          halves-weigh whole halves
+          ∙ undoing-weight whole done.0 scratch after (slots_between whole after (keys_in whole scratch)) fine fits.fits.fine fits.leads (slots_between-weight whole after (keys_in whole scratch)) done.3 ∙ holds;
     }
 
 -- why a group is refused on the scratch content is why it is refused
@@ -118,8 +133,9 @@ AllThere-after whole scratch after members ids group fine copied led =
     subst (AllByRecursion (λ name. has_layer whole name ≡ true)) (keys-one_order scratch after (Leaves-together scratch after members ids group led).order) (AllThere-part whole scratch fine (IsPart-scratch whole scratch members copied))
 
 -- a plan that is exchanged with the content is an accepted group
-pub accepts-plan : (old new : Content) (members : List Member) (slots back : List Slot) (ids : List ℕ) → IsPlan old members slots ids → new ≡ patched old slots → back ≡ undoing old slots → AcceptsGroup old members back ids new
-accepts-plan old new members slots back ids plan new_is back_is =
-    let takes = patches-take_back old slots plan.fits in
-    subst (λ c. AcceptsGroup old members back ids c) (sym new_is) (subst (λ b. AcceptsGroup old members b ids (patched old slots)) (sym back_is)
-    (record { led = plan.led; back = takes.back; fits = takes.fits; weight = plan.weight }))
+pub accepts-plan : (old new : Content) (members : List Member) (halves back : Halves) (ids : List ℕ) → IsPlan old members halves ids → new ≡ after_halves old halves → back ≡ back_halves old halves
+    → AcceptsGroup old members back ids new
+accepts-plan old new members halves back ids plan new_is back_is =
+    let takes = halves-take_back old halves plan.fits in
+    subst (λ c. AcceptsGroup old members back ids c) (sym new_is) (subst (λ b. AcceptsGroup old members b ids (after_halves old halves)) (sym back_is)
+    (record { led = plan.led; back = takes.back; fits = takes.fit; weight = plan.weight }))

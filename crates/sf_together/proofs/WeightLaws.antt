@@ -22,20 +22,24 @@ use Rattle.sf_patches.specs.declared.slot.Slot.{Slot}
 use Rattle.sf_patches.specs.declared.slot.Slot.TheVariants.{Counter, State}
 use Rattle.sf_patches.specs.Patches.{before, befores, patched, put_state, undoing, with_slot}
 use Rattle.sf_patches.specs.Fits.{IsAt, StayFine}
+use Rattle.sf_patches.specs.declared.halves.Halves.{Halves}
+use Rattle.sf_patches.specs.Halves.{after_growing, back_halves}
+use Rattle.sf_patches.proofs.HalvesLaws.{undoing-append}
 use Rattle.sf_patches.proofs.ExchangeLaws.{AreRising-fine}
 use Rattle.sf_patches.proofs.MergedLaws.{layer_at-rising}
 use Rattle.sf_patches.proofs.Rising.{AreRising}
 use Rattle.sf_steps.specs.Inverses.{feature_weight}
 use Rattle.sf_steps.specs.Steps.{edit_layer}
 use Rattle.sf_groups.specs.declared.member.Member.{Member}
-use Rattle.sf_groups.specs.Groups.{content_weight, features_weight, patch_weight, slot_weight, together_touched}
+use Rattle.sf_groups.specs.Groups.{content_weight, features_weight, halves_weight, patch_weight, slot_weight, together_touched}
 use Rattle.sf_groups.specs.Local.{edit_id}
 use Rattle.sf_groups.specs.Members.{names}
 use Rattle.sf_groups.proofs.Pushed.{any-push}
 use Rattle.sf_groups.proofs.WeightLaws.{change_layer-weight, changed-here, changed-later, content-cons, features-cons, insert-weight, remove-weight, state_weight}
 use Rattle.sf_together.specs.declared.removals.Key.{Key}
 use Rattle.sf_together.specs.Copies.{IsScratchOf, named_feature, with_feature_shown, with_head, with_layer_shown, with_shown}
-use Rattle.sf_together.specs.Exchanges.{has_key, layer_slots, put_at, puts, removal, removals_of, slots_between}
+use Rattle.sf_together.specs.Exchanges.{has_key, layer_slots, put_at, puts, removal, removals_of}
+use Rattle.sf_together.proofs.Parts.{slots_between}
 use Rattle.sf_together.proofs.ListLaws.{all-found_rising, all-none, all-of_map}
 use Rattle.sf_together.proofs.FitLaws.{entry-there, layer-there}
 use Rattle.sf_together.proofs.CallLaws.{none-any}
@@ -158,6 +162,12 @@ undoing-weight whole new scratch after slots fine stay leads holds gains =
     ∙ cancelled (content_weight new) (content_weight whole) (content_weight scratch) (content_weight after) (patch_weight (befores whole slots))
     (subst (λ c. content_weight c + patch_weight (befores whole slots) ≡ content_weight whole + content_weight after) leads
     (slots-move whole slots (AreRising-fine whole fine) stay ∙ ap (λ n. content_weight whole + n) holds)) gains
+
+-- as much as its halves
+pub halves-weigh : (content : Content) (halves : Halves) → halves_weight (back_halves content halves) ≡ patch_weight (undoing content (halves.growing ++ halves.removing))
+halves-weigh content halves =
+    sym (sum_by-append slot_weight (undoing (after_growing content halves) halves.removing) (undoing content halves.growing))
+    ∙ ap patch_weight (sym (undoing-append content halves.growing halves.removing))
 
 pub slots_between-weight : (whole after : Content) (keys : List Key) → patch_weight (slots_between whole after keys) ≡ content_weight after
 slots_between-weight whole after keys = slots-weigh whole after keys

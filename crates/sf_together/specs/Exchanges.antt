@@ -8,6 +8,7 @@ use Rattle.sf_features.specs.Features.{FeatureContent}
 use Rattle.sf_layers.specs.Content.{Content, LayerContent, feature_in, has_layer, place_of}
 use Rattle.sf_patches.specs.declared.slot.Slot.{Slot}
 use Rattle.sf_patches.specs.declared.slot.Slot.TheVariants.{Counter, State}
+use Rattle.sf_patches.specs.declared.halves.Halves.{Halves}
 use Rattle.sf_together.specs.declared.removals.Key.{Key}
 
 -- the layers of the one are layers of the other
@@ -50,6 +51,6 @@ removal key = State key.place key.id None
 abbrev pub removals_of : Content → Content → List Key → List Slot
 removals_of whole after keys = map removal (filter (λ key. not (has_key whole after key)) keys)
 
--- all exchanges
-abbrev pub slots_between : Content → Content → List Key → List Slot
-slots_between whole after keys = puts whole after ++ removals_of whole after keys
+-- both, as halves
+abbrev pub halves_between : Content → Content → List Key → Halves
+halves_between whole after keys = record { growing = puts whole after; removing = removals_of whole after keys }

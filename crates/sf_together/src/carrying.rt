@@ -2,7 +2,7 @@ ghost use Rattle.std.specs.Prelude.{◌≡◌, IfErr, IfOk, OnErr};
 ghost use Rattle.sf_groups.specs.Groups.{AcceptsGroup};
 ghost use Rattle.sf_together.specs.Outcomes.{IsRefusedAs};
 
-use super::outcome::{Refusal, Together};
+use super::outcome::{Plan, Refusal, Together};
 use super::planning::plan;
 use sf_groups::Group;
 use sf_layers::Store;
@@ -16,11 +16,11 @@ use std::alloc::Global;
 /// is then as it was.
 pub fn together(alloc: Global, store: &mut Store, group: Group) -> Result<Together, Refusal>
     ensures accepted { IfOk result (λ done.
-        AcceptsGroup store.old group done.patch done.ids.items store.new) }
+        AcceptsGroup store.old group done.halves done.ids.items store.new) }
     ensures refused { IfErr result (IsRefusedAs store.old group) }
     ensures unchanged { OnErr result (store.new ≡ store.old) }
 {
-    let Together { ids, mut patch } = plan(alloc, store, group)?;
-    patch.exchange(alloc, store)?;
-    Ok(Together { ids, patch })
+    let Plan { ids, mut halves } = plan(alloc, store, group)?;
+    halves.exchange(alloc, store)?;
+    Ok(Together { ids, halves })
 }

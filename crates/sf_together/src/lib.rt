@@ -10,4 +10,5 @@ mod scratch;
 mod slots;
 
 pub use carrying::together;
-pub use outcome::{Refusal, Together};
+pub use outcome::{Plan, Refusal, Together};
+pub use planning::plan;

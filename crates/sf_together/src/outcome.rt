@@ -1,8 +1,17 @@
 ghost use Rattle.std.specs.Prelude.{◌≡◌};
 ghost use Rattle.sf_together.specs.declared.outcome.Refusal.TheVariants.{Memory};
 
-use sf_patches::Patch;
+use sf_patches::Halves;
 use std::alloc::AllocError;
+
+/// What a group would do.
+#[derive(Debug, Drop)]
+pub struct Plan {
+    /// The identifiers that its additions would give, in order.
+    pub ids: Vec<u32>,
+    /// What leads there. The second half removes features alone.
+    pub halves: Halves,
+}
 
 /// A group that was carried out.
 #[derive(Debug, Drop)]
@@ -10,7 +19,7 @@ pub struct Together {
     /// The identifiers that its additions gave, in order; those of features that a later member removed too.
     pub ids: Vec<u32>,
     /// What takes the group back.
-    pub patch: Patch,
+    pub halves: Halves,
 }
 
 /// Why a group is refused.

@@ -1,33 +1,41 @@
-//! The patch that leads from a store to what a scratch store has: what it puts.
+//! What leads from a store to what a scratch store has.
 ghost use Rattle.std.specs.Prelude.{◌≡◌, ◌++◌, ◌∷◌, [], IfNone as OnNone, IfOk, IfSome, OnOk};
-ghost use Rattle.sf_together.specs.Exchanges.{AllThere, layer_slots, puts, slots_between};
+ghost use Rattle.sf_together.specs.Exchanges.{AllThere, halves_between, layer_slots, puts};
 
 use super::removals::{Key, removals};
 use sf_layers::{Feature, Layer, Store};
-use sf_patches::{Patch, Slot};
+use sf_patches::{Halves, Patch, Slot};
 use std::alloc::{AllocError, Global};
 
-/// The patch from the store to what the scratch store has: counters and features, layer by layer, and then the removal of
+/// What leads from the store to what the scratch store has: counters and features, layer by layer, and then the removal of
 /// each feature that is no more. Features are moved. What needs memory comes first, and a layer's counter before its features.
 ///
 /// # Errors
 ///
 /// Out of memory.
-pub(crate) fn patch_to(
+pub(crate) fn halves_to(
     alloc: Global,
     store: &Store,
     scratch: Store,
     keys: &[Key],
-) -> Result<Patch, AllocError>
+) -> Result<Halves, AllocError>
     requires { AllThere store.now scratch }
-    ensures { IfOk result (λ patch. patch ≡ slots_between store.now scratch keys.now) }
+    ensures { IfOk result (λ halves. halves ≡ halves_between store.now scratch keys.now) }
 {
-    let mut removed = removals(alloc, store, &scratch, keys)?;
-    let mut slots = put_all(alloc, store, scratch)?;
-    slots.append(&mut removed)?;
-    // A patch is kept for long.
+    let removed = removals(alloc, store, &scratch, keys)?;
+    let put = put_all(alloc, store, scratch)?;
+    let growing = fitted(put);
+    let removing = fitted(removed);
+    Ok(Halves { growing, removing })
+}
+
+// These exchanges as a patch, with no room to spare: it is kept for long.
+fn fitted(slots: Vec<Slot>) -> Patch
+    ensures { result ≡ slots.items }
+{
+    let mut slots = slots;
     slots.shrink_to_fit();
-    Ok(Patch::from_slots(slots))
+    Patch::from_slots(slots)
 }
 
 // The exchanges that put what the scratch store has into the layers of the same names.

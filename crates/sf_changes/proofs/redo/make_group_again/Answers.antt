@@ -1,7 +1,6 @@
-use Rattle.std.proofs.Common.{◌≡◌, List, sym, subst}
+use Rattle.std.proofs.Common.{◌≡◌, sym, subst}
 use Rattle.sf_layers.specs.Content.{Content}
-use Rattle.sf_patches.specs.declared.slot.Slot.{Slot}
-use Rattle.sf_patches.specs.Patches.{patched}
+use Rattle.sf_patches.specs.declared.halves.Halves.{Halves}
 use Rattle.sf_changes.specs.declared.undo.Undo.TheVariants as undos
 use Rattle.sf_changes.specs.declared.redo.Redo.TheVariants as redos
 use Rattle.sf_changes.specs.Changes.{MakesAgain}
@@ -11,7 +10,7 @@ use Rattle.sf_changes.proofs.redo.make_group_again.Goals as goal
 pub returns-in-Ok-clause-made : goal.returns-in-Ok-clause-made
 returns-in-Ok-clause-made c =
     let old = c.args.store.now in
-    let slots = c.args.patch in
-    let by : List Slot → Content → Type 0 = λ left new. MakesAgain old (redos.Group slots) (undos.Group left) new in
+    let halves = c.args.halves in
+    let by : Halves → Content → Type 0 = λ left new. MakesAgain old (redos.Group halves) (undos.Group left) new in
     subst (λ left. by left c.exchange.new.store) (sym c.in-Ok.ensures.back)
-    (subst (by _) (sym c.in-Ok.ensures.exchanged) (group-made_again old slots c.requires))
+    (subst (by _) (sym c.in-Ok.ensures.exchanged) (group-made_again old halves c.requires))

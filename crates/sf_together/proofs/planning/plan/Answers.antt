@@ -5,7 +5,7 @@ use Rattle.sf_validity.proofs.RuleLaws.{err-passed}
 use Rattle.sf_groups.specs.declared.member.Member.{Member}
 use Rattle.sf_groups.specs.Groups.{content_weight, together_touched}
 use Rattle.sf_together.specs.Copies.{IsScratchOf}
-use Rattle.sf_together.specs.Exchanges.{keys_in, slots_between}
+use Rattle.sf_together.specs.Exchanges.{keys_in, halves_between}
 use Rattle.sf_together.specs.Outcomes.{IsRefusedAs}
 use Rattle.sf_together.specs.Plans.{IsPlan}
 use Rattle.sf_together.proofs.CallLaws.{AllThere-part}
@@ -35,19 +35,19 @@ returns-in_err-ids-clause-refused c =
     (refused-alike c.args.store.now c.in_ok-scratch.scratch c.into_members-members.result.items c.in_err-ids.field-0.0 c.into_members-members.ensures.group (brings d) c.is_well_formed.ensures c.is_well_formed-2.ensures
     (copied d) c.in_err-ids.ensures.refused))
 
-pub patch_to-requires : goal.patch_to-requires
-patch_to-requires c =
+pub halves_to-requires : goal.halves_to-requires
+halves_to-requires c =
     AllThere-after c.args.store.now c.in_ok-scratch.scratch c.carry_out_all.new.scratch c.into_members-members.result.items c.in_ok-ids.ids.items c.into_members-members.ensures.group c.is_well_formed-2.ensures
-    (copied ((goal.at.patch_to-requires c).After-is_well_formed-2)) c.in_ok-ids.ensures.carried
+    (copied ((goal.at.halves_to-requires c).After-is_well_formed-2)) c.in_ok-ids.ensures.carried
 
 pub returns-clause-planned : goal.returns-clause-planned
 returns-clause-planned c =
     let d = (goal.at.returns-clause-planned c).After-is_well_formed-2 in
     let holds : content_weight c.in_ok-scratch.scratch ≡ together_touched c.args.store.now c.into_members-members.result.items =
     c.in_ok-scratch.ensures.weight ∙ ap (together_touched c.args.store.now) c.as_slice.ensures.value in
-    let patch_is : c.in_ok-patch.patch ≡ slots_between c.args.store.now c.carry_out_all.new.scratch (keys_in c.args.store.now c.in_ok-scratch.scratch) =
-    c.in_ok-patch.ensures ∙ ap (slots_between c.args.store.now c.carry_out_all.new.scratch) (c.as_slice-2.ensures.value ∙ c.in_ok-keys.ensures) in
-    subst (λ ms. IsPlan c.args.store.now ms c.in_ok-patch.patch c.in_ok-ids.ids.items) c.into_members-members.ensures.members
-    (subst (λ p. IsPlan c.args.store.now c.into_members-members.result.items p c.in_ok-ids.ids.items) (sym patch_is)
+    let halves_are : c.in_ok-halves.halves ≡ halves_between c.args.store.now c.carry_out_all.new.scratch (keys_in c.args.store.now c.in_ok-scratch.scratch) =
+    c.in_ok-halves.ensures ∙ ap (halves_between c.args.store.now c.carry_out_all.new.scratch) (c.as_slice-2.ensures.value ∙ c.in_ok-keys.ensures) in
+    subst (λ ms. IsPlan c.args.store.now ms c.in_ok-halves.halves c.in_ok-ids.ids.items) c.into_members-members.ensures.members
+    (subst (λ p. IsPlan c.args.store.now c.into_members-members.result.items p c.in_ok-ids.ids.items) (sym halves_are)
     (planned c.args.store.now c.in_ok-scratch.scratch c.carry_out_all.new.scratch c.into_members-members.result.items c.in_ok-ids.ids.items c.into_members-members.ensures.group (brings d)
     c.is_well_formed.ensures c.is_well_formed-2.ensures (copied d) holds c.in_ok-ids.ensures.carried))

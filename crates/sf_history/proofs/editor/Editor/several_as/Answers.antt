@@ -15,7 +15,7 @@ returns-in-Ok-clause-accepted c =
     let editors = c.advance.new.editors.items in
     let accepts = c.in-Ok.ensures.accepted in
     let within : length inside.done.items ≤ length inside.editors.items = grind (arith, common_steps) in
-    let longer : done ≡ inside.done.items ++ undos.Group c.in-Ok.field-0.patch ∷ [] = grind (arith, common_steps) in
+    let longer : done ≡ inside.done.items ++ undos.Group c.in-Ok.field-0.halves ∷ [] = grind (arith, common_steps) in
     let whose : editors ≡ take (length inside.done.items) inside.editors.items ++ c.args.editor ∷ [] = grind (arith, common_steps) in
     let earlier = past_of inside.store (reverse inside.done.items) (reverse (take (length inside.done.items) inside.editors.items)) in
     let old : Machine = record {
@@ -23,7 +23,7 @@ returns-in-Ok-clause-accepted c =
       now = inside.store;
       future = future_of inside.store (reverse inside.undone.items) (drop (length inside.done.items) inside.editors.items);
     } in
-    let past = past-advanced content inside.store inside.done.items done (undos.Group c.in-Ok.field-0.patch) inside.editors.items editors c.args.editor within longer whose (sym accepts.back) in
+    let past = past-advanced content inside.store inside.done.items done (undos.Group c.in-Ok.field-0.halves) inside.editors.items editors c.args.editor within longer whose (sym accepts.back) in
     let reached : List Kept → List Redo → Result (Machine × List ℕ) Refused = λ past undone. Ok (
       record {
         past = past;
