@@ -8,8 +8,8 @@ ghost use Rattle.sf_query.specs.Answers.{ids_found};
 ghost use Rattle.sf_joins.specs.Joins.{are_distinct as are_distinct_of, pairs_found};
 ghost use Rattle.sf_joins.specs.Replies.{IsBeside, IsJoin};
 
-use super::converse::converse;
 use super::joined::{Beside, Joined};
+use super::turning::converse;
 use sf_layers::{Layer, Store};
 use sf_query::{Ask, Refusal, features_asked};
 use sf_validity::Valid;

@@ -7,7 +7,7 @@ use sf_query::Ask;
 use sf_relate::Predicate;
 
 /// What is asked of the second geometry with the first where this is asked of the first with the second.
-pub(crate) fn converse(ask: &Ask) -> Ask
+pub fn converse(ask: &Ask) -> Ask
     ensures turned { result ≡ converse_of ask.now }
     ensures nine { HasNineLetters ask.now }
 {
