@@ -22,8 +22,8 @@ use Rattle.sf_console.specs.declared.group_lines.GroupLines.{GroupLines}
 use Rattle.sf_console.specs.declared.group_lines.GroupLines.TheVariants as lines
 use Rattle.sf_console.specs.declared.group_lines.LineAsks.{LineAsks}
 use Rattle.sf_console.specs.declared.group_lines.LineAsks.TheVariants as asks
-use Rattle.sf_console.specs.Readings.{Blank, Grouped, Reading, Unreadable, by_group, line_text, text_reading}
-use Rattle.sf_console.specs.Requests.{Closed, Comes, Ends, Gathering, Open, Request, gathered, gathered_on, is_member_text, is_passed_over, line_head, member_text, nothing_asked, readings, requests_from, with_member}
+use Rattle.sf_console.specs.Readings.{Blank, Grouped, Reading, Unreadable, by_group, line_text, reading_of, text_reading}
+use Rattle.sf_console.specs.Requests.{Closed, Comes, Ends, Gathering, Open, Request, gathered, gathered_on, is_member_text, is_passed_over, line_head, line_request, member_text, nothing_asked, outside, readings, requests_from, with_member}
 use Rattle.sf_console.specs.Gatherings.{Asks, IsAnsweredOnce, IsGrouped, IsGrown, IsHeld, IsLastAnswered, IsOpen, IsTaken, IsUnfed}
 use Rattle.sf_console.specs.Session.{IsAnswered}
 use Rattle.sf_console.proofs.ReadingLemmas.{line_text-long, line_text-short, not_utf8, open-asks_nothing, text_reading-by}
@@ -263,6 +263,19 @@ IsTaken-as old new gathering line given text held same answered is_held = (
   subst (λ l. IsAnswered old (gathered gathering (Comes l)).1.reading text new) same answered,
   subst (λ l. IsHeld (gathered gathering (Comes l)).0 held) same is_held,
 )
+
+-- a line that is no head, where no group is open, asks by itself
+pub gathered-alone : (gathering : Gathering) (line : Option (List ℕ)) → gathering ≡ Closed → line_head line ≡ None → gathered gathering (Comes line) ≡ (Closed, line_request line)
+gathered-alone gathering line refl none = ap (outside line) none
+
+-- it is taken, and answered by itself
+pub IsTaken-alone : (old new : Machine) (gathering : Gathering) (line given : Option (List ℕ)) (text : List ℕ) (held : GroupLines) → given ≡ line
+    → gathering ≡ Closed → line_head given ≡ None → IsHeld gathering held → IsAnswered old (reading_of given) text new → IsTaken old gathering line text new held
+IsTaken-alone old new gathering line given text held same closed none is_held answered =
+    let here = sym (gathered-alone gathering given closed none) in
+    IsTaken-as old new gathering line given text held same
+    (subst (λ h. IsAnswered old h.1.reading text new) here answered)
+    (subst (λ h. IsHeld h.0 held) here (subst (λ g. IsHeld g held) closed is_held))
 
 -- ---- the last line, and the end of the input
 

@@ -1,6 +1,6 @@
 -- Internal: who wants to trust the program need not read this file.
 -- What is kept of a group whose lines are still coming.
-use Rattle.std.specs.Prelude.{◌≡◌, ℕ, ◌+◌, ◌<◌, true, false, List, [], ◌∷◌, ◌++◌, length, Option, None, Some, Result, string_bytes}
+use Rattle.std.specs.Prelude.{◌≡◌, ℕ, ◌+◌, ◌<◌, Bool, not, true, false, List, [], ◌∷◌, ◌++◌, length, Option, None, Some, Result, string_bytes}
 use Rattle.std.specs.List.{list_all}
 use Rattle.std.specs.Str.{is_utf8}
 use Rattle.sf_lines.specs.Lines.{HasNoFeed}
@@ -13,7 +13,7 @@ use Rattle.sf_together.specs.declared.outcome.Refusal.TheVariants as together
 use Rattle.sf_commands.specs.declared.group_text.GroupRefusal.{GroupRefusal}
 use Rattle.sf_commands.specs.declared.group_text.GroupRefusal.TheVariants.{Member, Memory}
 use Rattle.sf_commands.specs.declared.head.Head.{Head}
-use Rattle.sf_commands.specs.GroupTexts.{head_of, parts_of}
+use Rattle.sf_commands.specs.GroupTexts.{begins_as_head, head_of, parts_of}
 use Rattle.sf_console.specs.declared.group_lines.GroupLines.{GroupLines}
 use Rattle.sf_console.specs.declared.group_lines.GroupLines.TheVariants as lines
 use Rattle.sf_console.specs.declared.group_lines.LineAsks.{LineAsks}
@@ -50,6 +50,11 @@ pub record IsGrown (text : List ℕ) (left : ℕ) : Type 0 where
 abbrev pub IsUnfed : Option (List ℕ) → Type 0
 IsUnfed None = Unit {0}
 IsUnfed (Some text) = HasNoFeed text
+
+-- a line is neither a head nor a group, as its first byte tells: it has none, or is too long, or begins as neither does
+abbrev pub stands_alone : Option (List ℕ) → Bool
+stands_alone None = true
+stands_alone (Some text) = not (begins_as_head text)
 
 -- the last bytes of the input as a line, where there are any, and its end
 abbrev pub events_at_end : List ℕ → List Event

@@ -1,9 +1,11 @@
 //! A line, and its reply.
-ghost use Rattle.std.specs.Prelude.{◌≡◌, ◌⊎◌, ℕ, List, Ok, Err, IsTrue, false, true, map, option_copied, MatchResult};
+ghost use Rattle.std.specs.Prelude.{◌≡◌, ◌⊎◌, ℕ, List, None, Some, Ok, Err, IsTrue, false, true, map, option_copied, MatchResult};
 ghost use Rattle.std.specs.Str.{is_utf8};
 ghost use Rattle.sf_layers.specs.Content.{layer_of};
 ghost use Rattle.sf_lines.specs.Lines.{HasNoFeed};
 ghost use Rattle.sf_lines.specs.Buffers.{IsBufferOf};
+ghost use Rattle.sf_commands.specs.Commands.{command_of, takes_memory};
+ghost use Rattle.sf_commands.specs.GroupTexts.{group_of};
 ghost use Rattle.sf_console.specs.Answers.{reply_text, refusal_line, rows, rows_of, layer_row, column_rows as column_rows_of, feature_rows as feature_rows_of, found, found_by, got, told, hex_text, simple_text, box_text, related_text, found_rows};
 ghost use Rattle.sf_history.specs.History.{Machine};
 ghost use Rattle.sf_console.specs.Readings.{Asked, line_text, reading_of, text_reading};
@@ -41,6 +43,10 @@ pub(crate) fn answer_line(
         IsTaken editor.old gathering (line_text (record { bytes = bytes; ended = true })) (reply_text result) editor.new group.new }
 {
     let line = whole_line(buffer);
+    // Most lines are: nothing else need be done for them.
+    if group.is_alone(line) {
+        return answer_single(alloc, editor, line);
+    }
     let asks = group.take(alloc, line);
     answer_asked(alloc, editor, line, asks)
 }
@@ -88,6 +94,39 @@ pub fn whole_line(buffer: &LineBuffer) -> Option<&[u8]>
         Some(bytes) => Some(without_return(bytes)),
         None => None,
     }
+}
+
+/// Answers a line that is neither a head nor a group.
+fn answer_single(alloc: Global, editor: &mut Editor, line: Option<&[u8]>) -> Result<Reply, Refusal>
+    requires { (bytes : List ℕ) → option_copied line.entry ≡ Some bytes → group_of bytes ≡ None }
+    ensures { IsAnswered editor.old (reading_of (option_copied line.entry)) (reply_text result) editor.new }
+{
+    match line {
+        Some(bytes) => answer_single_text(alloc, editor, bytes),
+        None => Err(Refusal::LineTooLong),
+    }
+}
+
+/// The same of a text that is not too long.
+fn answer_single_text(alloc: Global, editor: &mut Editor, bytes: &[u8]) -> Result<Reply, Refusal>
+    requires { group_of bytes.now ≡ None }
+    ensures { IsAnswered editor.old (text_reading bytes.now) (reply_text result) editor.new }
+{
+    let Ok(text) = from_utf8(bytes) else {
+        return Err(Refusal::BadCommand);
+    };
+    if is_blank_text(text) {
+        return Ok(Reply::Nothing);
+    }
+    answer_command(alloc, editor, text)
+}
+
+/// Answers a text as a command.
+fn answer_command(alloc: Global, editor: &mut Editor, text: &str) -> Result<Reply, Refusal>
+    ensures { IsAnswered editor.old (Asked (takes_memory text.now) (command_of text.now)) (reply_text result) editor.new }
+{
+    let (asker, command) = parse(alloc, text)?;
+    execute(alloc, editor, asker, command)
 }
 
 /// Answers what a line asks.
@@ -138,8 +177,7 @@ fn answer_said(alloc: Global, editor: &mut Editor, text: &str) -> Result<Reply, 
     if let Some((asker, group)) = parse_group(alloc, text) {
         return answer_group(alloc, editor, asker, group);
     }
-    let (asker, command) = parse(alloc, text)?;
-    execute(alloc, editor, asker, command)
+    answer_command(alloc, editor, text)
 }
 
 /// Carries a command out, of the editor of that number. Nothing is read any more, so memory may run out only for what

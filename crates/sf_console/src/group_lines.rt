@@ -2,11 +2,11 @@
 ghost use Rattle.std.specs.Prelude.{◌≡◌, ◌↔◌, IsTrue, ℕ, [], ◌∷◌, List, MatchOption, None, Option, OnOk, Some, option_copied, replicate, string_bytes, ◌++◌, ◌+◌, if◌then◌else◌};
 ghost use Rattle.sf_commands.specs.declared.head.Head.{Head as HeadOf};
 ghost use Rattle.sf_lines.specs.Lines.{HasNoFeed, line_max};
-ghost use Rattle.sf_commands.specs.GroupTexts.{is_return};
+ghost use Rattle.sf_commands.specs.GroupTexts.{group_of, is_return};
 ghost use Rattle.std.specs.List.{list_any};
 ghost use Rattle.std.specs.Str.{is_utf8};
 ghost use Rattle.sf_console.specs.Requests.{Closed, Comes, Gathering, Open, gathered, gathered_on, is_member_text, is_passed_over as is_passed_over_of, line_head, member_text as member_text_of, with_member};
-ghost use Rattle.sf_console.specs.Gatherings.{Asks, IsGrown, IsHeld, IsOpen, IsUnfed};
+ghost use Rattle.sf_console.specs.Gatherings.{Asks, IsGrown, IsHeld, IsOpen, IsUnfed, stands_alone as stands_alone_of};
 
 use sf_commands::{Head, are_blanks, begins_as_head, head_of};
 use sf_lines::LINE_MAX;
@@ -60,6 +60,16 @@ impl GroupLines {
         }
     }
 
+    /// Whether a line is asked by itself: no group is open, and it begins as no head.
+    pub fn is_alone(&self, line: Option<&[u8]>) -> bool
+        ensures value { self.now ≡ GroupLines.Closed → result ≡ stands_alone_of (option_copied line.entry) }
+        ensures outside { (gathering : Gathering) → IsHeld gathering self.now → IsTrue result →
+            (gathering ≡ Closed) × (line_head (option_copied line.entry) ≡ None) }
+        ensures group { (bytes : List ℕ) → IsTrue result → option_copied line.entry ≡ Some bytes → group_of bytes ≡ None }
+    {
+        self.is_closed() && stands_alone(line)
+    }
+
     /// The lines with a further one, and what that asks.
     fn with_line(self, alloc: Global, line: Option<&[u8]>) -> (GroupLines, LineAsks)
         ensures { (gathering : Gathering) → IsHeld gathering self → IsUnfed (option_copied line.entry) →
@@ -71,6 +81,18 @@ impl GroupLines {
             GroupLines::Open { text, left } => grown(text, left, line),
             GroupLines::Lost { left } => lost(left, line),
         }
+    }
+}
+
+/// Whether a line is neither a head nor a group, as its first byte tells of most lines.
+fn stands_alone(line: Option<&[u8]>) -> bool
+    ensures value { result ≡ stands_alone_of (option_copied line.entry) }
+    ensures head { IsTrue result → line_head (option_copied line.entry) ≡ None }
+    ensures group { (bytes : List ℕ) → IsTrue result → option_copied line.entry ≡ Some bytes → group_of bytes ≡ None }
+{
+    match line {
+        Some(bytes) => !begins_as_head(bytes),
+        None => true,
     }
 }
 

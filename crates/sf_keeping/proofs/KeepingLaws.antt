@@ -1,5 +1,5 @@
 -- What is asked, carried out and kept.
-use Rattle.std.proofs.Common.{◌≡◌, ◌≢◌, ℕ, ◌<◌, ◌≤◌, false, inl, inr, length, append-nil, List, [], ◌∷◌, ◌++◌, Option, Some, refl, sym, ap, ◌∙◌, subst, append_assoc, arith}
+use Rattle.std.proofs.Common.{◌≡◌, ◌≢◌, ℕ, ◌<◌, ◌≤◌, false, inl, inr, length, append-nil, List, [], ◌∷◌, ◌++◌, Option, None, Some, refl, sym, ap, ◌∙◌, subst, append_assoc, arith}
 use Rattle.sf_refusals.specs.declared.refusal.Refusal.TheVariants.{Memory}
 use Rattle.sf_lines.specs.Lines.{HasNoFeed, line_max}
 use Rattle.sf_journal.specs.Records.{sum_with}
@@ -7,9 +7,10 @@ use Rattle.sf_history.specs.History.{Machine}
 use Rattle.sf_console.specs.Answers.{refusal_line}
 use Rattle.sf_console.specs.declared.group_lines.GroupLines.{GroupLines}
 use Rattle.sf_console.specs.Readings.{line_text, text_reading}
-use Rattle.sf_console.specs.Requests.{Comes, Ends, Gathering, Request, gathered, line_request, nothing_asked}
+use Rattle.sf_console.specs.Requests.{Closed, Comes, Ends, Gathering, Request, gathered, line_head, line_request, nothing_asked}
 use Rattle.sf_console.specs.Gatherings.{IsGrouped, IsHeld}
 use Rattle.sf_console.specs.Session.{IsAnswered}
+use Rattle.sf_console.proofs.GroupLaws.{gathered-alone}
 use Rattle.sf_keeping.specs.Desks.{Call, Makes}
 use Rattle.sf_keeping.specs.Waiting.{Waiting, nothing_waits, with_text, with_answer, committing_calls, IsBrokenOff}
 use Rattle.sf_keeping.specs.Changes.{changed}
@@ -163,6 +164,23 @@ pub BreaksWithin-line : (before now : Option (List Call)) (was : Waiting) (old n
     → BreaksWithin before now was old ((gathered gathering (Comes taken)).1 ∷ []) new → BreaksWithin before now was old ((gathered gathering (Comes text)).1 ∷ []) new
 BreaksWithin-line before now was old new gathering taken text is breaks =
     subst (λ t. BreaksWithin before now was old ((gathered gathering (Comes t)).1 ∷ []) new) is breaks
+
+-- a line that is no head, where no group is open, was carried out by itself
+pub GoesOnBy-alone : (before now : Option (List Call)) (was waits : Waiting) (old new : Machine) (gathering : Gathering) (held : GroupLines) (taken text : Option (List ℕ)) → taken ≡ text
+    → gathering ≡ Closed → line_head taken ≡ None → IsHeld gathering held → GoesOnBy before now was old (line_request taken ∷ []) waits new
+    → GoesOnBy before now was old ((gathered gathering (Comes text)).1 ∷ []) waits new × IsHeld (gathered gathering (Comes text)).0 held
+GoesOnBy-alone before now was waits old new gathering held taken text is closed none is_held goes =
+    let here = sym (gathered-alone gathering taken closed none) in
+    GoesOnBy-line before now was waits old new gathering held taken text is
+    (subst (λ h. GoesOnBy before now was old (h.1 ∷ []) waits new) here goes)
+    (subst (λ h. IsHeld h.0 held) here (subst (λ g. IsHeld g held) closed is_held))
+
+pub BreaksWithin-alone : (before now : Option (List Call)) (was : Waiting) (old new : Machine) (gathering : Gathering) (taken text : Option (List ℕ)) → taken ≡ text
+    → gathering ≡ Closed → line_head taken ≡ None → BreaksWithin before now was old (line_request taken ∷ []) new
+    → BreaksWithin before now was old ((gathered gathering (Comes text)).1 ∷ []) new
+BreaksWithin-alone before now was old new gathering taken text is closed none breaks =
+    BreaksWithin-line before now was old new gathering taken text is
+    (subst (λ h. BreaksWithin before now was old (h.1 ∷ []) new) (sym (gathered-alone gathering taken closed none)) breaks)
 
 -- ---- the end of the input
 

@@ -273,6 +273,10 @@ fn keep_line<D: Desk>(
         BreaksWithin (D.calls desk.old) (D.calls desk.new) pending.old editor.old ((gathered_by gathering bytes).1 ∷ []) editor.new) }
 {
     let line = whole_line(line);
+    // Most lines are: nothing else need be done for them.
+    if group.is_alone(line) {
+        return keep_alone(alloc, editor, pending, desk, line);
+    }
     let asks = group.take(alloc, line);
     keep_asked(alloc, editor, pending, desk, line, asks)
 }

@@ -11,7 +11,8 @@ use std::test::Fail;
 const PAIRS: u32 = 20_000;
 
 /// A town of 36 points: a border with spikes, a hole, and an island in it.
-const TOWN: &str = "MULTIPOLYGON (((-40 -40, -21 -40, -20 -16, -18 -40, 10 -40, 10 -40, 10 -30, 25 -30, 40 -40, 33 -7, 40 0, 12 3, 40 11, 30 30, 40 40, 0 40, -1 22, -2 40, -40 40, -40 11, -24 10, -40 9, -40 -40), (-10 10, -10 20, -5 15, 0 20, 0 10, -5 12, -10 10)), ((-7 14, -5 13, -3 14, -5 14, -7 14)))";
+const TOWN: &str =
+    "MULTIPOLYGON (((-40 -40, -21 -40, -20 -16, -18 -40, 10 -40, 10 -40, 10 -30, 25 -30, 40 -40, 33 -7, 40 0, 12 3, 40 11, 30 30, 40 40, 0 40, -1 22, -2 40, -40 40, -40 11, -24 10, -40 9, -40 -40), (-10 10, -10 20, -5 15, 0 20, 0 10, -5 12, -10 10)), ((-7 14, -5 13, -3 14, -5 14, -7 14)))";
 
 /// Of how many pairs each kind of evidence shows something.
 type Counts = [u32; 6];
@@ -24,7 +25,10 @@ struct Dice {
 impl Dice {
     /// A number from 0 up to this one, which is left out.
     fn below(&mut self, end: u32) -> u32 {
-        self.state = self.state.wrapping_mul(1_664_525).wrapping_add(1_013_904_223);
+        self.state = self
+            .state
+            .wrapping_mul(1_664_525)
+            .wrapping_add(1_013_904_223);
         (self.state >> 16).checked_rem(end).unwrap_or(0)
     }
 

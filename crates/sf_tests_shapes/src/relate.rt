@@ -99,9 +99,21 @@ const FILLINGS: &[Filling] = &[
 
 /// Two geometries, and whether the first point of one of them lies in the other.
 const FIRST_POINTS: &[(&str, &str, bool)] = &[
-    ("POLYGON ((0 0, 10 0, 10 10, 0 10, 0 0))", "POLYGON ((5 5, 15 5, 15 15, 5 15, 5 5))", true),
-    ("POLYGON ((0 0, 10 0, 10 10, 0 10, 0 0))", "POLYGON ((10 0, 20 0, 20 10, 10 10, 10 0))", true),
-    ("POINT (5 5)", "MULTILINESTRING ((0 0, 5 5), (5 5, 10 0))", true),
+    (
+        "POLYGON ((0 0, 10 0, 10 10, 0 10, 0 0))",
+        "POLYGON ((5 5, 15 5, 15 15, 5 15, 5 5))",
+        true,
+    ),
+    (
+        "POLYGON ((0 0, 10 0, 10 10, 0 10, 0 0))",
+        "POLYGON ((10 0, 20 0, 20 10, 10 10, 10 0))",
+        true,
+    ),
+    (
+        "POINT (5 5)",
+        "MULTILINESTRING ((0 0, 5 5), (5 5, 10 0))",
+        true,
+    ),
     ("MULTIPOINT ((9 9), (0 0))", "LINESTRING (0 0, 5 5)", true),
     ("MULTIPOINT ((9 9), (5 5))", "LINESTRING (0 0, 5 5)", false),
     (
@@ -187,15 +199,31 @@ fn first_points(rt: HostRuntime) -> Result<(), Fail> {
 
 /// Geometries, and whether edges of two areas cross at a point of no other edge.
 const CROSSED: &[(&str, &str, bool)] = &[
-    ("POLYGON ((0 0, 10 0, 10 10, 0 10, 0 0))", "POLYGON ((5 5, 15 5, 15 15, 5 15, 5 5))", true),
+    (
+        "POLYGON ((0 0, 10 0, 10 10, 0 10, 0 0))",
+        "POLYGON ((5 5, 15 5, 15 15, 5 15, 5 5))",
+        true,
+    ),
     (
         "MULTIPOLYGON (((0 0, 10 0, 10 10, 0 10, 0 0)), ((30 0, 40 0, 30 9, 30 0)))",
         "POLYGON ((5 5, 15 5, 15 15, 5 15, 5 5))",
         true,
     ),
-    ("POLYGON ((0 0, 10 0, 10 10, 0 10, 0 0))", "POLYGON ((10 0, 20 0, 20 10, 10 10, 10 0))", false),
-    ("POLYGON ((0 0, 10 0, 10 10, 0 10, 0 0))", "POLYGON ((0 0, 10 0, 10 10, 0 10, 0 0))", false),
-    ("POLYGON ((0 0, 10 0, 10 10, 0 10, 0 0))", "LINESTRING (5 5, 15 5, 15 15, 5 15, 5 5)", false),
+    (
+        "POLYGON ((0 0, 10 0, 10 10, 0 10, 0 0))",
+        "POLYGON ((10 0, 20 0, 20 10, 10 10, 10 0))",
+        false,
+    ),
+    (
+        "POLYGON ((0 0, 10 0, 10 10, 0 10, 0 0))",
+        "POLYGON ((0 0, 10 0, 10 10, 0 10, 0 0))",
+        false,
+    ),
+    (
+        "POLYGON ((0 0, 10 0, 10 10, 0 10, 0 0))",
+        "LINESTRING (5 5, 15 5, 15 15, 5 15, 5 5)",
+        false,
+    ),
 ];
 
 #[test]

@@ -22,18 +22,10 @@ returns-in-Some c = λ text.
     (sym (text_reading-group line _ _ text said found.1))
     (c.answer_group.ensures found.0 found.2)
 
-pub returns-in_err-asker : goal.returns-in_err-asker
-returns-in_err-asker c = λ text.
-    let line = c.args.text.now in
-    let command : list_all is_blank line ≡ false = sym c.is_blank_text.ensures ∙ c.if-is_blank_text.false in
-    subst (λ r. IsAnswered c.args.editor.now r (reply_text c.from_residual.result) c.args.editor.now)
-    (sym (text_reading-alone line text command c.in_default.ensures))
-    (IsAnswered-refused (takes_memory line) c.args.editor.now (command_of line) c.in_err-asker.field-0.0 c.from_residual.result c.in_err-asker.ensures c.from_residual.ensures.1)
-
 pub returns : goal.returns
 returns c = λ text.
     let line = c.args.text.now in
-    let command : list_all is_blank line ≡ false = sym c.is_blank_text.ensures ∙ c.if-is_blank_text.false in
-    subst (λ r. IsAnswered c.args.editor.now r (reply_text c.execute.result) c.execute.new.editor)
-    (sym (text_reading-alone line text command c.in_default.ensures))
-    (IsAnswered-asked (takes_memory line) c.args.editor.now c.execute.new.editor (reply_text c.execute.result) (command_of line) (Ok (c.in_ok-asker.asker, c.in_ok-asker.command)) c.in_ok-asker.ensures c.execute.ensures)
+    let said : list_all is_blank line ≡ false = sym c.is_blank_text.ensures ∙ c.if-is_blank_text.false in
+    subst (λ r. IsAnswered c.args.editor.now r (reply_text c.answer_command.result) c.answer_command.new.editor)
+    (sym (text_reading-alone line text said c.in_default.ensures))
+    c.answer_command.ensures
