@@ -18,6 +18,7 @@ const TOWN: &str =
 type Counts = [u32; 6];
 
 /// Numbers that look random (Knuth's and Lewis's generator modulo 2^32).
+#[derive(Drop)]
 struct Dice {
     state: u32,
 }
