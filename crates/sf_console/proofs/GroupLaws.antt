@@ -266,7 +266,8 @@ IsTaken-as old new gathering line given text held same answered is_held = (
 
 -- a line that is no head, where no group is open, asks by itself
 pub gathered-alone : (gathering : Gathering) (line : Option (List ℕ)) → gathering ≡ Closed → line_head line ≡ None → gathered gathering (Comes line) ≡ (Closed, line_request line)
-gathered-alone gathering line refl none = ap (outside line) none
+gathered-alone gathering line closed none =
+    subst (λ g. gathered g (Comes line) ≡ (Closed, line_request line)) (sym closed) (ap (outside line) none)
 
 -- it is taken, and answered by itself
 pub IsTaken-alone : (old new : Machine) (gathering : Gathering) (line given : Option (List ℕ)) (text : List ℕ) (held : GroupLines) → given ≡ line

@@ -98,7 +98,7 @@ pub fn whole_line(buffer: &LineBuffer) -> Option<&[u8]>
 
 /// Answers a line that is neither a head nor a group.
 fn answer_single(alloc: Global, editor: &mut Editor, line: Option<&[u8]>) -> Result<Reply, Refusal>
-    requires { (bytes : List ℕ) → option_copied line.entry ≡ Some bytes → group_of bytes ≡ None }
+    requires { (bytes : List ℕ) → option_copied line ≡ Some bytes → group_of bytes ≡ None }
     ensures { IsAnswered editor.old (reading_of (option_copied line.entry)) (reply_text result) editor.new }
 {
     match line {

@@ -67,7 +67,10 @@ impl GroupLines {
             (gathering ≡ Closed) × (line_head (option_copied line.entry) ≡ None) }
         ensures group { (bytes : List ℕ) → IsTrue result → option_copied line.entry ≡ Some bytes → group_of bytes ≡ None }
     {
-        self.is_closed() && stands_alone(line)
+        match self {
+            GroupLines::Closed => stands_alone(line),
+            GroupLines::Open { .. } | GroupLines::Lost { .. } => false,
+        }
     }
 
     /// The lines with a further one, and what that asks.

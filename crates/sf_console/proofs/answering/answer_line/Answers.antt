@@ -1,11 +1,11 @@
-use Rattle.std.proofs.Common.{◌≡◌, Option, None, List, ℕ, refl, true, sym, subst, ap, ◌∙◌}
-use Rattle.sf_console.specs.Gatherings.{IsTaken, IsUnfed}
+use Rattle.std.proofs.Common.{true, sym, subst}
+use Rattle.sf_console.specs.Gatherings.{IsUnfed}
 use Rattle.sf_console.proofs.GroupLaws.{IsTaken-alone, IsTaken-as, IsUnfed-line}
 use Rattle.sf_console.proofs.answering.answer_line.Goals as goal
 
 pub returns-then-is_alone : goal.returns-then-is_alone
 returns-then-is_alone c = λ bytes gathering is_buffer unfed is_held.
-    let alone = c.is_alone.ensures.outside gathering is_held (sym c.if-is_alone.true) in
+    let alone = c.is_alone.ensures.outside gathering is_held c.if-is_alone.true in
     IsTaken-alone _ _ gathering _ _ _ _ (c.whole_line-line.ensures bytes is_buffer) alone.0 alone.1 is_held c.answer_single.ensures
 
 pub returns : goal.returns

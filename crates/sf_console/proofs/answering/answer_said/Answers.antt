@@ -1,10 +1,9 @@
-use Rattle.std.proofs.Common.{◌≡◌, ◌∙◌, true, false, sym, subst, refl, [], Ok}
+use Rattle.std.proofs.Common.{◌≡◌, ◌∙◌, true, false, sym, subst, refl, []}
 use Rattle.std.specs.List.{list_all}
 use Rattle.sf_wkt.specs.Tokens.{is_blank}
-use Rattle.sf_commands.specs.Commands.{command_of, takes_memory}
 use Rattle.sf_console.specs.Answers.{reply_text}
 use Rattle.sf_console.specs.Session.{IsAnswered}
-use Rattle.sf_console.proofs.ReadingLemmas.{text_reading-by, text_reading-group, text_reading-alone, IsAnswered-asked, IsAnswered-refused}
+use Rattle.sf_console.proofs.ReadingLemmas.{text_reading-by, text_reading-group, text_reading-alone}
 use Rattle.sf_console.proofs.answering.answer_said.Goals as goal
 
 pub returns-then-is_blank_text : goal.returns-then-is_blank_text

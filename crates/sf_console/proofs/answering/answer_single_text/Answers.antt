@@ -31,6 +31,6 @@ returns c =
     let text = c.in-Ok.text.now in
     let utf8 : is_utf8 text ≡ true = ap is_utf8 same ∙ is_utf8-from_IsUtf8 line c.in-Ok.ensures.cases.1 in
     let said : list_all is_blank text ≡ false = sym c.is_blank_text.ensures ∙ c.if-is_blank_text.false in
-    let alone = ap group_of same ∙ c.args.requires in
+    let alone = ap group_of same ∙ c.requires in
     subst (λ l. IsAnswered c.args.editor.now (text_reading l) (reply_text c.answer_command.result) c.answer_command.new.editor) same
     (subst (λ r. IsAnswered c.args.editor.now r (reply_text c.answer_command.result) c.answer_command.new.editor) (sym (text_reading-alone text utf8 said alone)) c.answer_command.ensures)

@@ -9,7 +9,7 @@ pub returns-then-is_alone-clause-ok : goal.returns-then-is_alone-clause-ok
 returns-then-is_alone-clause-ok g c = OnOk-map c.keep_alone.result (λ goes bytes gathering is_buffer unfed is_held.
     let text = c.whole_line-line.ensures bytes is_buffer in
     let is_text = subst IsLineText (sym text) (IsLineText-of (record { bytes = bytes; ended = true }) unfed) in
-    let alone = c.is_alone.ensures.outside gathering is_held (sym c.if-is_alone.true) in
+    let alone = c.is_alone.ensures.outside gathering is_held c.if-is_alone.true in
     GoesOnBy-alone _ _ _ _ _ _ gathering _ _ _ text alone.0 alone.1 is_held (goes is_text))
     c.keep_alone.ensures.ok
 
@@ -17,7 +17,7 @@ pub returns-then-is_alone-clause-broken : goal.returns-then-is_alone-clause-brok
 returns-then-is_alone-clause-broken g c = OnErr-map c.keep_alone.result (λ breaks bytes gathering is_buffer unfed is_held.
     let text = c.whole_line-line.ensures bytes is_buffer in
     let is_text = subst IsLineText (sym text) (IsLineText-of (record { bytes = bytes; ended = true }) unfed) in
-    let alone = c.is_alone.ensures.outside gathering is_held (sym c.if-is_alone.true) in
+    let alone = c.is_alone.ensures.outside gathering is_held c.if-is_alone.true in
     BreaksWithin-alone _ _ _ _ _ gathering _ _ text alone.0 alone.1 (breaks is_text))
     c.keep_alone.ensures.broken
 
