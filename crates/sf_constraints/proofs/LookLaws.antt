@@ -22,7 +22,8 @@ use Rattle.sf_constraints.specs.declared.breaks.Break.{Break}
 use Rattle.sf_constraints.specs.declared.breaks.Break.TheVariants.{Pair, Alone}
 use Rattle.sf_constraints.specs.Breaks.{least_from}
 use Rattle.sf_constraints.specs.Rules.{alone_break, first_of, pair_break}
-use Rattle.sf_constraints.specs.Looks.{alone_at, alone_beside, alone_first, alone_if, alone_looked_at, alone_of_leaving, alone_of_slot, alone_second, has_partner, is_leaving, is_partner, is_partnered, pairs_beside, pairs_beside_some, pairs_first, pairs_looked_at, pairs_of_slot, pairs_second, pairs_with, pairs_with_some, partnered, partners, staying}
+use Rattle.sf_constraints.specs.Looks.{alone_at, alone_beside, alone_first, alone_if, alone_looked_at, alone_of_leaving, alone_of_slot, alone_second, has_partner, is_partner, is_partnered, pairs_beside, pairs_beside_some, pairs_first, pairs_looked_at, pairs_of_slot, pairs_second, pairs_with, pairs_with_some, partnered, partners, staying}
+use Rattle.sf_constraints.specs.Leaving.{is_leaving}
 use Rattle.sf_query.proofs.FilterLaws.{found-passes, passes-found}
 use Rattle.sf_joins.proofs.PairLaws.{contains-cons, contains-filter, contains-flat, contains-here, contains-map, filter-contains, flat-contains, map-contains}
 use Rattle.sf_constraints.proofs.EntryLaws.{ArePair, alone-of, alone_of, any-found, any-of, lacks, pair-of, pairs_of}

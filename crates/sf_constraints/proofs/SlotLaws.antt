@@ -10,12 +10,11 @@ use Rattle.sf_layers.specs.Content.{Content, LayerContent, layer_at, change_at, 
 use Rattle.sf_features.specs.Features.{FeatureContent}
 use Rattle.sf_patches.specs.Patches.{put_state, with_slot, patched, before}
 use Rattle.sf_patches.specs.Merged.{is_of_id}
-use Rattle.sf_constraints.specs.Looks.{is_leaving}
-use Rattle.sf_constraints.specs.Underway.{RemovesOnly}
+use Rattle.sf_constraints.specs.Leaving.{is_leaving}
+use Rattle.sf_patches.specs.Halves.{RemovesOnly}
 use Rattle.sf_patches.proofs.Rising.{AreRising, KeepRising}
 use Rattle.sf_patches.proofs.Undoing.{undoing_onto}
-use Rattle.sf_patches.proofs.MergedLaws.{state-found, layer_at-change_at, layer_at-rising}
-use Rattle.sf_constraints.proofs.FrameLaws.{feature_at-other, feature_at-counter}
+use Rattle.sf_patches.proofs.MergedLaws.{feature_at-counter, feature_at-other, state-found, layer_at-change_at, layer_at-rising}
 use Rattle.sf_joins.proofs.PairLaws.{contains-here, contains-there}
 
 and_true : (a b : Bool) → a && b ≡ true → (a ≡ true) × (b ≡ true)

@@ -19,12 +19,13 @@ use Rattle.sf_constraints.specs.declared.rule.Form.TheVariants.{Never, Each}
 use Rattle.sf_constraints.specs.declared.breaks.Break.{Break}
 use Rattle.sf_constraints.specs.Breaks.{least_from}
 use Rattle.sf_constraints.specs.Rules.{alone_break, break_by, break_of, breaks_between, broken_from, broken_or, first_of, lacks_partner, of_one, pair_break}
-use Rattle.sf_constraints.specs.Looks.{is_leaving, looked_at, staying}
+use Rattle.sf_constraints.specs.Looks.{looked_at, staying}
+use Rattle.sf_constraints.specs.Leaving.{is_leaving}
 use Rattle.sf_constraints.specs.Underway.{CanLeave, ComesOf, IsBetween}
 use Rattle.sf_patches.proofs.Undoing.{undone_by}
 use Rattle.sf_query.proofs.QueryLaws.{layer-fits}
 use Rattle.sf_patches.proofs.ExchangeLaws.{AreRising-fine, KeepRising-fine, undone_by-undoing}
-use Rattle.sf_constraints.proofs.FrameLaws.{IsWellFormed-patched}
+use Rattle.sf_patches.proofs.TakenBack.{IsWellFormed-patched}
 use Rattle.sf_layers.proofs.Changes.{layer_of-place_of}
 use Rattle.sf_constraints.proofs.LookLaws.{IsAround, alone-looked, pairs-looked}
 use Rattle.sf_constraints.proofs.SlotLaws.{kept-by, keys-patched, left-by-removals, recorded-by}

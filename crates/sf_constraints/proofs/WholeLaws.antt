@@ -23,7 +23,8 @@ use Rattle.sf_constraints.specs.declared.breaks.Break.{Break}
 use Rattle.sf_constraints.specs.declared.breaks.Break.TheVariants.{Pair, Alone}
 use Rattle.sf_constraints.specs.Breaks.{is_before, least_from}
 use Rattle.sf_constraints.specs.Rules.{alone_break, break_by, break_of, breaks_between, first_of, lacks_partner, of_one, pair_break}
-use Rattle.sf_constraints.specs.Looks.{alone_of_entry, has_partner, is_leaving, is_partner, pairs_of_entry, pairs_with, partners, staying}
+use Rattle.sf_constraints.specs.Leaving.{is_leaving}
+use Rattle.sf_constraints.specs.Looks.{alone_of_entry, has_partner, is_partner, pairs_of_entry, pairs_with, partners, staying}
 use Rattle.sf_constraints.specs.Underway.{IsBetween}
 use Rattle.sf_query.proofs.FilterLaws.{rising-filter}
 use Rattle.sf_joins.proofs.LoopLaws.{numbers_with, row-by-converse}
@@ -121,6 +122,10 @@ map-pairs i (j ∷ js) = ap (λ bs. Pair i j ∷ bs) (map-pairs i js)
 map-append : (xs ys : List (ℕ × ℕ)) → map pair_break (xs ++ ys) ≡ map pair_break xs ++ map pair_break ys
 map-append [] ys = refl
 map-append (x ∷ xs) ys = ap (λ bs. pair_break x ∷ bs) (map-append xs ys)
+
+-- the layers of a rule where no feature leaves
+pub none-leaves : (content : Content) (rule : Rule) (leaving : List Slot) (between : Between) → leaving ≡ [] → IsBetween content rule leaving between → IsBetween content rule [] between
+none-leaves content rule leaving between none is = subst (λ slots. IsBetween content rule slots between) none is
 
 pub whole-never : (content : Content) (rule : Rule) (between : Between) → IsBetween content rule [] between → rule.form ≡ Never
     → first_of (flat_map (pairs_of_entry between) between.first.now.features) ≡ break_of content rule

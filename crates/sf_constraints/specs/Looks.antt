@@ -5,20 +5,16 @@ use Rattle.std.specs.List.{list_any}
 use Rattle.sf_patches.specs.declared.slot.Slot.{Slot}
 use Rattle.sf_patches.specs.declared.slot.Slot.TheVariants.{Counter, State}
 use Rattle.sf_constraints.specs.declared.between.Between.{Between}
+use Rattle.sf_constraints.specs.Leaving.{is_leaving}
 use Rattle.sf_geometry.specs.declared.geometry.Geometry.{Geometry}
 use Rattle.sf_features.specs.Features.{FeatureContent}
 use Rattle.sf_layers.specs.Content.{LayerContent, feature_of}
-use Rattle.sf_patches.specs.Merged.{is_of_id}
 use Rattle.sf_joins.specs.Joins.{are_distinct}
 use Rattle.sf_query.specs.Answers.{ids_found}
 use Rattle.sf_constraints.specs.declared.breaks.Break.{Break}
 use Rattle.sf_constraints.specs.declared.rule.Form.{Form}
 use Rattle.sf_constraints.specs.declared.rule.Form.TheVariants.{Never, Each}
 use Rattle.sf_constraints.specs.declared.breaks.Break.TheVariants.{Pair, Alone}
-
--- whether the feature under an identifier is still to be removed from the layer at a place
-abbrev pub is_leaving : List Slot → ℕ → ℕ → Bool
-is_leaving leaving place id = list_any (is_of_id place id) leaving
 
 -- what will stand under an identifier of a layer
 abbrev pub staying : LayerContent → List Slot → ℕ → ℕ → Option FeatureContent

@@ -1,25 +1,15 @@
 -- Internal: who wants to trust the program need not read this file.
 -- A content whose rules held before exchanges were made, and the two layers of a rule.
 use Rattle.std.specs.Prelude.{◌≡◌, ◌⊎◌, List, None, Option, Some, bytes_eq}
-use Rattle.std.specs.List.{AllByRecursion}
 use Rattle.sf_layers.specs.Content.{Content, layer_of, place_of}
 use Rattle.sf_layers.specs.WellFormed.{IsWellFormed}
 use Rattle.sf_patches.specs.declared.slot.Slot.{Slot}
-use Rattle.sf_patches.specs.declared.slot.Slot.TheVariants.{Counter, State}
 use Rattle.sf_patches.specs.Fits.{StayFine}
+use Rattle.sf_patches.specs.Halves.{RemovesOnly}
 use Rattle.sf_patches.specs.Patches.{patched, undoing}
 use Rattle.sf_joins.specs.Converse.{HasNineLetters, converse}
 use Rattle.sf_constraints.specs.declared.between.Between.{Between}
 use Rattle.sf_constraints.specs.declared.rule.Rule.{Rule}
-
--- the exchange leaves no feature where it is
-abbrev pub IsRemoval : Slot → Type 0
-IsRemoval (State place id None) = Unit {0}
-IsRemoval (State place id (Some feature)) = ⊥
-IsRemoval (Counter place next_id) = ⊥
-
-abbrev pub RemovesOnly : List Slot → Type 0
-RemovesOnly slots = AllByRecursion IsRemoval slots
 
 -- a content comes of another one by exchanges, of which these are what takes them back
 pub record ComesOf (old now : Content) (made : List Slot) : Type 0 where

@@ -28,7 +28,7 @@ pub(crate) fn least_alone(
     for slot in made {
         least = least_of_slot(alloc, between, slot, least)?;
     }
-    for slot in between.leaving {
+    for slot in between.leaving.slots() {
         least = least_of_leaving(alloc, between, slot, least)?;
     }
     Ok(least)

@@ -1,10 +1,9 @@
 ghost use Rattle.std.specs.Prelude.{◌≡◌, option_copied};
-ghost use Rattle.sf_constraints.specs.Looks.{is_leaving as is_leaving_of, is_partner as is_partner_of, is_partnered as is_partnered_of, staying as staying_of};
+ghost use Rattle.sf_constraints.specs.Looks.{is_partner as is_partner_of, is_partnered as is_partnered_of, staying as staying_of};
 ghost use Rattle.sf_joins.specs.Joins.{are_distinct as are_distinct_of};
-ghost use Rattle.sf_patches.specs.Merged.{is_of_id};
 
+use super::leaving::Leaving;
 use sf_layers::{Feature, Layer};
-use sf_patches::Slot;
 use sf_query::Ask;
 
 /// Two layers of a store between which a rule is, and the features that are still to be removed from it.
@@ -20,7 +19,7 @@ pub(crate) struct Between<'a> {
     pub(crate) ask: Ask,
     /// The same the other way round.
     pub(crate) converse: Ask,
-    pub(crate) leaving: &'a [Slot],
+    pub(crate) leaving: &'a Leaving<'a>,
 }
 
 impl<'a> Between<'a> {
@@ -28,15 +27,14 @@ impl<'a> Between<'a> {
     pub(crate) fn is_partner(&self, first: u32, second: u32) -> bool
         ensures { result ≡ is_partner_of self.now first second }
     {
-        are_distinct(self.one, first, second)
-            && !is_leaving(self.leaving, self.second_place, second)
+        are_distinct(self.one, first, second) && !self.leaving.has(self.second_place, second)
     }
 
     /// The same, where that of the first layer stays.
     pub(crate) fn is_partnered(&self, second: u32, first: u32) -> bool
         ensures { result ≡ is_partnered_of self.now second first }
     {
-        are_distinct(self.one, first, second) && !is_leaving(self.leaving, self.first_place, first)
+        are_distinct(self.one, first, second) && !self.leaving.has(self.first_place, first)
     }
 }
 
@@ -50,35 +48,14 @@ fn are_distinct(one: bool, first: u32, second: u32) -> bool
 /// What will stand under an identifier of the layer at a place.
 pub(crate) fn staying<'a>(
     layer: &'a Layer,
-    leaving: &[Slot],
+    leaving: &Leaving<'_>,
     place: usize,
     id: u32,
 ) -> Option<&'a Feature>
     ensures { option_copied result ≡ staying_of layer.now leaving.now place id }
 {
-    if is_leaving(leaving, place, id) {
+    if leaving.has(place, id) {
         return None;
     }
     layer.feature(id)
-}
-
-/// Whether the feature under an identifier is still to be removed from the layer at a place.
-fn is_leaving(leaving: &[Slot], place: usize, id: u32) -> bool
-    ensures { result ≡ is_leaving_of leaving.now place id }
-{
-    leaving.iter().any(|slot| is_of_id(slot, place, id))
-}
-
-/// Whether an exchange is of this identifier.
-fn is_of_id(slot: &Slot, place: usize, id: u32) -> bool
-    ensures { result ≡ is_of_id place id slot.now }
-{
-    match slot {
-        Slot::State {
-            place: p,
-            id: i,
-            ..
-        } => *p == place && *i == id,
-        Slot::Counter { .. } => false,
-    }
 }

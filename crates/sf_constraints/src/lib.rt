@@ -4,15 +4,15 @@
 mod alone;
 mod between;
 mod breaks;
-mod converse;
-mod halves;
+mod exchanging;
 pub mod laws;
+mod leaving;
 mod near;
 mod pairs;
 mod rule;
 mod whole;
 
 pub use breaks::{Break, Broken};
-pub use halves::{Halves, NotExchanged};
+pub use exchanging::{NotExchanged, exchange_under};
 pub use rule::{Form, Rule};
 pub use whole::first_break;

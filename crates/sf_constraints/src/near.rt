@@ -12,6 +12,7 @@ ghost use Rattle.sf_constraints.specs.Rules.{break_of, first_broken};
 use super::alone::least_alone;
 use super::between::Between;
 use super::breaks::{Break, Broken};
+use super::leaving::Leaving;
 use super::pairs::least_pair;
 use super::rule::{Form, Rule};
 use super::whole::layers_of;
@@ -39,6 +40,25 @@ pub(crate) fn first_broken_near(
     requires leave { CanLeave store.now leaving.now }
     ensures { IfOk result (λ found. found ≡ first_broken (patched store.now leaving.now) rules.now) }
 {
+    if rules.is_empty() {
+        return Ok(None);
+    }
+    let leaving = Leaving::of(alloc, leaving)?;
+    first_broken_of(alloc, store, rules, made, &leaving)
+}
+
+/// The same, with a set of the features that leave.
+fn first_broken_of(
+    alloc: Global,
+    store: &Store,
+    rules: &[Rule],
+    made: &[Slot],
+    leaving: &Leaving<'_>,
+) -> Result<Option<Broken>, AllocError>
+    requires held { (old : Content) × ComesOf old store.now made.now × (first_broken old rules.now ≡ None) }
+    requires leave { CanLeave store.now leaving.now }
+    ensures { IfOk result (λ found. found ≡ first_broken (patched store.now leaving.now) rules.now) }
+{
     for place in 0..rules.len() {
         if let Some(least) = break_near(alloc, store, &rules[place], made, leaving)? {
             return Ok(Some(Broken { place, least }));
@@ -53,7 +73,7 @@ fn break_near(
     store: &Store,
     rule: &Rule,
     made: &[Slot],
-    leaving: &[Slot],
+    leaving: &Leaving<'_>,
 ) -> Result<Option<Break>, AllocError>
     requires held { (old : Content) × ComesOf old store.now made.now × (break_of old rule.now ≡ None) }
     requires leave { CanLeave store.now leaving.now }

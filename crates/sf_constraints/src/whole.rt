@@ -1,6 +1,6 @@
 //! Whether a rule holds of all features.
 
-ghost use Rattle.std.specs.Prelude.{◌≡◌, IfOk, None, flat_map};
+ghost use Rattle.std.specs.Prelude.{◌≡◌, [], IfOk, None, flat_map};
 ghost use Rattle.sf_layers.specs.WellFormed.{IsLayer};
 ghost use Rattle.sf_constraints.specs.Rules.{break_of, first_of};
 ghost use Rattle.sf_constraints.specs.Looks.{alone_of_entry, pairs_of_entry};
@@ -9,11 +9,11 @@ ghost use Rattle.sf_constraints.specs.Underway.{IsBetweenOrMissing};
 use super::alone::least_if_alone;
 use super::between::Between;
 use super::breaks::Break;
-use super::converse::converse;
+use super::leaving::Leaving;
 use super::pairs::least_with;
 use super::rule::{Form, Rule};
+use sf_joins::converse;
 use sf_layers::Store;
-use sf_patches::Slot;
 use std::alloc::{AllocError, Global};
 
 /// What breaks a rule first, of all features: the least pair, or the least feature without a partner. It is None where the rule
@@ -25,7 +25,21 @@ use std::alloc::{AllocError, Global};
 pub fn first_break(alloc: Global, store: &Store, rule: &Rule) -> Result<Option<Break>, AllocError>
     ensures { IfOk result (λ found. found ≡ break_of store.now rule.now) }
 {
-    let Some(between) = layers_of(store, rule, &[]) else {
+    let leaving = Leaving::none(alloc);
+    first_break_of(alloc, store, rule, &leaving)
+}
+
+/// The same, where no feature leaves.
+fn first_break_of(
+    alloc: Global,
+    store: &Store,
+    rule: &Rule,
+    leaving: &Leaving<'_>,
+) -> Result<Option<Break>, AllocError>
+    requires { leaving.now ≡ [] }
+    ensures { IfOk result (λ found. found ≡ break_of store.now rule.now) }
+{
+    let Some(between) = layers_of(store, rule, leaving) else {
         return Ok(None);
     };
     match rule.form {
@@ -38,7 +52,7 @@ pub fn first_break(alloc: Global, store: &Store, rule: &Rule) -> Result<Option<B
 pub(crate) fn layers_of<'a>(
     store: &'a Store,
     rule: &Rule,
-    leaving: &'a [Slot],
+    leaving: &'a Leaving<'a>,
 ) -> Option<Between<'a>>
     ensures { IsBetweenOrMissing store.now rule.now leaving.now result }
 {

@@ -2,8 +2,8 @@ use Rattle.std.proofs.Common.{flat_map}
 use Rattle.sf_constraints.specs.Looks.{alone_of_entry, pairs_of_entry}
 use Rattle.sf_constraints.specs.Rules.{break_of, first_of}
 use Rattle.sf_query.proofs.QueryLaws.{layer-fits}
-use Rattle.sf_constraints.proofs.WholeLaws.{answered, whole-each, whole-never}
-use Rattle.sf_constraints.proofs.whole.first_break.Goals as goal
+use Rattle.sf_constraints.proofs.WholeLaws.{answered, none-leaves, whole-each, whole-never}
+use Rattle.sf_constraints.proofs.whole.first_break_of.Goals as goal
 
 pub first_pair-requires : goal.first_pair-requires
 first_pair-requires c = layer-fits c.args.store.now c.args.rule.now.second c.in-Some.between.second.now c.in-Some.ensures.well_formed c.in-Some.ensures.second
@@ -14,12 +14,12 @@ first_alone-requires c = layer-fits c.args.store.now c.args.rule.now.second c.in
 pub returns-in-Never : goal.returns-in-Never
 returns-in-Never c =
     answered c.first_pair.result (first_of (flat_map (pairs_of_entry c.in-Some.between) c.in-Some.between.first.now.features)) (break_of c.args.store.now c.args.rule.now)
-    (whole-never c.args.store.now c.args.rule.now c.in-Some.between c.in-Some.ensures c.in-Never.is) c.first_pair.ensures
+    (whole-never c.args.store.now c.args.rule.now c.in-Some.between (none-leaves c.args.store.now c.args.rule.now c.args.leaving.now c.in-Some.between c.requires c.in-Some.ensures) c.in-Never.is) c.first_pair.ensures
 
 pub returns-in-Each : goal.returns-in-Each
 returns-in-Each c =
     answered c.first_alone.result (first_of (flat_map (alone_of_entry c.in-Some.between) c.in-Some.between.first.now.features)) (break_of c.args.store.now c.args.rule.now)
-    (whole-each c.args.store.now c.args.rule.now c.in-Some.between c.in-Some.ensures
+    (whole-each c.args.store.now c.args.rule.now c.in-Some.between (none-leaves c.args.store.now c.args.rule.now c.args.leaving.now c.in-Some.between c.requires c.in-Some.ensures)
     (layer-fits c.args.store.now c.args.rule.now.first c.in-Some.between.first.now c.in-Some.ensures.well_formed c.in-Some.ensures.first)
     (layer-fits c.args.store.now c.args.rule.now.second c.in-Some.between.second.now c.in-Some.ensures.well_formed c.in-Some.ensures.second) c.in-Each.is)
     c.first_alone.ensures

@@ -3,7 +3,7 @@ use Rattle.sf_layers.specs.Content.{Content}
 use Rattle.sf_patches.specs.Patches.{patched}
 use Rattle.sf_constraints.specs.Underway.{ComesOf}
 use Rattle.sf_constraints.specs.Rules.{broken_from, first_broken}
-use Rattle.sf_constraints.proofs.near.first_broken_near.Given as goal
+use Rattle.sf_constraints.proofs.near.first_broken_of.Given as goal
 
 -- the rules that are left held before, and what breaks them is what breaks all
 abbrev pub invariant-loop-place : goal.invariant-loop-place
