@@ -3,17 +3,17 @@ use Rattle.std.proofs.Common.{add-one, drop-cons, get_or, ◌≡◌, refl, ap, s
 use Rattle.std.specs.List.{All, fold}
 use Rattle.std.proofs.lemmas.List.{drop_all, length-append, length-drop, map-append, take-append-drop}
 use Rattle.std.proofs.lemmas.List.Elements.{All-cons, All-drop, All-nil}
-use Rattle.sf_columns.specs.declared.active.Active.{Active}
-use Rattle.sf_columns.specs.declared.level.Level.{Level}
-use Rattle.sf_columns.specs.declared.part.Part.{Part}
-use Rattle.sf_columns.specs.declared.vertex.Vertex.{Vertex}
-use Rattle.sf_columns.specs.Fronts.{pieces_of}
+use Rattle.sf_strips.specs.declared.active.Active.{Active}
+use Rattle.sf_strips.specs.declared.level.Level.{Level}
+use Rattle.sf_strips.specs.declared.part.Part.{Part}
+use Rattle.sf_strips.specs.declared.vertex.Vertex.{Vertex}
+use Rattle.sf_strips.specs.Fronts.{pieces_of}
 use Rattle.sf_cells.specs.Groups.{Item, counts, group_count, numbers}
 use Rattle.sf_cells.specs.Hands.{Balanced, item, minus, on_gap, on_level, plus, stop_items, stop_of, stops}
-use Rattle.sf_columns.specs.Levels.{TakeAll}
-use Rattle.sf_columns.specs.Parts.{levels_of}
+use Rattle.sf_strips.specs.Levels.{TakeAll}
+use Rattle.sf_strips.specs.Parts.{levels_of}
 use Rattle.sf_cells.specs.Samples.{dimension}
-use Rattle.sf_columns.specs.Vertices.{enters, leaves, pieces_with}
+use Rattle.sf_strips.specs.Vertices.{enters, leaves, pieces_with}
 use Rattle.sf_cells.proofs.TallyLaws.{HasRoom, add_both, add_none, counts-append, length-added, length-counts, length-taken, members, room_added, room_fewer, room_taken}
 use Rattle.sf_cells.proofs.TallySteps.{length-pieces_of, length-pieces_with}
 

@@ -10,7 +10,7 @@ use Rattle.std.proofs.lemmas.List.Sums.{sum_by-cons}
 use Rattle.std.proofs.Math.Seq.{drop-append_seam, take-append_seam}
 use Rattle.sf_cells.specs.declared.cell.Cell.{Cell}
 use Rattle.sf_cells.specs.declared.listing.Head.{Head}
-use Rattle.sf_columns.specs.declared.piece.Piece.{Piece}
+use Rattle.sf_strips.specs.declared.piece.Piece.{Piece}
 use Rattle.sf_cells.specs.Cells.{cell_of, cells, numbers_from}
 use Rattle.sf_cells.specs.Groups.{Item, counts, group_count, item_of, numbers}
 use Rattle.sf_cells.specs.Listing.{Listing, Measured, counted, head_of, is_counted, measure, record_item, recorded_cells, total, with_head, with_number}

@@ -6,7 +6,7 @@ use Rattle.std.proofs.lemmas.Bool.Decides.{eqb_tells}
 use Rattle.std.proofs.lemmas.List.{append-nil, get_or-set_same, length-map}
 use Rattle.std.proofs.lemmas.List.Elements.{All-cons, All-nil}
 use Rattle.std.proofs.lemmas.List.Sums.{count_by-le-length, sum_by-append, sum_by-cons}
-use Rattle.sf_columns.specs.Fronts.{SameNumbers}
+use Rattle.sf_strips.specs.Fronts.{SameNumbers}
 use Rattle.sf_cells.specs.Groups.{counts, group_count, numbers}
 use Rattle.sf_cells.specs.Hands.{AtMost, minus, plus}
 

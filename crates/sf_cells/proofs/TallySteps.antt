@@ -2,13 +2,13 @@
 use Rattle.std.proofs.Common.{◌≡◌, ap, sym, ◌∙◌, add-one, subst, ℕ, zero, suc, ◌+◌, ◌≤◌, ◌<◌, arith, Bool, true, false, List, [], ◌∷◌, ◌++◌, length, take, get_or}
 use Rattle.std.specs.Prelude.{if◌then◌else◌}
 use Rattle.std.proofs.lemmas.List.{append-nil}
-use Rattle.sf_columns.specs.declared.active.Active.{Active}
-use Rattle.sf_columns.specs.declared.vertex.Role.{Role}
-use Rattle.sf_columns.specs.declared.vertex.Vertex.{Vertex}
-use Rattle.sf_columns.specs.Fronts.{pieces_of}
+use Rattle.sf_strips.specs.declared.active.Active.{Active}
+use Rattle.sf_strips.specs.declared.vertex.Role.{Role}
+use Rattle.sf_strips.specs.declared.vertex.Vertex.{Vertex}
+use Rattle.sf_strips.specs.Fronts.{pieces_of}
 use Rattle.sf_cells.specs.Groups.{counts}
 use Rattle.sf_cells.specs.Hands.{AtMost, minus, plus}
-use Rattle.sf_columns.specs.Vertices.{pieces_with}
+use Rattle.sf_strips.specs.Vertices.{pieces_with}
 use Rattle.sf_cells.proofs.TallyLaws.{HasRoom, add_both, first_there, room_added, room_fewer, second_there, take_both}
 
 -- ---- the pieces ps of a list, of which qs are done and p is the next one

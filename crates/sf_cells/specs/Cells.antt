@@ -1,7 +1,7 @@
 -- Internal: who wants to trust the program need not read this file.
 -- The cells of a list of pieces: of each sample its dimension, the pieces on it and the edges above it.
 use Rattle.std.specs.Prelude.{ℕ, ◌+◌, Bool, List, [], ◌∷◌, map, if◌then◌else◌}
-use Rattle.sf_columns.specs.declared.piece.Piece.{Piece}
+use Rattle.sf_strips.specs.declared.piece.Piece.{Piece}
 use Rattle.sf_cells.specs.declared.cell.Cell.{Cell}
 use Rattle.sf_cells.specs.Pieces.{is_on, is_above}
 use Rattle.sf_cells.specs.Samples.{Sample, samples}

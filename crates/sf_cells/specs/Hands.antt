@@ -1,13 +1,13 @@
 -- Internal: who wants to trust the program need not read this file.
 -- What is handed out for a column: at each level the pieces that are on it, and below it the edges that are above from there on.
 use Rattle.std.specs.Prelude.{◌≡◌, ℕ, ◌+◌, ◌-◌, ◌≤◌, Bool, true, false, List, [], ◌∷◌, ◌++◌, take, drop}
-use Rattle.sf_columns.specs.declared.active.Active.{Active}
-use Rattle.sf_columns.specs.declared.level.Level.{Level}
-use Rattle.sf_columns.specs.declared.vertex.Vertex.{Vertex}
-use Rattle.sf_columns.specs.Fronts.{pieces_of}
+use Rattle.sf_strips.specs.declared.active.Active.{Active}
+use Rattle.sf_strips.specs.declared.level.Level.{Level}
+use Rattle.sf_strips.specs.declared.vertex.Vertex.{Vertex}
+use Rattle.sf_strips.specs.Fronts.{pieces_of}
 use Rattle.sf_cells.specs.Groups.{Item, counts}
 use Rattle.sf_cells.specs.Samples.{dimension}
-use Rattle.sf_columns.specs.Vertices.{enters, leaves, pieces_with}
+use Rattle.sf_strips.specs.Vertices.{enters, leaves, pieces_with}
 
 -- a level: the pieces on it but not on the gap above, those on it but not on the gap below, and the edges that go on from it
 pub record Stop : Type 0 where

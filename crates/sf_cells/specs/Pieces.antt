@@ -4,9 +4,9 @@ use Rattle.std.specs.Prelude.{Bool, false, List, [], ◌∷◌, if◌then◌else
 use Rattle.sf_grid.specs.Fraction.{Fraction, whole, fraction_eq}
 use Rattle.sf_grid.specs.Plane.{Coordinates, Point, grid_point, same_point}
 use Rattle.sf_grid.specs.Edge.{edge_between, on_edge, edge_above, is_vertical, reaches, height_at}
-use Rattle.sf_columns.specs.declared.piece.Piece.{Piece}
-use Rattle.sf_columns.specs.declared.piece.Piece.TheVariants.{Edge, Dot}
-pub use Rattle.sf_columns.specs.Pieces.{HasLength}
+use Rattle.sf_strips.specs.declared.piece.Piece.{Piece}
+use Rattle.sf_strips.specs.declared.piece.Piece.TheVariants.{Edge, Dot}
+pub use Rattle.sf_strips.specs.Pieces.{HasLength}
 
 -- p is on the piece
 abbrev pub is_on : Point → Piece → Bool

@@ -5,8 +5,8 @@ use Rattle.std.specs.List.{flat_map}
 use Rattle.sf_grid.specs.Fraction.{Fraction, whole, fraction_lt, one_more, one_less, middle}
 use Rattle.sf_grid.specs.Plane.{Point, point_at, x_of}
 use Rattle.sf_grid.specs.Edge.{edge_between, crossing}
-use Rattle.sf_columns.specs.declared.piece.Piece.{Piece}
-use Rattle.sf_columns.specs.declared.piece.Piece.TheVariants.{Edge, Dot}
+use Rattle.sf_strips.specs.declared.piece.Piece.{Piece}
+use Rattle.sf_strips.specs.declared.piece.Piece.TheVariants.{Edge, Dot}
 use Rattle.sf_cells.specs.Pieces.{ends_of, heights_of}
 
 -- a number put in its place, unless it is there already

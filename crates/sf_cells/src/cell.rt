@@ -4,11 +4,11 @@ use std::marker::Model;
 
 /// Piece numbers. Those of a cell are in rising order, as its definition lists them.
 #[derive(Drop)]
-pub struct Numbers {
+pub struct PieceNumbers {
     items: Vec<u32>,
 }
 
-impl Model for Numbers {
+impl Model for PieceNumbers {
     ghost use Rattle.std.specs.Prelude.{List, ℕ};
 
     ghost Value = { List ℕ };
@@ -16,19 +16,19 @@ impl Model for Numbers {
     ghost view = { λ n. n.items.items };
 }
 
-impl Numbers {
+impl PieceNumbers {
     /// The numbers of a `Vec`, which takes no memory.
-    pub fn from_vec(numbers: Vec<u32>) -> Numbers
+    pub fn from_vec(numbers: Vec<u32>) -> PieceNumbers
         ensures { result ≡ numbers.items }
     {
-        Numbers { items: numbers }
+        PieceNumbers { items: numbers }
     }
 
     /// The `Vec` of the numbers, which takes no memory.
     pub fn into_vec(self) -> Vec<u32>
         ensures { result.items ≡ self }
     {
-        let Numbers { items } = self;
+        let PieceNumbers { items } = self;
         items
     }
 
@@ -45,6 +45,6 @@ impl Numbers {
 #[derive(Drop)]
 pub struct Cell {
     pub dim: u8,
-    pub on: Numbers,
-    pub above: Numbers,
+    pub on: PieceNumbers,
+    pub above: PieceNumbers,
 }

@@ -2,23 +2,23 @@
 
 ghost use Rattle.std.specs.Prelude.{◌≡◌, ◌<◌, ◌+◌, ◌^◌, ◌++◌, List, true, false, [], ◌∷◌, length};
 ghost use Rattle.std.specs.List.{All, fold};
-ghost use Rattle.sf_columns.specs.declared.active.Active.{Active};
-ghost use Rattle.sf_columns.specs.declared.level.Level.{Level};
-ghost use Rattle.sf_columns.specs.declared.vertex.Vertex.{Vertex};
-ghost use Rattle.sf_columns.specs.Fronts.{pieces_of};
+ghost use Rattle.sf_strips.specs.declared.active.Active.{Active};
+ghost use Rattle.sf_strips.specs.declared.level.Level.{Level};
+ghost use Rattle.sf_strips.specs.declared.vertex.Vertex.{Vertex};
+ghost use Rattle.sf_strips.specs.Fronts.{pieces_of};
 ghost use Rattle.sf_cells.specs.Groups.{counts, group_count};
 ghost use Rattle.sf_cells.specs.Hands.{AtMost, Balanced, item, minus, plus, stop_items, stops};
-ghost use Rattle.sf_columns.specs.Levels.{TakeAll};
-ghost use Rattle.sf_columns.specs.Parts.{alone_levels, levels_of};
-ghost use Rattle.sf_columns.specs.Strips.{is_column};
+ghost use Rattle.sf_strips.specs.Levels.{TakeAll};
+ghost use Rattle.sf_strips.specs.Parts.{alone_levels, levels_of};
+ghost use Rattle.sf_strips.specs.Strips.{is_column};
 ghost use Rattle.sf_cells.specs.Samples.{dimension};
-ghost use Rattle.sf_columns.specs.Vertices.{enters, leaves, pieces_with};
+ghost use Rattle.sf_strips.specs.Vertices.{enters, leaves, pieces_with};
 
 use crate::sink::CellSink;
 use crate::tally::{
     add_edges, add_piece, clear_edges, count_of, enter_level, leave_level, put_back, take_edges,
 };
-use sf_columns::{Active, Part, Strip, Vertex};
+use sf_strips::{Active, Part, Strip, Vertex};
 
 /// Of each group, how many of its pieces are on the place that was reached, and how many of its
 /// edges are above it.

@@ -7,7 +7,7 @@ mod listing;
 mod sink;
 mod tally;
 
-pub use cell::{Cell, Numbers};
+pub use cell::{Cell, PieceNumbers};
 pub use column::{Column, Tallies, hand_out, hand_part};
 pub use listing::{Head, Measure, Recorder, recorded};
 pub use sink::CellSink;

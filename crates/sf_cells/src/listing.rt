@@ -4,7 +4,7 @@ ghost use Rattle.std.specs.Prelude.{◌≡◌, ◌≤◌, [], length, vec_capaci
 ghost use Rattle.std.specs.List.{count_by, fold};
 ghost use Rattle.sf_cells.specs.Listing.{Listing, Measured, counted, is_counted, listing_of, measure, measured_by, record_item, recorded_cells, total, with_head, with_number};
 
-use crate::cell::{Cell, Numbers};
+use crate::cell::{Cell, PieceNumbers};
 use crate::sink::CellSink;
 use std::alloc::{AllocError, Global};
 
@@ -138,8 +138,8 @@ pub fn recorded(alloc: Global, heads: &[Head], numbers: &[u32]) -> Result<Vec<Ce
         let (above, rest) = later.split_at(head.above);
         cells.push_reserved(Cell {
             dim: head.dim,
-            on: Numbers::from_vec(on.to_vec(alloc)?),
-            above: Numbers::from_vec(above.to_vec(alloc)?),
+            on: PieceNumbers::from_vec(on.to_vec(alloc)?),
+            above: PieceNumbers::from_vec(above.to_vec(alloc)?),
         });
         left = rest;
     }

@@ -2,12 +2,12 @@
 
 ghost use Rattle.std.specs.Prelude.{◌≡◌, ◌<◌, ◌+◌, ◌-◌, ◌^◌, ◌++◌, [], ◌∷◌, length, slice_index};
 ghost use Rattle.std.specs.List.{All};
-ghost use Rattle.sf_columns.specs.Fronts.{pieces_of};
+ghost use Rattle.sf_strips.specs.Fronts.{pieces_of};
 ghost use Rattle.sf_cells.specs.Groups.{counts, group_count};
 ghost use Rattle.sf_cells.specs.Hands.{AtMost, minus, plus};
-ghost use Rattle.sf_columns.specs.Vertices.{enters as enters_of, leaves as leaves_of, pieces_with};
+ghost use Rattle.sf_strips.specs.Vertices.{enters as enters_of, leaves as leaves_of, pieces_with};
 
-use sf_columns::{Active, Vertex};
+use sf_strips::{Active, Vertex};
 
 /// Adds the pieces that a level has and the gap above it hasn't.
 pub(crate) fn enter_level(tally: &mut [u32], groups: &[u32], edges: &[Active], vertices: &[Vertex])

@@ -8,7 +8,7 @@ use Rattle.sf_slabs.proofs.CallerLemmas.{each-append, each-map}
 use Rattle.sf_grid.specs.Plane.{Coordinates, IsPoint, Point, grid_point, same_point}
 use Rattle.sf_grid.specs.Edge.{Edge as Line, edge_above, on_edge}
 use Rattle.sf_grid.specs.EvenOdd.{edges_above, is_odd}
-use Rattle.sf_columns.specs.declared.piece.Piece.TheVariants.{Dot, Edge}
+use Rattle.sf_strips.specs.declared.piece.Piece.TheVariants.{Dot, Edge}
 use Rattle.sf_cells.specs.Samples.{Sample, samples}
 use Rattle.sf_plane.proofs.CoverLaws.{contains, in_append_left}
 use Rattle.sf_plane.proofs.PlaceLaws.{IsIn}

@@ -9,8 +9,8 @@ use Rattle.sf_grid.specs.Plane.{IsPoint, Point, point_at, x_of, y_of}
 use Rattle.sf_grid.specs.Edge.{Edge as Line, edge_above, edge_between, height_at, is_vertical, on_edge, reaches}
 use Rattle.sf_grid.specs.EvenOdd.{is_odd}
 use Rattle.sf_grid.proofs.CallerLemmas.{Same, dif, eq_from_test, mul, mul_nonneg, num, on_edge-same, ring, sum, test_from_eq, var}
-use Rattle.sf_columns.specs.declared.piece.Piece.{Piece}
-use Rattle.sf_columns.specs.declared.piece.Piece.TheVariants.{Edge}
+use Rattle.sf_strips.specs.declared.piece.Piece.{Piece}
+use Rattle.sf_strips.specs.declared.piece.Piece.TheVariants.{Edge}
 use Rattle.sf_cells.specs.Pieces.{ends_of, heights_of, if_in_column, is_above, is_on}
 use Rattle.sf_cells.specs.Samples.{events}
 use Rattle.sf_slabs.proofs.CallerLemmas.{Among, IsPoint-point_at, Numbers, each-append, each-both, each-map, each-parts, event_places, event_places-numbers, heights_in, if_cases, on_edge-height}

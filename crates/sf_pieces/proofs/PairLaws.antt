@@ -2,8 +2,8 @@
 use Rattle.std.proofs.Common.{◌≡◌, ℕ, suc, ◌<◌, subst, Result, OnOk, arith, refl, ap, sym, ◌∙◌, List, [], ◌∷◌, ◌++◌, map, length, append_assoc}
 use Rattle.sf_grid.specs.Plane.{Coordinates}
 use Rattle.sf_grid.specs.Edge.{edge_between}
-use Rattle.sf_columns.specs.declared.piece.Piece.{Piece}
-use Rattle.sf_columns.specs.declared.piece.Piece.TheVariants.{Edge}
+use Rattle.sf_strips.specs.declared.piece.Piece.{Piece}
+use Rattle.sf_strips.specs.declared.piece.Piece.TheVariants.{Edge}
 use Rattle.sf_geometry.specs.Lists.{edges_of, is_same}
 use Rattle.sf_geometry.proofs.ListLaws.{edges-step}
 use Rattle.std.proofs.Common.{true, false, Bool}

@@ -4,8 +4,8 @@ use Rattle.std.specs.Prelude.{◌≡◌, ◌↔◌, ℕ, ◌<◌, ◌==◌, Bool
 use Rattle.std.specs.List.{All, count_by, list_any}
 use Rattle.sf_grid.specs.Plane.{IsPoint, Point}
 use Rattle.sf_grid.specs.Edge.{Edge as Line}
-use Rattle.sf_columns.specs.declared.piece.Piece.{Piece}
-use Rattle.sf_columns.specs.declared.piece.Piece.TheVariants.{Edge}
+use Rattle.sf_strips.specs.declared.piece.Piece.{Piece}
+use Rattle.sf_strips.specs.declared.piece.Piece.TheVariants.{Edge}
 use Rattle.sf_cells.specs.Cells.{cells}
 use Rattle.sf_cells.specs.Groups.{Item, item_of}
 use Rattle.sf_cells.specs.Pieces.{is_above, is_on}

@@ -1,6 +1,6 @@
 ghost use Rattle.std.specs.Prelude.{◌≡◌, ◌++◌, ◌∷◌, [], ◌≤◌, length, map, OnErr, OnOk};
 ghost use Rattle.sf_classes.specs.Classes.{WereHanded};
-ghost use Rattle.sf_columns.specs.declared.piece.Piece.TheVariants.{Dot};
+ghost use Rattle.sf_strips.specs.declared.piece.Piece.TheVariants.{Dot};
 ghost use Rattle.sf_cells.specs.Pieces.{HasLength};
 ghost use Rattle.sf_geometry.specs.Lists.{edges_of};
 ghost use Rattle.sf_pieces.specs.Marked.{HasGroups, groups_of, marked, piece_of, pieces_of};

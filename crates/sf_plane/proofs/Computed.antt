@@ -2,8 +2,8 @@
 use Rattle.std.proofs.Common.{◌≡◌, refl, ℕ, ℤ, pos, negsuc, true, false, ◌&&◌, ◌||◌, not, List, [], ◌∷◌, map}
 use Rattle.sf_grid.specs.Plane.{Coordinates, Point, grid_point, same_point}
 use Rattle.sf_grid.specs.Edge.{Edge as Line, edge_between, on_edge}
-use Rattle.sf_columns.specs.declared.piece.Piece.{Piece}
-use Rattle.sf_columns.specs.declared.piece.Piece.TheVariants.{Dot, Edge}
+use Rattle.sf_strips.specs.declared.piece.Piece.{Piece}
+use Rattle.sf_strips.specs.declared.piece.Piece.TheVariants.{Dot, Edge}
 use Rattle.sf_cells.specs.declared.cell.Cell.{Cell}
 use Rattle.sf_plane.specs.declared.dim.Dim.TheVariants.{Nothing, One, Two, Zero}
 use Rattle.sf_plane.specs.Boxes.{in_box}

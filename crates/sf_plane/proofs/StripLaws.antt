@@ -11,8 +11,8 @@ use Rattle.sf_grid.specs.Edge.{Edge as Line, cross_of_directions, crossing, edge
 use Rattle.sf_grid.specs.Laws.{HaveHeights}
 use Rattle.sf_grid.specs.Sharing.{IsOnBoth}
 use Rattle.sf_grid.proofs.CallerLemmas.{Same, eq_from_test, height-IsFraction, other_order_meets, shared_once, test_from_eq}
-use Rattle.sf_columns.specs.declared.piece.Piece.{Piece}
-use Rattle.sf_columns.specs.declared.piece.Piece.TheVariants.{Edge}
+use Rattle.sf_strips.specs.declared.piece.Piece.{Piece}
+use Rattle.sf_strips.specs.declared.piece.Piece.TheVariants.{Edge}
 use Rattle.sf_cells.specs.Samples.{crossing_place, crossings_of}
 use Rattle.sf_slabs.proofs.CallerLemmas.{Among, Same-trans, Some_in, Some_in-map, crossing-is, each-both, event_places, event_places-numbers, height_at-same, is-crossing, is-event, le_of_lt, level-parallel, level_at-point, not_le-lt, place-IsFraction, rising_order, same_number}
 use Rattle.sf_plane.proofs.CompareLaws.{cmp_same}

@@ -9,8 +9,8 @@ use Rattle.sf_grid.specs.Edge.{Edge as Line, cross_of_directions}
 use Rattle.sf_grid.specs.Sharing.{IsOnBoth, IsSharing, comes_before, earlier_of, later_of}
 use Rattle.sf_grid.specs.declared.meet.Meet.TheVariants.{Along}
 use Rattle.sf_grid.proofs.CallerLemmas.{Collinear, along-collinear, apart-collinear, at-collinear, cross-mean, differs_from_before, earlier_is, end_side, eq_from_test, later_is, lies, mean-on_edge, mul, on_edge-same_point, on_edge-swap, ring, same_coordinates, same_point_is_equivalence, shared_once, sides_differ, start_side, sum, test_from_eq, var, weight_a, weight_b, zero_from_mul}
-use Rattle.sf_columns.specs.declared.piece.Piece.{Piece}
-use Rattle.sf_columns.specs.declared.piece.Piece.TheVariants.{Edge}
+use Rattle.sf_strips.specs.declared.piece.Piece.{Piece}
+use Rattle.sf_strips.specs.declared.piece.Piece.TheVariants.{Edge}
 use Rattle.sf_cells.specs.Samples.{samples}
 use Rattle.sf_plane.proofs.CombineLaws.{end_zero, start_on_edge}
 use Rattle.sf_plane.proofs.CoverLaws.{every_point}

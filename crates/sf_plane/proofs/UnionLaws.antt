@@ -9,8 +9,8 @@ use Rattle.sf_grid.specs.Fraction.{Fraction, fraction_eq, fraction_lt, whole}
 use Rattle.sf_grid.specs.Plane.{Coordinates, IsPoint, IsSamePoint, Point, same_point, x_of, y_of}
 use Rattle.sf_grid.specs.Edge.{edge_between, height_at, is_vertical, reaches}
 use Rattle.sf_grid.proofs.CallerLemmas.{Same, dif, eq_from_test, mul, num, ring, same_point_is_equivalence, sum, test_from_eq, var}
-use Rattle.sf_columns.specs.declared.piece.Piece.{Piece}
-use Rattle.sf_columns.specs.declared.piece.Piece.TheVariants.{Dot, Edge}
+use Rattle.sf_strips.specs.declared.piece.Piece.{Piece}
+use Rattle.sf_strips.specs.declared.piece.Piece.TheVariants.{Dot, Edge}
 use Rattle.sf_cells.specs.Pieces.{ends_of, heights_of, if_in_column}
 use Rattle.sf_cells.specs.Samples.{Sample, dimension, events, samples}
 use Rattle.sf_slabs.proofs.CallerLemmas.{Among, Some_in, Some_in-map, each-map, event_places, event_places-numbers, heights_in, if_cases, is-event, rising_order}

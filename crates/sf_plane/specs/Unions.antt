@@ -3,7 +3,7 @@
 use Rattle.std.specs.Prelude.{◌≡◌, ◌↔◌, ℕ, zero, suc, ◌≤◌, Bool, IsTrue, List, [], ◌∷◌, if◌then◌else◌}
 use Rattle.std.specs.List.{All, Any}
 use Rattle.sf_grid.specs.Plane.{IsPoint, IsSamePoint, Point}
-use Rattle.sf_columns.specs.declared.piece.Piece.{Piece}
+use Rattle.sf_strips.specs.declared.piece.Piece.{Piece}
 use Rattle.sf_cells.specs.declared.cell.Cell.{Cell}
 use Rattle.sf_cells.specs.Cells.{cells, numbers_from}
 use Rattle.sf_cells.specs.Pieces.{is_above, is_on}

@@ -6,7 +6,7 @@ use Rattle.std.proofs.lemmas.Bool.{and_from, and_parts, both_ways, or_cases}
 use Rattle.sf_grid.specs.Plane.{Coordinates, IsPoint, Point, grid_point, same_point}
 use Rattle.sf_grid.specs.Edge.{Edge, on_edge}
 use Rattle.sf_grid.proofs.CallerLemmas.{same_point_is_equivalence}
-use Rattle.sf_columns.specs.declared.piece.Piece.{Piece}
+use Rattle.sf_strips.specs.declared.piece.Piece.{Piece}
 use Rattle.sf_cells.specs.Samples.{Sample, samples}
 use Rattle.sf_slabs.proofs.CallerLemmas.{each-both, each-parts}
 use Rattle.sf_plane.specs.Laws.{ShareTwoPoints}

@@ -4,7 +4,7 @@ use Rattle.std.specs.List.{count_by, flat_map, list_any}
 use Rattle.sf_grid.specs.Plane.{Coordinates, Point}
 use Rattle.sf_grid.specs.Edge.{Edge, edge_above, on_edge}
 use Rattle.sf_grid.specs.EvenOdd.{edges_above, is_odd}
-use Rattle.sf_columns.specs.declared.piece.Piece.{Piece}
+use Rattle.sf_strips.specs.declared.piece.Piece.{Piece}
 use Rattle.sf_cells.specs.Pieces.{is_above, is_on}
 use Rattle.sf_geometry.specs.Lists.{edges_of}
 use Rattle.sf_geometry.specs.PointSets.{on_line}

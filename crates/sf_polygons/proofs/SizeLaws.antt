@@ -5,7 +5,7 @@ use Rattle.std.specs.List.{AllByRecursion, count_by, flat_map, zip}
 use Rattle.std.proofs.lemmas.List.{length-append, length-map}
 use Rattle.std.proofs.lemmas.List.Elements.{All-from_recursion}
 use Rattle.sf_grid.specs.Plane.{Coordinates}
-use Rattle.sf_columns.specs.declared.piece.Piece.{Piece}
+use Rattle.sf_strips.specs.declared.piece.Piece.{Piece}
 use Rattle.sf_cells.specs.Groups.{group_count}
 use Rattle.sf_slabs.proofs.CallerLemmas.{each-append, each-map, each-parts}
 use Rattle.sf_geometry.specs.Lists.{before_tight, edges_between, edges_from, edges_of, is_same, tight}

@@ -9,8 +9,8 @@ use Rattle.std.proofs.lemmas.List.Elements.{All-from_recursion, recursion_from_A
 use Rattle.sf_grid.specs.Edge.{Edge, edge_above, edge_between, on_edge}
 use Rattle.sf_grid.specs.EvenOdd.{edges_above, is_odd}
 use Rattle.sf_grid.specs.Plane.{Coordinates, IsPoint, Point as PlanePoint}
-use Rattle.sf_columns.specs.declared.piece.Piece.{Piece}
-use Rattle.sf_columns.specs.declared.piece.Piece.TheVariants as pieces
+use Rattle.sf_strips.specs.declared.piece.Piece.{Piece}
+use Rattle.sf_strips.specs.declared.piece.Piece.TheVariants as pieces
 use Rattle.sf_cells.specs.Cells.{cell_of}
 use Rattle.sf_cells.specs.Groups.{Item, item_of}
 use Rattle.sf_cells.specs.Pieces.{is_above, is_on}

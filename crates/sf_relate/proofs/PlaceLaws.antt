@@ -7,7 +7,7 @@ use Rattle.std.proofs.lemmas.List.Sums.{sum_by-append, sum_by-cons}
 use Rattle.sf_grid.specs.Plane.{Coordinates, IsPoint, Point as PlanePoint, grid_point, same_point}
 use Rattle.sf_grid.specs.Edge.{Edge, edge_above, edge_between, on_edge}
 use Rattle.sf_grid.specs.EvenOdd.{is_odd}
-use Rattle.sf_columns.specs.declared.piece.Piece.TheVariants as pieces
+use Rattle.sf_strips.specs.declared.piece.Piece.TheVariants as pieces
 use Rattle.sf_cells.specs.Pieces.{is_above, is_on}
 use Rattle.sf_slabs.proofs.CallerLemmas.{each-parts}
 use Rattle.sf_geometry.specs.declared.geometry.Geometry.TheVariants.{Point, LineString, Polygon, MultiPoint, MultiLineString, MultiPolygon}

@@ -4,7 +4,7 @@ use Rattle.std.specs.Prelude.{IsTrue}
 use Rattle.std.proofs.lemmas.Bool.{and_from, and_parts, both_ways, false_from_ne_true}
 use Rattle.sf_grid.specs.Plane.{Coordinates, grid_point, same_point}
 use Rattle.sf_grid.proofs.CallerLemmas.{same_point_is_equivalence, same_tests}
-use Rattle.sf_columns.specs.declared.piece.Piece.{Piece}
+use Rattle.sf_strips.specs.declared.piece.Piece.{Piece}
 use Rattle.sf_geometry.specs.declared.geometry.Geometry.{Geometry}
 use Rattle.sf_geometry.specs.declared.geometry.Geometry.TheVariants.{Point}
 use Rattle.sf_geometry.specs.PointSets.{in_boundary, in_exterior, in_interior}

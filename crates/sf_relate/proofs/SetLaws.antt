@@ -5,8 +5,8 @@ use Rattle.std.specs.List.{AllByRecursion, count_by, flat_map, list_any}
 use Rattle.sf_grid.specs.Plane.{Coordinates, grid_point, same_point}
 use Rattle.sf_grid.specs.Edge.{Edge, edge_above, on_edge}
 use Rattle.sf_grid.specs.EvenOdd.{is_odd}
-use Rattle.sf_columns.specs.declared.piece.Piece.{Piece}
-use Rattle.sf_columns.specs.declared.piece.Piece.TheVariants as pieces
+use Rattle.sf_strips.specs.declared.piece.Piece.{Piece}
+use Rattle.sf_strips.specs.declared.piece.Piece.TheVariants as pieces
 use Rattle.sf_slabs.proofs.CallerLemmas.{each-append, each-map, each-parts}
 use Rattle.sf_geometry.specs.declared.geometry.Geometry.{Geometry}
 use Rattle.sf_geometry.specs.declared.geometry.Geometry.TheVariants.{Point, LineString, Polygon, MultiPoint, MultiLineString, MultiPolygon}

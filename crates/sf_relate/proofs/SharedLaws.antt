@@ -4,7 +4,7 @@ use Rattle.std.specs.Prelude.{◌↔◌, IsTrue}
 use Rattle.std.proofs.lemmas.Bool.{and_from, and_parts, both_ways, or_cases, or_left, or_right}
 use Rattle.sf_grid.specs.Plane.{IsPoint, IsSamePoint, Point as PlanePoint, grid_point, same_point}
 use Rattle.sf_grid.proofs.CallerLemmas.{same_point_is_equivalence, same_tests}
-use Rattle.sf_columns.specs.declared.piece.Piece.{Piece}
+use Rattle.sf_strips.specs.declared.piece.Piece.{Piece}
 use Rattle.sf_cells.specs.declared.cell.Cell.{Cell}
 use Rattle.sf_geometry.specs.declared.geometry.Geometry.{Geometry}
 use Rattle.sf_geometry.specs.declared.geometry.Geometry.TheVariants.{Point}

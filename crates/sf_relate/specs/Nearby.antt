@@ -3,7 +3,7 @@
 use Rattle.std.specs.Prelude.{List, ◌++◌, IsTrue, map}
 use Rattle.sf_grid.specs.Edge.{Edge}
 use Rattle.sf_grid.specs.Plane.{IsPoint, Point as PlanePoint}
-use Rattle.sf_columns.specs.declared.piece.Piece.{Piece}
+use Rattle.sf_strips.specs.declared.piece.Piece.{Piece}
 use Rattle.sf_geometry.specs.declared.geometry.Geometry.{Geometry}
 use Rattle.sf_geometry.specs.PointSets.{in_boundary, in_exterior, in_interior}
 use Rattle.sf_plane.specs.Dimension.{HasSegment, HasTriangle}

@@ -1,7 +1,7 @@
 //! The pieces of a geometry, added to groups.
 
 ghost use Rattle.std.specs.Prelude.{◌≡◌, ◌++◌, IfOk, OnOk, map};
-ghost use Rattle.sf_columns.specs.declared.piece.Piece.TheVariants.{Dot};
+ghost use Rattle.sf_strips.specs.declared.piece.Piece.TheVariants.{Dot};
 ghost use Rattle.sf_geometry.specs.Parts.{joined};
 ghost use Rattle.sf_pieces.specs.Marked.{marked};
 ghost use Rattle.sf_relate.specs.AllPieces.{all_grouped, grouped, lists_in, pieces_of};

@@ -6,8 +6,8 @@ use Rattle.std.proofs.lemmas.Bool.{and_from, and_parts, not-true, not_from_false
 use Rattle.sf_slabs.proofs.CallerLemmas.{each-map, each-parts}
 use Rattle.sf_grid.specs.Plane.{Coordinates, IsPoint, Point, same_point}
 use Rattle.sf_grid.specs.Edge.{Edge as Line, on_edge}
-use Rattle.sf_columns.specs.declared.piece.Piece.{Piece}
-use Rattle.sf_columns.specs.declared.piece.Piece.TheVariants.{Dot, Edge}
+use Rattle.sf_strips.specs.declared.piece.Piece.{Piece}
+use Rattle.sf_strips.specs.declared.piece.Piece.TheVariants.{Dot, Edge}
 use Rattle.sf_cells.specs.Pieces.{is_above, is_on}
 use Rattle.sf_cells.specs.Samples.{Sample, samples}
 use Rattle.sf_plane.proofs.CoverLaws.{contains, every_point, in_append_left}

@@ -7,11 +7,11 @@ use Rattle.sf_grid.specs.Fraction.{Fraction, IsFraction, fraction_eq, fraction_l
 use Rattle.sf_grid.specs.Plane.{point_at}
 use Rattle.sf_grid.specs.Edge.{Edge as Line, edge_between, height_at, is_vertical, left_end, right_end}
 use Rattle.sf_grid.proofs.CallerLemmas.{Same, eq_from_test, mul_le, test_from_eq}
-use Rattle.sf_columns.specs.declared.piece.Piece.{Piece}
-use Rattle.sf_columns.specs.declared.piece.Piece.TheVariants.{Dot, Edge}
+use Rattle.sf_strips.specs.declared.piece.Piece.{Piece}
+use Rattle.sf_strips.specs.declared.piece.Piece.TheVariants.{Dot, Edge}
 use Rattle.sf_cells.specs.Pieces.{is_above}
 use Rattle.sf_slabs.proofs.NumberLaws.{rising_order}
-use Rattle.sf_columns.proofs.CallerLemmas.{edge_above-height, edge_above-vertical, goes_on}
+use Rattle.sf_strips.proofs.CallerLemmas.{edge_above-height, edge_above-vertical, goes_on}
 pub use Rattle.sf_slabs.specs.Sweeps.{passes}
 
 -- ---- a piece that goes on to the right of a column, and its height there

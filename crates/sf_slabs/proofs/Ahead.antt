@@ -2,9 +2,9 @@
 use Rattle.std.specs.Prelude.{◌≡◌, Bool, true, List}
 use Rattle.std.specs.List.{AllByRecursion}
 use Rattle.sf_grid.specs.Fraction.{Fraction, fraction_lt, whole}
-use Rattle.sf_columns.specs.declared.piece.Piece.{Piece}
-use Rattle.sf_columns.specs.declared.vertex.Vertex.{Vertex}
-use Rattle.sf_columns.specs.Vertices.{IsVertexOf}
+use Rattle.sf_strips.specs.declared.piece.Piece.{Piece}
+use Rattle.sf_strips.specs.declared.vertex.Vertex.{Vertex}
+use Rattle.sf_strips.specs.Vertices.{IsVertexOf}
 use Rattle.sf_slabs.specs.Sweeps.{AreVertices, InOrder}
 
 -- the vertex is right of the column x

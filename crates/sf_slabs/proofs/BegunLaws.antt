@@ -4,14 +4,14 @@ use Rattle.std.specs.Prelude.{if◌then◌else◌}
 use Rattle.std.specs.List.{sum_by}
 use Rattle.sf_grid.specs.Fraction.{Fraction, fraction_eq, fraction_le, fraction_lt, whole}
 use Rattle.sf_grid.specs.Edge.{Edge as Line, edge_between, is_vertical, left_end, right_end}
-use Rattle.sf_columns.specs.declared.piece.Piece.{Piece}
-use Rattle.sf_columns.specs.declared.piece.Piece.TheVariants.{Dot, Edge}
-use Rattle.sf_columns.specs.declared.vertex.Role.TheVariants.{Begin, Bottom, Dot as AtDot, End, Top}
-use Rattle.sf_columns.specs.declared.vertex.Vertex.{Vertex}
+use Rattle.sf_strips.specs.declared.piece.Piece.{Piece}
+use Rattle.sf_strips.specs.declared.piece.Piece.TheVariants.{Dot, Edge}
+use Rattle.sf_strips.specs.declared.vertex.Role.TheVariants.{Begin, Bottom, Dot as AtDot, End, Top}
+use Rattle.sf_strips.specs.declared.vertex.Vertex.{Vertex}
 use Rattle.sf_cells.specs.Cells.{numbers_from}
-use Rattle.sf_columns.specs.Fronts.{SameNumbers}
-use Rattle.sf_columns.specs.Slanted.{rightward_edge}
-use Rattle.sf_columns.specs.Vertices.{begins, in_column, lower_end, pieces_with, upper_end, vertex}
+use Rattle.sf_strips.specs.Fronts.{SameNumbers}
+use Rattle.sf_strips.specs.Slanted.{rightward_edge}
+use Rattle.sf_strips.specs.Vertices.{begins, in_column, lower_end, pieces_with, upper_end, vertex}
 use Rattle.sf_slabs.specs.Sweeps.{AreVertices, comes_to}
 use Rattle.sf_slabs.proofs.ColumnIsLaws.{below_not_at, every_piece}
 use Rattle.sf_slabs.proofs.LevelPiecesLaws.{first_of_two, none_of_two, one_vertex, only_zero, two_vertices}

@@ -10,18 +10,18 @@ use Rattle.sf_grid.specs.Plane.{Coordinates, Point, x_of}
 use Rattle.sf_grid.specs.Edge.{crossing, edge_between, left_end, meeting_of_lines, right_end}
 use Rattle.sf_grid.specs.Laws.{HasHeight}
 use Rattle.sf_grid.proofs.CallerLemmas.{eq_from_test, ge_from_test, le_from_test, lt_from_test, test_from_le}
-use Rattle.sf_columns.specs.declared.piece.Piece.{Piece}
-use Rattle.sf_columns.specs.declared.piece.Piece.TheVariants.{Dot, Edge}
-use Rattle.sf_columns.specs.declared.active.Active.{Active}
-use Rattle.sf_columns.specs.declared.contact.Contact.{Contact}
-use Rattle.sf_columns.specs.declared.contact.Contact.TheVariants.{Ahead, Never, Throughout}
-use Rattle.sf_columns.specs.declared.vertex.Vertex.{Vertex}
-use Rattle.sf_columns.specs.Fronts.{AreContacts, AreContactsFrom, IsEntry, IsRun, line_of}
-use Rattle.sf_columns.specs.Next.{candidates, first_place, places_of}
+use Rattle.sf_strips.specs.declared.piece.Piece.{Piece}
+use Rattle.sf_strips.specs.declared.piece.Piece.TheVariants.{Dot, Edge}
+use Rattle.sf_strips.specs.declared.active.Active.{Active}
+use Rattle.sf_strips.specs.declared.contact.Contact.{Contact}
+use Rattle.sf_strips.specs.declared.contact.Contact.TheVariants.{Ahead, Never, Throughout}
+use Rattle.sf_strips.specs.declared.vertex.Vertex.{Vertex}
+use Rattle.sf_strips.specs.Fronts.{AreContacts, AreContactsFrom, IsEntry, IsRun, line_of}
+use Rattle.sf_strips.specs.Next.{candidates, first_place, places_of}
 use Rattle.sf_cells.specs.Pieces.{ends_of}
 use Rattle.sf_cells.specs.Samples.{crossing_place, crossings_of}
-use Rattle.sf_columns.specs.Slanted.{IsMeetingAfter}
-use Rattle.sf_columns.specs.Vertices.{IsVertexIn, IsVertexOf, piece_at, vertices_of}
+use Rattle.sf_strips.specs.Slanted.{IsMeetingAfter}
+use Rattle.sf_strips.specs.Vertices.{IsVertexIn, IsVertexOf, piece_at, vertices_of}
 use Rattle.sf_slabs.proofs.AboveLaws.{passes}
 use Rattle.sf_slabs.proofs.ColumnLaws.{event_places}
 use Rattle.sf_slabs.proofs.CrossLaws.{crossing-is, meeting-apart, meeting-on_both, meeting-run, meeting-same, place-IsFraction}

@@ -6,8 +6,8 @@ use Rattle.sf_grid.specs.Plane.{IsPoint, IsSamePoint, Point, grid_point, point_a
 use Rattle.sf_grid.specs.Edge.{edge_between}
 use Rattle.sf_grid.proofs.CallerLemmas.{Same, mul, ring, same_point_is_equivalence, same_points_are_alike, same_tests, test_from_eq, var}
 use Rattle.std.proofs.lemmas.Bool.{and_from}
-use Rattle.sf_columns.specs.declared.piece.Piece.{Piece}
-use Rattle.sf_columns.specs.declared.piece.Piece.TheVariants.{Dot, Edge}
+use Rattle.sf_strips.specs.declared.piece.Piece.{Piece}
+use Rattle.sf_strips.specs.declared.piece.Piece.TheVariants.{Dot, Edge}
 use Rattle.sf_cells.specs.declared.cell.Cell.{Cell}
 use Rattle.sf_cells.specs.Pieces.{is_above, is_on}
 use Rattle.sf_cells.specs.Samples.{Mark, sample_at}

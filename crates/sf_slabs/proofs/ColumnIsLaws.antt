@@ -10,20 +10,20 @@ use Rattle.std.proofs.lemmas.List.Sums.{sum_by-cons}
 use Rattle.sf_grid.specs.Fraction.{Fraction, IsFraction, fraction_eq, fraction_le, fraction_lt, middle, one_less, one_more, whole}
 use Rattle.sf_grid.specs.Plane.{point_at}
 use Rattle.sf_grid.proofs.CallerLemmas.{Same, eq_from_test, test_from_eq, test_from_le}
-use Rattle.sf_columns.specs.declared.piece.Piece.{Piece}
-use Rattle.sf_columns.specs.declared.piece.Piece.TheVariants.{Dot, Edge}
-use Rattle.sf_columns.specs.declared.active.Active.{Active}
-use Rattle.sf_columns.specs.declared.contact.Contact.{Contact}
-use Rattle.sf_columns.specs.declared.level.Level.{Level}
-use Rattle.sf_columns.specs.declared.vertex.Vertex.{Vertex}
+use Rattle.sf_strips.specs.declared.piece.Piece.{Piece}
+use Rattle.sf_strips.specs.declared.piece.Piece.TheVariants.{Dot, Edge}
+use Rattle.sf_strips.specs.declared.active.Active.{Active}
+use Rattle.sf_strips.specs.declared.contact.Contact.{Contact}
+use Rattle.sf_strips.specs.declared.level.Level.{Level}
+use Rattle.sf_strips.specs.declared.vertex.Vertex.{Vertex}
 use Rattle.sf_cells.specs.Cells.{numbers_from}
-use Rattle.sf_columns.specs.Fronts.{IsEntry, IsEntryIn, SameNumbers, pieces_of}
+use Rattle.sf_strips.specs.Fronts.{IsEntry, IsEntryIn, SameNumbers, pieces_of}
 use Rattle.sf_cells.specs.Groups.{counts, item_of}
 use Rattle.sf_cells.specs.Hands.{Balanced, Stop, item, stop_items, stops}
-use Rattle.sf_columns.specs.Levels.{AreOnward, AreStarts, AreTops, IsOnward, StartsWith, goes_past, going_past, if_begins}
+use Rattle.sf_strips.specs.Levels.{AreOnward, AreStarts, AreTops, IsOnward, StartsWith, goes_past, going_past, if_begins}
 use Rattle.sf_cells.specs.Pieces.{heights_of, is_above, is_on}
 use Rattle.sf_cells.specs.Samples.{dimension}
-use Rattle.sf_columns.specs.Vertices.{all_vertices, begins, enters, leaves, piece_at, pieces_with}
+use Rattle.sf_strips.specs.Vertices.{all_vertices, begins, enters, leaves, piece_at, pieces_with}
 use Rattle.sf_slabs.proofs.AboveLaws.{goes_on_from, height_of, is_above-height, passes}
 use Rattle.sf_slabs.proofs.ColumnLaws.{IsHeights}
 use Rattle.sf_slabs.proofs.GapLaws.{IsGap, Parted}
@@ -37,7 +37,7 @@ use Rattle.sf_slabs.proofs.MarkLaws.{middle-number}
 use Rattle.sf_slabs.proofs.NumberLaws.{Among, Numbers, rising_order}
 use Rattle.sf_slabs.proofs.SampleLaws.{FollowFrom}
 use Rattle.sf_slabs.proofs.Shapes.{AreVertices, Fits, IsColumn, IsColumnOf, IsComing, comes_to, in_column}
-use Rattle.sf_columns.proofs.CallerLemmas.{lt-scaled}
+use Rattle.sf_strips.proofs.CallerLemmas.{lt-scaled}
 use Rattle.sf_slabs.proofs.TopLaws.{column-levels, one_more-above, passes-listed, passes-number}
 use Rattle.sf_slabs.proofs.WeightLaws.{AreVertices-chosen, IsEither, SameNumbers-agree, SameNumbers-chosen, SameNumbers-chosen_none, SameNumbers-either, SameNumbers-none, SameNumbers-refl, SameNumbers-trans, SameNumbers-vertices, chosen, chosen-drop, chosen-drop_vertices, chosen-take, chosen-take_vertices, numbers_from-none, passes_at, pieces_of-append, sum_by-agree}
 use Rattle.sf_slabs.proofs.EachLaws.{each-both, each-map, each-parts}

@@ -1,8 +1,8 @@
 -- The definitions of cells computed at four small lists of pieces.
 use Rattle.std.proofs.Common.{◌≡◌, ℕ, List, [], ◌∷◌, map, refl, ℤ, pos, negsuc, Some, slice_get}
 use Rattle.sf_grid.specs.Plane.{Coordinates}
-use Rattle.sf_columns.specs.declared.piece.Piece.{Piece}
-use Rattle.sf_columns.specs.declared.piece.Piece.TheVariants.{Edge, Dot}
+use Rattle.sf_strips.specs.declared.piece.Piece.{Piece}
+use Rattle.sf_strips.specs.declared.piece.Piece.TheVariants.{Edge, Dot}
 use Rattle.sf_cells.specs.declared.cell.Cell.{Cell}
 use Rattle.sf_cells.specs.Cells.{cells}
 use Rattle.sf_cells.specs.Groups.{Item, item_of}

@@ -11,10 +11,10 @@ use Rattle.sf_grid.specs.Edge.{Edge as Line, IsOnEdge, cross, cross_of_direction
 use Rattle.sf_grid.specs.Laws.{HasHeight}
 use Rattle.sf_grid.specs.Sharing.{IsOnBoth}
 use Rattle.sf_grid.proofs.CallerLemmas.{Same, dif, edge_gap, eq_from_mul, eq_from_test, equal_is, gap-between, height-IsFraction, height_cmp-gap, is_equal, lies, lt_from_test, meeting-x, meeting-y, mul, num, on_edge-mean, on_edge-same, on_edge-same_point, on_edge-swap, order_from_before, ring, same_point_is_equivalence, sum, test_from_eq, test_from_lt, var, way, zero_from_mul, zero_mul}
-use Rattle.sf_columns.specs.declared.active.Active.{Active}
-use Rattle.sf_columns.specs.Fronts.{IsRun, line_of}
-use Rattle.sf_columns.specs.Slanted.{IsMeetingAfter, IsOneLine}
-use Rattle.sf_columns.proofs.CallerLemmas.{slope_gap}
+use Rattle.sf_strips.specs.declared.active.Active.{Active}
+use Rattle.sf_strips.specs.Fronts.{IsRun, line_of}
+use Rattle.sf_strips.specs.Slanted.{IsMeetingAfter, IsOneLine}
+use Rattle.sf_strips.proofs.CallerLemmas.{slope_gap}
 use Rattle.sf_slabs.proofs.NumberLaws.{Same-trans, rising_order}
 use Rattle.sf_slabs.proofs.OnLaws.{IsPoint-point_at, on_edge-height, x_of-point_at, y_of-point_at}
 use Rattle.sf_slabs.proofs.SampleLaws.{if_cases}

@@ -8,8 +8,8 @@ use Rattle.sf_grid.specs.Fraction.{Fraction, IsFraction, whole}
 use Rattle.sf_grid.specs.Plane.{Point}
 use Rattle.sf_grid.specs.Edge.{Edge as Line, cross_of_directions, crossing, edge_between, meeting_of_lines, on_edge}
 use Rattle.sf_grid.proofs.CallerLemmas.{Same, test_from_eq}
-use Rattle.sf_columns.specs.declared.piece.Piece.{Piece}
-use Rattle.sf_columns.specs.declared.piece.Piece.TheVariants.{Dot, Edge}
+use Rattle.sf_strips.specs.declared.piece.Piece.{Piece}
+use Rattle.sf_strips.specs.declared.piece.Piece.TheVariants.{Dot, Edge}
 use Rattle.sf_cells.specs.Pieces.{ends_of}
 use Rattle.sf_cells.specs.Samples.{crossing_place, crossings_of}
 use Rattle.sf_slabs.proofs.ColumnLaws.{event_places}

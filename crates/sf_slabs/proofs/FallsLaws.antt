@@ -4,8 +4,8 @@ use Rattle.std.specs.Prelude.{int_lt}
 use Rattle.std.proofs.lemmas.Int.{ints}
 use Rattle.sf_grid.specs.Fraction.{Fraction}
 use Rattle.sf_grid.specs.Edge.{Edge, edge_between, height_at, height_rightward, left_end, right_end}
-use Rattle.sf_columns.specs.declared.slanted.Slanted.{Slanted}
-use Rattle.sf_columns.proofs.CallerLemmas.{height_in}
+use Rattle.sf_strips.specs.declared.slanted.Slanted.{Slanted}
+use Rattle.sf_strips.proofs.CallerLemmas.{height_in}
 
 -- ---- an edge that runs to the right, as an edge
 abbrev pub edge_of : Slanted → Edge

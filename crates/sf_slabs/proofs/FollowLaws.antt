@@ -12,11 +12,11 @@ use Rattle.sf_grid.specs.Plane.{Coordinates, IsSamePoint, Point, point_at, x_of}
 use Rattle.sf_grid.specs.Edge.{Edge as Line, height_at, height_cmp, is_vertical, left_end, reaches, right_end}
 use Rattle.sf_grid.specs.Laws.{HasHeight, ShareNoneInside}
 use Rattle.sf_grid.proofs.CallerLemmas.{eq_from_test, height-IsFraction, heights_are_ordered, is_equal, le-trans, le_from_test, le_lt, lt_from_test, lt_le, test_from_eq, test_from_le, test_from_lt}
-use Rattle.sf_columns.specs.declared.active.Active.{Active}
-use Rattle.sf_columns.specs.declared.contact.Contact.{Contact}
-use Rattle.sf_columns.specs.declared.contact.Contact.TheVariants.{Ahead, Never, Throughout}
-use Rattle.sf_columns.specs.Fronts.{AreContacts, AreContactsFrom, Descend, DescendFrom, Descends, IsContact, line_of, touches}
-use Rattle.sf_columns.specs.Slanted.{IsMeetingAfter, IsOneLine, ShareNoneAfter, slope_order}
+use Rattle.sf_strips.specs.declared.active.Active.{Active}
+use Rattle.sf_strips.specs.declared.contact.Contact.{Contact}
+use Rattle.sf_strips.specs.declared.contact.Contact.TheVariants.{Ahead, Never, Throughout}
+use Rattle.sf_strips.specs.Fronts.{AreContacts, AreContactsFrom, Descend, DescendFrom, Descends, IsContact, line_of, touches}
+use Rattle.sf_strips.specs.Slanted.{IsMeetingAfter, IsOneLine, ShareNoneAfter, slope_order}
 use Rattle.sf_slabs.proofs.CrossLaws.{both_at-level, level-one_line, level-same, level_at-point, meeting-on_both, not_same_place, place-IsFraction}
 use Rattle.sf_slabs.proofs.FallsLaws.{left_end-edge_of, right_end-edge_of}
 use Rattle.sf_slabs.proofs.NumberLaws.{Same-trans, rising_order}

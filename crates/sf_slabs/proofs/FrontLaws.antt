@@ -4,12 +4,12 @@ use Rattle.std.specs.List.{AllByRecursion, sum_by}
 use Rattle.std.proofs.lemmas.Bool.{cases_Bool}
 use Rattle.sf_grid.specs.Fraction.{Fraction, IsFraction, fraction_eq, fraction_lt, whole}
 use Rattle.sf_grid.proofs.CallerLemmas.{eq_from_test}
-use Rattle.sf_columns.specs.declared.piece.Piece.{Piece}
-use Rattle.sf_columns.specs.declared.active.Active.{Active}
-use Rattle.sf_columns.specs.declared.contact.Contact.{Contact}
-use Rattle.sf_columns.specs.Fronts.{IsEntry}
+use Rattle.sf_strips.specs.declared.piece.Piece.{Piece}
+use Rattle.sf_strips.specs.declared.active.Active.{Active}
+use Rattle.sf_strips.specs.declared.contact.Contact.{Contact}
+use Rattle.sf_strips.specs.Fronts.{IsEntry}
 use Rattle.sf_cells.specs.Pieces.{ends_of}
-use Rattle.sf_columns.specs.Vertices.{all_vertices}
+use Rattle.sf_strips.specs.Vertices.{all_vertices}
 use Rattle.sf_slabs.proofs.AboveLaws.{passes}
 use Rattle.sf_slabs.proofs.EndLaws.{Later, NoEndBetween, all_vertices-ends, coming, each_passes, no_vertices, none_between, passes_at, runs, whole-number}
 use Rattle.sf_slabs.proofs.FollowLaws.{EachPair, FollowAll, Ordered, Runs, Waits, follow_all, le_of_lt, le_self, ordered_pairs, steps_at_right, steps_inside}

@@ -9,8 +9,8 @@ use Rattle.sf_grid.specs.Fraction.{Fraction, IsFraction, fraction_eq, fraction_l
 use Rattle.sf_grid.specs.Plane.{point_at}
 use Rattle.sf_grid.specs.Edge.{edge_between, height_at, is_vertical, on_edge, reaches, within}
 use Rattle.sf_grid.proofs.CallerLemmas.{eq_from_test, height-IsFraction, le, le-trans, le_from_test, le_lt, lt_from_test, lt_le, same_tests, test_from_eq, test_from_le}
-use Rattle.sf_columns.specs.declared.piece.Piece.{Piece}
-use Rattle.sf_columns.specs.declared.piece.Piece.TheVariants.{Dot, Edge}
+use Rattle.sf_strips.specs.declared.piece.Piece.{Piece}
+use Rattle.sf_strips.specs.declared.piece.Piece.TheVariants.{Dot, Edge}
 use Rattle.sf_cells.specs.Pieces.{heights_of, if_in_column, is_on}
 use Rattle.sf_slabs.proofs.OnLaws.{on_edge-height, on_edge-vertical, same_point-at}
 use Rattle.sf_slabs.proofs.TopLaws.{if_false, if_true}

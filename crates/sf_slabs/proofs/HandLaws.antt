@@ -1,8 +1,8 @@
 -- What is handed out for stops that fit the levels of a column is the items of the column's cells.
 use Rattle.std.proofs.Common.{◌≡◌, refl, ap, sym, ◌∙◌, subst, ℕ, Bool, true, false, ◌||◌, List, [], ◌∷◌, ◌++◌, map}
-use Rattle.sf_columns.specs.declared.piece.Piece.{Piece}
+use Rattle.sf_strips.specs.declared.piece.Piece.{Piece}
 use Rattle.sf_cells.specs.Cells.{numbers_from}
-use Rattle.sf_columns.specs.Fronts.{SameNumbers}
+use Rattle.sf_strips.specs.Fronts.{SameNumbers}
 use Rattle.sf_cells.specs.Groups.{Item, counts, item_of}
 use Rattle.sf_cells.specs.Hands.{AtMost, Balanced, Stop, item, minus, on_gap, on_level, stop_items}
 use Rattle.sf_cells.specs.Samples.{dimension}

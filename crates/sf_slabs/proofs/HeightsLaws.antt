@@ -7,8 +7,8 @@ use Rattle.sf_grid.specs.Fraction.{Fraction, IsFraction, fraction_eq, whole}
 use Rattle.sf_grid.specs.Plane.{Coordinates}
 use Rattle.sf_grid.specs.Edge.{Edge as Line, edge_between, height_at, is_vertical, left_end, reaches, right_end}
 use Rattle.sf_grid.proofs.CallerLemmas.{Same, dif, eq_from_test, height-IsFraction, mul, ring, same_tests, sum, test_from_eq, var, within-same}
-use Rattle.sf_columns.specs.declared.piece.Piece.{Piece}
-use Rattle.sf_columns.specs.declared.piece.Piece.TheVariants.{Dot, Edge}
+use Rattle.sf_strips.specs.declared.piece.Piece.{Piece}
+use Rattle.sf_strips.specs.declared.piece.Piece.TheVariants.{Dot, Edge}
 use Rattle.sf_cells.specs.Pieces.{heights_of, if_in_column}
 use Rattle.sf_slabs.proofs.NumberLaws.{Numbers, Pairs, Same-trans}
 use Rattle.sf_slabs.proofs.SampleLaws.{if_cases}

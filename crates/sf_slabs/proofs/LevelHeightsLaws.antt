@@ -8,17 +8,17 @@ use Rattle.sf_grid.specs.Fraction.{Fraction, IsFraction, fraction_eq, fraction_l
 use Rattle.sf_grid.specs.Plane.{Coordinates}
 use Rattle.sf_grid.specs.Edge.{edge_between, height_at, height_rightward, is_vertical, left_end, reaches, right_end}
 use Rattle.sf_grid.proofs.CallerLemmas.{Same, eq_from_test, runs_right, test_from_eq}
-use Rattle.sf_columns.specs.declared.piece.Piece.{Piece}
-use Rattle.sf_columns.specs.declared.piece.Piece.TheVariants.{Dot, Edge}
-use Rattle.sf_columns.specs.declared.active.Active.{Active}
-use Rattle.sf_columns.specs.declared.level.Level.{Level}
-use Rattle.sf_columns.specs.declared.vertex.Role.TheVariants.{Begin, Bottom, End, Top}
-use Rattle.sf_columns.specs.declared.vertex.Vertex.{Vertex}
+use Rattle.sf_strips.specs.declared.piece.Piece.{Piece}
+use Rattle.sf_strips.specs.declared.piece.Piece.TheVariants.{Dot, Edge}
+use Rattle.sf_strips.specs.declared.active.Active.{Active}
+use Rattle.sf_strips.specs.declared.level.Level.{Level}
+use Rattle.sf_strips.specs.declared.vertex.Role.TheVariants.{Begin, Bottom, End, Top}
+use Rattle.sf_strips.specs.declared.vertex.Vertex.{Vertex}
 use Rattle.sf_cells.specs.Cells.{numbers_from}
-use Rattle.sf_columns.specs.Fronts.{IsEntry, IsEntryIn, SameNumbers, pieces_of}
+use Rattle.sf_strips.specs.Fronts.{IsEntry, IsEntryIn, SameNumbers, pieces_of}
 use Rattle.sf_cells.specs.Pieces.{heights_of, if_in_column}
-use Rattle.sf_columns.specs.Slanted.{rightward_edge}
-use Rattle.sf_columns.specs.Vertices.{all_vertices, lower_end, piece_at, upper_end, vertex, vertices_of}
+use Rattle.sf_strips.specs.Slanted.{rightward_edge}
+use Rattle.sf_strips.specs.Vertices.{all_vertices, lower_end, piece_at, upper_end, vertex, vertices_of}
 use Rattle.sf_slabs.proofs.AboveLaws.{height_of}
 use Rattle.sf_slabs.proofs.ColumnLaws.{IsHeights}
 use Rattle.sf_slabs.proofs.HeightsLaws.{heights_in}

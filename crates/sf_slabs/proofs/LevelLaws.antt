@@ -6,7 +6,7 @@ use Rattle.std.proofs.lemmas.Int.{ints}
 use Rattle.sf_grid.specs.Fraction.{Fraction, IsFraction, fraction_lt, middle, one_less}
 use Rattle.sf_grid.specs.Plane.{point_at}
 use Rattle.sf_grid.proofs.CallerLemmas.{Same, lt_from_test, mul, mul_lt, num, ring, sum, test_from_lt, var}
-use Rattle.sf_columns.specs.declared.piece.Piece.{Piece}
+use Rattle.sf_strips.specs.declared.piece.Piece.{Piece}
 use Rattle.sf_cells.specs.declared.cell.Cell.{Cell}
 use Rattle.sf_cells.specs.Pieces.{is_above, is_on}
 use Rattle.sf_cells.specs.Samples.{Mark, dimension, marks_from, sample_at}

@@ -11,21 +11,21 @@ use Rattle.sf_grid.specs.Fraction.{Fraction, IsFraction, fraction_eq, fraction_l
 use Rattle.sf_grid.specs.Plane.{Coordinates, point_at}
 use Rattle.sf_grid.specs.Edge.{Edge as Line, edge_between, height_at, height_rightward, is_vertical, left_end, reaches, right_end}
 use Rattle.sf_grid.proofs.CallerLemmas.{Same, abs_of_run, dif, eq_from_test, ge_from_test, le_from_test, le_lt, lt_from_test, lt_le, mul, mul_le, mul_lt, num, product_pos, reach, ring, run_pos, runs_right, same_tests, sum, test_from_eq, test_from_le, test_from_lt, var}
-use Rattle.sf_columns.specs.declared.piece.Piece.{Piece}
-use Rattle.sf_columns.specs.declared.piece.Piece.TheVariants.{Dot, Edge}
-use Rattle.sf_columns.specs.declared.vertex.Role.{Role}
-use Rattle.sf_columns.specs.declared.vertex.Role.TheVariants.{Begin, Bottom, Dot as AtDot, End, Top}
-use Rattle.sf_columns.specs.declared.vertex.Vertex.{Vertex}
+use Rattle.sf_strips.specs.declared.piece.Piece.{Piece}
+use Rattle.sf_strips.specs.declared.piece.Piece.TheVariants.{Dot, Edge}
+use Rattle.sf_strips.specs.declared.vertex.Role.{Role}
+use Rattle.sf_strips.specs.declared.vertex.Role.TheVariants.{Begin, Bottom, Dot as AtDot, End, Top}
+use Rattle.sf_strips.specs.declared.vertex.Vertex.{Vertex}
 use Rattle.sf_cells.specs.Pieces.{heights_of, if_in_column, is_on}
-use Rattle.sf_columns.specs.Slanted.{rightward_edge}
-use Rattle.sf_columns.specs.Vertices.{begins, enters, leaves, lower_end, upper_end, vertex}
+use Rattle.sf_strips.specs.Slanted.{rightward_edge}
+use Rattle.sf_strips.specs.Vertices.{begins, enters, leaves, lower_end, upper_end, vertex}
 use Rattle.sf_slabs.proofs.AboveLaws.{goes_on-vertical, goes_on_from, height_of}
 use Rattle.sf_slabs.proofs.GapLaws.{IsGap, Parted, is_on-gap, one_of, within-whole}
 use Rattle.sf_slabs.proofs.LeveledLaws.{vertex_height}
 use Rattle.sf_slabs.proofs.NumberLaws.{Same-trans}
 use Rattle.sf_slabs.proofs.OnLaws.{on_edge-height, on_edge-vertical, same_point-at}
 use Rattle.sf_slabs.proofs.Shapes.{comes_to, in_column}
-use Rattle.sf_columns.proofs.CallerLemmas.{goes_on}
+use Rattle.sf_strips.proofs.CallerLemmas.{goes_on}
 use Rattle.sf_slabs.proofs.SlabLaws.{reached_from}
 use Rattle.sf_slabs.proofs.TopLaws.{if_true}
 use Rattle.sf_slabs.proofs.WeightLaws.{HasOne, IsEither}

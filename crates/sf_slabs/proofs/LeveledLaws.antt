@@ -11,15 +11,15 @@ use Rattle.sf_grid.specs.Fraction.{Fraction, IsFraction, fraction_cmp, fraction_
 use Rattle.sf_grid.specs.Plane.{grid_point}
 use Rattle.sf_grid.specs.Edge.{height_at, height_cmp}
 use Rattle.sf_grid.proofs.CallerLemmas.{Same, eq_from_mul, eq_from_test, equal_is, ge_from_test, is_equal, is_greater, lt_from_test, mul_le, test_from_eq, test_from_lt}
-use Rattle.sf_columns.specs.declared.active.Active.{Active}
-use Rattle.sf_columns.specs.declared.contact.Contact.{Contact}
-use Rattle.sf_columns.specs.declared.level.Level.{Level}
-use Rattle.sf_columns.specs.declared.slanted.Slanted.{Slanted}
-use Rattle.sf_columns.specs.declared.vertex.Vertex.{Vertex}
-use Rattle.sf_columns.specs.Fronts.{line_of, touches}
-use Rattle.sf_columns.specs.Levels.{AreTops, IsTop, group_length, level_by, run_length, top_level}
-use Rattle.sf_columns.proofs.CallerLemmas.{height_in}
-use Rattle.sf_columns.specs.Slanted.{side_of}
+use Rattle.sf_strips.specs.declared.active.Active.{Active}
+use Rattle.sf_strips.specs.declared.contact.Contact.{Contact}
+use Rattle.sf_strips.specs.declared.level.Level.{Level}
+use Rattle.sf_strips.specs.declared.slanted.Slanted.{Slanted}
+use Rattle.sf_strips.specs.declared.vertex.Vertex.{Vertex}
+use Rattle.sf_strips.specs.Fronts.{line_of, touches}
+use Rattle.sf_strips.specs.Levels.{AreTops, IsTop, group_length, level_by, run_length, top_level}
+use Rattle.sf_strips.proofs.CallerLemmas.{height_in}
+use Rattle.sf_strips.specs.Slanted.{side_of}
 use Rattle.sf_slabs.proofs.FallsLaws.{edge_of, height_in-edge_of}
 use Rattle.sf_slabs.proofs.HeightsLaws.{height_at-same}
 use Rattle.sf_slabs.proofs.LocateLaws.{height_in-number, less_from_lt}

@@ -4,8 +4,8 @@ use Rattle.std.specs.declared.cmp.Ordering.TheVariants.{Less}
 use Rattle.std.proofs.lemmas.Int.{ints}
 use Rattle.sf_grid.specs.Fraction.{Fraction, IsFraction, fraction_cmp, fraction_lt}
 use Rattle.sf_grid.proofs.CallerLemmas.{lt_from_test, product_pos, run_pos}
-use Rattle.sf_columns.specs.declared.slanted.Slanted.{Slanted}
-use Rattle.sf_columns.proofs.CallerLemmas.{height_in}
+use Rattle.sf_strips.specs.declared.slanted.Slanted.{Slanted}
+use Rattle.sf_strips.proofs.CallerLemmas.{height_in}
 
 -- the height of an edge that runs to the right is a number
 pub height_in-number : (x : Fraction) (e : Slanted) → IsFraction x → IsFraction (height_in x e)

@@ -8,15 +8,15 @@ use Rattle.sf_grid.specs.Fraction.{Fraction, IsFraction, fraction_le, fraction_l
 use Rattle.sf_grid.specs.Plane.{Point, x_of}
 use Rattle.sf_grid.specs.Edge.{Edge as Line, crossing, edge_between, left_end, right_end}
 use Rattle.sf_grid.proofs.CallerLemmas.{lies, reach, test_from_le}
-use Rattle.sf_columns.specs.declared.piece.Piece.{Piece}
-use Rattle.sf_columns.specs.declared.piece.Piece.TheVariants.{Dot, Edge}
-use Rattle.sf_columns.specs.declared.active.Active.{Active}
-use Rattle.sf_columns.specs.declared.contact.Contact.{Contact}
-use Rattle.sf_columns.specs.declared.vertex.Vertex.{Vertex}
-use Rattle.sf_columns.specs.Next.{IsLeastOf, candidates, first_place, places_of}
+use Rattle.sf_strips.specs.declared.piece.Piece.{Piece}
+use Rattle.sf_strips.specs.declared.piece.Piece.TheVariants.{Dot, Edge}
+use Rattle.sf_strips.specs.declared.active.Active.{Active}
+use Rattle.sf_strips.specs.declared.contact.Contact.{Contact}
+use Rattle.sf_strips.specs.declared.vertex.Vertex.{Vertex}
+use Rattle.sf_strips.specs.Next.{IsLeastOf, candidates, first_place, places_of}
 use Rattle.sf_cells.specs.Pieces.{ends_of}
 use Rattle.sf_cells.specs.Samples.{crossing_place, crossings_of}
-use Rattle.sf_columns.specs.Vertices.{all_vertices}
+use Rattle.sf_strips.specs.Vertices.{all_vertices}
 use Rattle.sf_slabs.proofs.AboveLaws.{passes}
 use Rattle.sf_slabs.proofs.ColumnLaws.{event_places}
 use Rattle.sf_slabs.proofs.CrossLaws.{is-crossing, place-IsFraction}

@@ -10,21 +10,21 @@ use Rattle.sf_grid.specs.Fraction.{Fraction, IsFraction, fraction_eq, fraction_l
 use Rattle.sf_grid.specs.Plane.{Coordinates, point_at}
 use Rattle.sf_grid.specs.Edge.{Edge as Line, edge_between, height_cmp, is_vertical, left_end, right_end}
 use Rattle.sf_grid.proofs.CallerLemmas.{Same, is_equal, lt_from_test, test_from_eq}
-use Rattle.sf_columns.specs.declared.active.Active.{Active}
-use Rattle.sf_columns.specs.declared.contact.Contact.{Contact}
-use Rattle.sf_columns.specs.declared.level.Level.{Level}
-use Rattle.sf_columns.specs.declared.piece.Piece.{Piece}
-use Rattle.sf_columns.specs.declared.piece.Piece.TheVariants.{Dot, Edge}
-use Rattle.sf_columns.specs.declared.vertex.Role.TheVariants.{Begin, Bottom, End, Top}
-use Rattle.sf_columns.specs.declared.vertex.Vertex.{Vertex}
+use Rattle.sf_strips.specs.declared.active.Active.{Active}
+use Rattle.sf_strips.specs.declared.contact.Contact.{Contact}
+use Rattle.sf_strips.specs.declared.level.Level.{Level}
+use Rattle.sf_strips.specs.declared.piece.Piece.{Piece}
+use Rattle.sf_strips.specs.declared.piece.Piece.TheVariants.{Dot, Edge}
+use Rattle.sf_strips.specs.declared.vertex.Role.TheVariants.{Begin, Bottom, End, Top}
+use Rattle.sf_strips.specs.declared.vertex.Vertex.{Vertex}
 use Rattle.sf_cells.specs.Cells.{numbers_from}
-use Rattle.sf_columns.specs.Fronts.{AreContacts, Descend, DescendFrom, IsEntry, IsEntryIn, SameNumbers, line_of, pieces_of}
+use Rattle.sf_strips.specs.Fronts.{AreContacts, Descend, DescendFrom, IsEntry, IsEntryIn, SameNumbers, line_of, pieces_of}
 use Rattle.sf_cells.specs.Hands.{Stop, stops}
-use Rattle.sf_columns.specs.Levels.{AreOnward, AreStarts, AreTops, IsOnward, SlopesFall, SlopesFallFrom, StartsWith, goes_past, going_past, if_begins}
+use Rattle.sf_strips.specs.Levels.{AreOnward, AreStarts, AreTops, IsOnward, SlopesFall, SlopesFallFrom, StartsWith, goes_past, going_past, if_begins}
 use Rattle.sf_cells.specs.Pieces.{heights_of, is_on}
-use Rattle.sf_columns.specs.Slanted.{rightward_edge}
-use Rattle.sf_columns.specs.Vertices.{IsVertexIn, IsVertexOf, begins, lower_end, piece_at, upper_end, vertex, vertices_of}
-use Rattle.sf_columns.proofs.CallerLemmas.{start-entry}
+use Rattle.sf_strips.specs.Slanted.{rightward_edge}
+use Rattle.sf_strips.specs.Vertices.{IsVertexIn, IsVertexOf, begins, lower_end, piece_at, upper_end, vertex, vertices_of}
+use Rattle.sf_strips.proofs.CallerLemmas.{start-entry}
 use Rattle.sf_slabs.proofs.AboveLaws.{goes_on_from, height_of, passes}
 use Rattle.sf_slabs.proofs.ColumnIsLaws.{IsRest, all_listed, column_fits, every_piece, first_rest}
 use Rattle.sf_slabs.proofs.LeveledLaws.{IsAtLevel, Leveled, active_height, active_height-number, drop-each_active, drop-each_vertex, height_cmp-active, leveled, vertex_height}

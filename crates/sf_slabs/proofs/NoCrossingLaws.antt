@@ -10,14 +10,14 @@ use Rattle.sf_grid.specs.Edge.{Edge as Line, cross_of_directions, crossing, edge
 use Rattle.sf_grid.specs.Laws.{HasHeight}
 use Rattle.sf_grid.specs.Sharing.{IsOnBoth}
 use Rattle.sf_grid.proofs.CallerLemmas.{dif, eq_from_test, height-IsFraction, lies, mul, num, reach, ring, shared_once, test_from_le, var}
-use Rattle.sf_columns.specs.declared.piece.Piece.{Piece}
-use Rattle.sf_columns.specs.declared.piece.Piece.TheVariants.{Dot, Edge}
-use Rattle.sf_columns.specs.declared.active.Active.{Active}
-use Rattle.sf_columns.specs.declared.contact.Contact.{Contact}
-use Rattle.sf_columns.specs.Fronts.{IsEntry, IsEntryIn, IsRun, line_of}
+use Rattle.sf_strips.specs.declared.piece.Piece.{Piece}
+use Rattle.sf_strips.specs.declared.piece.Piece.TheVariants.{Dot, Edge}
+use Rattle.sf_strips.specs.declared.active.Active.{Active}
+use Rattle.sf_strips.specs.declared.contact.Contact.{Contact}
+use Rattle.sf_strips.specs.Fronts.{IsEntry, IsEntryIn, IsRun, line_of}
 use Rattle.sf_cells.specs.Pieces.{ends_of}
 use Rattle.sf_cells.specs.Samples.{crossing_place, crossings_of}
-use Rattle.sf_columns.specs.Vertices.{piece_at}
+use Rattle.sf_strips.specs.Vertices.{piece_at}
 use Rattle.sf_slabs.proofs.AboveLaws.{passes}
 use Rattle.sf_slabs.proofs.CrossLaws.{IsCrossing, both_at-level, is-crossing, level_at-point, place-IsFraction, run-on_both, on_both-run}
 use Rattle.sf_slabs.proofs.EndLaws.{Each-left, Later, SomeActive, le_of_not_lt, passes-places, some_entry, whole-number, passes_at-piece, each_piece-found}

@@ -9,7 +9,7 @@ use Rattle.sf_grid.specs.Fraction.{Fraction, IsFraction, fraction_eq, whole}
 use Rattle.sf_grid.specs.Plane.{Coordinates, IsPoint, Point, grid_point, point_at, same_point, x_of, y_of}
 use Rattle.sf_grid.specs.Edge.{Edge, cross, height_at, is_vertical, left_end, on_edge, reaches, right_end, within}
 use Rattle.sf_grid.proofs.CallerLemmas.{Same, cross-swap, dif, eq_from_mul, eq_from_test, lies, mul, num, on_edge_at, product_pos, reach, ring, runs_right, same_tests, test_from_eq, var, within-same}
-use Rattle.sf_columns.proofs.CallerLemmas.{on-side}
+use Rattle.sf_strips.proofs.CallerLemmas.{on-side}
 
 -- ---- the coordinates of a point of a column
 pub x_of-point_at : (x y : Fraction) → Same (x_of (point_at x y)) x

@@ -12,18 +12,18 @@ use Rattle.std.proofs.lemmas.List.Sums.{sum_by-cons}
 use Rattle.sf_grid.specs.Fraction.{Fraction, IsFraction, fraction_eq, fraction_le, fraction_lt, middle, one_less, one_more, whole}
 use Rattle.sf_grid.specs.Edge.{edge_between, is_vertical, left_end, right_end}
 use Rattle.sf_grid.proofs.CallerLemmas.{Same, eq_from_test, test_from_le}
-use Rattle.sf_columns.specs.declared.piece.Piece.{Piece}
-use Rattle.sf_columns.specs.declared.piece.Piece.TheVariants.{Dot, Edge}
+use Rattle.sf_strips.specs.declared.piece.Piece.{Piece}
+use Rattle.sf_strips.specs.declared.piece.Piece.TheVariants.{Dot, Edge}
 use Rattle.sf_cells.specs.declared.cell.Cell.{Cell}
-use Rattle.sf_columns.specs.declared.vertex.Role.TheVariants.{Begin, Bottom, End, Top}
-use Rattle.sf_columns.specs.declared.vertex.Vertex.{Vertex}
+use Rattle.sf_strips.specs.declared.vertex.Role.TheVariants.{Begin, Bottom, End, Top}
+use Rattle.sf_strips.specs.declared.vertex.Vertex.{Vertex}
 use Rattle.sf_cells.specs.Cells.{cells, numbers_from}
 use Rattle.sf_cells.specs.Pieces.{ends_of}
 use Rattle.sf_cells.specs.Samples.{Mark, crossings_of, events, listed, marks, marks_from, sorted_by, unlisted}
 use Rattle.sf_slabs.specs.Sweeps.{AreVertices, InOrder, InOrderFrom, IsColumnOf, IsComing, IsFront, cells_in, comes_to, passes}
 use Rattle.sf_slabs.proofs.Ahead.{IsAhead, right_of}
-use Rattle.sf_columns.specs.Slanted.{rightward_edge}
-use Rattle.sf_columns.specs.Vertices.{IsVertexIn, IsVertexOf, all_vertices, in_column, lower_end, piece_at, upper_end, vertex, vertex_before, vertices_of}
+use Rattle.sf_strips.specs.Slanted.{rightward_edge}
+use Rattle.sf_strips.specs.Vertices.{IsVertexIn, IsVertexOf, all_vertices, in_column, lower_end, piece_at, upper_end, vertex, vertex_before, vertices_of}
 use Rattle.sf_slabs.proofs.CellLaws.{SameMark}
 use Rattle.sf_slabs.proofs.ColumnLaws.{cells-columns, column_cells-heights, event_places, falling_heights, flat_map-Pairs}
 use Rattle.sf_slabs.proofs.EventLaws.{event_places-numbers}
@@ -36,7 +36,7 @@ use Rattle.sf_slabs.proofs.LeveledLaws.{InOrder-rest, drop-each_vertex, drop-in_
 use Rattle.sf_slabs.proofs.MarkLaws.{marks-same, middle-number, middle-same, one_less-step, one_more-step}
 use Rattle.sf_slabs.proofs.NextLaws.{IsLast, IsNext}
 use Rattle.sf_slabs.proofs.NumberLaws.{Among, Among-sorted_by, Each-before, Follow-rest, IsListing, IsOrder, Numbers, Pairs, before_among, falling_order, rising_order}
-use Rattle.sf_columns.proofs.CallerLemmas.{sorted-first, sorted-rest}
+use Rattle.sf_strips.proofs.CallerLemmas.{sorted-first, sorted-rest}
 use Rattle.sf_slabs.proofs.SampleLaws.{Each-sorted_by, Follow, Follow-sorted_by, FollowFrom}
 use Rattle.sf_slabs.proofs.WeightLaws.{AreVertices-chosen, chosen-drop_vertices, chosen-take_vertices, sum_by-agree}
 use Rattle.sf_slabs.proofs.EachLaws.{each-append, each-both, each-map, each-parts}

@@ -9,20 +9,20 @@ use Rattle.std.proofs.lemmas.Int.{ints}
 use Rattle.sf_grid.specs.Fraction.{Fraction, IsFraction, fraction_lt, middle, one_more}
 use Rattle.sf_grid.specs.Plane.{Coordinates, x_of}
 use Rattle.sf_grid.specs.Edge.{Edge as Line}
-use Rattle.sf_columns.specs.declared.active.Active.{Active}
+use Rattle.sf_strips.specs.declared.active.Active.{Active}
 use Rattle.sf_cells.specs.declared.cell.Cell.{Cell}
-use Rattle.sf_columns.specs.declared.contact.Contact.{Contact}
-use Rattle.sf_columns.specs.declared.contact.Contact.TheVariants.{Ahead, Never, Throughout}
-use Rattle.sf_columns.specs.declared.piece.Piece.{Piece}
+use Rattle.sf_strips.specs.declared.contact.Contact.{Contact}
+use Rattle.sf_strips.specs.declared.contact.Contact.TheVariants.{Ahead, Never, Throughout}
+use Rattle.sf_strips.specs.declared.piece.Piece.{Piece}
 use Rattle.sf_slabs.specs.declared.sweep.Sweep.{Sweep}
-use Rattle.sf_columns.specs.declared.vertex.Vertex.{Vertex}
+use Rattle.sf_strips.specs.declared.vertex.Vertex.{Vertex}
 use Rattle.sf_cells.specs.Cells.{cells}
-use Rattle.sf_columns.specs.Fronts.{AreApart, AreApartFrom, AreContacts, AreContactsFrom, IsContact, line_of, touches}
-use Rattle.sf_columns.specs.Next.{IsLeastOf, candidates, first_place}
+use Rattle.sf_strips.specs.Fronts.{AreApart, AreApartFrom, AreContacts, AreContactsFrom, IsContact, line_of, touches}
+use Rattle.sf_strips.specs.Next.{IsLeastOf, candidates, first_place}
 use Rattle.sf_cells.specs.Samples.{listed, unlisted}
 use Rattle.sf_slabs.specs.Sweeps.{IsColumnOf, IsComing, IsFront, cells_in}
 use Rattle.sf_slabs.proofs.Ahead.{IsAhead}
-use Rattle.sf_columns.specs.Vertices.{all_vertices, in_column, vertex_before}
+use Rattle.sf_strips.specs.Vertices.{all_vertices, in_column, vertex_before}
 use Rattle.sf_slabs.specs.Walks.{IsReady, IsSlabOf}
 use Rattle.sf_slabs.proofs.ColumnLaws.{event_places}
 use Rattle.sf_cells.proofs.CallerLemmas.{fold-append}

@@ -1,17 +1,17 @@
 -- What the laws of the sweep speak of beside the definitions.
 use Rattle.std.proofs.Common.{◌≡◌, ℕ, Bool, ◌||◌, List, [], ◌∷◌, ◌++◌, map}
 use Rattle.sf_grid.specs.Fraction.{Fraction}
-use Rattle.sf_columns.specs.declared.piece.Piece.{Piece}
-use Rattle.sf_columns.specs.declared.active.Active.{Active}
-use Rattle.sf_columns.specs.declared.level.Level.{Level}
-use Rattle.sf_columns.specs.declared.vertex.Vertex.{Vertex}
+use Rattle.sf_strips.specs.declared.piece.Piece.{Piece}
+use Rattle.sf_strips.specs.declared.active.Active.{Active}
+use Rattle.sf_strips.specs.declared.level.Level.{Level}
+use Rattle.sf_strips.specs.declared.vertex.Vertex.{Vertex}
 use Rattle.sf_cells.specs.Cells.{numbers_from}
-use Rattle.sf_columns.specs.Fronts.{SameNumbers}
+use Rattle.sf_strips.specs.Fronts.{SameNumbers}
 use Rattle.sf_cells.specs.Groups.{counts, item_of}
 use Rattle.sf_cells.specs.Hands.{Balanced, Stop, stop_items, stops}
 pub use Rattle.sf_slabs.specs.Sweeps.{AreVertices, InOrder, InOrderFrom, IsColumnOf, IsComing, IsFront, StepsAt, StepsAtFrom, comes_to, step_by}
 pub use Rattle.sf_slabs.proofs.Ahead.{IsAhead, right_of}
-pub use Rattle.sf_columns.specs.Vertices.{in_column}
+pub use Rattle.sf_strips.specs.Vertices.{in_column}
 use Rattle.sf_slabs.proofs.ColumnLaws.{IsHeights, column_cells}
 use Rattle.sf_slabs.proofs.LevelLaws.{Level as PieceLevel}
 

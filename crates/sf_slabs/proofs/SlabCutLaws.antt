@@ -6,15 +6,15 @@ use Rattle.std.specs.declared.cmp.Ordering.TheVariants.{Equal, Greater, Less}
 use Rattle.std.proofs.lemmas.List.{append-nil}
 use Rattle.std.proofs.lemmas.List.Sorted.{IsPermutation-refl}
 use Rattle.sf_grid.specs.Fraction.{Fraction, IsFraction}
-use Rattle.sf_columns.specs.declared.active.Active.{Active}
-use Rattle.sf_columns.specs.declared.contact.Contact.{Contact}
-use Rattle.sf_columns.specs.declared.contact.Contact.TheVariants.{Ahead, Never, Throughout}
-use Rattle.sf_columns.specs.declared.level.Level.{Level}
-use Rattle.sf_columns.specs.declared.piece.Piece.{Piece}
-use Rattle.sf_columns.specs.declared.vertex.Vertex.{Vertex}
-use Rattle.sf_columns.specs.Fronts.{AreContacts, AreContactsFrom, Descend, DescendFrom, Descends, IsContact, line_of, touches}
-use Rattle.sf_columns.specs.Levels.{AreOnward, AreTops, IsOnward, SlopesFall, SlopesFallFrom, going_past, run_length, top_level}
-use Rattle.sf_columns.specs.Slanted.{IsOneLine, slope_order}
+use Rattle.sf_strips.specs.declared.active.Active.{Active}
+use Rattle.sf_strips.specs.declared.contact.Contact.{Contact}
+use Rattle.sf_strips.specs.declared.contact.Contact.TheVariants.{Ahead, Never, Throughout}
+use Rattle.sf_strips.specs.declared.level.Level.{Level}
+use Rattle.sf_strips.specs.declared.piece.Piece.{Piece}
+use Rattle.sf_strips.specs.declared.vertex.Vertex.{Vertex}
+use Rattle.sf_strips.specs.Fronts.{AreContacts, AreContactsFrom, Descend, DescendFrom, Descends, IsContact, line_of, touches}
+use Rattle.sf_strips.specs.Levels.{AreOnward, AreTops, IsOnward, SlopesFall, SlopesFallFrom, going_past, run_length, top_level}
+use Rattle.sf_strips.specs.Slanted.{IsOneLine, slope_order}
 use Rattle.sf_slabs.specs.Sweeps.{IsColumnOf, IsComing, IsFront}
 use Rattle.sf_slabs.proofs.ColumnIsLaws.{column-is}
 use Rattle.sf_slabs.proofs.CrossLaws.{level-one_line}

@@ -8,8 +8,8 @@ use Rattle.sf_grid.specs.Fraction.{Fraction, IsFraction, fraction_lt}
 use Rattle.sf_grid.specs.Plane.{Coordinates}
 use Rattle.sf_grid.specs.Edge.{Edge, height_cmp, is_vertical, left_end, right_end}
 use Rattle.sf_grid.proofs.CallerLemmas.{cmp-scaled, dif, equal_is, gap, gap-line, height_cmp-gap, lt_from_test, mul, num, ring, sum, var}
-use Rattle.sf_columns.specs.Slanted.{slope_order}
-use Rattle.sf_columns.proofs.CallerLemmas.{cmp-difference, slope_gap}
+use Rattle.sf_strips.specs.Slanted.{slope_order}
+use Rattle.sf_strips.proofs.CallerLemmas.{cmp-difference, slope_gap}
 use Rattle.sf_slabs.proofs.SlabLaws.{IsSlab, Spans, StaysBelow, StaysLevel}
 
 -- the order of two edges' slopes, from their left ends to their right ends

@@ -7,30 +7,30 @@ use Rattle.std.proofs.lemmas.List.Elements.{All-from_recursion}
 use Rattle.std.proofs.lemmas.List.Sorted.{length_permutation}
 use Rattle.std.proofs.lemmas.List.Sums.{sum_by-cons}
 use Rattle.sf_grid.specs.Fraction.{Fraction, IsFraction}
-use Rattle.sf_columns.specs.declared.active.Active.{Active}
-use Rattle.sf_columns.specs.declared.contact.Contact.{Contact}
-use Rattle.sf_columns.specs.declared.cut.Cut.{Cut}
-use Rattle.sf_columns.specs.declared.level.Level.{Level}
-use Rattle.sf_columns.specs.declared.piece.Piece.{Piece}
+use Rattle.sf_strips.specs.declared.active.Active.{Active}
+use Rattle.sf_strips.specs.declared.contact.Contact.{Contact}
+use Rattle.sf_strips.specs.declared.cut.Cut.{Cut}
+use Rattle.sf_strips.specs.declared.level.Level.{Level}
+use Rattle.sf_strips.specs.declared.piece.Piece.{Piece}
 use Rattle.sf_grid.specs.Edge.{edge_between, is_vertical, left_end, right_end}
-use Rattle.sf_columns.specs.declared.piece.Piece.TheVariants.{Dot, Edge}
-use Rattle.sf_columns.specs.declared.vertex.Role.TheVariants.{Begin, Bottom, End, Top}
-use Rattle.sf_columns.specs.declared.vertex.Vertex.{Vertex}
+use Rattle.sf_strips.specs.declared.piece.Piece.TheVariants.{Dot, Edge}
+use Rattle.sf_strips.specs.declared.vertex.Role.TheVariants.{Begin, Bottom, End, Top}
+use Rattle.sf_strips.specs.declared.vertex.Vertex.{Vertex}
 use Rattle.sf_cells.specs.Cells.{numbers_from}
-use Rattle.sf_columns.specs.Fronts.{AreContacts, IsEntry, IsEntryIn, SameNumbers, pieces_of}
+use Rattle.sf_strips.specs.Fronts.{AreContacts, IsEntry, IsEntryIn, SameNumbers, pieces_of}
 use Rattle.sf_cells.specs.Groups.{counts, item_of}
 use Rattle.sf_cells.specs.Hands.{Balanced, stop_items, stops}
-use Rattle.sf_columns.specs.Levels.{AreOnward, AreTops, most_onward}
-use Rattle.sf_columns.specs.Rooms.{HasRoom}
+use Rattle.sf_strips.specs.Levels.{AreOnward, AreTops, most_onward}
+use Rattle.sf_strips.specs.Rooms.{HasRoom}
 use Rattle.sf_slabs.specs.Sweeps.{IsColumnOf, IsComing, IsFront, StepsAt, StepsAtFrom, cells_in, comes_to, passes}
-use Rattle.sf_columns.specs.Slanted.{rightward_edge}
-use Rattle.sf_columns.specs.Vertices.{IsVertexOf, all_vertices, lower_end, piece_at, upper_end, vertex, vertices_of, begins, pieces_with}
+use Rattle.sf_strips.specs.Slanted.{rightward_edge}
+use Rattle.sf_strips.specs.Vertices.{IsVertexOf, all_vertices, lower_end, piece_at, upper_end, vertex, vertices_of, begins, pieces_with}
 use Rattle.sf_slabs.proofs.ColumnIsLaws.{column-is}
 use Rattle.sf_slabs.proofs.ColumnLaws.{column_cells-heights}
 use Rattle.sf_slabs.proofs.NextFrontLaws.{active-after, entries-after, front-after}
 use Rattle.sf_slabs.proofs.BegunLaws.{begins_in, coming_or_begun}
 use Rattle.sf_slabs.proofs.Shapes.{IsColumn}
-use Rattle.sf_columns.proofs.CallerLemmas.{piece_at-below, vertex-below}
+use Rattle.sf_strips.proofs.CallerLemmas.{piece_at-below, vertex-below}
 
 -- ---- how many there are
 ones : (ns : List ℕ) → sum_by (λ _. 1) ns ≡ length ns

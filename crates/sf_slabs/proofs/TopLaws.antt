@@ -8,8 +8,8 @@ use Rattle.sf_grid.specs.Fraction.{Fraction, IsFraction, fraction_lt, one_less, 
 use Rattle.sf_grid.specs.Plane.{point_at}
 use Rattle.sf_grid.specs.Edge.{Edge as Line, edge_between, height_at, is_vertical, left_end, reaches, right_end}
 use Rattle.sf_grid.proofs.CallerLemmas.{height-IsFraction, le_from_test, lt_from_test, mul_lt, test_from_lt}
-use Rattle.sf_columns.specs.declared.piece.Piece.{Piece}
-use Rattle.sf_columns.specs.declared.piece.Piece.TheVariants.{Dot, Edge}
+use Rattle.sf_strips.specs.declared.piece.Piece.{Piece}
+use Rattle.sf_strips.specs.declared.piece.Piece.TheVariants.{Dot, Edge}
 use Rattle.sf_cells.specs.Pieces.{heights_of, if_in_column, is_above, is_on}
 use Rattle.sf_cells.specs.Samples.{Mark, dimension, marks_from, sample_at}
 use Rattle.sf_cells.specs.Cells.{cell_of}
@@ -19,7 +19,7 @@ use Rattle.sf_slabs.proofs.ColumnLaws.{IsHeights, column_cells}
 use Rattle.sf_slabs.proofs.LevelLaws.{Placed, cell-agree, cell_by, cells-levels, level_cells, levels_from, not_above, not_above_higher}
 use Rattle.sf_slabs.proofs.NumberLaws.{Among, Numbers}
 use Rattle.sf_slabs.proofs.SampleLaws.{FollowFrom}
-use Rattle.sf_columns.proofs.CallerLemmas.{goes_on}
+use Rattle.sf_strips.proofs.CallerLemmas.{goes_on}
 use Rattle.sf_slabs.proofs.SlabLaws.{reached_from}
 use Rattle.sf_slabs.proofs.EachLaws.{each-parts}
 

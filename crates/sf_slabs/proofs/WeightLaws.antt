@@ -3,13 +3,13 @@ use Rattle.std.proofs.Common.{◌≡◌, refl, ap, sym, ◌∙◌, ℕ, zero, su
 use Rattle.std.specs.Prelude.{if◌then◌else◌}
 use Rattle.std.specs.List.{AllByRecursion, sum_by}
 use Rattle.std.proofs.lemmas.List.Sums.{sum_by-append, sum_by-cons}
-use Rattle.sf_columns.specs.declared.piece.Piece.{Piece}
-use Rattle.sf_columns.specs.declared.active.Active.{Active}
-use Rattle.sf_columns.specs.declared.vertex.Role.{Role}
-use Rattle.sf_columns.specs.declared.vertex.Vertex.{Vertex}
+use Rattle.sf_strips.specs.declared.piece.Piece.{Piece}
+use Rattle.sf_strips.specs.declared.active.Active.{Active}
+use Rattle.sf_strips.specs.declared.vertex.Role.{Role}
+use Rattle.sf_strips.specs.declared.vertex.Vertex.{Vertex}
 use Rattle.sf_cells.specs.Cells.{numbers_from}
-use Rattle.sf_columns.specs.Fronts.{SameNumbers, pieces_of}
-use Rattle.sf_columns.specs.Vertices.{all_vertices, piece_at, pieces_with, vertices_of}
+use Rattle.sf_strips.specs.Fronts.{SameNumbers, pieces_of}
+use Rattle.sf_strips.specs.Vertices.{all_vertices, piece_at, pieces_with, vertices_of}
 use Rattle.sf_slabs.proofs.Shapes.{AreVertices}
 
 -- ---- the same numbers

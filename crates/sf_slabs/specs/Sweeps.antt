@@ -6,17 +6,17 @@ use Rattle.std.specs.declared.cmp.Ordering.{Ordering}
 use Rattle.std.specs.declared.cmp.Ordering.TheVariants.{Equal, Less}
 use Rattle.sf_grid.specs.Fraction.{Fraction, IsFraction, fraction_le, fraction_lt, whole}
 use Rattle.sf_grid.specs.Edge.{edge_between, height_cmp, left_end, right_end}
-use Rattle.sf_columns.specs.declared.piece.Piece.{Piece}
-use Rattle.sf_columns.specs.declared.piece.Piece.TheVariants.{Dot, Edge}
-use Rattle.sf_columns.specs.declared.active.Active.{Active}
+use Rattle.sf_strips.specs.declared.piece.Piece.{Piece}
+use Rattle.sf_strips.specs.declared.piece.Piece.TheVariants.{Dot, Edge}
+use Rattle.sf_strips.specs.declared.active.Active.{Active}
 use Rattle.sf_cells.specs.declared.cell.Cell.{Cell}
-use Rattle.sf_columns.specs.declared.contact.Contact.{Contact}
-use Rattle.sf_columns.specs.declared.vertex.Vertex.{Vertex}
+use Rattle.sf_strips.specs.declared.contact.Contact.{Contact}
+use Rattle.sf_strips.specs.declared.vertex.Vertex.{Vertex}
 use Rattle.sf_cells.specs.Cells.{cell_of, numbers_from}
-use Rattle.sf_columns.specs.Fronts.{AreContacts, Descend, IsEntry, SameNumbers, line_of, pieces_of, touches}
+use Rattle.sf_strips.specs.Fronts.{AreContacts, Descend, IsEntry, SameNumbers, line_of, pieces_of, touches}
 use Rattle.sf_cells.specs.Samples.{Mark, levels, sample_at}
-use Rattle.sf_columns.specs.Slanted.{goes_on}
-use Rattle.sf_columns.specs.Vertices.{IsVertexOf, all_vertices, in_column, vertex_before}
+use Rattle.sf_strips.specs.Slanted.{goes_on}
+use Rattle.sf_strips.specs.Vertices.{IsVertexOf, all_vertices, in_column, vertex_before}
 
 -- the piece is an edge that isn't vertical and goes on to the right of the column x
 abbrev pub passes : Fraction → Piece → Bool

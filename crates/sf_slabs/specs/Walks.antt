@@ -2,10 +2,10 @@
 -- The sweep's own state: its room, and the slab that it stands in.
 use Rattle.std.specs.Prelude.{◌≡◌, ℕ, ◌+◌, ◌≤◌, List, [], None, length, vec_capacity}
 use Rattle.sf_grid.specs.Fraction.{Fraction}
-use Rattle.sf_columns.specs.declared.active.Active.{Active}
-use Rattle.sf_columns.specs.declared.contact.Contact.{Contact}
-use Rattle.sf_columns.specs.declared.piece.Piece.{Piece}
-use Rattle.sf_columns.specs.Rooms.{HasRoom}
+use Rattle.sf_strips.specs.declared.active.Active.{Active}
+use Rattle.sf_strips.specs.declared.contact.Contact.{Contact}
+use Rattle.sf_strips.specs.declared.piece.Piece.{Piece}
+use Rattle.sf_strips.specs.Rooms.{HasRoom}
 use Rattle.sf_slabs.specs.declared.sweep.Sweep.{Sweep}
 use Rattle.sf_cells.specs.Groups.{counts}
 use Rattle.sf_slabs.specs.Sweeps.{IsColumnOf, IsComing, IsFront}

@@ -4,7 +4,7 @@ ghost use Rattle.std.specs.Prelude.{◌<◌, ◌↔◌, IsTrue};
 ghost use Rattle.std.specs.List.{All};
 ghost use Rattle.sf_cells.specs.Pieces.{HasLength};
 
-use sf_columns::Piece;
+use sf_strips::Piece;
 
 /// Whether the ends of each edge differ.
 pub fn have_length(pieces: &[Piece]) -> bool

@@ -8,7 +8,7 @@ ghost use Rattle.sf_cells.specs.Pieces.{HasLength};
 
 use crate::sweep::walk;
 use sf_cells::{Cell, Measure, Recorder, recorded};
-use sf_columns::Piece;
+use sf_strips::Piece;
 use std::alloc::{AllocError, Global};
 
 /// The cells of the pieces: columns from the left, each from the top. The first walk over them

@@ -7,6 +7,6 @@ mod sweep;
 
 pub use conditions::{are_in_range, have_length};
 pub use decomposition::decompose;
-pub use sf_cells::{Cell, CellSink, Numbers};
-pub use sf_columns::{Piece, Vertex};
+pub use sf_cells::{Cell, CellSink, PieceNumbers};
+pub use sf_strips::{Piece, Vertex};
 pub use sweep::{walk, walk_sorted};

@@ -4,20 +4,20 @@ ghost use Rattle.std.specs.Prelude.{◌≡◌, ℕ, ◌≤◌, ◌<◌, List, []
 ghost use Rattle.std.specs.List.{All, fold, prefix_len};
 ghost use Rattle.std.specs.List.Sorted.{IsPermutation, IsSortedBy};
 ghost use Rattle.sf_grid.specs.Fraction.{Fraction};
-ghost use Rattle.sf_columns.specs.declared.piece.Piece.{Piece};
+ghost use Rattle.sf_strips.specs.declared.piece.Piece.{Piece};
 ghost use Rattle.sf_cells.specs.Cells.{cells};
-ghost use Rattle.sf_columns.specs.Fronts.{AreApart};
+ghost use Rattle.sf_strips.specs.Fronts.{AreApart};
 ghost use Rattle.sf_cells.specs.Groups.{group_count as group_count_of, item_of};
-ghost use Rattle.sf_columns.specs.Next.{first_place as first_place_of};
+ghost use Rattle.sf_strips.specs.Next.{first_place as first_place_of};
 ghost use Rattle.sf_cells.specs.Pieces.{HasLength};
 ghost use Rattle.sf_cells.specs.Samples.{listed, unlisted};
 ghost use Rattle.sf_slabs.specs.Sweeps.{IsColumnOf, IsComing, IsFront, cells_in};
-ghost use Rattle.sf_columns.specs.Vertices.{all_vertices, in_column, vertex_before};
+ghost use Rattle.sf_strips.specs.Vertices.{all_vertices, in_column, vertex_before};
 ghost use Rattle.sf_slabs.specs.Walks.{IsReady, IsSlabOf};
 
 use sf_cells::{CellSink, Column, Tallies, hand_out};
-use sf_columns::{Active, Contact, Cut, Piece, Strip, Vertex, next_column, vertices};
 use sf_grid::{Frac, GridPoint};
+use sf_strips::{Active, Contact, Cut, Piece, Strip, Vertex, next_column, vertices};
 use std::alloc::{AllocError, Global};
 use std::mem::swap;
 

@@ -3,7 +3,7 @@ use Rattle.std.proofs.Common.{◌≡◌, refl, ap, sym, ◌∙◌, subst, Bool, 
 use Rattle.std.specs.Prelude.{if◌then◌else◌}
 use Rattle.std.proofs.lemmas.List.{append-nil}
 use Rattle.sf_grid.specs.Plane.{Coordinates}
-use Rattle.sf_columns.specs.declared.piece.Piece.TheVariants.{Dot}
+use Rattle.sf_strips.specs.declared.piece.Piece.TheVariants.{Dot}
 use Rattle.sf_geometry.specs.Lists.{edges_between, edges_from, edges_of, ends_of, is_same}
 use Rattle.sf_geometry.proofs.ListLaws.{ends-closed, ends-open, last-pushed}
 use Rattle.sf_pieces.specs.Marked.{Marked, marked, piece_of}

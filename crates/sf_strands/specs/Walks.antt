@@ -3,7 +3,7 @@
 use Rattle.std.specs.Prelude.{Bool, List, ◌++◌, map, slice_index}
 use Rattle.std.specs.List.{flat_map}
 use Rattle.sf_grid.specs.Plane.{Coordinates}
-use Rattle.sf_columns.specs.declared.piece.Piece.TheVariants.{Dot}
+use Rattle.sf_strips.specs.declared.piece.Piece.TheVariants.{Dot}
 use Rattle.sf_cells.specs.Groups.{Item}
 use Rattle.sf_geometry.specs.Lists.{edges_of, ends_of}
 use Rattle.sf_pieces.specs.Marked.{Marked, marked, piece_of}

@@ -2,7 +2,7 @@
 //! a strand at a point for each of its edges there, but the two edges at a joint are one strand.
 
 ghost use Rattle.std.specs.Prelude.{◌≡◌, ◌↔◌, ◌++◌, ◌≤◌, IfOk, IsTrue, OnOk, length, map, slice_index};
-ghost use Rattle.sf_columns.specs.declared.piece.Piece.TheVariants.{Dot};
+ghost use Rattle.sf_strips.specs.declared.piece.Piece.TheVariants.{Dot};
 ghost use Rattle.sf_pieces.specs.Marked.{HasGroups, item_at, marked};
 ghost use Rattle.sf_rules.specs.Conditions.{Applies, Condition};
 ghost use Rattle.sf_rules.specs.Shapes.{meets_itself};

@@ -7,14 +7,14 @@ use Rattle.std.proofs.lemmas.Int.{ints}
 use Rattle.std.proofs.lemmas.List.{append-nil, map-append}
 use Rattle.sf_grid.specs.Fraction.{Fraction, IsFraction}
 use Rattle.sf_grid.specs.Plane.{x_of}
-use Rattle.sf_columns.specs.declared.active.Active.{Active}
-use Rattle.sf_columns.specs.declared.contact.Contact.{Contact}
-use Rattle.sf_columns.specs.declared.contact.Contact.TheVariants.{Ahead, Never, Throughout}
-use Rattle.sf_columns.specs.declared.level.Level.{Level}
-use Rattle.sf_columns.specs.declared.piece.Piece.{Piece}
-use Rattle.sf_columns.specs.declared.vertex.Vertex.{Vertex}
-use Rattle.sf_columns.specs.Levels.{AreTops}
-use Rattle.sf_columns.specs.Vertices.{all_vertices, in_column, vertex_before}
+use Rattle.sf_strips.specs.declared.active.Active.{Active}
+use Rattle.sf_strips.specs.declared.contact.Contact.{Contact}
+use Rattle.sf_strips.specs.declared.contact.Contact.TheVariants.{Ahead, Never, Throughout}
+use Rattle.sf_strips.specs.declared.level.Level.{Level}
+use Rattle.sf_strips.specs.declared.piece.Piece.{Piece}
+use Rattle.sf_strips.specs.declared.vertex.Vertex.{Vertex}
+use Rattle.sf_strips.specs.Levels.{AreTops}
+use Rattle.sf_strips.specs.Vertices.{all_vertices, in_column, vertex_before}
 use Rattle.sf_cells.specs.Cells.{cells}
 use Rattle.sf_cells.specs.Groups.{Item, counts, item_of}
 use Rattle.sf_cells.specs.Hands.{item, stop_items}

@@ -2,11 +2,11 @@
 use Rattle.std.proofs.Common.{◌≡◌, refl, ap, sym, ◌∙◌, subst, ℕ, Bool, true, List, [], ◌∷◌, ◌++◌, length, map, take}
 use Rattle.std.specs.List.{AllByRecursion, fold}
 use Rattle.std.proofs.lemmas.List.{append_assoc}
-use Rattle.sf_columns.specs.declared.active.Active.{Active}
-use Rattle.sf_columns.specs.declared.contact.Contact.{Contact}
-use Rattle.sf_columns.specs.declared.vertex.Vertex.{Vertex}
-use Rattle.sf_columns.specs.Fronts.{AreContacts, pieces_of}
-use Rattle.sf_columns.specs.Parts.{is_over}
+use Rattle.sf_strips.specs.declared.active.Active.{Active}
+use Rattle.sf_strips.specs.declared.contact.Contact.{Contact}
+use Rattle.sf_strips.specs.declared.vertex.Vertex.{Vertex}
+use Rattle.sf_strips.specs.Fronts.{AreContacts, pieces_of}
+use Rattle.sf_strips.specs.Parts.{is_over}
 use Rattle.sf_cells.specs.Groups.{Item, counts, group_count}
 use Rattle.sf_cells.proofs.CallerLemmas.{fold-append}
 use Rattle.sf_cells.proofs.TallyLaws.{length-counts}

@@ -8,16 +8,16 @@ use Rattle.std.proofs.lemmas.List.Sums.{sum_by-append, sum_by-cons}
 use Rattle.sf_grid.specs.Fraction.{Fraction, IsFraction, fraction_lt}
 use Rattle.sf_grid.specs.Edge.{height_cmp}
 use Rattle.sf_grid.proofs.CallerLemmas.{Same}
-use Rattle.sf_columns.specs.declared.active.Active.{Active}
-use Rattle.sf_columns.specs.declared.contact.Contact.{Contact}
-use Rattle.sf_columns.specs.declared.contact.Contact.TheVariants.{Ahead, Never, Throughout}
-use Rattle.sf_columns.specs.declared.level.Level.{Level}
-use Rattle.sf_columns.specs.declared.piece.Piece.{Piece}
-use Rattle.sf_columns.specs.declared.vertex.Vertex.{Vertex}
-use Rattle.sf_columns.specs.Fronts.{AreContacts, IsContact, IsEntry, line_of, touches}
-use Rattle.sf_columns.specs.Levels.{AreOnward, TakeAll}
-use Rattle.sf_columns.specs.Vertices.{IsVertexOf, in_column}
-use Rattle.sf_columns.proofs.CutLaws.{CutOff}
+use Rattle.sf_strips.specs.declared.active.Active.{Active}
+use Rattle.sf_strips.specs.declared.contact.Contact.{Contact}
+use Rattle.sf_strips.specs.declared.contact.Contact.TheVariants.{Ahead, Never, Throughout}
+use Rattle.sf_strips.specs.declared.level.Level.{Level}
+use Rattle.sf_strips.specs.declared.piece.Piece.{Piece}
+use Rattle.sf_strips.specs.declared.vertex.Vertex.{Vertex}
+use Rattle.sf_strips.specs.Fronts.{AreContacts, IsContact, IsEntry, line_of, touches}
+use Rattle.sf_strips.specs.Levels.{AreOnward, TakeAll}
+use Rattle.sf_strips.specs.Vertices.{IsVertexOf, in_column}
+use Rattle.sf_strips.proofs.CutLaws.{CutOff}
 use Rattle.sf_slabs.specs.Sweeps.{IsColumnOf, IsComing}
 use Rattle.sf_slabs.proofs.CrossLaws.{level-one_line}
 use Rattle.sf_slabs.proofs.EachLaws.{each-join, each-map}

@@ -7,11 +7,11 @@ use Rattle.sf_grid.specs.Fraction.{Fraction, IsFraction, fraction_eq}
 use Rattle.sf_grid.specs.Plane.{IsPoint, Point, x_of}
 use Rattle.sf_grid.specs.Edge.{height_cmp}
 use Rattle.sf_grid.proofs.CallerLemmas.{eq_from_test}
-use Rattle.sf_columns.specs.declared.active.Active.{Active}
-use Rattle.sf_columns.specs.declared.contact.Contact.{Contact}
-use Rattle.sf_columns.specs.declared.contact.Contact.TheVariants.{Ahead, Never, Throughout}
-use Rattle.sf_columns.specs.Fronts.{AreContacts, Descend, Descends, IsContact, line_of, touches}
-use Rattle.sf_columns.specs.Slanted.{IsMeetingAfter, slope_order}
+use Rattle.sf_strips.specs.declared.active.Active.{Active}
+use Rattle.sf_strips.specs.declared.contact.Contact.{Contact}
+use Rattle.sf_strips.specs.declared.contact.Contact.TheVariants.{Ahead, Never, Throughout}
+use Rattle.sf_strips.specs.Fronts.{AreContacts, Descend, Descends, IsContact, line_of, touches}
+use Rattle.sf_strips.specs.Slanted.{IsMeetingAfter, slope_order}
 use Rattle.sf_slabs.specs.Sweeps.{StepsAt, step_by}
 use Rattle.sf_slabs.proofs.CrossLaws.{level-one_line}
 use Rattle.sf_slabs.proofs.FollowLaws.{level-flip, slants-line_of}

@@ -11,13 +11,13 @@ use Rattle.std.proofs.lemmas.List.Sums.{prefix_len-le-length, sum_by-append, sum
 use Rattle.sf_grid.specs.Fraction.{Fraction, fraction_eq}
 use Rattle.sf_grid.specs.Plane.{Point, x_of}
 use Rattle.sf_grid.proofs.CallerLemmas.{eq_from_test}
-use Rattle.sf_columns.specs.declared.active.Active.{Active}
-use Rattle.sf_columns.specs.declared.contact.Contact.{Contact}
-use Rattle.sf_columns.specs.declared.piece.Piece.{Piece}
-use Rattle.sf_columns.specs.declared.vertex.Vertex.{Vertex}
-use Rattle.sf_columns.specs.Fronts.{pieces_of}
-use Rattle.sf_columns.specs.Levels.{group_length}
-use Rattle.sf_columns.specs.Vertices.{begins, in_column, pieces_with}
+use Rattle.sf_strips.specs.declared.active.Active.{Active}
+use Rattle.sf_strips.specs.declared.contact.Contact.{Contact}
+use Rattle.sf_strips.specs.declared.piece.Piece.{Piece}
+use Rattle.sf_strips.specs.declared.vertex.Vertex.{Vertex}
+use Rattle.sf_strips.specs.Fronts.{pieces_of}
+use Rattle.sf_strips.specs.Levels.{group_length}
+use Rattle.sf_strips.specs.Vertices.{begins, in_column, pieces_with}
 use Rattle.sf_cells.specs.Cells.{numbers_from}
 use Rattle.sf_cells.specs.Groups.{Item, counts}
 use Rattle.sf_cells.proofs.CallerLemmas.{fold-append}

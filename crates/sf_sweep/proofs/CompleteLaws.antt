@@ -8,19 +8,19 @@ use Rattle.std.proofs.lemmas.Int.{ints}
 use Rattle.std.proofs.lemmas.List.{length-append, length-drop, length-take-le}
 use Rattle.std.proofs.lemmas.List.Sorted.{IsPermutation-cons, IsPermutation-middle, IsPermutation-refl, IsPermutation-trans}
 use Rattle.sf_grid.specs.Fraction.{Fraction}
-use Rattle.sf_columns.specs.declared.active.Active.{Active}
-use Rattle.sf_columns.specs.declared.contact.Contact.{Contact}
-use Rattle.sf_columns.specs.declared.level.Level.{Level}
-use Rattle.sf_columns.specs.declared.part.Part.{Part}
-use Rattle.sf_columns.specs.declared.part.Part.TheVariants.{Together}
-use Rattle.sf_columns.specs.declared.vertex.Role.{Role}
-use Rattle.sf_columns.specs.declared.vertex.Role.TheVariants.{Begin, Bottom, Dot, End, Top}
-use Rattle.sf_columns.specs.declared.vertex.Vertex.{Vertex}
-use Rattle.sf_columns.specs.Levels.{AreStarts, IsOnward, SlopesFall, SlopesFallFrom, StartsWith, TakeAll, going_past, if_begins, top_level}
-use Rattle.sf_columns.specs.Parts.{levels_of}
-use Rattle.sf_columns.specs.Slanted.{slope_order}
-use Rattle.sf_columns.specs.Vertices.{begins}
-use Rattle.sf_columns.proofs.CutLaws.{CutOff, IsWhole, cut-nothing, few-drop, top-some, top-within, turn-level}
+use Rattle.sf_strips.specs.declared.active.Active.{Active}
+use Rattle.sf_strips.specs.declared.contact.Contact.{Contact}
+use Rattle.sf_strips.specs.declared.level.Level.{Level}
+use Rattle.sf_strips.specs.declared.part.Part.{Part}
+use Rattle.sf_strips.specs.declared.part.Part.TheVariants.{Together}
+use Rattle.sf_strips.specs.declared.vertex.Role.{Role}
+use Rattle.sf_strips.specs.declared.vertex.Role.TheVariants.{Begin, Bottom, Dot, End, Top}
+use Rattle.sf_strips.specs.declared.vertex.Vertex.{Vertex}
+use Rattle.sf_strips.specs.Levels.{AreStarts, IsOnward, SlopesFall, SlopesFallFrom, StartsWith, TakeAll, going_past, if_begins, top_level}
+use Rattle.sf_strips.specs.Parts.{levels_of}
+use Rattle.sf_strips.specs.Slanted.{slope_order}
+use Rattle.sf_strips.specs.Vertices.{begins}
+use Rattle.sf_strips.proofs.CutLaws.{CutOff, IsWhole, cut-nothing, few-drop, top-some, top-within, turn-level}
 
 -- ---- edges by falling slope
 abbrev slopes : Active → Active → Ordering

@@ -10,11 +10,11 @@ use Rattle.sf_grid.specs.Fraction.{Fraction, fraction_lt}
 use Rattle.sf_grid.specs.Plane.{IsPoint, Point, x_of, y_of}
 use Rattle.sf_grid.specs.Edge.{height_at}
 use Rattle.sf_grid.proofs.CallerLemmas.{Same}
-use Rattle.sf_columns.specs.declared.active.Active.{Active}
-use Rattle.sf_columns.specs.declared.contact.Contact.{Contact}
-use Rattle.sf_columns.specs.declared.contact.Contact.TheVariants.{Ahead, Never, Throughout}
-use Rattle.sf_columns.specs.declared.vertex.Vertex.{Vertex}
-use Rattle.sf_columns.specs.Fronts.{IsContact, line_of}
+use Rattle.sf_strips.specs.declared.active.Active.{Active}
+use Rattle.sf_strips.specs.declared.contact.Contact.{Contact}
+use Rattle.sf_strips.specs.declared.contact.Contact.TheVariants.{Ahead, Never, Throughout}
+use Rattle.sf_strips.specs.declared.vertex.Vertex.{Vertex}
+use Rattle.sf_strips.specs.Fronts.{IsContact, line_of}
 use Rattle.sf_cells.specs.Groups.{Item}
 use Rattle.sf_slabs.proofs.CrossLaws.{meeting-on_both, on_edge-column, place-IsFraction}
 use Rattle.sf_slabs.proofs.FallsLaws.{height_in-edge_of}

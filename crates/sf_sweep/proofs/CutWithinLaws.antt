@@ -2,12 +2,12 @@
 use Rattle.std.proofs.Common.{◌≡◌, ◌≢◌, ap, sym, ◌∙◌, subst, ℕ, ◌+◌, ◌-◌, ◌≤◌, ◌<◌, arith, Bool, List, [], ◌∷◌, ◌++◌, None, Some, length}
 use Rattle.std.specs.List.{AllByRecursion}
 use Rattle.std.proofs.lemmas.List.{append_assoc}
-use Rattle.sf_columns.specs.declared.active.Active.{Active}
-use Rattle.sf_columns.specs.declared.contact.Contact.{Contact}
-use Rattle.sf_columns.specs.declared.level.Level.{Level}
-use Rattle.sf_columns.specs.declared.vertex.Vertex.{Vertex}
-use Rattle.sf_columns.specs.Fronts.{AreContacts, pieces_of}
-use Rattle.sf_columns.proofs.ContactLaws.{contacts-few}
+use Rattle.sf_strips.specs.declared.active.Active.{Active}
+use Rattle.sf_strips.specs.declared.contact.Contact.{Contact}
+use Rattle.sf_strips.specs.declared.level.Level.{Level}
+use Rattle.sf_strips.specs.declared.vertex.Vertex.{Vertex}
+use Rattle.sf_strips.specs.Fronts.{AreContacts, pieces_of}
+use Rattle.sf_strips.proofs.ContactLaws.{contacts-few}
 use Rattle.sf_cells.specs.Groups.{Item, counts, group_count}
 use Rattle.sf_cells.specs.Hands.{plus}
 use Rattle.sf_cells.proofs.TallyLaws.{length-added, length-counts}

@@ -3,10 +3,10 @@ use Rattle.std.proofs.Common.{◌≡◌, refl, ap, sym, subst, ◌<◌, arith, B
 use Rattle.std.specs.List.{AllByRecursion}
 use Rattle.std.proofs.lemmas.List.{append-nil}
 use Rattle.sf_grid.specs.Fraction.{Fraction}
-use Rattle.sf_columns.specs.declared.active.Active.{Active}
-use Rattle.sf_columns.specs.declared.contact.Contact.{Contact}
-use Rattle.sf_columns.specs.Fronts.{pieces_of, touches}
-use Rattle.sf_columns.specs.Parts.{is_over}
+use Rattle.sf_strips.specs.declared.active.Active.{Active}
+use Rattle.sf_strips.specs.declared.contact.Contact.{Contact}
+use Rattle.sf_strips.specs.Fronts.{pieces_of, touches}
+use Rattle.sf_strips.specs.Parts.{is_over}
 use Rattle.sf_cells.specs.Groups.{Item, counts}
 use Rattle.sf_sweep.specs.Parities.{AreParities, parities}
 use Rattle.sf_sweep.specs.Passing.{IsLastApart, contact_at}

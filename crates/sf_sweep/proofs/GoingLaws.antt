@@ -4,11 +4,11 @@ use Rattle.std.specs.List.{All, AllByRecursion}
 use Rattle.std.proofs.lemmas.List.{length-append, take-append-drop}
 use Rattle.std.proofs.lemmas.List.Elements.{All-from_recursion}
 use Rattle.std.proofs.lemmas.List.Sorted.{All-permutation, length_permutation}
-use Rattle.sf_columns.specs.declared.active.Active.{Active}
-use Rattle.sf_columns.specs.declared.level.Level.{Level}
-use Rattle.sf_columns.specs.declared.vertex.Vertex.{Vertex}
-use Rattle.sf_columns.specs.Levels.{AreOnward, AreStarts, IsOnward, StartsWith, going_past, goes_past, if_begins, most_onward}
-use Rattle.sf_columns.specs.Vertices.{begins, pieces_with}
+use Rattle.sf_strips.specs.declared.active.Active.{Active}
+use Rattle.sf_strips.specs.declared.level.Level.{Level}
+use Rattle.sf_strips.specs.declared.vertex.Vertex.{Vertex}
+use Rattle.sf_strips.specs.Levels.{AreOnward, AreStarts, IsOnward, StartsWith, going_past, goes_past, if_begins, most_onward}
+use Rattle.sf_strips.specs.Vertices.{begins, pieces_with}
 use Rattle.sf_sweep.proofs.RepairLaws.{each-of}
 use Rattle.sf_sweep.proofs.StopLaws.{each-drop, each-take}
 

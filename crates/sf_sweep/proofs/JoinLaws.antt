@@ -8,15 +8,15 @@ use Rattle.std.proofs.lemmas.Bool.{false≢true}
 use Rattle.std.proofs.lemmas.List.{drop-append-le, length-append, length-drop, take-append-le}
 use Rattle.sf_grid.specs.Fraction.{Fraction}
 use Rattle.sf_grid.specs.Plane.{grid_point}
-use Rattle.sf_columns.specs.declared.active.Active.{Active}
-use Rattle.sf_columns.specs.declared.contact.Contact.{Contact}
-use Rattle.sf_columns.specs.declared.level.Level.{Level}
-use Rattle.sf_columns.specs.declared.vertex.Vertex.{Vertex}
-use Rattle.sf_columns.specs.Fronts.{touches}
-use Rattle.sf_columns.specs.Levels.{AreOnward, AreTops, IsTop, TakeAll, group_length, level, level_by, run_length, top_level}
-use Rattle.sf_columns.specs.Parts.{is_over}
-use Rattle.sf_columns.specs.Slanted.{side_of}
-use Rattle.sf_columns.proofs.CutLaws.{CutOff, IsWhole}
+use Rattle.sf_strips.specs.declared.active.Active.{Active}
+use Rattle.sf_strips.specs.declared.contact.Contact.{Contact}
+use Rattle.sf_strips.specs.declared.level.Level.{Level}
+use Rattle.sf_strips.specs.declared.vertex.Vertex.{Vertex}
+use Rattle.sf_strips.specs.Fronts.{touches}
+use Rattle.sf_strips.specs.Levels.{AreOnward, AreTops, IsTop, TakeAll, group_length, level, level_by, run_length, top_level}
+use Rattle.sf_strips.specs.Parts.{is_over}
+use Rattle.sf_strips.specs.Slanted.{side_of}
+use Rattle.sf_strips.proofs.CutLaws.{CutOff, IsWhole}
 use Rattle.sf_sweep.specs.Passing.{IsLastApart, contact_at}
 use Rattle.sf_sweep.specs.Tables.{contacts_of}
 pub use Rattle.sf_sweep.specs.Within.{IsApartFrom}

@@ -5,8 +5,8 @@ use Rattle.std.proofs.lemmas.Bool.{cases_eq, cases_lt}
 use Rattle.std.proofs.lemmas.List.{get_or-set_other, get_or-set_same, get_or_past, length-replicate, length-set}
 use Rattle.std.proofs.Math.ListN.{replicate}
 use Rattle.sf_grid.specs.Plane.{Point}
-use Rattle.sf_columns.specs.declared.contact.Contact.{Contact}
-use Rattle.sf_columns.specs.declared.contact.Contact.TheVariants.{Ahead, Never, Throughout}
+use Rattle.sf_strips.specs.declared.contact.Contact.{Contact}
+use Rattle.sf_strips.specs.declared.contact.Contact.TheVariants.{Ahead, Never, Throughout}
 use Rattle.sf_sweep.specs.Nearest.{AreKept, HasPoints, IsFirstMeeting, IsPointIn, IsTree, NoneMeet, earlier, place_at}
 use Rattle.sf_sweep.specs.Tables.{IsNotBefore, ahead_of}
 use Rattle.sf_sweep.proofs.FirstLaws.{IsFirst, earlier-one, root-among, root-first}

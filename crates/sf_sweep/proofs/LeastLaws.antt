@@ -7,11 +7,11 @@ use Rattle.std.proofs.lemmas.Int.{ints}
 use Rattle.std.proofs.lemmas.List.Elements.{All-from_recursion}
 use Rattle.sf_grid.specs.Fraction.{Fraction, fraction_eq, fraction_le, fraction_lt, whole}
 use Rattle.sf_grid.specs.Plane.{Coordinates, IsPoint, Point, x_of, y_of}
-use Rattle.sf_columns.specs.declared.active.Active.{Active}
-use Rattle.sf_columns.specs.declared.contact.Contact.{Contact}
-use Rattle.sf_columns.specs.declared.contact.Contact.TheVariants.{Ahead, Never, Throughout}
-use Rattle.sf_columns.specs.declared.vertex.Vertex.{Vertex}
-use Rattle.sf_columns.specs.Next.{IsLeastOf, candidates, first_place, places_of}
+use Rattle.sf_strips.specs.declared.active.Active.{Active}
+use Rattle.sf_strips.specs.declared.contact.Contact.{Contact}
+use Rattle.sf_strips.specs.declared.contact.Contact.TheVariants.{Ahead, Never, Throughout}
+use Rattle.sf_strips.specs.declared.vertex.Vertex.{Vertex}
+use Rattle.sf_strips.specs.Next.{IsLeastOf, candidates, first_place, places_of}
 use Rattle.sf_slabs.proofs.CrossLaws.{place-IsFraction}
 use Rattle.sf_slabs.proofs.FollowLaws.{le_le-places}
 use Rattle.sf_slabs.proofs.RunLaws.{IsComingNext}

@@ -7,14 +7,14 @@ use Rattle.std.proofs.lemmas.List.{map-append, take-append-drop}
 use Rattle.std.proofs.lemmas.List.Sorted.{sum_by-IsPermutation}
 use Rattle.std.proofs.lemmas.List.Sums.{sum_by-append, sum_by-cons}
 use Rattle.sf_grid.specs.Fraction.{Fraction}
-use Rattle.sf_columns.specs.declared.active.Active.{Active}
-use Rattle.sf_columns.specs.declared.contact.Contact.{Contact}
-use Rattle.sf_columns.specs.declared.piece.Piece.{Piece}
-use Rattle.sf_columns.specs.declared.level.Level.{Level}
-use Rattle.sf_columns.specs.declared.vertex.Vertex.{Vertex}
-use Rattle.sf_columns.specs.Fronts.{pieces_of}
-use Rattle.sf_columns.specs.Levels.{AreOnward, AreStarts, IsOnward, StartsWith, going_past, goes_past, if_begins}
-use Rattle.sf_columns.specs.Vertices.{begins, pieces_with}
+use Rattle.sf_strips.specs.declared.active.Active.{Active}
+use Rattle.sf_strips.specs.declared.contact.Contact.{Contact}
+use Rattle.sf_strips.specs.declared.piece.Piece.{Piece}
+use Rattle.sf_strips.specs.declared.level.Level.{Level}
+use Rattle.sf_strips.specs.declared.vertex.Vertex.{Vertex}
+use Rattle.sf_strips.specs.Fronts.{pieces_of}
+use Rattle.sf_strips.specs.Levels.{AreOnward, AreStarts, IsOnward, StartsWith, going_past, goes_past, if_begins}
+use Rattle.sf_strips.specs.Vertices.{begins, pieces_with}
 use Rattle.sf_cells.specs.Cells.{numbers_from}
 use Rattle.sf_slabs.specs.Sweeps.{IsColumnOf, IsComing, comes_to}
 use Rattle.sf_slabs.proofs.BegunLaws.{begins_in, coming_or_begun}

@@ -2,9 +2,9 @@
 use Rattle.std.proofs.Common.{◌≡◌, ◌≢◌, refl, sym, ◌∙◌, subst, ℕ, ◌<◌, Bool, List, [], ◌∷◌, ◌++◌, None, length, map, inl, inr}
 use Rattle.std.specs.Prelude.{slice_index_or}
 use Rattle.std.specs.List.{AllByRecursion, fold}
-use Rattle.sf_columns.specs.declared.active.Active.{Active}
-use Rattle.sf_columns.specs.declared.contact.Contact.{Contact}
-use Rattle.sf_columns.specs.Fronts.{pieces_of}
+use Rattle.sf_strips.specs.declared.active.Active.{Active}
+use Rattle.sf_strips.specs.declared.contact.Contact.{Contact}
+use Rattle.sf_strips.specs.Fronts.{pieces_of}
 use Rattle.sf_cells.specs.Groups.{Item, counts, group_count}
 use Rattle.sf_cells.specs.Hands.{plus}
 use Rattle.sf_cells.proofs.TallyLaws.{length-added}

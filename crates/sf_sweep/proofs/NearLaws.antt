@@ -9,10 +9,10 @@ use Rattle.sf_grid.specs.Fraction.{Fraction, IsFraction, fraction_cmp, fraction_
 use Rattle.sf_grid.specs.Plane.{IsPoint, Point, x_of, y_of}
 use Rattle.sf_grid.specs.Edge.{height_at, height_cmp, is_vertical}
 use Rattle.sf_grid.proofs.CallerLemmas.{Same, test_from_eq}
-use Rattle.sf_columns.specs.declared.active.Active.{Active}
-use Rattle.sf_columns.specs.declared.contact.Contact.{Contact}
-use Rattle.sf_columns.specs.Fronts.{line_of, touches}
-use Rattle.sf_columns.specs.Slanted.{IsMeetingAfter}
+use Rattle.sf_strips.specs.declared.active.Active.{Active}
+use Rattle.sf_strips.specs.declared.contact.Contact.{Contact}
+use Rattle.sf_strips.specs.Fronts.{line_of, touches}
+use Rattle.sf_strips.specs.Slanted.{IsMeetingAfter}
 use Rattle.sf_slabs.specs.Sweeps.{StepsAt, StepsAtFrom, step_by}
 use Rattle.sf_slabs.proofs.CrossLaws.{meeting-on_both, on_edge-column, place-IsFraction}
 use Rattle.sf_slabs.proofs.FallsLaws.{height_in-edge_of}

@@ -12,14 +12,14 @@ use Rattle.sf_grid.specs.Fraction.{Fraction, IsFraction, fraction_eq, fraction_l
 use Rattle.sf_grid.specs.Plane.{IsPoint, Point, grid_point, x_of, y_of}
 use Rattle.sf_grid.proofs.CallerLemmas.{Same, eq_from_test, lt_from_test, mul_le}
 use Rattle.sf_slabs.proofs.NumberLaws.{Same-trans, rising_order}
-use Rattle.sf_columns.specs.Slanted.{side_of}
-use Rattle.sf_columns.specs.declared.active.Active.{Active}
-use Rattle.sf_columns.specs.declared.contact.Contact.{Contact}
-use Rattle.sf_columns.specs.declared.contact.Contact.TheVariants.{Ahead, Never, Throughout}
-use Rattle.sf_columns.specs.declared.vertex.Vertex.{Vertex}
-use Rattle.sf_columns.specs.Fronts.{IsContact, line_of}
-use Rattle.sf_columns.specs.Parts.{is_over}
-use Rattle.sf_columns.specs.Vertices.{in_column}
+use Rattle.sf_strips.specs.Slanted.{side_of}
+use Rattle.sf_strips.specs.declared.active.Active.{Active}
+use Rattle.sf_strips.specs.declared.contact.Contact.{Contact}
+use Rattle.sf_strips.specs.declared.contact.Contact.TheVariants.{Ahead, Never, Throughout}
+use Rattle.sf_strips.specs.declared.vertex.Vertex.{Vertex}
+use Rattle.sf_strips.specs.Fronts.{IsContact, line_of}
+use Rattle.sf_strips.specs.Parts.{is_over}
+use Rattle.sf_strips.specs.Vertices.{in_column}
 use Rattle.sf_cells.specs.Groups.{Item}
 use Rattle.sf_sweep.specs.declared.window.Window.{Window}
 use Rattle.sf_sweep.specs.Nearest.{IsFirstMeeting, IsPointIn, NoneMeet}

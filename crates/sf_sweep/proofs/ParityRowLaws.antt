@@ -4,8 +4,8 @@ use Rattle.std.specs.Prelude.{replicate, slice_index, slice_index_or}
 use Rattle.std.specs.List.{All, AllByRecursion}
 use Rattle.std.proofs.lemmas.List.{drop-replicate, length-take, map-append}
 use Rattle.sf_grid.specs.EvenOdd.{is_odd}
-use Rattle.sf_columns.specs.declared.active.Active.{Active}
-use Rattle.sf_columns.specs.Fronts.{pieces_of}
+use Rattle.sf_strips.specs.declared.active.Active.{Active}
+use Rattle.sf_strips.specs.Fronts.{pieces_of}
 use Rattle.sf_cells.specs.Groups.{counts, group_count, numbers}
 use Rattle.sf_cells.specs.Hands.{plus}
 use Rattle.sf_cells.proofs.TallyLaws.{add_both, length-added, length-counts}

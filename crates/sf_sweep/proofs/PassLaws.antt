@@ -8,15 +8,15 @@ use Rattle.std.specs.declared.cmp.Ordering.TheVariants.{Greater}
 use Rattle.std.proofs.lemmas.Bool.{false≢true}
 use Rattle.sf_grid.specs.Fraction.{Fraction}
 use Rattle.sf_grid.specs.Plane.{grid_point}
-use Rattle.sf_columns.specs.declared.active.Active.{Active}
-use Rattle.sf_columns.specs.declared.contact.Contact.{Contact}
-use Rattle.sf_columns.specs.declared.level.Level.{Level}
-use Rattle.sf_columns.specs.declared.vertex.Vertex.{Vertex}
-use Rattle.sf_columns.specs.Fronts.{touches}
-use Rattle.sf_columns.specs.Levels.{AreOnward, AreTops, IsOnward, IsTop, SlopesFall, TakeAll, going_past, level, run_length, top_level}
-use Rattle.sf_columns.proofs.CutLaws.{CutOff}
-use Rattle.sf_columns.specs.Parts.{alone_level, is_over, touches_first}
-use Rattle.sf_columns.specs.Slanted.{side_of, slope_order}
+use Rattle.sf_strips.specs.declared.active.Active.{Active}
+use Rattle.sf_strips.specs.declared.contact.Contact.{Contact}
+use Rattle.sf_strips.specs.declared.level.Level.{Level}
+use Rattle.sf_strips.specs.declared.vertex.Vertex.{Vertex}
+use Rattle.sf_strips.specs.Fronts.{touches}
+use Rattle.sf_strips.specs.Levels.{AreOnward, AreTops, IsOnward, IsTop, SlopesFall, TakeAll, going_past, level, run_length, top_level}
+use Rattle.sf_strips.proofs.CutLaws.{CutOff}
+use Rattle.sf_strips.specs.Parts.{alone_level, is_over, touches_first}
+use Rattle.sf_strips.specs.Slanted.{side_of, slope_order}
 use Rattle.sf_cells.specs.Hands.{Stop, stops}
 use Rattle.sf_sweep.specs.Passing.{ArePassing, IsLastApart, contact_at, first_level, passing_levels}
 use Rattle.sf_sweep.specs.Tables.{bundles_of, contacts_of, with_first}

@@ -4,10 +4,10 @@ use Rattle.std.specs.List.{AllByRecursion}
 use Rattle.sf_grid.specs.Fraction.{IsFraction, fraction_lt}
 use Rattle.sf_grid.specs.Plane.{IsPoint, Point, grid_point, x_of, y_of}
 use Rattle.sf_grid.proofs.CallerLemmas.{Same}
-use Rattle.sf_columns.specs.declared.active.Active.{Active}
-use Rattle.sf_columns.specs.declared.contact.Contact.{Contact}
-use Rattle.sf_columns.specs.declared.level.Level.{Level}
-use Rattle.sf_columns.specs.declared.vertex.Vertex.{Vertex}
+use Rattle.sf_strips.specs.declared.active.Active.{Active}
+use Rattle.sf_strips.specs.declared.contact.Contact.{Contact}
+use Rattle.sf_strips.specs.declared.level.Level.{Level}
+use Rattle.sf_strips.specs.declared.vertex.Vertex.{Vertex}
 use Rattle.sf_cells.specs.Groups.{Item}
 use Rattle.sf_slabs.proofs.CrossLaws.{place-IsFraction}
 use Rattle.sf_sweep.specs.Cuts.{IsCutInto}

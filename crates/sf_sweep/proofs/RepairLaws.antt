@@ -2,11 +2,11 @@
 use Rattle.std.proofs.Common.{◌≡◌, refl, ap, sym, ◌∙◌, subst, ℕ, suc, ◌≤◌, ◌<◌, arith, get_or, Bool, List, [], ◌∷◌, ◌++◌, None, length, map, take, drop}
 use Rattle.std.specs.List.{All, AllByRecursion, fold}
 use Rattle.std.proofs.lemmas.List.{append_assoc, take-append-drop}
-use Rattle.sf_columns.specs.declared.active.Active.{Active}
-use Rattle.sf_columns.specs.declared.contact.Contact.{Contact}
-use Rattle.sf_columns.specs.Fronts.{pieces_of}
-use Rattle.sf_columns.specs.Levels.{run_length}
-use Rattle.sf_columns.proofs.CutLaws.{run-le}
+use Rattle.sf_strips.specs.declared.active.Active.{Active}
+use Rattle.sf_strips.specs.declared.contact.Contact.{Contact}
+use Rattle.sf_strips.specs.Fronts.{pieces_of}
+use Rattle.sf_strips.specs.Levels.{run_length}
+use Rattle.sf_strips.proofs.CutLaws.{run-le}
 use Rattle.sf_sweep.proofs.JoinLaws.{contacts-fewer}
 use Rattle.sf_cells.specs.Groups.{Item, counts, group_count}
 use Rattle.sf_cells.specs.Hands.{item, plus}

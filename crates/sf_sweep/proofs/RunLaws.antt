@@ -1,10 +1,10 @@
 -- The first edges of an order that lie on one line together are its first bundle.
 use Rattle.std.proofs.Common.{◌≡◌, refl, ap, sym, ◌∙◌, subst, ℕ, suc, ◌+◌, arith, Bool, true, false, cond, List, [], ◌∷◌, None, take, drop}
 use Rattle.std.specs.List.{prefix_len}
-use Rattle.sf_columns.specs.declared.active.Active.{Active}
-use Rattle.sf_columns.specs.declared.contact.Contact.{Contact}
-use Rattle.sf_columns.specs.Fronts.{pieces_of, touches}
-use Rattle.sf_columns.specs.Levels.{run_length}
+use Rattle.sf_strips.specs.declared.active.Active.{Active}
+use Rattle.sf_strips.specs.declared.contact.Contact.{Contact}
+use Rattle.sf_strips.specs.Fronts.{pieces_of, touches}
+use Rattle.sf_strips.specs.Levels.{run_length}
 use Rattle.sf_sweep.specs.Passing.{IsLastApart, contact_at}
 use Rattle.sf_sweep.specs.Tables.{bundles_of, contacts_of, with_first}
 

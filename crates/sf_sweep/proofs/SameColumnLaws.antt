@@ -4,10 +4,10 @@ use Rattle.sf_grid.specs.Fraction.{Fraction, IsFraction}
 use Rattle.sf_grid.specs.Plane.{x_of}
 use Rattle.sf_grid.specs.Edge.{height_cmp}
 use Rattle.sf_grid.proofs.CallerLemmas.{Same}
-use Rattle.sf_columns.specs.declared.active.Active.{Active}
-use Rattle.sf_columns.specs.declared.contact.Contact.{Contact}
-use Rattle.sf_columns.specs.declared.contact.Contact.TheVariants.{Ahead, Never, Throughout}
-use Rattle.sf_columns.specs.Fronts.{line_of, touches}
+use Rattle.sf_strips.specs.declared.active.Active.{Active}
+use Rattle.sf_strips.specs.declared.contact.Contact.{Contact}
+use Rattle.sf_strips.specs.declared.contact.Contact.TheVariants.{Ahead, Never, Throughout}
+use Rattle.sf_strips.specs.Fronts.{line_of, touches}
 use Rattle.sf_slabs.specs.Sweeps.{StepsAt, StepsAtFrom, step_by}
 use Rattle.sf_slabs.proofs.HeightsLaws.{fraction_eq-same}
 use Rattle.sf_slabs.proofs.LeveledLaws.{active_height, active_height-number, height_cmp-active, height_in-same, lt_from_less, same_from_equal}

@@ -5,10 +5,10 @@ use Rattle.std.specs.List.{AllByRecursion}
 use Rattle.std.proofs.lemmas.Bool.{cases_eq, cases_lt}
 use Rattle.std.proofs.lemmas.List.{at_drop_all, at_drop_more, get_or-set_other, get_or-set_same, get_or_past, length-set}
 use Rattle.sf_grid.specs.Fraction.{Fraction}
-use Rattle.sf_columns.specs.declared.active.Active.{Active}
-use Rattle.sf_columns.specs.declared.contact.Contact.{Contact}
-use Rattle.sf_columns.specs.declared.contact.Contact.TheVariants.{Never}
-use Rattle.sf_columns.specs.Fronts.{AreContacts, IsContact, line_of}
+use Rattle.sf_strips.specs.declared.active.Active.{Active}
+use Rattle.sf_strips.specs.declared.contact.Contact.{Contact}
+use Rattle.sf_strips.specs.declared.contact.Contact.TheVariants.{Never}
+use Rattle.sf_strips.specs.Fronts.{AreContacts, IsContact, line_of}
 use Rattle.sf_sweep.specs.Passing.{contact_at}
 use Rattle.sf_sweep.specs.Settled.{AreMet, IsSeam, IsSeamAt, WasSeamed, WereSettled, forgotten, joined, with_last}
 use Rattle.sf_sweep.specs.Tables.{IsNeverElsewhere, contacts_of}

@@ -10,17 +10,17 @@ use Rattle.sf_grid.specs.Fraction.{Fraction, IsFraction, fraction_cmp, fraction_
 use Rattle.sf_grid.specs.Plane.{Coordinates, IsPoint, Point, grid_point, x_of, y_of}
 use Rattle.sf_grid.specs.Edge.{height_cmp}
 use Rattle.sf_grid.proofs.CallerLemmas.{Same, ge_from_test, lt_from_test, lt_le, test_from_lt}
-use Rattle.sf_columns.specs.declared.active.Active.{Active}
-use Rattle.sf_columns.specs.declared.vertex.Vertex.{Vertex}
-use Rattle.sf_columns.specs.declared.contact.Contact.{Contact}
-use Rattle.sf_columns.specs.Fronts.{line_of, touches}
+use Rattle.sf_strips.specs.declared.active.Active.{Active}
+use Rattle.sf_strips.specs.declared.vertex.Vertex.{Vertex}
+use Rattle.sf_strips.specs.declared.contact.Contact.{Contact}
+use Rattle.sf_strips.specs.Fronts.{line_of, touches}
 use Rattle.sf_slabs.specs.Sweeps.{StepsAt, StepsAtFrom, step_by}
 use Rattle.std.specs.List.Sorted.{IsPartitionedBy}
 use Rattle.sf_sweep.proofs.NearLaws.{IsPassedBack, back-parted}
-use Rattle.sf_columns.specs.Parts.{is_over}
-use Rattle.sf_columns.specs.Slanted.{side_of}
-use Rattle.sf_columns.proofs.CallerLemmas.{cmp-difference}
-use Rattle.sf_columns.proofs.SlantedLaws.{side_of-cross}
+use Rattle.sf_strips.specs.Parts.{is_over}
+use Rattle.sf_strips.specs.Slanted.{side_of}
+use Rattle.sf_strips.proofs.CallerLemmas.{cmp-difference}
+use Rattle.sf_strips.proofs.SlantedLaws.{side_of-cross}
 use Rattle.sf_slabs.proofs.CrossLaws.{place-IsFraction}
 use Rattle.sf_slabs.proofs.LeveledLaws.{active_height, active_height-number, height_cmp-active, height_in-same, lt_from_greater, lt_from_less, same_from_equal}
 use Rattle.sf_slabs.proofs.LocateLaws.{less_from_lt}

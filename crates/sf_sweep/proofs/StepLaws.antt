@@ -4,10 +4,10 @@ use Rattle.std.specs.List.{All}
 use Rattle.std.proofs.lemmas.List.{append_assoc, length-append}
 use Rattle.std.proofs.lemmas.List.Elements.{All-from_recursion}
 use Rattle.sf_grid.specs.Fraction.{Fraction}
-use Rattle.sf_columns.specs.declared.active.Active.{Active}
-use Rattle.sf_columns.specs.declared.contact.Contact.{Contact}
-use Rattle.sf_columns.specs.declared.vertex.Vertex.{Vertex}
-use Rattle.sf_columns.specs.Fronts.{AreApart, AreContacts, pieces_of}
+use Rattle.sf_strips.specs.declared.active.Active.{Active}
+use Rattle.sf_strips.specs.declared.contact.Contact.{Contact}
+use Rattle.sf_strips.specs.declared.vertex.Vertex.{Vertex}
+use Rattle.sf_strips.specs.Fronts.{AreApart, AreContacts, pieces_of}
 use Rattle.sf_cells.specs.Groups.{Item, counts, group_count}
 use Rattle.sf_sweep.specs.declared.window.Window.{Window}
 use Rattle.sf_sweep.specs.Cuts.{IsBalancedWindow, WasWindowHanded}

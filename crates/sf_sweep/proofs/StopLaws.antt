@@ -3,14 +3,14 @@ use Rattle.std.proofs.Common.{◌≡◌, refl, ap, sym, ◌∙◌, subst, ℕ, z
 use Rattle.std.specs.List.{AllByRecursion}
 use Rattle.std.proofs.lemmas.Bool.{false≢true}
 use Rattle.std.proofs.lemmas.List.{drop-append-le, length-drop, map-append, take-append-drop, take-append-le}
-use Rattle.sf_columns.specs.declared.active.Active.{Active}
-use Rattle.sf_columns.specs.declared.contact.Contact.{Contact}
-use Rattle.sf_columns.specs.declared.level.Level.{Level}
-use Rattle.sf_columns.specs.declared.vertex.Vertex.{Vertex}
-use Rattle.sf_columns.specs.Fronts.{pieces_of, touches}
-use Rattle.sf_columns.specs.Levels.{TakeAll}
-use Rattle.sf_columns.specs.Parts.{touches_first}
-use Rattle.sf_columns.specs.Vertices.{enters, leaves, pieces_with}
+use Rattle.sf_strips.specs.declared.active.Active.{Active}
+use Rattle.sf_strips.specs.declared.contact.Contact.{Contact}
+use Rattle.sf_strips.specs.declared.level.Level.{Level}
+use Rattle.sf_strips.specs.declared.vertex.Vertex.{Vertex}
+use Rattle.sf_strips.specs.Fronts.{pieces_of, touches}
+use Rattle.sf_strips.specs.Levels.{TakeAll}
+use Rattle.sf_strips.specs.Parts.{touches_first}
+use Rattle.sf_strips.specs.Vertices.{enters, leaves, pieces_with}
 use Rattle.sf_cells.specs.Groups.{counts}
 use Rattle.sf_cells.specs.Hands.{AtMost, Balanced, Stop, minus, on_gap, plus, stop_of, stops}
 use Rattle.sf_cells.proofs.TallyLaws.{add_both, add_none, added_taken, added_there, length-counts}

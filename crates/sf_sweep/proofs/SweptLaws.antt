@@ -3,14 +3,14 @@ use Rattle.std.proofs.Common.{◌≡◌, refl, ap, sym, ◌∙◌, subst, ℕ, �
 use Rattle.std.specs.List.{AllByRecursion}
 use Rattle.std.proofs.lemmas.List.{append-nil, append_assoc, length-append, map-append}
 use Rattle.sf_grid.specs.Fraction.{Fraction}
-use Rattle.sf_columns.specs.declared.active.Active.{Active}
-use Rattle.sf_columns.specs.declared.contact.Contact.{Contact}
-use Rattle.sf_columns.specs.declared.level.Level.{Level}
-use Rattle.sf_columns.specs.declared.vertex.Vertex.{Vertex}
-use Rattle.sf_columns.specs.Fronts.{pieces_of}
-use Rattle.sf_columns.specs.Levels.{AreOnward, AreTops, TakeAll}
-use Rattle.sf_columns.specs.Parts.{is_over}
-use Rattle.sf_columns.proofs.CutLaws.{CutOff, IsWhole, cut-nothing, cut-whole}
+use Rattle.sf_strips.specs.declared.active.Active.{Active}
+use Rattle.sf_strips.specs.declared.contact.Contact.{Contact}
+use Rattle.sf_strips.specs.declared.level.Level.{Level}
+use Rattle.sf_strips.specs.declared.vertex.Vertex.{Vertex}
+use Rattle.sf_strips.specs.Fronts.{pieces_of}
+use Rattle.sf_strips.specs.Levels.{AreOnward, AreTops, TakeAll}
+use Rattle.sf_strips.specs.Parts.{is_over}
+use Rattle.sf_strips.proofs.CutLaws.{CutOff, IsWhole, cut-nothing, cut-whole}
 use Rattle.sf_cells.specs.Groups.{Item, counts}
 use Rattle.sf_cells.specs.Hands.{plus, stops}
 use Rattle.sf_classes.specs.Classes.{HaveItemsFor, Represent}

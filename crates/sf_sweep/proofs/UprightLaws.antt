@@ -5,12 +5,12 @@ use Rattle.std.specs.List.{AllByRecursion}
 use Rattle.std.proofs.lemmas.Bool.{false≢true}
 use Rattle.std.proofs.lemmas.List.{append-nil, append_assoc, length-drop, take-append-drop}
 use Rattle.std.proofs.lemmas.List.Sums.{sum_by-append, sum_by-cons}
-use Rattle.sf_columns.specs.declared.active.Active.{Active}
-use Rattle.sf_columns.specs.declared.level.Level.{Level}
-use Rattle.sf_columns.specs.declared.vertex.Vertex.{Vertex}
-use Rattle.sf_columns.specs.Fronts.{SameNumbers, pieces_of}
-use Rattle.sf_columns.specs.Levels.{TakeAll}
-use Rattle.sf_columns.specs.Vertices.{enters, leaves, pieces_with}
+use Rattle.sf_strips.specs.declared.active.Active.{Active}
+use Rattle.sf_strips.specs.declared.level.Level.{Level}
+use Rattle.sf_strips.specs.declared.vertex.Vertex.{Vertex}
+use Rattle.sf_strips.specs.Fronts.{SameNumbers, pieces_of}
+use Rattle.sf_strips.specs.Levels.{TakeAll}
+use Rattle.sf_strips.specs.Vertices.{enters, leaves, pieces_with}
 use Rattle.sf_cells.specs.Groups.{counts, group_count, numbers}
 use Rattle.sf_cells.specs.Hands.{AtMost, Balanced, Stop, minus, on_gap, plus, stop_of, stops}
 use Rattle.sf_cells.proofs.TallyLaws.{added_taken, counts-grown, first_there, members, one_there}

@@ -9,10 +9,10 @@ use Rattle.std.proofs.lemmas.List.{drop_all, take_all}
 use Rattle.sf_grid.specs.Fraction.{Fraction, IsFraction, fraction_lt}
 use Rattle.sf_grid.specs.Plane.{grid_point, x_of, y_of}
 use Rattle.sf_grid.proofs.CallerLemmas.{Same, eq_from_mul, eq_from_test}
-use Rattle.sf_columns.specs.declared.vertex.Role.{Role}
-use Rattle.sf_columns.specs.declared.vertex.Role.TheVariants.{Begin, Bottom, Dot, End, Top}
-use Rattle.sf_columns.specs.declared.vertex.Vertex.{Vertex}
-use Rattle.sf_columns.specs.Vertices.{enters, in_column, leaves}
+use Rattle.sf_strips.specs.declared.vertex.Role.{Role}
+use Rattle.sf_strips.specs.declared.vertex.Role.TheVariants.{Begin, Bottom, Dot, End, Top}
+use Rattle.sf_strips.specs.declared.vertex.Vertex.{Vertex}
+use Rattle.sf_strips.specs.Vertices.{enters, in_column, leaves}
 use Rattle.sf_slabs.specs.Sweeps.{InOrderFrom}
 use Rattle.sf_sweep.specs.NextWindow.{is_top, window_length}
 pub use Rattle.sf_sweep.specs.Within.{FallFrom}

@@ -3,10 +3,10 @@ use Rattle.std.proofs.Common.{◌≡◌, refl, ap, sym, ◌∙◌, subst, ℕ, �
 use Rattle.std.specs.List.{AllByRecursion}
 use Rattle.std.proofs.lemmas.List.{append_assoc, append_cancel_right, map-append}
 use Rattle.sf_grid.specs.Fraction.{Fraction}
-use Rattle.sf_columns.specs.declared.active.Active.{Active}
-use Rattle.sf_columns.specs.declared.contact.Contact.{Contact}
-use Rattle.sf_columns.specs.declared.vertex.Vertex.{Vertex}
-use Rattle.sf_columns.specs.Fronts.{AreApart, AreContacts, pieces_of, touches}
+use Rattle.sf_strips.specs.declared.active.Active.{Active}
+use Rattle.sf_strips.specs.declared.contact.Contact.{Contact}
+use Rattle.sf_strips.specs.declared.vertex.Vertex.{Vertex}
+use Rattle.sf_strips.specs.Fronts.{AreApart, AreContacts, pieces_of, touches}
 use Rattle.sf_cells.specs.Groups.{Item, counts}
 use Rattle.sf_cells.specs.Hands.{plus}
 use Rattle.sf_cells.proofs.TallyLaws.{add_both}

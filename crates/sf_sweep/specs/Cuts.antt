@@ -3,12 +3,12 @@
 use Rattle.std.specs.Prelude.{◌≡◌, ℕ, ◌≤◌, List, [], ◌∷◌, ◌++◌, Some, length, true, vec_capacity}
 use Rattle.std.specs.List.{fold}
 use Rattle.sf_grid.specs.Fraction.{Fraction}
-use Rattle.sf_columns.specs.declared.active.Active.{Active}
-use Rattle.sf_columns.specs.declared.contact.Contact.{Contact}
-use Rattle.sf_columns.specs.declared.level.Level.{Level}
-use Rattle.sf_columns.specs.declared.vertex.Vertex.{Vertex}
-use Rattle.sf_columns.specs.Levels.{AreOnward, AreTops, TakeAll}
-use Rattle.sf_columns.specs.Rooms.{HasRoom}
+use Rattle.sf_strips.specs.declared.active.Active.{Active}
+use Rattle.sf_strips.specs.declared.contact.Contact.{Contact}
+use Rattle.sf_strips.specs.declared.level.Level.{Level}
+use Rattle.sf_strips.specs.declared.vertex.Vertex.{Vertex}
+use Rattle.sf_strips.specs.Levels.{AreOnward, AreTops, TakeAll}
+use Rattle.sf_strips.specs.Rooms.{HasRoom}
 use Rattle.sf_cells.specs.Groups.{Item, counts}
 use Rattle.sf_cells.specs.Hands.{Balanced, item, stop_items, stops}
 use Rattle.sf_sweep.specs.declared.cutting.Bench.{Bench}

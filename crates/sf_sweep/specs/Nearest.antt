@@ -2,8 +2,8 @@
 -- The first of points that are kept by pieces: a tree, each place of which has the earlier of those at twice that place and at the next one.
 use Rattle.std.specs.Prelude.{◌≡◌, ℕ, ◌+◌, ◌*◌, ◌≤◌, ◌<◌, List, Option, None, Some, [], ◌∷◌, length, slice_index_or, if◌then◌else◌}
 use Rattle.sf_grid.specs.Plane.{IsPoint, Point}
-use Rattle.sf_columns.specs.declared.contact.Contact.{Contact}
-use Rattle.sf_columns.specs.declared.contact.Contact.TheVariants.{Ahead, Never}
+use Rattle.sf_strips.specs.declared.contact.Contact.{Contact}
+use Rattle.sf_strips.specs.declared.contact.Contact.TheVariants.{Ahead, Never}
 use Rattle.sf_sweep.specs.Tables.{IsNotBefore, ahead_of, point_before}
 
 -- the first of two points, where there are any

@@ -4,10 +4,10 @@ use Rattle.std.specs.Prelude.{ℕ, ◌-◌, Bool, true, false, ◌&&◌, List, [
 use Rattle.std.specs.List.{list_any}
 use Rattle.sf_grid.specs.Fraction.{Fraction, fraction_eq}
 use Rattle.sf_grid.specs.Plane.{Point, grid_point, x_of}
-use Rattle.sf_columns.specs.declared.vertex.Role.{Role}
-use Rattle.sf_columns.specs.declared.vertex.Role.TheVariants.{Begin, Bottom, Dot, End, Top}
-use Rattle.sf_columns.specs.declared.vertex.Vertex.{Vertex}
-use Rattle.sf_columns.specs.Levels.{group_length}
+use Rattle.sf_strips.specs.declared.vertex.Role.{Role}
+use Rattle.sf_strips.specs.declared.vertex.Role.TheVariants.{Begin, Bottom, Dot, End, Top}
+use Rattle.sf_strips.specs.declared.vertex.Vertex.{Vertex}
+use Rattle.sf_strips.specs.Levels.{group_length}
 use Rattle.sf_sweep.specs.declared.window.Window.{Window}
 use Rattle.sf_sweep.specs.Tables.{point_before}
 

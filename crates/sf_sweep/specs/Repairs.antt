@@ -2,8 +2,8 @@
 -- What is handed out where bundles pass a column below other parities than before: from the top, until a stored row agrees.
 use Rattle.std.specs.Prelude.{◌≡◌, ℕ, Bool, List, [], ◌∷◌, ◌++◌, length, None, slice_index_or}
 use Rattle.std.specs.List.{fold}
-use Rattle.sf_columns.specs.declared.active.Active.{Active}
-use Rattle.sf_columns.specs.declared.contact.Contact.{Contact}
+use Rattle.sf_strips.specs.declared.active.Active.{Active}
+use Rattle.sf_strips.specs.declared.contact.Contact.{Contact}
 use Rattle.sf_cells.specs.Groups.{Item, group_count}
 use Rattle.sf_classes.specs.Classes.{Represent}
 use Rattle.sf_sweep.specs.Parities.{parities, row_below, stored}

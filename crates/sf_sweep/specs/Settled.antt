@@ -2,10 +2,10 @@
 -- Contacts by pieces, where some edges of an order are replaced: what is written in the table, and what holds of it then.
 use Rattle.std.specs.Prelude.{◌≡◌, List, [], ◌∷◌, ◌++◌, slice_set}
 use Rattle.sf_grid.specs.Fraction.{Fraction}
-use Rattle.sf_columns.specs.declared.active.Active.{Active}
-use Rattle.sf_columns.specs.declared.contact.Contact.{Contact}
-use Rattle.sf_columns.specs.declared.contact.Contact.TheVariants.{Never}
-use Rattle.sf_columns.specs.Fronts.{AreContacts, IsContact, line_of}
+use Rattle.sf_strips.specs.declared.active.Active.{Active}
+use Rattle.sf_strips.specs.declared.contact.Contact.{Contact}
+use Rattle.sf_strips.specs.declared.contact.Contact.TheVariants.{Never}
+use Rattle.sf_strips.specs.Fronts.{AreContacts, IsContact, line_of}
 use Rattle.sf_sweep.specs.Passing.{contact_at}
 use Rattle.sf_sweep.specs.Tables.{contacts_of}
 

@@ -3,8 +3,8 @@
 use Rattle.std.specs.Prelude.{Bool}
 use Rattle.std.specs.Ordering.{is_le, is_lt}
 use Rattle.sf_grid.specs.Plane.{Point}
-use Rattle.sf_columns.specs.declared.active.Active.{Active}
-use Rattle.sf_columns.specs.Slanted.{side_of}
+use Rattle.sf_strips.specs.declared.active.Active.{Active}
+use Rattle.sf_strips.specs.Slanted.{side_of}
 
 -- p is below the edge
 abbrev pub is_below_edge : Point → Active → Bool

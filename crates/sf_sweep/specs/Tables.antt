@@ -4,10 +4,10 @@ use Rattle.std.specs.Prelude.{◌≡◌, ◌≢◌, ℕ, Bool, false, ◌&&◌, 
 use Rattle.std.specs.List.{AllByRecursion}
 use Rattle.sf_grid.specs.Fraction.{fraction_eq, fraction_lt}
 use Rattle.sf_grid.specs.Plane.{Point, x_of, y_of}
-use Rattle.sf_columns.specs.declared.active.Active.{Active}
-use Rattle.sf_columns.specs.declared.contact.Contact.{Contact}
-use Rattle.sf_columns.specs.declared.contact.Contact.TheVariants.{Ahead, Never, Throughout}
-use Rattle.sf_columns.specs.Parts.{touches_first}
+use Rattle.sf_strips.specs.declared.active.Active.{Active}
+use Rattle.sf_strips.specs.declared.contact.Contact.{Contact}
+use Rattle.sf_strips.specs.declared.contact.Contact.TheVariants.{Ahead, Never, Throughout}
+use Rattle.sf_strips.specs.Parts.{touches_first}
 
 -- ---- the nearest point ahead
 -- columns from the left, each from the top

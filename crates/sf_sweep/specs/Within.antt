@@ -7,17 +7,17 @@ use Rattle.std.specs.declared.cmp.Ordering.TheVariants.{Greater}
 use Rattle.sf_grid.specs.Fraction.{Fraction, fraction_lt}
 use Rattle.sf_grid.specs.Plane.{IsPoint, grid_point, x_of, y_of}
 use Rattle.sf_grid.proofs.CallerLemmas.{Same}
-use Rattle.sf_columns.specs.declared.active.Active.{Active}
-use Rattle.sf_columns.specs.declared.contact.Contact.{Contact}
-use Rattle.sf_columns.specs.declared.contact.Contact.TheVariants.{Ahead, Never, Throughout}
-use Rattle.sf_columns.specs.declared.level.Level.{Level}
-use Rattle.sf_columns.specs.declared.piece.Piece.{Piece}
-use Rattle.sf_columns.specs.declared.vertex.Vertex.{Vertex}
-use Rattle.sf_columns.specs.Fronts.{AreApart, AreContacts, pieces_of, touches}
-use Rattle.sf_columns.specs.Parts.{is_over}
-use Rattle.sf_columns.specs.Slanted.{slope_order}
-use Rattle.sf_columns.specs.Vertices.{begins, enters, in_column, leaves, pieces_with}
-use Rattle.sf_columns.proofs.CutLaws.{CutOff}
+use Rattle.sf_strips.specs.declared.active.Active.{Active}
+use Rattle.sf_strips.specs.declared.contact.Contact.{Contact}
+use Rattle.sf_strips.specs.declared.contact.Contact.TheVariants.{Ahead, Never, Throughout}
+use Rattle.sf_strips.specs.declared.level.Level.{Level}
+use Rattle.sf_strips.specs.declared.piece.Piece.{Piece}
+use Rattle.sf_strips.specs.declared.vertex.Vertex.{Vertex}
+use Rattle.sf_strips.specs.Fronts.{AreApart, AreContacts, pieces_of, touches}
+use Rattle.sf_strips.specs.Parts.{is_over}
+use Rattle.sf_strips.specs.Slanted.{slope_order}
+use Rattle.sf_strips.specs.Vertices.{begins, enters, in_column, leaves, pieces_with}
+use Rattle.sf_strips.proofs.CutLaws.{CutOff}
 use Rattle.sf_cells.specs.Groups.{Item, counts}
 use Rattle.sf_cells.specs.Hands.{stops}
 use Rattle.sf_slabs.specs.Sweeps.{IsColumnOf, IsComing, StepsAt}

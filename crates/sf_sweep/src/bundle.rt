@@ -2,12 +2,12 @@
 
 ghost use Rattle.std.specs.Prelude.{◌≡◌, ◌≤◌, None, length};
 ghost use Rattle.std.specs.List.{prefix_len};
-ghost use Rattle.sf_columns.specs.Fronts.{touches};
-ghost use Rattle.sf_columns.specs.Levels.{run_length};
+ghost use Rattle.sf_strips.specs.Fronts.{touches};
+ghost use Rattle.sf_strips.specs.Levels.{run_length};
 ghost use Rattle.sf_sweep.specs.Passing.{contact_at};
 ghost use Rattle.sf_sweep.specs.Tables.{contacts_of};
 
-use sf_columns::{Active, Contact};
+use sf_strips::{Active, Contact};
 
 /// How many edges from the first one on lie on one line together; what each edge does with the next
 /// one stands by pieces.

@@ -6,11 +6,11 @@ ghost use Rattle.sf_cells.specs.Groups.{group_count as group_count_of};
 ghost use Rattle.sf_cells.specs.Pieces.{HasLength};
 ghost use Rattle.sf_classes.specs.Classes.{WereHanded};
 
-use crate::quick::Quick;
+use crate::class_sweep::ClassSweep;
 use crate::row::{Bits, Row};
 use sf_cells::CellSink;
-use sf_columns::{Piece, Role, Slanted, Vertex, vertices};
 use sf_slabs::{walk, walk_sorted};
+use sf_strips::{Piece, Role, Slanted, Vertex, vertices};
 use std::alloc::{AllocError, Global};
 
 /// How many groups a row of parities has: short rows where groups are few, since rows are copied for
@@ -82,9 +82,9 @@ fn sweep_in_rows<R: Row, S: CellSink>(
     if is_walk_quicker(vertices.as_slice()) {
         return walk_sorted(alloc, pieces, groups, vertices.as_slice(), sink);
     }
-    let mut quick = Quick::<R>::new(alloc, pieces.len(), vertices.len(), group_count(groups))?;
+    let mut sweep = ClassSweep::<R>::new(alloc, pieces.len(), vertices.len(), group_count(groups))?;
     let marks = R::of(areal);
-    quick.run(sink, pieces, groups, marks.as_slice(), vertices.as_slice());
+    sweep.run(sink, pieces, groups, marks.as_slice(), vertices.as_slice());
     Ok(())
 }
 

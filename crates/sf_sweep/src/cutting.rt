@@ -2,14 +2,14 @@
 
 ghost use Rattle.std.specs.Prelude.{◌≡◌, ◌<◌, ◌≤◌, ◌+◌, ◌-◌, ◌^◌, [], length, vec_capacity, IfOk};
 ghost use Rattle.std.specs.List.{All, fold};
-ghost use Rattle.sf_columns.specs.Fronts.{AreApart, AreContacts};
-ghost use Rattle.sf_columns.specs.Levels.{most_onward};
+ghost use Rattle.sf_strips.specs.Fronts.{AreApart, AreContacts};
+ghost use Rattle.sf_strips.specs.Levels.{most_onward};
 ghost use Rattle.sf_cells.specs.Groups.{counts, group_count};
 ghost use Rattle.sf_sweep.specs.Cuts.{HasBenchRoom, IsBalancedWindow, KeepsBenchRoom, WasWindowHanded, WereLevelsHanded, going_items};
 
 use sf_cells::{CellSink, Column, Tallies, hand_part};
-use sf_columns::{Active, Contact, Cut, Strip, Vertex};
 use sf_grid::Frac;
+use sf_strips::{Active, Contact, Cut, Strip, Vertex};
 use std::alloc::{AllocError, Global};
 use std::mem::swap;
 

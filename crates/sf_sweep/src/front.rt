@@ -1,15 +1,15 @@
 //! The order of the edges right of the last point of the sweep, changed at one place.
 
 ghost use Rattle.std.specs.Prelude.{◌≡◌, ◌+◌, ◌-◌, ◌≤◌, ◌<◌, ◌++◌, [], take, drop, length, replicate, vec_capacity, vec_len, IfOk};
-ghost use Rattle.sf_columns.specs.declared.contact.Contact.TheVariants.{Never};
+ghost use Rattle.sf_strips.specs.declared.contact.Contact.TheVariants.{Never};
 ghost use Rattle.std.specs.List.{All};
 ghost use Rattle.sf_sweep.specs.Settled.{WereSettled, forgotten};
 ghost use Rattle.sf_sweep.specs.Tables.{contacts_of};
 
 use crate::meetings::Meetings;
 use crate::settle::{forget, settle};
-use sf_columns::{Active, Contact};
 use sf_grid::Frac;
+use sf_strips::{Active, Contact};
 use std::alloc::{AllocError, Global};
 
 /// The edges from the top, and by pieces what each does with the next one; and room for those below a

@@ -2,18 +2,18 @@
 #![tactic(auto)]
 
 mod bundle;
+mod class_sweep;
 mod classes;
-mod columns;
 mod cutting;
 mod front;
 mod meetings;
 mod nearest;
 mod parities;
-mod quick;
 mod repair;
 mod row;
 mod settle;
 mod sides;
+mod strips;
 mod window;
 
 pub use classes::walk_classes;

@@ -1,14 +1,14 @@
 //! What each edge of an order does with the next one, by pieces, and the first point at which two meet.
 
 ghost use Rattle.std.specs.Prelude.{◌≡◌, ◌≤◌, ◌<◌, length, replicate, slice_set, IfNone as OnNone, IfOk, IfSome};
-ghost use Rattle.sf_columns.specs.declared.contact.Contact.TheVariants.{Never};
+ghost use Rattle.sf_strips.specs.declared.contact.Contact.TheVariants.{Never};
 ghost use Rattle.sf_grid.specs.Plane.{IsPoint};
 ghost use Rattle.sf_sweep.specs.Nearest.{IsFirstMeeting, IsPointIn, NoneMeet};
 ghost use Rattle.sf_sweep.specs.Tables.{ahead_of};
 
 use crate::nearest::set;
-use sf_columns::Contact;
 use sf_grid::FracPoint;
+use sf_strips::Contact;
 use std::alloc::{AllocError, Global};
 use std::marker::Model;
 
@@ -22,7 +22,7 @@ pub struct Meetings {
 
 impl Model for Meetings {
     ghost use Rattle.std.specs.Prelude.{List};
-    ghost use Rattle.sf_columns.specs.declared.contact.Contact.{Contact};
+    ghost use Rattle.sf_strips.specs.declared.contact.Contact.{Contact};
     ghost use Rattle.sf_sweep.specs.Nearest.{AreKept};
 
     ghost Value = { List Contact };

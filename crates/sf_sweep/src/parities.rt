@@ -2,12 +2,12 @@
 
 ghost use Rattle.std.specs.Prelude.{◌≡◌, ◌<◌, ◌≤◌, [], length, map, take, slice_index};
 ghost use Rattle.std.specs.List.{All};
-ghost use Rattle.sf_columns.specs.Fronts.{pieces_of};
+ghost use Rattle.sf_strips.specs.Fronts.{pieces_of};
 ghost use Rattle.sf_cells.specs.Groups.{counts};
 ghost use Rattle.sf_sweep.specs.Parities.{AreParities, as_count, parities, row_below, stored, turned};
 
 use crate::row::{Row, Rows};
-use sf_columns::Active;
+use sf_strips::Active;
 
 /// The parities below an edge of a piece, from those above it; of each group, whether it is asked for.
 pub fn below<R: Row>(areal: &[bool], groups: &[u32], odd: &R, piece: u32) -> R

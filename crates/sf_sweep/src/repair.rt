@@ -2,7 +2,7 @@
 
 ghost use Rattle.std.specs.Prelude.{◌≡◌, ◌<◌, ◌≤◌, ◌^◌, [], None, length, map, take};
 ghost use Rattle.std.specs.List.{All};
-ghost use Rattle.sf_columns.specs.Fronts.{pieces_of};
+ghost use Rattle.sf_strips.specs.Fronts.{pieces_of};
 ghost use Rattle.sf_cells.specs.Groups.{counts, group_count};
 ghost use Rattle.sf_cells.specs.Hands.{item};
 ghost use Rattle.sf_sweep.specs.Parities.{as_count};
@@ -13,7 +13,7 @@ use crate::bundle::bundle_len;
 use crate::parities::{put_counts, store};
 use crate::row::{Row, Rows};
 use sf_cells::{CellSink, Tallies, add_edges, take_edges};
-use sf_columns::{Active, Contact};
+use sf_strips::{Active, Contact};
 
 /// Hands out the bundles of a slab from the top, each with the gap below it, until what is stored of
 /// the parities above one is right; and stores those of the ones that were handed out.

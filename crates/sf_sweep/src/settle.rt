@@ -5,8 +5,8 @@ ghost use Rattle.std.specs.List.{All};
 ghost use Rattle.sf_sweep.specs.Settled.{WasSeamed, WereSettled, forgotten, joined};
 
 use crate::meetings::Meetings;
-use sf_columns::{Active, Contact};
 use sf_grid::Frac;
+use sf_strips::{Active, Contact};
 
 /// Puts down that edges meet none.
 pub fn forget(meetings: &mut Meetings, edges: &[Active])

@@ -4,11 +4,11 @@ ghost use Rattle.std.specs.Prelude.{◌≡◌, ◌≤◌, ◌<◌, ◌*◌, ◌^
 ghost use Rattle.sf_grid.specs.Bounds.{IsCoordinate, difference_bound};
 ghost use Rattle.std.specs.List.{prefix_len};
 ghost use Rattle.std.specs.List.Sorted.{IsPartitionPoint, IsPartitionedBy};
-ghost use Rattle.sf_columns.specs.Slanted.{side_of};
+ghost use Rattle.sf_strips.specs.Slanted.{side_of};
 ghost use Rattle.sf_sweep.specs.Sides.{is_below_edge, is_not_above};
 
-use sf_columns::{Active, Slanted};
 use sf_grid::{Frac, FracPoint};
+use sf_strips::{Active, Slanted};
 use std::cmp::Ordering;
 
 /// Where `p` lies in its column: below the line of the edge, on it, or above it.

@@ -1,14 +1,14 @@
 //! The next place of a column at which something happens.
 
 ghost use Rattle.std.specs.Prelude.{◌≡◌, ◌≤◌, ◌<◌, length};
-ghost use Rattle.sf_columns.specs.Levels.{group_length};
+ghost use Rattle.sf_strips.specs.Levels.{group_length};
 ghost use Rattle.sf_sweep.specs.NextWindow.{crossing_window, is_top as is_top_of, next_window_of, precedes as precedes_of, vertex_window as vertex_window_of, window_length};
 ghost use Rattle.std.specs.List.{list_any, prefix_len};
 ghost use Rattle.std.specs.Ordering.{int_eq};
 
 use crate::nearest::comes_before;
-use sf_columns::{Role, Vertex};
 use sf_grid::{Frac, FracPoint};
+use sf_strips::{Role, Vertex};
 use std::cmp::Ordering;
 
 /// A part of a column in which something happens: its highest and its lowest point, and how many

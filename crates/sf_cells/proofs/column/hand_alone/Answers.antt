@@ -3,11 +3,11 @@ use Rattle.std.proofs.lemmas.List.{length-append, with_items_is}
 use Rattle.std.proofs.lemmas.List.Elements.{All-get_or}
 use Rattle.std.specs.Vec.{with_items}
 use Rattle.std.proofs.lemmas.Slice.Zip.{zip_end, zip_turn}
-use Rattle.sf_columns.specs.declared.active.Active.{Active}
-use Rattle.sf_columns.specs.Fronts.{pieces_of}
+use Rattle.sf_strips.specs.declared.active.Active.{Active}
+use Rattle.sf_strips.specs.Fronts.{pieces_of}
 use Rattle.sf_cells.specs.Groups.{counts, group_count}
 use Rattle.sf_cells.specs.Hands.{minus, plus}
-use Rattle.sf_columns.specs.Strips.{is_column}
+use Rattle.sf_strips.specs.Strips.{is_column}
 use Rattle.sf_cells.proofs.TallyLaws.{HasRoom, length-added, one_more, room_fewer}
 use Rattle.sf_cells.proofs.TallySteps.{length-pieces_of, next_has_room}
 use Rattle.sf_cells.proofs.AloneSteps.{AreNext, WasAlone, same_item, Alone-start, Alone-step, alone-above, alone-handed}

@@ -1,5 +1,5 @@
 use Rattle.std.proofs.Common.{length}
-use Rattle.sf_columns.specs.Strips.{is_column}
+use Rattle.sf_strips.specs.Strips.{is_column}
 use Rattle.sf_cells.proofs.AloneSteps.{AloneSoFar}
 use Rattle.sf_cells.proofs.column.hand_alone.Given as goal
 

@@ -1,5 +1,5 @@
 use Rattle.std.proofs.Common.{[], ap, arith, length, subst, sym, ◌^◌, ◌∙◌}
-use Rattle.sf_columns.specs.Fronts.{pieces_of}
+use Rattle.sf_strips.specs.Fronts.{pieces_of}
 use Rattle.sf_cells.proofs.HandSteps.{room_none}
 use Rattle.sf_cells.proofs.TallyLaws.{HasRoom, counts-append, length-counts}
 use Rattle.sf_cells.specs.Groups.{counts}

@@ -1,7 +1,7 @@
 use Rattle.std.proofs.Common.{ap, ◌∙◌}
-use Rattle.sf_columns.specs.declared.part.Part.TheVariants.{Alone, Together}
-use Rattle.sf_columns.specs.Parts.{levels_of}
-use Rattle.sf_columns.specs.Strips.{is_column}
+use Rattle.sf_strips.specs.declared.part.Part.TheVariants.{Alone, Together}
+use Rattle.sf_strips.specs.Parts.{levels_of}
+use Rattle.sf_strips.specs.Strips.{is_column}
 use Rattle.sf_cells.proofs.HandSteps.{Handing-level, Handing-of, Handing-same, IsCut, Left-above, Left-of, Left-start, gathered, gathered-start, none-next, part-next}
 use Rattle.sf_cells.proofs.AloneSteps.{Handing-alone, Left-alone}
 use Rattle.sf_cells.proofs.column.hand_parts.Goals as goal

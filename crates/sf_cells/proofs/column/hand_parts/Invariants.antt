@@ -1,9 +1,9 @@
 use Rattle.std.proofs.Common.{drop}
-use Rattle.sf_columns.specs.Fronts.{pieces_of}
-use Rattle.sf_columns.specs.Parts.{levels_of}
+use Rattle.sf_strips.specs.Fronts.{pieces_of}
+use Rattle.sf_strips.specs.Parts.{levels_of}
 use Rattle.sf_cells.specs.Groups.{counts}
 use Rattle.sf_cells.specs.Hands.{plus}
-use Rattle.sf_columns.specs.Strips.{is_column}
+use Rattle.sf_strips.specs.Strips.{is_column}
 use Rattle.sf_cells.proofs.HandSteps.{Handing, gathered}
 use Rattle.sf_cells.proofs.column.hand_parts.Given as goal
 

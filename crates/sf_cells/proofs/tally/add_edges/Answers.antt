@@ -1,5 +1,5 @@
 use Rattle.std.proofs.Common.{sym, arith, take, length, ◌+◌, ◌^◌}
-use Rattle.sf_columns.specs.Fronts.{pieces_of}
+use Rattle.sf_strips.specs.Fronts.{pieces_of}
 use Rattle.sf_cells.proofs.TallyLaws.{add_none}
 use Rattle.sf_cells.proofs.TallySteps.{add_next, length-pieces_of, next_has_room, pieces_of-more}
 use Rattle.sf_cells.proofs.tally.add_edges.Goals as goal

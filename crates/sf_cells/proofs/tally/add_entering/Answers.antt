@@ -1,7 +1,7 @@
 use Rattle.std.proofs.Common.{sym, ap, ◌∙◌, arith, take, ◌+◌, length, ◌^◌}
 use Rattle.sf_cells.specs.Groups.{counts}
 use Rattle.sf_cells.specs.Hands.{plus}
-use Rattle.sf_columns.specs.Vertices.{enters, pieces_with}
+use Rattle.sf_strips.specs.Vertices.{enters, pieces_with}
 use Rattle.sf_cells.proofs.TallyLaws.{add_none}
 use Rattle.sf_cells.proofs.TallySteps.{add_next, length-pieces_with, next_has_room, pieces_with-more, pieces_with-same}
 use Rattle.sf_cells.proofs.tally.add_entering.Goals as goal

@@ -1,6 +1,6 @@
 use Rattle.std.proofs.Common.{ap, sym, ◌∙◌, subst, ℕ, List, length, replicate}
 use Rattle.std.proofs.lemmas.List.{with_items_is}
-use Rattle.sf_columns.specs.Fronts.{pieces_of}
+use Rattle.sf_strips.specs.Fronts.{pieces_of}
 use Rattle.sf_cells.specs.Groups.{counts}
 use Rattle.sf_cells.specs.Hands.{AtMost, minus}
 use Rattle.sf_cells.proofs.TallyLaws.{all_taken, all_there, counts_none, length-counts}

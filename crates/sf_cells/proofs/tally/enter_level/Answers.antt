@@ -1,9 +1,9 @@
 use Rattle.std.proofs.Common.{sym, ap, ◌∙◌, subst, arith, length, ◌^◌, List, ℕ}
 use Rattle.std.proofs.lemmas.List.{length-map}
-use Rattle.sf_columns.specs.Fronts.{pieces_of}
+use Rattle.sf_strips.specs.Fronts.{pieces_of}
 use Rattle.sf_cells.specs.Groups.{counts}
 use Rattle.sf_cells.specs.Hands.{plus}
-use Rattle.sf_columns.specs.Vertices.{enters, pieces_with}
+use Rattle.sf_strips.specs.Vertices.{enters, pieces_with}
 use Rattle.sf_cells.proofs.TallyLaws.{HasRoom, add_both, room_added}
 use Rattle.sf_cells.proofs.tally.enter_level.Goals as goal
 

@@ -1,8 +1,8 @@
 use Rattle.std.proofs.Common.{sym, ap, ◌∙◌, subst, List, ℕ}
-use Rattle.sf_columns.specs.Fronts.{pieces_of}
+use Rattle.sf_strips.specs.Fronts.{pieces_of}
 use Rattle.sf_cells.specs.Groups.{counts}
 use Rattle.sf_cells.specs.Hands.{AtMost, minus}
-use Rattle.sf_columns.specs.Vertices.{leaves, pieces_with}
+use Rattle.sf_strips.specs.Vertices.{leaves, pieces_with}
 use Rattle.sf_cells.proofs.TallyLaws.{first_there, second_there, take_both}
 use Rattle.sf_cells.proofs.tally.leave_level.Goals as goal
 

@@ -1,5 +1,5 @@
 use Rattle.std.proofs.Common.{sym, take, ◌+◌}
-use Rattle.sf_columns.specs.Fronts.{pieces_of}
+use Rattle.sf_strips.specs.Fronts.{pieces_of}
 use Rattle.sf_cells.proofs.TallyLaws.{take_none}
 use Rattle.sf_cells.proofs.TallySteps.{next_is_there, pieces_of-more, pieces_of-split, take_next}
 use Rattle.sf_cells.proofs.tally.take_edges.Goals as goal

@@ -1,7 +1,7 @@
 use Rattle.std.proofs.Common.{sym, ap, ◌∙◌, take, ◌+◌}
 use Rattle.sf_cells.specs.Groups.{counts}
 use Rattle.sf_cells.specs.Hands.{minus}
-use Rattle.sf_columns.specs.Vertices.{leaves, pieces_with}
+use Rattle.sf_strips.specs.Vertices.{leaves, pieces_with}
 use Rattle.sf_cells.proofs.TallyLaws.{take_none}
 use Rattle.sf_cells.proofs.TallySteps.{next_is_there, pieces_with-more, pieces_with-same, pieces_with-split, take_next}
 use Rattle.sf_cells.proofs.tally.take_leaving.Goals as goal

@@ -1,5 +1,5 @@
 use Rattle.std.proofs.Common.{◌≡◌, ◌++◌, map, take}
-use Rattle.sf_columns.specs.declared.piece.Piece.TheVariants.{Dot}
+use Rattle.sf_strips.specs.declared.piece.Piece.TheVariants.{Dot}
 use Rattle.sf_pieces.specs.Marked.{marked}
 use Rattle.sf_relate.proofs.grouping.push_dots.Given as goal
 

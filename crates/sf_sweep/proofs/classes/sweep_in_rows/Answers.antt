@@ -30,10 +30,10 @@ pub run-requires-clause-few_groups : goal.run-requires-clause-few_groups
 run-requires-clause-few_groups g c = groups-few g.R.Row.width c.args.groups.now (omega (arith, c.requires.fewer_groups))
 
 pub run-requires-clause-none_on : goal.run-requires-clause-none_on
-run-requires-clause-none_on g c = c.in_ok-quick.ensures.none_on ∙ ap (λ n. replicate n 0) c.group_count.ensures ∙ sym (counts_none c.args.groups.now)
+run-requires-clause-none_on g c = c.in_ok-sweep.ensures.none_on ∙ ap (λ n. replicate n 0) c.group_count.ensures ∙ sym (counts_none c.args.groups.now)
 
 pub run-requires-clause-none_above : goal.run-requires-clause-none_above
-run-requires-clause-none_above g c = c.in_ok-quick.ensures.none_above ∙ ap (λ n. replicate n 0) c.group_count.ensures ∙ sym (counts_none c.args.groups.now)
+run-requires-clause-none_above g c = c.in_ok-sweep.ensures.none_above ∙ ap (λ n. replicate n 0) c.group_count.ensures ∙ sym (counts_none c.args.groups.now)
 
 pub returns-then-is_walk_quicker-clause-ok : goal.returns-then-is_walk_quicker-clause-ok
 returns-then-is_walk_quicker-clause-ok g c = handed-walk c.walk_sorted.result c.args.pieces.now c.args.groups.now c.args.areal.now _ _ _ c.walk_sorted.ensures.ok

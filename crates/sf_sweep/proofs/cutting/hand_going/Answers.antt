@@ -1,8 +1,8 @@
 use Rattle.std.proofs.Common.{ap, subst, ◌∙◌, ◌≤◌, ◌-◌, arith, false, [], None, length}
 use Rattle.std.specs.List.{fold}
-use Rattle.sf_columns.specs.Parts.{levels_of}
-use Rattle.sf_columns.specs.Levels.{AreTops}
-use Rattle.sf_columns.proofs.ContactLaws.{contacts-few}
+use Rattle.sf_strips.specs.Parts.{levels_of}
+use Rattle.sf_strips.specs.Levels.{AreTops}
+use Rattle.sf_strips.proofs.ContactLaws.{contacts-few}
 use Rattle.sf_cells.specs.Groups.{counts}
 use Rattle.sf_cells.specs.Hands.{stop_items, stops}
 use Rattle.sf_sweep.proofs.SlabLaws.{slab-items}

@@ -1,6 +1,6 @@
 use Rattle.std.proofs.Common.{ap, sym, subst, ◌<◌, arith, length}
 use Rattle.std.specs.List.{All}
-use Rattle.sf_columns.specs.Parts.{levels_of}
+use Rattle.sf_strips.specs.Parts.{levels_of}
 use Rattle.sf_sweep.proofs.CutLaws.{room-for}
 use Rattle.sf_sweep.proofs.GoingLaws.{begun-few, onward-below, onward-few}
 use Rattle.sf_sweep.proofs.cutting.hand_levels.Goals as goal

@@ -1,7 +1,7 @@
 use Rattle.std.proofs.Common.{◌≡◌, ap, sym, ◌∙◌, rules, ◌≤◌, ◌<◌, length, map}
 use Rattle.std.specs.Prelude.{slice_index_or}
 use Rattle.std.proofs.lemmas.List.{get_or_default, take_all}
-use Rattle.sf_columns.specs.declared.contact.Contact.TheVariants.{Never}
+use Rattle.sf_strips.specs.declared.contact.Contact.TheVariants.{Never}
 use Rattle.sf_sweep.specs.Passing.{contact_at}
 use Rattle.sf_sweep.specs.Tables.{contacts_of}
 use Rattle.sf_sweep.proofs.FrontLaws.{holds-first, mapped-next}

@@ -1,6 +1,6 @@
 use Rattle.std.proofs.Common.{ap, sym, subst, ◌≡◌, ◌∙◌, ◌++◌, ℕ, List, length, ◌^◌, [], map, take}
 use Rattle.std.proofs.Math.Seq.{take-append_seam}
-use Rattle.sf_columns.specs.Fronts.{pieces_of}
+use Rattle.sf_strips.specs.Fronts.{pieces_of}
 use Rattle.sf_cells.specs.Groups.{counts}
 use Rattle.sf_cells.specs.Hands.{AtMost, item, minus, plus}
 use Rattle.sf_cells.proofs.HandSteps.{room_none}

@@ -1,5 +1,5 @@
 use Rattle.std.proofs.Common.{refl, sym, ◌<◌, arith, rules, ap, ◌∙◌, length, map, take}
-use Rattle.sf_columns.specs.Fronts.{pieces_of}
+use Rattle.sf_strips.specs.Fronts.{pieces_of}
 use Rattle.sf_cells.specs.Groups.{counts}
 use Rattle.sf_sweep.specs.Parities.{as_count}
 use Rattle.sf_cells.specs.Hands.{item}

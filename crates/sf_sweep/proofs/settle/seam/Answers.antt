@@ -1,6 +1,6 @@
 use Rattle.std.proofs.Common.{◌≡◌, sym, subst, rules, ◌≤◌, ◌<◌, ◌-◌, [], ◌∷◌, length}
 use Rattle.std.specs.Prelude.{slice_index_or}
-use Rattle.sf_columns.specs.Fronts.{IsContact, line_of}
+use Rattle.sf_strips.specs.Fronts.{IsContact, line_of}
 use Rattle.sf_sweep.specs.Settled.{IsSeam}
 use Rattle.sf_sweep.proofs.SettleLaws.{seam-first, seam-none, seamed-last}
 use Rattle.sf_sweep.proofs.settle.seam.Goals as goal

@@ -1,6 +1,6 @@
 use Rattle.std.proofs.Common.{ap, sym, subst, ◌∙◌, arith, Some, length, true}
 use Rattle.std.specs.List.{fold}
-use Rattle.sf_columns.specs.Parts.{levels_of}
+use Rattle.sf_strips.specs.Parts.{levels_of}
 use Rattle.sf_slabs.specs.Sweeps.{IsFront}
 use Rattle.sf_slabs.proofs.SweepLaws.{WasCut, coming-few, cut-balanced, cut-column, cut-entries, cut-few, cut-front, cut-items, edges-below, few-moved, onward-few, room-fewer, vertices-below}
 use Rattle.sf_slabs.proofs.sweep.Sweep.column.Goals as goal

@@ -1,6 +1,6 @@
 use Rattle.std.proofs.Common.{ap, ◌∙◌, [], None, length, false, arith}
 use Rattle.std.specs.List.{fold}
-use Rattle.sf_columns.specs.Parts.{levels_of}
+use Rattle.sf_strips.specs.Parts.{levels_of}
 use Rattle.sf_slabs.proofs.SlabCutLaws.{slab-column}
 use Rattle.sf_slabs.proofs.SweepLaws.{at_most-moved, coming-few, contacts-fewer, cut-balanced, cut-items, edges-below, few-moved, fewer-moved, room-whole}
 use Rattle.sf_slabs.proofs.sweep.Sweep.slab.Goals as goal

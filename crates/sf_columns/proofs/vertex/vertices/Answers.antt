@@ -1,9 +1,0 @@
-use Rattle.std.proofs.Common.{rules}
-use Rattle.std.proofs.lemmas.List.Sorted.{answers_always}
-use Rattle.sf_columns.specs.Vertices.{vertex_before}
-use Rattle.sf_columns.proofs.VertexLaws.{vertices_ranked}
-use Rattle.sf_columns.proofs.vertex.vertices.Goals as goal
-
-pub returns-clause-in_order : goal.returns-clause-in_order
-returns-clause-in_order c =
-    c.sort_unstable_by.ensures.sorted vertex_before vertices_ranked (answers_always _ _ _ (λ f a r g h. search rules))
