@@ -4,4 +4,5 @@ pub mod Filled
 pub mod BackLaws
 pub mod ChangeLaws
 pub mod OutcomeLaws
+pub mod WalkLaws
 mod Computed
