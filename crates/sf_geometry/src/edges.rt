@@ -1,6 +1,6 @@
 //! The edges and ends of a geometry.
 
-ghost use Rattle.std.specs.Prelude.{◌≡◌, ◌++◌, IfOk, OnOk, length, map};
+ghost use Rattle.std.specs.Prelude.{◌≡◌, ◌++◌, ◌∷◌, [], IfOk, MatchOption, OnOk, length, map};
 ghost use Rattle.std.specs.List.{flat_map};
 ghost use Rattle.sf_geometry.specs.Lists.{edges_of as edges_of_list, ends_of as ends_of_line, is_closed as is_closed_list, last_from, tight as tight_of};
 ghost use Rattle.sf_geometry.specs.Parts.{edge_of, edges_of, ends_of, joined};
@@ -45,6 +45,20 @@ pub fn is_closed(points: &[GridPoint]) -> bool
         Some((first, others)) => *first == last_of(*first, others),
         None => true,
     }
+}
+
+/// The first and the last point of a line that isn't closed.
+pub fn line_ends(points: &[GridPoint]) -> Option<(GridPoint, GridPoint)>
+    ensures { MatchOption result (ends_of_line points.now ≡ []) (λ ends. ends_of_line points.now ≡ ends.0 ∷ ends.1 ∷ []) }
+{
+    let Some((first, others)) = points.split_first() else {
+        return None;
+    };
+    let last = last_of(*first, others);
+    if *first == last {
+        return None;
+    }
+    Some((*first, last))
 }
 
 impl Geometry {
@@ -146,12 +160,8 @@ fn push_all_ends(
 fn push_ends(found: &mut Vec<GridPoint>, points: &[GridPoint]) -> Result<(), AllocError>
     ensures { OnOk result (found.new.items ≡ found.old.items ++ ends_of_line points.now) }
 {
-    let Some((first, others)) = points.split_first() else {
-        return Ok(());
-    };
-    let last = last_of(*first, others);
-    if *first != last {
-        found.push(*first)?;
+    if let Some((first, last)) = line_ends(points) {
+        found.push(first)?;
         found.push(last)?;
     }
     Ok(())
