@@ -157,7 +157,7 @@ class Made(unittest.TestCase):
         for file in files:
             text = (CRATES / file).read_text()
             says_so = text.startswith((trust.INTERNAL, "-- Beside the headline"))
-            self.assertEqual(says_so or file in trust.NOT_YET_SAID, file not in cited, file)
+            self.assertEqual(says_so, file not in cited, file)
 
 
 class Copyright(unittest.TestCase):

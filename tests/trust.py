@@ -74,8 +74,6 @@ SUBJECTS: list[tuple[str, list[str]]] = [
 # How a file begins whose definitions compute what others mean, and one that no reader needs.
 COMPUTES = "-- Computes"
 INTERNAL = "-- Internal"
-# One that no reader needs either, and that is to say so with the next change of its crate: all above are proved anew for it.
-NOT_YET_SAID = {"sf_edge_tree/specs/Searches.antt"}
 
 WORD = re.compile(r"[^\W\d_][\w'\-+]*|◌?[^\w\s◌(){}\[\],;]+◌?")
 DECLARED = re.compile(r"(?:abbrev |unfoldable |pub |record |data )+([^\s:({]+)")

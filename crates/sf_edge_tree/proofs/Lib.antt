@@ -1,5 +1,6 @@
 pub mod BoxLaws
 mod Computed
 pub mod NodeLaws
+pub mod NearLaws
 pub mod PairLaws
 pub mod SearchLaws

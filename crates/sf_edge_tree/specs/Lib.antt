@@ -2,3 +2,4 @@ pub mod Boxes
 pub mod Searches
 pub mod Nodes
 pub mod Ranges
+pub mod Near

@@ -1,3 +1,4 @@
+-- Internal: who wants to trust the program need not read this file.
 -- What is searched for among edges, and what the answers of a search mean.
 use Rattle.std.specs.Prelude.{ℕ, ◌<◌, ◌≤◌, List, length, IsTrue}
 use Rattle.sf_grid.specs.Plane.{Coordinates}

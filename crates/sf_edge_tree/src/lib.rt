@@ -5,6 +5,7 @@
 mod against;
 mod boxes;
 mod budget;
+mod near;
 mod node;
 mod nodes;
 mod outcome;

@@ -1,8 +1,12 @@
 ghost use Rattle.std.specs.Prelude.{◌≡◌, ◌<◌, ℕ, IfOk, length};
+ghost use Rattle.std.specs.List.{filter, list_any};
+ghost use Rattle.sf_geometry.specs.Envelope.{extents_meet};
+ghost use Rattle.sf_edge_tree.specs.Boxes.{extent_of_edge};
 ghost use Rattle.sf_edge_tree.specs.Searches.{Answers, AreOneOfEach, AreTwoOf, HasNear, HasPair};
 
 use crate::boxes::Edge;
 use crate::budget::Budget;
+use crate::near::{has_any_near, near};
 use crate::node::Node;
 use crate::nodes::nodes_of;
 use crate::outcome::Outcome;
@@ -10,6 +14,7 @@ use crate::pairs::{find_pair, find_pair_between};
 use crate::search::find_near;
 use crate::tests::{EdgeTest, PairTest};
 use sf_geometry::Extent;
+use sf_grid::GridPoint;
 use std::alloc::{AllocError, Global};
 use std::marker::Model;
 
@@ -44,6 +49,36 @@ impl EdgeTree {
     {
         let nodes = nodes_of(alloc, edges.as_slice())?;
         Ok(EdgeTree { edges, nodes })
+    }
+
+    /// The edges, in the order in which they stand.
+    pub fn edges(&self) -> &[(GridPoint, GridPoint)]
+        ensures { result.now ≡ self.now }
+    {
+        self.edges.as_slice()
+    }
+
+    /// The edges whose boxes share a point with a box, in the order in which they stand.
+    ///
+    /// # Errors
+    ///
+    /// Out of memory alone.
+    pub fn near(
+        &self,
+        alloc: Global,
+        extent: Extent,
+    ) -> Result<Vec<(GridPoint, GridPoint)>, AllocError>
+        ensures { IfOk result (λ near.
+            near.items ≡ filter (λ edge. extents_meet (extent_of_edge edge) extent) self.now) }
+    {
+        near(alloc, self.edges.as_slice(), self.nodes.as_slice(), extent)
+    }
+
+    /// Whether the box of an edge shares a point with a box.
+    pub fn has_near(&self, extent: Extent) -> bool
+        ensures { result ≡ list_any (λ edge. extents_meet (extent_of_edge edge) extent) self.now }
+    {
+        has_any_near(self.edges.as_slice(), self.nodes.as_slice(), extent)
     }
 
     /// Whether an edge passes a test whose box shares a point with a box. Each box that is looked at takes one of the looks;
