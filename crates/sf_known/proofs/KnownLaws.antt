@@ -1,13 +1,11 @@
 -- What is known of a matrix: an answer that it gives is that of the matrix, and it gives one wherever all matrices between agree.
 use Rattle.std.proofs.Common.{◌≡◌, refl, ap, sym, ◌∙◌, subst, Bool, true, false, ◌&&◌, ◌||◌, ◌⊎◌, inl, inr, not, List, [], ◌∷◌, Option, Some, None, option_map}
 use Rattle.std.specs.Prelude.{IsTrue, is_some, unwrap_or, if◌then◌else◌}
-use Rattle.std.specs.List.{list_any}
 use Rattle.std.proofs.lemmas.Bool.{and_parts, both_ways, or_cases, or_parts}
 use Rattle.sf_plane.specs.declared.dim.Dim.{Dim}
 use Rattle.sf_plane.specs.declared.dim.Dim.TheVariants as dims
 use Rattle.sf_plane.specs.Unions.{greater_dim}
 use Rattle.sf_known.proofs.OrderLaws.{above, at-most-if, at-most-lesser, both-at-most, same-at-most}
-use Rattle.sf_known.specs.declared.aim.Aim.{Aim}
 use Rattle.sf_known.specs.declared.aim.Aim.TheVariants.{Answer, Entries, ButBoundaries}
 use Rattle.sf_known.specs.declared.goal.Goal.{Goal}
 use Rattle.sf_known.specs.declared.goal.Goal.TheVariants.{Match, MatchOne, Miss, Never}
@@ -15,8 +13,7 @@ use Rattle.sf_known.specs.declared.known.Known.{Known}
 use Rattle.sf_known.specs.declared.letter.Letter.{Letter}
 use Rattle.sf_known.specs.declared.letter.Letter.TheVariants.{Any, Filled, Empty, Zero, One, Two}
 use Rattle.sf_known.specs.Entries.{exceeds, lesser_dim}
-use Rattle.sf_known.specs.Goals.{is_met}
-use Rattle.sf_known.specs.Known.{AnswersAreTrue, AnswersWhereAllAgree, AreAtMost, BothHold, ContactAnswers, Holds, IsAtMost, SettledIsEnough, allows_contact, answer_of, but_boundaries, exceeds_letters, falls_short, greatest_each, have_most, highest, is_enough, is_matched, is_missed, known_by_both, least_each, lowest, pattern_answer, settled}
+use Rattle.sf_known.specs.Known.{AnswersAreTrue, AnswersWhereAllAgree, AreAtMost, BothHold, ContactAnswers, Holds, IsAtMost, SettledIsEnough, allows_contact, answer_of, but_boundaries, exceeds_letters, falls_short, greatest_each, have_most, highest, is_matched, is_missed, least_each, lowest, pattern_answer, settled}
 use Rattle.sf_known.specs.Patterns.{admits, has_contact, is_filled, matches}
 
 -- ---- letters admit dimensions in a row

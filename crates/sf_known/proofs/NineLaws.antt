@@ -1,5 +1,5 @@
 -- What a function gives of nine entries, one by one.
-use Rattle.std.proofs.Common.{◌≡◌, List, [], ◌∷◌, length, map, get_or, refl, ap, sym, ◌∙◌, arith, subst, Bool, true, false, ◌&&◌, not}
+use Rattle.std.proofs.Common.{◌≡◌, List, [], ◌∷◌, length, map, get_or, refl, ap, sym, ◌∙◌, arith, subst, Bool, true, false, not}
 use Rattle.std.specs.Prelude.{slice_set, zip}
 use Rattle.sf_known.proofs.OrderLaws.{entries-known, entry-known}
 use Rattle.sf_known.specs.Entries.{exceeds, lesser_dim}
@@ -22,14 +22,24 @@ nine m (a ∷ b ∷ c ∷ d ∷ e ∷ f ∷ g ∷ h ∷ []) n = absurd (omega (a
 nine m (a ∷ b ∷ c ∷ d ∷ e ∷ f ∷ g ∷ h ∷ i ∷ []) n = refl
 nine m (a ∷ b ∷ c ∷ d ∷ e ∷ f ∷ g ∷ h ∷ i ∷ j ∷ ds) n = absurd (omega (arith, n))
 
--- nine entries are those at the places from 0 to 8
+-- nine members of a list are those at the places from 0 to 8
+pub nine-places : {A : Type 0} (o : A) (xs : List A) → length xs ≡ 9 → xs
+    ≡ get_or xs 0 o ∷ get_or xs 1 o ∷ get_or xs 2 o ∷ get_or xs 3 o ∷ get_or xs 4 o ∷ get_or xs 5 o ∷ get_or xs 6 o ∷ get_or xs 7 o ∷ get_or xs 8 o ∷ []
+nine-places o [] n = absurd (omega (arith, n))
+nine-places o (a ∷ []) n = absurd (omega (arith, n))
+nine-places o (a ∷ b ∷ []) n = absurd (omega (arith, n))
+nine-places o (a ∷ b ∷ c ∷ []) n = absurd (omega (arith, n))
+nine-places o (a ∷ b ∷ c ∷ d ∷ []) n = absurd (omega (arith, n))
+nine-places o (a ∷ b ∷ c ∷ d ∷ e ∷ []) n = absurd (omega (arith, n))
+nine-places o (a ∷ b ∷ c ∷ d ∷ e ∷ f ∷ []) n = absurd (omega (arith, n))
+nine-places o (a ∷ b ∷ c ∷ d ∷ e ∷ f ∷ g ∷ []) n = absurd (omega (arith, n))
+nine-places o (a ∷ b ∷ c ∷ d ∷ e ∷ f ∷ g ∷ h ∷ []) n = absurd (omega (arith, n))
+nine-places o (a ∷ b ∷ c ∷ d ∷ e ∷ f ∷ g ∷ h ∷ i ∷ []) n = refl
+nine-places o (a ∷ b ∷ c ∷ d ∷ e ∷ f ∷ g ∷ h ∷ i ∷ j ∷ xs) n = absurd (omega (arith, n))
+
 pub nine-listed : (ds : List Dim) → length ds ≡ 9 → ds
     ≡ get_or ds 0 Nothing ∷ get_or ds 1 Nothing ∷ get_or ds 2 Nothing ∷ get_or ds 3 Nothing ∷ get_or ds 4 Nothing ∷ get_or ds 5 Nothing ∷ get_or ds 6 Nothing ∷ get_or ds 7 Nothing ∷ get_or ds 8 Nothing ∷ []
-nine-listed ds n = sym (map-id ds) ∙ nine (λ d. d) ds n
-  where
-    map-id : (es : List Dim) → map (λ d. d) es ≡ es
-    map-id [] = refl
-    map-id (e ∷ es) = ap (λ fs. e ∷ fs) (map-id es)
+nine-listed ds n = nine-places Nothing ds n
 
 -- what a function gives of each two entries of nine
 pub nine-pairs : (f : Dim → Dim → Dim) (ds es : List Dim) → length ds ≡ 9 → length es ≡ 9 → map (λ (pair : Dim × Dim). f pair.0 pair.1) (zip ds es)

@@ -1,6 +1,6 @@
 -- Internal: who wants to trust the program need not read this file.
 -- What is known of a matrix: each entry lies between a least and a most, and the geometries may be known to share a point.
-use Rattle.std.specs.Prelude.{◌≡◌, ℕ, Bool, true, false, ◌&&◌, ◌||◌, not, List, [], ◌∷◌, Option, Some, None, IsTrue, IsFalse, length, option_map, is_some, map, replicate, slice_index_or, slice_set, zip, if◌then◌else◌}
+use Rattle.std.specs.Prelude.{◌≡◌, ℕ, Bool, true, false, ◌&&◌, ◌||◌, not, List, [], ◌∷◌, Option, Some, None, IsTrue, IsFalse, option_map, is_some, map, replicate, slice_index_or, slice_set, zip, if◌then◌else◌}
 use Rattle.std.specs.List.{list_all, list_any}
 use Rattle.sf_plane.specs.declared.dim.Dim.{Dim}
 use Rattle.sf_plane.specs.declared.dim.Dim.TheVariants as dims
@@ -11,10 +11,10 @@ use Rattle.sf_known.specs.declared.goal.Goal.{Goal}
 use Rattle.sf_known.specs.declared.goal.Goal.TheVariants.{Match, MatchOne, Miss, Never}
 use Rattle.sf_known.specs.declared.known.Known.{Known}
 use Rattle.sf_known.specs.declared.letter.Letter.{Letter}
-use Rattle.sf_known.specs.declared.letter.Letter.TheVariants.{Any, Filled, Empty, Zero, One, Two}
+use Rattle.sf_known.specs.declared.letter.Letter.TheVariants.{Filled, Empty, Zero, One, Two}
 use Rattle.sf_known.specs.Entries.{exceeds, lesser_dim}
 use Rattle.sf_known.specs.Goals.{is_met}
-use Rattle.sf_known.specs.Patterns.{contacts, has_contact, is_filled, matches}
+use Rattle.sf_known.specs.Patterns.{has_contact, is_filled, matches}
 
 -- ---- what is known, and of which matrices it holds
 -- the first dimension is at most the second one, which is then the greater of both

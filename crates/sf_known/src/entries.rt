@@ -21,22 +21,12 @@ pub fn exceeds(dim: Dim, other: Dim) -> bool
 pub fn greater(a: Dim, b: Dim) -> Dim
     ensures { result ≡ greater_dim a b }
 {
-    match (a, b) {
-        (Dim::Two, _) | (_, Dim::Two) => Dim::Two,
-        (Dim::One, _) | (_, Dim::One) => Dim::One,
-        (Dim::Zero, _) | (_, Dim::Zero) => Dim::Zero,
-        _ => Dim::Nothing,
-    }
+    if exceeds(a, b) { a } else { b }
 }
 
 /// The lesser of two dimensions.
 pub fn lesser(a: Dim, b: Dim) -> Dim
     ensures { result ≡ lesser_dim a b }
 {
-    match (a, b) {
-        (Dim::Nothing, _) | (_, Dim::Nothing) => Dim::Nothing,
-        (Dim::Zero, _) | (_, Dim::Zero) => Dim::Zero,
-        (Dim::One, _) | (_, Dim::One) => Dim::One,
-        _ => Dim::Two,
-    }
+    if exceeds(a, b) { b } else { a }
 }

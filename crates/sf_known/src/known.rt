@@ -11,6 +11,7 @@ use super::goal::Goal;
 use super::matrix::Matrix;
 use super::pattern::Pattern;
 use sf_plane::Dim;
+use std::array;
 
 /// What is known of a matrix. It holds of those matrices of which each entry lies between its least and its most.
 #[derive(Clone, Copy, Debug, PartialEq, Eq)]
@@ -68,11 +69,9 @@ impl Known {
     pub fn settled(&self) -> Known
         ensures { result ≡ settled self.now }
     {
-        let least = self.least;
         Known {
-            least,
-            most: least,
-            contact: self.contact,
+            most: self.least,
+            ..*self
         }
     }
 
@@ -91,11 +90,7 @@ impl Known {
     pub fn matrix(&self) -> Option<Matrix>
         ensures { result ≡ (if have_most self.now.least self.now.most then Some (record { 0 = self.now.least }) else None) }
     {
-        if have_most(&self.least, &self.most) {
-            Some(Matrix(self.least))
-        } else {
-            None
-        }
+        have_most(&self.least, &self.most).then_some(Matrix(self.least))
     }
 
     /// Whether the matrix is as is asked, as far as that is known.
@@ -158,16 +153,9 @@ impl Known {
     fn is_missed(&self, pattern: &Pattern) -> bool
         ensures { result ≡ is_missed self.now pattern.now }
     {
-        self.is_missed_by_contact(pattern)
+        (self.contact && !pattern.allows_contact())
             || pattern.is_exceeded(&self.least)
             || pattern.is_fallen_short(&self.most)
-    }
-
-    /// Whether the geometries share a point, and the pattern asks for such as share none.
-    fn is_missed_by_contact(&self, pattern: &Pattern) -> bool
-        ensures { result ≡ (self.now.contact && not (allows_contact pattern.now)) }
-    {
-        self.contact && !pattern.allows_contact()
     }
 }
 
@@ -185,38 +173,14 @@ fn have_most(least: &[Dim; 9], most: &[Dim; 9]) -> bool
 fn greatest_each(a: &[Dim; 9], b: &[Dim; 9]) -> [Dim; 9]
     ensures { result ≡ greatest_each a.now b.now }
 {
-    let [ii, ib, ie, bi, bb, be, ei, eb, ee] = *a;
-    let [ii2, ib2, ie2, bi2, bb2, be2, ei2, eb2, ee2] = *b;
-    [
-        greater(ii, ii2),
-        greater(ib, ib2),
-        greater(ie, ie2),
-        greater(bi, bi2),
-        greater(bb, bb2),
-        greater(be, be2),
-        greater(ei, ei2),
-        greater(eb, eb2),
-        greater(ee, ee2),
-    ]
+    array::from_fn(|place| greater(a[place], b[place]))
 }
 
 /// Of each entry the lesser one of both.
 fn least_each(a: &[Dim; 9], b: &[Dim; 9]) -> [Dim; 9]
     ensures { result ≡ least_each a.now b.now }
 {
-    let [ii, ib, ie, bi, bb, be, ei, eb, ee] = *a;
-    let [ii2, ib2, ie2, bi2, bb2, be2, ei2, eb2, ee2] = *b;
-    [
-        lesser(ii, ii2),
-        lesser(ib, ib2),
-        lesser(ie, ie2),
-        lesser(bi, bi2),
-        lesser(bb, bb2),
-        lesser(be, be2),
-        lesser(ei, ei2),
-        lesser(eb, eb2),
-        lesser(ee, ee2),
-    ]
+    array::from_fn(|place| lesser(a[place], b[place]))
 }
 
 /// The most of each entry but that of the two boundaries, of which it is enough to have a point.

@@ -81,19 +81,13 @@ impl Letter {
     pub(crate) fn allows_filled(self) -> bool
         ensures { result ≡ is_filled (highest self) }
     {
-        match self {
-            Letter::Empty => false,
-            _ => true,
-        }
+        !matches!(self, Letter::Empty)
     }
 
     /// Whether it asks for an entry that isn't empty.
     pub(crate) fn asks_filled(self) -> bool
         ensures { result ≡ asks_filled self }
     {
-        match self {
-            Letter::Any | Letter::Empty => false,
-            Letter::Filled | Letter::Zero | Letter::One | Letter::Two => true,
-        }
+        !matches!(self, Letter::Any | Letter::Empty)
     }
 }

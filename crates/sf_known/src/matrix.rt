@@ -14,18 +14,7 @@ impl Matrix {
     pub fn text(&self) -> [u8; 9]
         ensures { result ≡ map character_of self.now.0 }
     {
-        let [ii, ib, ie, bi, bb, be, ei, eb, ee] = self.0;
-        [
-            character(ii),
-            character(ib),
-            character(ie),
-            character(bi),
-            character(bb),
-            character(be),
-            character(ei),
-            character(eb),
-            character(ee),
-        ]
+        self.0.map(character)
     }
 
     /// The matrix of the two geometries the other way round: its columns as rows.

@@ -14,9 +14,7 @@ use std::marker::Model;
 
 /// What nine entries are to be.
 #[derive(Clone, Copy, Debug, PartialEq, Eq)]
-pub struct Pattern {
-    pub(crate) letters: [Letter; 9],
-}
+pub struct Pattern(pub(crate) [Letter; 9]);
 
 impl Model for Pattern {
     ghost use Rattle.std.specs.Prelude.{List};
@@ -24,9 +22,9 @@ impl Model for Pattern {
 
     ghost Value = { List Letter };
 
-    ghost view = { λ a. a.letters };
+    ghost view = { λ a. a.0 };
 
-    ghost inverse = { λ ls. record { letters = ls } };
+    ghost inverse = { λ ls. record { 0 = ls } };
 }
 
 impl Pattern {
@@ -45,7 +43,7 @@ impl Pattern {
                 Some(letter) => letters[place] = letter,
             }
         }
-        Ok(Pattern { letters })
+        Ok(Pattern(letters))
     }
 
     /// The pattern of the two geometries the other way round: its columns as rows.
@@ -53,10 +51,8 @@ impl Pattern {
         ensures turned { result ≡ transposed self.now }
         ensures nine { length self.now ≡ 9 }
     {
-        let [ii, ib, ie, bi, bb, be, ei, eb, ee] = self.letters;
-        Pattern {
-            letters: [ii, bi, ei, ib, bb, eb, ie, be, ee],
-        }
+        let [ii, ib, ie, bi, bb, be, ei, eb, ee] = self.0;
+        Pattern([ii, bi, ei, ib, bb, eb, ie, be, ee])
     }
 
     /// Whether the matrix matches.
@@ -70,7 +66,7 @@ impl Pattern {
     pub(crate) fn admits(&self, entries: &[Dim; 9]) -> bool
         ensures { result ≡ matches self.now entries.now }
     {
-        self.letters
+        self.0
             .iter()
             .zip(entries.iter())
             .all(|(letter, dim)| letter.admits(*dim))
@@ -80,7 +76,7 @@ impl Pattern {
     pub(crate) fn is_exceeded(&self, least: &[Dim; 9]) -> bool
         ensures { result ≡ exceeds_letters self.now least.now }
     {
-        self.letters
+        self.0
             .iter()
             .zip(least.iter())
             .any(|(letter, dim)| exceeds(*dim, letter.highest()))
@@ -90,7 +86,7 @@ impl Pattern {
     pub(crate) fn is_fallen_short(&self, most: &[Dim; 9]) -> bool
         ensures { result ≡ falls_short self.now most.now }
     {
-        self.letters
+        self.0
             .iter()
             .zip(most.iter())
             .any(|(letter, dim)| exceeds(letter.lowest(), *dim))
@@ -100,10 +96,10 @@ impl Pattern {
     pub(crate) fn allows_contact(&self) -> bool
         ensures { result ≡ allows_contact self.now }
     {
-        self.letters[0].allows_filled()
-            || self.letters[1].allows_filled()
-            || self.letters[3].allows_filled()
-            || self.letters[4].allows_filled()
+        self.0[0].allows_filled()
+            || self.0[1].allows_filled()
+            || self.0[3].allows_filled()
+            || self.0[4].allows_filled()
     }
 
     /// Whether only geometries that share a point can match: an entry of interiors and boundaries
@@ -111,9 +107,9 @@ impl Pattern {
     pub fn needs_contact(&self) -> bool
         ensures { result ≡ asks_contact self.now }
     {
-        self.letters[0].asks_filled()
-            || self.letters[1].asks_filled()
-            || self.letters[3].asks_filled()
-            || self.letters[4].asks_filled()
+        self.0[0].asks_filled()
+            || self.0[1].asks_filled()
+            || self.0[3].asks_filled()
+            || self.0[4].asks_filled()
     }
 }

@@ -22,64 +22,29 @@ pub enum Predicate {
 }
 
 /// `T*F**FFF*`
-const EQUAL: Pattern = Pattern {
-    letters: [Filled, Any, Empty, Any, Any, Empty, Empty, Empty, Any],
-};
-
+const EQUAL: Pattern = Pattern([Filled, Any, Empty, Any, Any, Empty, Empty, Empty, Any]);
 /// `FF*FF****`
-const APART: Pattern = Pattern {
-    letters: [Empty, Empty, Any, Empty, Empty, Any, Any, Any, Any],
-};
-
+const APART: Pattern = Pattern([Empty, Empty, Any, Empty, Empty, Any, Any, Any, Any]);
 /// `FT*******`
-const BOUNDARY_IN_INTERIOR: Pattern = Pattern {
-    letters: [Empty, Filled, Any, Any, Any, Any, Any, Any, Any],
-};
-
+const BOUNDARY_IN_INTERIOR: Pattern = Pattern([Empty, Filled, Any, Any, Any, Any, Any, Any, Any]);
 /// `F**T*****`
-const INTERIOR_IN_BOUNDARY: Pattern = Pattern {
-    letters: [Empty, Any, Any, Filled, Any, Any, Any, Any, Any],
-};
-
+const INTERIOR_IN_BOUNDARY: Pattern = Pattern([Empty, Any, Any, Filled, Any, Any, Any, Any, Any]);
 /// `F***T****`
-const BOUNDARIES_MEET: Pattern = Pattern {
-    letters: [Empty, Any, Any, Any, Filled, Any, Any, Any, Any],
-};
-
+const BOUNDARIES_MEET: Pattern = Pattern([Empty, Any, Any, Any, Filled, Any, Any, Any, Any]);
 /// `T*F**F***`
-const WITHIN: Pattern = Pattern {
-    letters: [Filled, Any, Empty, Any, Any, Empty, Any, Any, Any],
-};
-
+const WITHIN: Pattern = Pattern([Filled, Any, Empty, Any, Any, Empty, Any, Any, Any]);
 /// `T*****FF*`
-const CONTAINING: Pattern = Pattern {
-    letters: [Filled, Any, Any, Any, Any, Any, Empty, Empty, Any],
-};
-
+const CONTAINING: Pattern = Pattern([Filled, Any, Any, Any, Any, Any, Empty, Empty, Any]);
 /// `T*T******`, of a geometry with one of a higher dimension
-const CROSSING_HIGHER: Pattern = Pattern {
-    letters: [Filled, Any, Filled, Any, Any, Any, Any, Any, Any],
-};
-
+const CROSSING_HIGHER: Pattern = Pattern([Filled, Any, Filled, Any, Any, Any, Any, Any, Any]);
 /// `T*****T**`, of a geometry with one of a lower dimension
-const CROSSING_LOWER: Pattern = Pattern {
-    letters: [Filled, Any, Any, Any, Any, Any, Filled, Any, Any],
-};
-
+const CROSSING_LOWER: Pattern = Pattern([Filled, Any, Any, Any, Any, Any, Filled, Any, Any]);
 /// `0********`, of lines
-const CROSSING_LINES: Pattern = Pattern {
-    letters: [Zero, Any, Any, Any, Any, Any, Any, Any, Any],
-};
-
+const CROSSING_LINES: Pattern = Pattern([Zero, Any, Any, Any, Any, Any, Any, Any, Any]);
 /// `T*T***T**`, of points and of areas
-const OVERLAPPING: Pattern = Pattern {
-    letters: [Filled, Any, Filled, Any, Any, Any, Filled, Any, Any],
-};
-
+const OVERLAPPING: Pattern = Pattern([Filled, Any, Filled, Any, Any, Any, Filled, Any, Any]);
 /// `1*T***T**`, of lines
-const OVERLAPPING_LINES: Pattern = Pattern {
-    letters: [One, Any, Filled, Any, Any, Any, Filled, Any, Any],
-};
+const OVERLAPPING_LINES: Pattern = Pattern([One, Any, Filled, Any, Any, Any, Filled, Any, Any]);
 
 impl Predicate {
     /// What the predicate asks of the matrix of two geometries of these dimensions (06-103r4, 6.1.15.3).
@@ -104,10 +69,7 @@ impl Predicate {
     pub fn needs_contact(self) -> bool
         ensures { result ≡ predicate_asks_contact self }
     {
-        match self {
-            Predicate::Disjoint => false,
-            _ => true,
-        }
+        !matches!(self, Predicate::Disjoint)
     }
 }
 
