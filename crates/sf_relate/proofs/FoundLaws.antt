@@ -1,5 +1,7 @@
 -- What is known of two geometries from the start, or from edges that cross, holds of their matrix.
-use Rattle.std.proofs.Common.{refl, sym, subst, Bool, true, false, List, IsTrue}
+use Rattle.std.proofs.Common.{◌≡◌, refl, sym, subst, Bool, true, false, List, IsTrue, IfSome}
+use Rattle.std.specs.Prelude.{None, Option, Some, unwrap_or}
+use Rattle.sf_known.specs.declared.known.Known.{Known}
 use Rattle.std.proofs.lemmas.Bool.{both_ways}
 use Rattle.sf_geometry.specs.declared.geometry.Geometry.{Geometry}
 use Rattle.sf_plane.specs.declared.dim.Dim.{Dim}
@@ -38,3 +40,8 @@ overlapping-holds false =
 
 pub overlap-holds : (a b : Geometry) → Overlap a b → Holds known_overlapping (matrix_of a b)
 overlap-holds a b h = subst (Holds known_overlapping) (sym h.matrix) (overlapping-holds h.along)
+
+-- what is known, or else nothing
+pub known-or : (found : Option Known) (a b : Geometry) (other : Known) → IfSome found (λ known. Holds known (matrix_of a b)) → other ≡ nothing_known → Holds (unwrap_or found other) (matrix_of a b)
+known-or None a b other h is = subst (λ (k : Known). Holds k (matrix_of a b)) (sym is) (nothing-holds a b)
+known-or (Some known) a b other h is = h

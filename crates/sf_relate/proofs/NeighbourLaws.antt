@@ -9,9 +9,9 @@ use Rattle.std.proofs.lemmas.List.Sums.{sum_by-cons}
 use Rattle.sf_grid.specs.Plane.{Coordinates, Point as PlanePoint, grid_point, same_point}
 use Rattle.sf_grid.specs.Edge.{Edge, below_rightward, cross, edge_above, edge_between, on_edge}
 use Rattle.sf_grid.specs.EvenOdd.{edges_above, is_odd}
-use Rattle.sf_geometry.specs.Lists.{edges_of, ends_of, is_same, last_from}
-use Rattle.sf_geometry.specs.PointSets.{is_among, on_line}
-use Rattle.sf_geometry.proofs.ListLaws.{edges-step, ends-closed, ends-open, last-pushed, same-is}
+use Rattle.sf_geometry.specs.Lists.{edges_of, is_same}
+use Rattle.sf_geometry.specs.PointSets.{on_line}
+use Rattle.sf_geometry.proofs.ListLaws.{edges-step, same-is}
 use Rattle.sf_polygons.proofs.TestLaws.{or-none, xor}
 use Rattle.sf_strands.proofs.EndLaws.{times-one}
 use Rattle.sf_relate.specs.declared.place.Place.{Place}
@@ -155,24 +155,7 @@ lists-turn found by next whole es fs left q n b l h =
 pub decided : (next left whole : Place) → next ≡ Boundary → in_one_alone next left ≡ whole → next ≡ whole
 decided next left whole is h = is ∙ ap (λ s. in_one_alone s left) (sym is) ∙ h
 
--- ---- the ends of a line, by its first and its last point
-pub shut-ends : (p l : Coordinates) (front others line : List Coordinates) → line ≡ p ∷ others → others ≡ front ++ l ∷ [] → is_same p l ≡ true → ends_of line ≡ []
-shut-ends p l front others line is parts same =
-    ap ends_of is ∙ ends-closed p others (ap (is_same p) (ap (last_from p) parts ∙ last-pushed p front l) ∙ same)
-
-pub open-ends : (p l : Coordinates) (front others line : List Coordinates) → line ≡ p ∷ others → others ≡ front ++ l ∷ [] → is_same p l ≡ false → ends_of line ≡ p ∷ l ∷ []
-open-ends p l front others line is parts other =
-    let last : last_from p others ≡ l = ap (last_from p) parts ∙ last-pushed p front l in
-    ap ends_of is ∙ ends-open p others (ap (is_same p) last ∙ other) ∙ ap (λ s. p ∷ s ∷ []) last
-
-pub shut : (p l : Coordinates) (front others line : List Coordinates) (q : PlanePoint) → line ≡ p ∷ others → others ≡ front ++ l ∷ [] → is_same p l ≡ true →
-    false ≡ is_among (ends_of line) q
-shut p l front others line q is parts same = sym (ap (λ es. is_among es q) (shut-ends p l front others line is parts same))
-
-pub apart : (p l : Coordinates) (front others line : List Coordinates) (q : PlanePoint) → line ≡ p ∷ others → others ≡ front ++ l ∷ [] → is_same p l ≡ false →
-    (same_point (grid_point p) q || (same_point (grid_point l) q || false)) ≡ is_among (ends_of line) q
-apart p l front others line q is parts other = sym (ap (λ es. is_among es q) (open-ends p l front others line is parts other))
-
+-- ---- one of two ends
 pub either-first : (r s t : Bool) → r ≡ s → r ≡ true → r ≡ (s || (t || false))
 either-first r s t e h = h ∙ ap (λ b. b || (t || false)) (sym h ∙ e)
 

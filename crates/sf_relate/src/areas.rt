@@ -10,12 +10,10 @@ ghost use Rattle.sf_relate.specs.Places.{shape_of};
 ghost use Rattle.sf_relate.specs.declared.shape.Shape.TheVariants.{Areas};
 
 use super::shape::Shape;
-use super::walking::found_from;
-use sf_along::run_along;
 use sf_crossing::have_crossing;
 use sf_geometry::Extent;
-use sf_known::{Aim, Known, Matrix};
-use sf_plane::Dim;
+use sf_known::{Known, Matrix};
+use sf_plane::Dim::{self, One, Two, Zero};
 use sf_validity::Valid;
 use std::alloc::{AllocError, Global};
 
@@ -24,13 +22,9 @@ use std::alloc::{AllocError, Global};
 pub fn known_by_crossing(alloc: Global, a: &Valid, b: &Valid) -> Option<Known>
     ensures { IfSome result (λ known. Holds known (matrix_of a.now b.now)) }
 {
-    let Ok(overlap) = are_known_to_overlap(alloc, a, b) else {
-        return None;
-    };
-    if overlap {
-        Some(known_overlapping())
-    } else {
-        None
+    match are_known_to_overlap(alloc, a, b) {
+        Ok(true) => Some(known_overlapping()),
+        _ => None,
     }
 }
 
@@ -74,37 +68,12 @@ pub(crate) fn are_areas(a: &Valid, b: &Valid) -> bool
     Shape::of(a.geometry()).is_areal() && Shape::of(b.geometry()).is_areal()
 }
 
-/// The matrix of two areas of which this is known: by a walk over the pieces of both that ends once they are known to overlap.
-///
-/// # Errors
-///
-/// Out of memory alone.
-pub(crate) fn relate_areas(
-    alloc: Global,
-    a: &Valid,
-    b: &Valid,
-    known: &Known,
-) -> Result<Matrix, AllocError>
-    requires first { shape_of a.now ≡ Areas }
-    requires second { shape_of b.now ≡ Areas }
-    requires known { Holds known.now (matrix_of a.now b.now) }
-    ensures { IfOk result (λ matrix. matrix.0 ≡ matrix_of a.now b.now) }
-{
-    let first = a.geometry();
-    let second = b.geometry();
-    let found = found_from(alloc, a, b, &Aim::ButBoundaries, known)?;
-    match found.matrix() {
-        Some(matrix) => Ok(matrix),
-        None => Ok(matrix_along(&found, run_along(alloc, first, second)?)),
-    }
-}
-
 /// The matrix of which all is known but how the boundaries of two areas share points, by whether they run along one another.
-fn matrix_along(known: &Known, along: bool) -> Matrix
+pub(crate) fn matrix_along(known: &Known, along: bool) -> Matrix
     ensures { result.0 ≡ with_boundaries known.now.least along }
 {
     let mut entries = known.least;
-    entries[4] = if along { Dim::One } else { Dim::Zero };
+    entries[4] = if along { One } else { Zero };
     Matrix(entries)
 }
 
@@ -123,15 +92,6 @@ fn known_overlapping() -> Known
 fn overlapping_entries(along: bool) -> [Dim; 9]
     ensures { result ≡ overlapping_entries along }
 {
-    [
-        Dim::Two,
-        Dim::One,
-        Dim::Two,
-        Dim::One,
-        if along { Dim::One } else { Dim::Zero },
-        Dim::One,
-        Dim::Two,
-        Dim::One,
-        Dim::Two,
-    ]
+    let bb = if along { One } else { Zero };
+    [Two, One, Two, One, bb, One, Two, One, Two]
 }

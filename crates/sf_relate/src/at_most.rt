@@ -5,7 +5,8 @@ ghost use Rattle.sf_known.specs.Known.{Holds};
 ghost use Rattle.sf_relate.specs.Matrices.{matrix_of};
 ghost use Rattle.sf_relate.specs.Most.{boundary_most, known_of_kinds, most_entries};
 
-use super::told::{boundary_dim, interior_dim};
+use super::shape::dimension;
+use super::told::boundary_dim;
 use sf_geometry::Geometry;
 use sf_known::{Known, lesser};
 use sf_plane::Dim;
@@ -23,9 +24,9 @@ pub fn known_of_kinds(a: &Valid, b: &Valid) -> Known
 pub(crate) fn most_entries(a: &Geometry, b: &Geometry) -> [Dim; 9]
     ensures { result ≡ most_entries a.now b.now }
 {
-    let ia = interior_dim(a);
+    let ia = dimension(a);
     let ba = boundary_most(a);
-    let ib = interior_dim(b);
+    let ib = dimension(b);
     let bb = boundary_most(b);
     [
         lesser(ia, ib),

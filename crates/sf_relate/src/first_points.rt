@@ -1,13 +1,11 @@
 //! Contact that first points show, without a matrix.
 
 ghost use Rattle.std.specs.Prelude.{◌≡◌, ◌||◌, IsTrue};
-ghost use Rattle.sf_grid.specs.Plane.{grid_point};
-ghost use Rattle.sf_relate.specs.Contact.{SharePoint, has_first_point_in, is_in};
+ghost use Rattle.sf_relate.specs.Contact.{SharePoint, has_first_point_in};
 ghost use Rattle.sf_relate.specs.Matrices.{matrix_of};
 ghost use Rattle.sf_known.specs.Patterns.{has_contact};
 
-use super::locating::locate;
-use sf_grid::GridPoint;
+use super::locating::is_in;
 use sf_validity::Valid;
 
 /// Whether the first point of either geometry lies in the other. If it does, they have contact; if
@@ -28,11 +26,4 @@ fn has_first_point_in(a: &Valid, b: &Valid) -> bool
         Some(point) => is_in(b, point),
         None => false,
     }
-}
-
-/// Whether a point lies in a geometry.
-fn is_in(geometry: &Valid, point: GridPoint) -> bool
-    ensures { result ≡ is_in geometry.now (grid_point point) }
-{
-    locate(geometry, point).is_in()
 }

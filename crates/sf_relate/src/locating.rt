@@ -7,11 +7,12 @@ ghost use Rattle.sf_grid.specs.Plane.{grid_point, same_point};
 ghost use Rattle.sf_geometry.specs.Lists.{edges_of, ends_of};
 ghost use Rattle.sf_geometry.specs.Parts.{joined};
 ghost use Rattle.sf_geometry.specs.PointSets.{is_among, on_line};
+ghost use Rattle.sf_relate.specs.Contact.{is_in};
 ghost use Rattle.sf_relate.specs.Locating.{edges_place, line_place, lines_place, place_by_tests, point_place};
 ghost use Rattle.sf_relate.specs.Places.{IsPlaceOf};
 
 use super::place::Place;
-use sf_geometry::{Geometry, Sequence};
+use sf_geometry::{Geometry, Sequence, line_ends};
 use sf_grid::edges::{on_edge, orientation};
 use sf_grid::{GridPoint, Turn};
 use sf_validity::Valid;
@@ -21,6 +22,13 @@ pub fn locate(geometry: &Valid, point: GridPoint) -> Place
     ensures { IsPlaceOf geometry.now (grid_point point) result }
 {
     place_in(geometry.geometry(), point)
+}
+
+/// Whether a point of the grid lies in a geometry.
+pub fn is_in(geometry: &Valid, point: GridPoint) -> bool
+    ensures { result ≡ is_in geometry.now (grid_point point) }
+{
+    locate(geometry, point).is_in()
 }
 
 /// The place in a geometry, by the tests of its kind.
@@ -76,16 +84,10 @@ fn place_on_line(line: &[GridPoint], point: GridPoint) -> Place
 pub(crate) fn is_end(line: &[GridPoint], point: GridPoint) -> bool
     ensures { result ≡ is_among (ends_of line.now) (grid_point point) }
 {
-    let Some((first, others)) = line.split_first() else {
-        return false;
-    };
-    let Some((last, _)) = others.split_last() else {
-        return false;
-    };
-    if *first == *last {
-        return false;
+    match line_ends(line) {
+        Some((first, last)) => is_at(first, point) || is_at(last, point),
+        None => false,
     }
-    is_at(*first, point) || is_at(*last, point)
 }
 
 /// Whether both are one point.
@@ -214,8 +216,5 @@ fn is_in_columns(left: GridPoint, right: GridPoint, point: GridPoint) -> bool
 fn is_to_the_right(a: GridPoint, b: GridPoint, point: GridPoint) -> bool
     ensures { result ≡ int_lt (cross_of a b (grid_point point)) (pos 0) }
 {
-    match orientation(a, b, point) {
-        Turn::Right => true,
-        Turn::Left | Turn::Straight => false,
-    }
+    matches!(orientation(a, b, point), Turn::Right)
 }

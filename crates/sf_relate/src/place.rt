@@ -20,31 +20,12 @@ impl Place {
         ensures { result ≡ place_by shape on ends above }
     {
         match shape {
-            Shape::Points => {
-                if on > 0 {
-                    Place::Interior
-                } else {
-                    Place::Exterior
-                }
-            }
-            Shape::Lines => {
-                if on == 0 {
-                    Place::Exterior
-                } else if ends % 2 == 1 {
-                    Place::Boundary
-                } else {
-                    Place::Interior
-                }
-            }
-            Shape::Areas => {
-                if on > 0 {
-                    Place::Boundary
-                } else if above % 2 == 1 {
-                    Place::Interior
-                } else {
-                    Place::Exterior
-                }
-            }
+            Shape::Points if on > 0 => Place::Interior,
+            Shape::Lines if on > 0 && ends % 2 == 1 => Place::Boundary,
+            Shape::Lines if on > 0 => Place::Interior,
+            Shape::Areas if on > 0 => Place::Boundary,
+            Shape::Areas if above % 2 == 1 => Place::Interior,
+            _ => Place::Exterior,
         }
     }
 
@@ -52,10 +33,7 @@ impl Place {
     pub fn is_in(self) -> bool
         ensures { result ≡ (is_place places.Interior self || is_place places.Boundary self) }
     {
-        match self {
-            Place::Interior | Place::Boundary => true,
-            Place::Exterior => false,
-        }
+        !matches!(self, Place::Exterior)
     }
 
     /// The place in what just one of two areas has, from the places in both: on the boundary where

@@ -1,5 +1,6 @@
 ghost use Rattle.std.specs.Prelude.{◌≡◌};
 ghost use Rattle.sf_geometry.specs.Kinds.{dimension_of, kind_of};
+ghost use Rattle.sf_interiors.specs.Dimensions.{interior_dim};
 ghost use Rattle.sf_plane.specs.Unions.{dim_of};
 ghost use Rattle.sf_relate.specs.Places.{is_areal, shape_of};
 
@@ -30,16 +31,14 @@ impl Shape {
     pub(crate) fn is_areal(self) -> bool
         ensures { result ≡ is_areal self }
     {
-        match self {
-            Shape::Areas => true,
-            Shape::Points | Shape::Lines => false,
-        }
+        matches!(self, Shape::Areas)
     }
 }
 
-/// The dimension of the geometries of a geometry's kind, which predicates go by.
+/// The dimension of the geometries of a geometry's kind, which predicates go by. A valid one's interior has it.
 pub fn dimension(geometry: &Geometry) -> Dim
-    ensures { result ≡ dim_of (dimension_of (kind_of geometry.now)) }
+    ensures kind { result ≡ dim_of (dimension_of (kind_of geometry.now)) }
+    ensures interior { result ≡ interior_dim geometry.now }
 {
     match Shape::of(geometry) {
         Shape::Points => Dim::Zero,

@@ -92,7 +92,7 @@ fn entry_of_cell(first: Shape, second: Shape, on: &[u32], above: &[u32]) -> usiz
         count_in(on, SECOND_ENDS),
         count_in(above, SECOND),
     );
-    entry_of(first, second)
+    3 * first.row() + second.row()
 }
 
 /// The count of a group, 0 where no piece is of the group.
@@ -100,14 +100,6 @@ fn count_in(counts: &[u32], group: u32) -> u32
     ensures { result ≡ slice_index counts.now group }
 {
     counts.get(group as usize).copied().unwrap_or(0)
-}
-
-/// Which of the nine entries is that of two places.
-fn entry_of(first: Place, second: Place) -> usize
-    ensures value { result ≡ entry_place first second }
-    ensures bound { result < 9 }
-{
-    3 * first.row() + second.row()
 }
 
 /// A number as a dimension.

@@ -6,17 +6,18 @@ ghost use Rattle.std.specs.List.{list_any};
 ghost use Rattle.sf_geometry.specs.declared.geometry.Geometry.TheVariants.{LineString};
 ghost use Rattle.sf_geometry.specs.Envelope.{envelope_of, extents_meet};
 ghost use Rattle.sf_geometry.specs.Lists.{ends_of};
-ghost use Rattle.sf_interiors.specs.Dimensions.{boundary_dim as boundary_dim_of, has_end, interior_dim as interior_dim_of};
+ghost use Rattle.sf_interiors.specs.Dimensions.{boundary_dim as boundary_dim_of, has_end, interior_dim};
 ghost use Rattle.sf_plane.specs.declared.dim.Dim.TheVariants as dims;
 ghost use Rattle.sf_rules.specs.Validity.{IsValid};
 ghost use Rattle.sf_relate.specs.Matrices.{matrix_of};
 ghost use Rattle.sf_relate.specs.Told.{IsWithin, ShareNone, has_odd_end, is_odd_end};
 
 use super::locating::is_end;
-use sf_geometry::{Extent, Geometry, Sequence};
+use super::shape::dimension;
+use sf_geometry::{Extent, Geometry, Sequence, line_ends};
 use sf_grid::GridPoint;
 use sf_known::Matrix;
-use sf_plane::Dim;
+use sf_plane::Dim::{self, Nothing, Two};
 use sf_validity::Valid;
 
 /// The matrix of two geometries that share no point.
@@ -24,50 +25,20 @@ pub fn matrix_apart(a: &Valid, b: &Valid) -> Matrix
     requires { ShareNone a.now b.now }
     ensures { result.0 ≡ matrix_of a.now b.now }
 {
-    let first = a.geometry();
-    let second = b.geometry();
-    Matrix([
-        Dim::Nothing,
-        Dim::Nothing,
-        interior_dim(first),
-        Dim::Nothing,
-        Dim::Nothing,
-        boundary_dim(first),
-        interior_dim(second),
-        boundary_dim(second),
-        Dim::Two,
-    ])
+    let (ia, ba) = own_dims(a);
+    let (ib, bb) = own_dims(b);
+    Matrix([Nothing, Nothing, ia, Nothing, Nothing, ba, ib, bb, Two])
 }
 
 /// The matrix of a geometry in the interior of an area that has room beside it.
 pub fn matrix_within(a: &Valid, b: &Valid) -> Matrix
     requires within { IsWithin a.now b.now }
-    requires area { interior_dim_of b.now ≡ dims.Two }
+    requires area { interior_dim b.now ≡ dims.Two }
     ensures { result.0 ≡ matrix_of a.now b.now }
 {
-    let first = a.geometry();
-    let second = b.geometry();
-    Matrix([
-        interior_dim(first),
-        Dim::Nothing,
-        Dim::Nothing,
-        boundary_dim(first),
-        Dim::Nothing,
-        Dim::Nothing,
-        interior_dim(second),
-        boundary_dim(second),
-        Dim::Two,
-    ])
-}
-
-/// Whether the boxes of two geometries share no point, where `extent` is the second one's: then the geometries share none.
-fn are_apart(a: &Valid, b: &Valid, extent: Extent) -> bool
-    requires extent { extent ≡ envelope_of b.now }
-    requires valid { IsValid b.now }
-    ensures apart { IsTrue result → ShareNone a.now b.now }
-    ensures boxes { result ≡ not (extents_meet (envelope_of a.now) extent) }
-{
-    !a.geometry().envelope().meets(extent)
+    let (ia, ba) = own_dims(a);
+    let (ib, bb) = own_dims(b);
+    Matrix([ia, Nothing, Nothing, ba, Nothing, Nothing, ib, bb, Two])
 }
 
 /// The matrix of two geometries whose boxes share no point, where `extent` is the second one's: kinds and ends give it. None
@@ -78,22 +49,19 @@ pub fn matrix_by_boxes(a: &Valid, b: &Valid, extent: Extent) -> Option<Matrix>
     ensures told { IfSome result (λ matrix. matrix.0 ≡ matrix_of a.now b.now) }
     ensures boxes { is_some result ≡ not (extents_meet (envelope_of a.now) extent) }
 {
-    if are_apart(a, b, extent) {
-        Some(matrix_apart(a, b))
-    } else {
-        None
+    if a.geometry().envelope().meets(extent) {
+        return None;
     }
+    Some(matrix_apart(a, b))
 }
 
-/// The dimension of a valid geometry's interior.
-pub(crate) fn interior_dim(geometry: &Geometry) -> Dim
-    ensures { result ≡ interior_dim_of geometry.now }
+/// The dimensions of a valid geometry's interior and of its boundary.
+fn own_dims(geometry: &Valid) -> (Dim, Dim)
+    ensures dims { result ≡ (interior_dim geometry.now, boundary_dim_of geometry.now) }
+    ensures valid { IsValid geometry.now }
 {
-    match geometry {
-        Geometry::Point(_) | Geometry::MultiPoint(_) => Dim::Zero,
-        Geometry::LineString(_) | Geometry::MultiLineString(_) => Dim::One,
-        Geometry::Polygon(_) | Geometry::MultiPolygon(_) => Dim::Two,
-    }
+    let geometry = geometry.geometry();
+    (dimension(geometry), boundary_dim(geometry))
 }
 
 /// The dimension of a valid geometry's boundary.
@@ -102,7 +70,7 @@ pub(crate) fn boundary_dim(geometry: &Geometry) -> Dim
 {
     match geometry {
         Geometry::Point(_) | Geometry::MultiPoint(_) => Dim::Nothing,
-        Geometry::LineString(line) => dim_of_ends(is_open(line.as_slice())),
+        Geometry::LineString(line) => dim_of_ends(line_ends(line.as_slice()).is_some()),
         Geometry::MultiLineString(lines) => dim_of_ends(has_odd_ends(lines.as_slice())),
         Geometry::Polygon(_) | Geometry::MultiPolygon(_) => Dim::One,
     }
@@ -113,29 +81,6 @@ fn dim_of_ends(has_end: bool) -> Dim
     ensures { result ≡ (if has_end then dims.Zero else dims.Nothing) }
 {
     if has_end { Dim::Zero } else { Dim::Nothing }
-}
-
-/// The ends of a line that isn't closed.
-fn ends(line: &[GridPoint]) -> Option<(GridPoint, GridPoint)>
-    ensures { MatchOption result (ends_of line.now ≡ []) (λ ends. ends_of line.now ≡ ends.0 ∷ ends.1 ∷ []) }
-{
-    let Some((first, others)) = line.split_first() else {
-        return None;
-    };
-    let Some((last, _)) = others.split_last() else {
-        return None;
-    };
-    if *first == *last {
-        return None;
-    }
-    Some((*first, *last))
-}
-
-/// Whether a line has ends.
-fn is_open(line: &[GridPoint]) -> bool
-    ensures { result ≡ has_end (LineString line.now) }
-{
-    ends(line).is_some()
 }
 
 /// Whether an odd number of the lines end at an end of one of them.
@@ -149,7 +94,7 @@ fn has_odd_ends(lines: &[Sequence<GridPoint>]) -> bool
 fn has_odd_end(line: &[GridPoint], lines: &[Sequence<GridPoint>]) -> bool
     ensures { result ≡ has_odd_end lines.now line.now }
 {
-    match ends(line) {
+    match line_ends(line) {
         Some((first, last)) => is_odd_end(lines, first) || is_odd_end(lines, last),
         None => false,
     }

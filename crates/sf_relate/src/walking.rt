@@ -70,17 +70,6 @@ pub(crate) fn found_from(
     walked(alloc, a, b, aim, &more)
 }
 
-/// Whether the matrix of two geometries is as is asked.
-///
-/// # Errors
-///
-/// Out of memory alone.
-pub fn meets(alloc: Global, goal: &Goal, a: &Valid, b: &Valid) -> Result<bool, AllocError>
-    ensures { IfOk result (λ answer. answer ≡ is_met goal.now (matrix_of a.now b.now)) }
-{
-    meets_from(alloc, goal, a, b, &Known::nothing())
-}
-
 /// Whether the matrix of two geometries, of which this is known, is as is asked.
 ///
 /// # Errors
@@ -98,13 +87,5 @@ pub fn meets_from(
 {
     let aim = Aim::Answer(*goal);
     let found = found_from(alloc, a, b, &aim, known)?;
-    Ok(answer_in(&found, goal))
-}
-
-/// The answer, where it is known.
-fn answer_in(known: &Known, goal: &Goal) -> bool
-    requires { IsTrue (is_some (answer_of known.now goal.now)) }
-    ensures { answer_of known.now goal.now ≡ Some result }
-{
-    known.answer(goal).unwrap()
+    Ok(found.answer(goal).unwrap())
 }
