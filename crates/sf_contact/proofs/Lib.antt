@@ -1,4 +1,3 @@
-pub mod EdgeContactLaws
 pub mod LowestLaws
 pub mod AbsenceLaws
 pub mod PairLaws

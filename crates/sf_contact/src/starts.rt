@@ -8,7 +8,7 @@ ghost use Rattle.sf_contact.specs.Absence.{begins_in, has_start_in};
 
 use sf_geometry::{Geometry, Sequence};
 use sf_grid::GridPoint;
-use sf_relate::locate;
+use sf_relate::is_in;
 use sf_validity::Valid;
 
 /// Whether a point, or the first point of a line or of a ring, of `a` lies in `b`.
@@ -58,11 +58,4 @@ fn begins_in(geometry: &Valid, line: &[GridPoint]) -> bool
         Some(point) => is_in(geometry, *point),
         None => false,
     }
-}
-
-/// Whether a point lies in a geometry.
-fn is_in(geometry: &Valid, point: GridPoint) -> bool
-    ensures { result ≡ is_in geometry.now (grid_point point) }
-{
-    locate(geometry, point).is_in()
 }

@@ -1,20 +1,9 @@
-use Rattle.std.proofs.Common.{◌∙◌, ap, sym}
-use Rattle.sf_contact.specs.EdgeContact.{on_lines, on_polygons}
 use Rattle.sf_contact.specs.Absence.{on_edges}
-use Rattle.sf_contact.proofs.PairLaws.{lines-edges, polygons-edges, rings-edges, tells-same}
+use Rattle.sf_contact.proofs.PairLaws.{meets-by-one, met-by-one, tells-by}
 use Rattle.sf_contact.proofs.edges.edges_meet.Goals as goal
 
-pub returns-in-MultiLineString : goal.returns-in-MultiLineString
-returns-in-MultiLineString c =
-    tells-same c.lines_meet.result (on_lines c.as_slice-in-MultiLineString.result.now) (on_edges c.args.other.now) (on_edges c.args.geometry.now)
-    (λ q. ap (λ xs. on_lines xs q) c.as_slice-in-MultiLineString.ensures ∙ lines-edges c.in-MultiLineString.lines q ∙ sym (ap (λ g. on_edges g q) c.in-MultiLineString.is)) c.lines_meet.ensures
-
-pub returns-in-Polygon : goal.returns-in-Polygon
-returns-in-Polygon c =
-    tells-same c.lines_meet-in-Polygon.result (on_lines c.as_slice-in-Polygon.result.now) (on_edges c.args.other.now) (on_edges c.args.geometry.now)
-    (λ q. ap (λ xs. on_lines xs q) c.as_slice-in-Polygon.ensures ∙ rings-edges c.in-Polygon.rings q ∙ sym (ap (λ g. on_edges g q) c.in-Polygon.is)) c.lines_meet-in-Polygon.ensures
-
-pub returns-in-MultiPolygon : goal.returns-in-MultiPolygon
-returns-in-MultiPolygon c =
-    tells-same c.polygons_meet.result (on_polygons c.as_slice-in-MultiPolygon.result.now) (on_edges c.args.other.now) (on_edges c.args.geometry.now)
-    (λ q. ap (λ xs. on_polygons xs q) c.as_slice-in-MultiPolygon.ensures ∙ polygons-edges c.in-MultiPolygon.polygons q ∙ sym (ap (λ g. on_edges g q) c.in-MultiPolygon.is)) c.polygons_meet.ensures
+pub returns : goal.returns
+returns c =
+    tells-by c.any_edge.result (on_edges c.args.geometry.now) (on_edges c.args.other.now)
+    (λ t. meets-by-one c.args.geometry.now c.args.other.now c.envelope-extent.result (c.any_edge.ensures.0 t))
+    (λ s. c.any_edge.ensures.1 (met-by-one c.args.geometry.now c.args.other.now c.envelope-extent.result c.requires c.envelope-extent.ensures s))
