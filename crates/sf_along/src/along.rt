@@ -1,9 +1,8 @@
 //! Whether two geometries have edges of which one runs along the other.
 
 ghost use Rattle.std.specs.Prelude.{◌≡◌, ◌↔◌, IfOk, IsTrue};
-ghost use Rattle.std.specs.List.{fold};
 ghost use Rattle.sf_along.specs.Along.{RunAlong};
-ghost use Rattle.sf_along.specs.Near.{extent_of_edge as extent_of_edge_of, extent_of_edges as extent_of_edges_of, extent_with_edge, is_near as is_near_of};
+ghost use Rattle.sf_along.specs.Near.{extent_of_edge as extent_of_edge_of, extent_of_edges as extent_of_edges_of, is_near as is_near_of};
 ghost use Rattle.sf_along.specs.Runs.{AreInOrder, HavePair, near_runs as near_runs_of};
 
 use crate::marks::without_lone;
@@ -56,19 +55,15 @@ fn near_runs(
 fn extent_of_edges(edges: &[(GridPoint, GridPoint)]) -> Option<Extent>
     ensures { result ≡ extent_of_edges_of edges.now }
 {
-    match edges.split_first() {
-        Some((edge, others)) => Some(extent_with_edges(extent_of_edge(edge), others)),
-        None => None,
-    }
-}
-
-/// The least box that has some edges beside those of a box.
-fn extent_with_edges(extent: Extent, edges: &[(GridPoint, GridPoint)]) -> Extent
-    ensures { result ≡ fold extent_with_edge extent edges.now }
-{
-    edges
-        .iter()
-        .fold(extent, |extent, edge| extent.with(edge.0).with(edge.1))
+    let Some((edge, others)) = edges.split_first() else {
+        return None;
+    };
+    let first = extent_of_edge(edge);
+    Some(
+        others
+            .iter()
+            .fold(first, |extent, edge| extent.with(edge.0).with(edge.1)),
+    )
 }
 
 /// The box of an edge.

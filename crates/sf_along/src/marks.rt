@@ -61,11 +61,7 @@ fn kept(
 fn may_go(run: &Run, of_first: &[bool], of_second: &[bool]) -> bool
     ensures { result ≡ may_go_of of_first.now of_second.now run.now }
 {
-    if run.is_first {
-        is_marked(of_second, run)
-    } else {
-        is_marked(of_first, run)
-    }
+    is_marked(if run.is_first { of_second } else { of_first }, run)
 }
 
 /// Whether the line of a run has a mark.

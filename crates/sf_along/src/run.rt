@@ -3,7 +3,7 @@
 ghost use Rattle.std.specs.Prelude.{◌≡◌, ◌≢◌, ◌↔◌, ◌∷◌, ◌*◌, ◌-ℤ◌, ◌*ℤ◌, ◌<◌, ◌≤◌, IsTrue, unsigned_abs};
 ghost use Rattle.sf_grid.specs.Bounds.{IsCoordinate, coordinate_bound, difference_bound};
 ghost use Rattle.sf_grid.specs.Edge.{edge_between};
-ghost use Rattle.sf_grid.specs.Sharing.{comes_before as comes_before_of, earlier_of, later_of};
+ghost use Rattle.sf_grid.specs.Sharing.{comes_before as comes_before_of};
 ghost use Rattle.sf_plane.specs.Laws.{ShareTwoPoints};
 ghost use Rattle.sf_along.specs.Marks.{place_of};
 ghost use Rattle.sf_along.specs.Runs.{AreInOrder, GoTogether, HasPartner, IsRun, height_of, key_of, offset_of, reaches as reaches_of, run_of, slope_of};
@@ -38,8 +38,11 @@ impl Run {
     pub(crate) fn of(edge: &(GridPoint, GridPoint), is_first: bool) -> Run
         ensures { result ≡ run_of is_first edge.now }
     {
-        let left = earlier(edge.0, edge.1);
-        let right = later(edge.0, edge.1);
+        let (left, right) = if comes_before(edge.1, edge.0) {
+            (edge.1, edge.0)
+        } else {
+            *edge
+        };
         Run {
             slope: slope(left, right),
             height: height(left, right),
@@ -166,20 +169,6 @@ fn do_share(e: (GridPoint, GridPoint), f: (GridPoint, GridPoint)) -> bool
         Meet::Apart | Meet::At(_) => false,
         Meet::Along(..) => true,
     }
-}
-
-/// The earlier of two points by x and then y.
-fn earlier(a: GridPoint, b: GridPoint) -> GridPoint
-    ensures { result ≡ earlier_of a b }
-{
-    if comes_before(b, a) { b } else { a }
-}
-
-/// The later of two points by x and then y.
-fn later(a: GridPoint, b: GridPoint) -> GridPoint
-    ensures { result ≡ later_of a b }
-{
-    if comes_before(b, a) { a } else { b }
 }
 
 /// Whether `a` comes before `b` by x and then y.

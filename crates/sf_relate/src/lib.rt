@@ -29,4 +29,4 @@ pub use sf_plane::Dim;
 pub use shape::{Shape, dimension};
 pub use sink::KnownSink;
 pub use told::{matrix_apart, matrix_by_boxes, matrix_within};
-pub use walking::{meets_from, walked};
+pub use walking::{meets, meets_from, walked};

@@ -70,6 +70,17 @@ pub(crate) fn found_from(
     walked(alloc, a, b, aim, &more)
 }
 
+/// Whether the matrix of two geometries is as is asked.
+///
+/// # Errors
+///
+/// Out of memory alone.
+pub fn meets(alloc: Global, goal: &Goal, a: &Valid, b: &Valid) -> Result<bool, AllocError>
+    ensures { IfOk result (λ answer. answer ≡ is_met goal.now (matrix_of a.now b.now)) }
+{
+    meets_from(alloc, goal, a, b, &Known::nothing())
+}
+
 /// Whether the matrix of two geometries, of which this is known, is as is asked.
 ///
 /// # Errors
