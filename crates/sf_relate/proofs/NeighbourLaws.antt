@@ -4,13 +4,11 @@ use Rattle.std.specs.Prelude.{int_le, int_lt, if◌then◌else◌}
 use Rattle.std.specs.Ordering.{int_eq}
 use Rattle.std.specs.List.{list_any}
 use Rattle.std.proofs.lemmas.Int.{ints}
-use Rattle.std.proofs.lemmas.List.Folds.{list_any-append}
 use Rattle.std.proofs.lemmas.List.Sums.{sum_by-cons}
 use Rattle.sf_grid.specs.Plane.{Coordinates, Point as PlanePoint, grid_point, same_point}
 use Rattle.sf_grid.specs.Edge.{Edge, below_rightward, cross, edge_above, edge_between, on_edge}
 use Rattle.sf_grid.specs.EvenOdd.{edges_above, is_odd}
 use Rattle.sf_geometry.specs.Lists.{edges_of, is_same}
-use Rattle.sf_geometry.specs.PointSets.{on_line}
 use Rattle.sf_geometry.proofs.ListLaws.{edges-step, same-is}
 use Rattle.sf_polygons.proofs.TestLaws.{or-none, xor}
 use Rattle.sf_strands.proofs.EndLaws.{times-one}
@@ -122,10 +120,6 @@ pub ring-step : (found : Place) (p r : Coordinates) (rs : List Coordinates) (q :
 ring-step found p r rs q =
     sym (alone-more found (edges_place (edges_of (p ∷ r ∷ [])) q) (edges_place (edges_of (r ∷ rs)) q))
     ∙ ap (in_one_alone found) (sym (ap (λ es. edges_place es q) (neighbours p r rs) ∙ edges-append (edges_of (p ∷ r ∷ [])) (edges_of (r ∷ rs)) q))
-
-pub line-step : (p r : Coordinates) (rs : List Coordinates) (q : PlanePoint) → on_line (p ∷ r ∷ rs) q ≡ (on_line (p ∷ r ∷ []) q || on_line (r ∷ rs) q)
-line-step p r rs q =
-    ap (λ es. list_any (λ e. on_edge e q) es) (neighbours p r rs) ∙ list_any-append (λ e. on_edge e q) (edges_of (p ∷ r ∷ [])) (edges_of (r ∷ rs))
 
 -- lists one after another
 pub lists-step : (found : Place) (es fs : List Edge) (q : PlanePoint) →

@@ -1,65 +1,31 @@
 -- The place by tests on edges and ends is the place by counts, so it is the place of a point in a valid geometry.
-use Rattle.std.proofs.Common.{◌≡◌, ℕ, ◌+◌, refl, ap, sym, ◌∙◌, subst, Bool, true, false, cond, ◌||◌, List, ◌∷◌, [], map, nat_lt}
+use Rattle.std.proofs.Common.{◌≡◌, ℕ, ◌+◌, refl, ap, sym, ◌∙◌, subst, Bool, true, false, cond, List, ◌∷◌, [], map, nat_lt, inl, inr, ⊎_elim}
 use Rattle.std.specs.Prelude.{if◌then◌else◌}
 use Rattle.std.specs.List.{count_by, flat_map, list_any}
-use Rattle.std.proofs.lemmas.Bool.{both_ways}
-use Rattle.std.proofs.lemmas.List.Sums.{sum_by-cons}
+use Rattle.std.proofs.lemmas.Bool.{both_ways, or_cases, or_left, or_right}
 use Rattle.sf_grid.specs.Plane.{Coordinates, IsPoint, Point as PlanePoint, grid_point, same_point}
-use Rattle.sf_grid.specs.Edge.{Edge, on_edge}
+use Rattle.sf_grid.specs.Edge.{Edge, IsOnEdge, on_edge}
 use Rattle.sf_grid.specs.EvenOdd.{is_odd}
 use Rattle.sf_strips.specs.declared.piece.Piece.TheVariants as pieces
 use Rattle.sf_cells.specs.Pieces.{is_above, is_on}
 use Rattle.sf_geometry.specs.declared.geometry.Geometry.{Geometry}
 use Rattle.sf_geometry.specs.declared.geometry.Geometry.TheVariants.{Point, LineString, Polygon, MultiPoint, MultiLineString, MultiPolygon}
 use Rattle.sf_geometry.specs.Lists.{edges_of as edges_of_list, ends_of as ends_of_line}
-use Rattle.sf_geometry.specs.Parts.{joined}
+use Rattle.sf_geometry.specs.Parts.{edges_of, joined}
+use Rattle.sf_geometry.specs.Walks.{HasEdge}
+use Rattle.sf_interiors.proofs.ParityLaws.{on-edges}
 use Rattle.sf_geometry.specs.PointSets.{is_among, on_line}
 use Rattle.sf_pieces.specs.Marked.{piece_of}
-use Rattle.sf_polygons.proofs.TestLaws.{any-follows, any-map, count-map, or-none, some-count, xor}
+use Rattle.sf_polygons.proofs.TestLaws.{any-follows, any-map, count-map, or-none, some-count}
 use Rattle.sf_rules.specs.Validity.{IsValid}
 use Rattle.sf_strands.proofs.EndLaws.{grid-IsPoint}
 use Rattle.sf_relate.specs.declared.place.Place.{Place}
 use Rattle.sf_relate.specs.declared.place.Place.TheVariants.{Interior, Boundary, Exterior}
 use Rattle.sf_relate.specs.declared.shape.Shape.TheVariants.{Areas, Lines}
 use Rattle.sf_relate.specs.AllPieces.{end_dots_of, pieces_of}
-use Rattle.sf_relate.specs.Locating.{area_place, edges_place, line_place, lines_place, place_by_tests, point_place, together}
+use Rattle.sf_relate.specs.Locating.{area_place, edges_place, line_place, place_by_tests, point_place}
 use Rattle.sf_relate.specs.Places.{IsPlaceOf, place_at, place_by}
-use Rattle.sf_relate.proofs.NeighbourLaws.{odd-more}
 use Rattle.sf_relate.proofs.PlaceLaws.{count-ends, counts_tell_places, end-on, odd-some-count, on-lines}
-
--- ---- lines: two sets of them together
-pub together-more : (a b c : Place) → together a (together b c) ≡ together (together a b) c
-together-more Exterior b c = refl
-together-more Interior Exterior c = refl
-together-more Interior Interior Exterior = refl
-together-more Interior Interior Interior = refl
-together-more Interior Interior Boundary = refl
-together-more Interior Boundary Exterior = refl
-together-more Interior Boundary Interior = refl
-together-more Interior Boundary Boundary = refl
-together-more Boundary Exterior c = refl
-together-more Boundary Interior Exterior = refl
-together-more Boundary Interior Interior = refl
-together-more Boundary Interior Boundary = refl
-together-more Boundary Boundary Exterior = refl
-together-more Boundary Boundary Interior = refl
-together-more Boundary Boundary Boundary = refl
-
-lines-both : (on ons end odd : Bool) → (end ≡ true → on ≡ true) → (odd ≡ true → ons ≡ true) →
-    line_place (on || ons) (xor end odd) ≡ together (line_place on end) (line_place ons odd)
-lines-both true true true true f g = refl
-lines-both true true true false f g = refl
-lines-both true true false true f g = refl
-lines-both true true false false f g = refl
-lines-both true false true true f g = absurd (both_ways false refl (g refl))
-lines-both true false true false f g = refl
-lines-both true false false true f g = absurd (both_ways false refl (g refl))
-lines-both true false false false f g = refl
-lines-both false ons true odd f g = absurd (both_ways false refl (f refl))
-lines-both false true false true f g = refl
-lines-both false true false false f g = refl
-lines-both false false false true f g = refl
-lines-both false false false false f g = refl
 
 -- where an odd number of lines ends there is a line
 odd-on : (lines : List (List Coordinates)) (q : PlanePoint) → IsPoint q → is_odd (count_by (λ ps. is_among (ends_of_line ps) q) lines) ≡ true →
@@ -67,24 +33,34 @@ odd-on : (lines : List (List Coordinates)) (q : PlanePoint) → IsPoint q → is
 odd-on lines q i h =
     any-follows (λ ps. is_among (ends_of_line ps) q) (λ ps. on_line ps q) lines (λ ps k. end-on ps q i k) (odd-some-count (λ ps. is_among (ends_of_line ps) q) lines h)
 
-lines-cons : (ps : List Coordinates) (lines : List (List Coordinates)) (q : PlanePoint) → IsPoint q →
-    lines_place (ps ∷ lines) q ≡ together (line_place (on_line ps q) (is_among (ends_of_line ps) q)) (lines_place lines q)
-lines-cons ps lines q i =
-    let on = on_line ps q || list_any (λ rs. on_line rs q) lines in
-    ap (λ n. line_place on (is_odd n)) (sum_by-cons (λ rs. cond (is_among (ends_of_line rs) q) 1 0) ps lines)
-    ∙ ap (line_place on) (odd-more (is_among (ends_of_line ps) q) (count_by (λ rs. is_among (ends_of_line rs) q) lines))
-    ∙ lines-both (on_line ps q) (list_any (λ rs. on_line rs q) lines) (is_among (ends_of_line ps) q) (is_odd (count_by (λ rs. is_among (ends_of_line rs) q) lines))
-    (end-on ps q i) (odd-on lines q i)
+-- ---- lines, by all of their edges
+pub on-one : (q : PlanePoint) (es : List Edge) → HasEdge (λ e. IsOnEdge e q) es → list_any (λ e. on_edge e q) es ≡ true
+on-one q [] none = absurd none
+on-one q (e ∷ es) has =
+    ⊎_elim (λ here. or_left (on_edge e q) (list_any (λ d. on_edge d q) es) here) (λ later. or_right (on_edge e q) (list_any (λ d. on_edge d q) es) (on-one q es later)) has
 
--- one turn of a loop over lines
-pub lines-turn : (found by next whole : Place) (ps : List Coordinates) (rest left : List (List Coordinates)) (q : PlanePoint) → IsPoint q →
-    next ≡ together found by → by ≡ line_place (on_line ps q) (is_among (ends_of_line ps) q) → left ≡ ps ∷ rest →
-    together found (lines_place left q) ≡ whole → together next (lines_place rest q) ≡ whole
-lines-turn found by next whole ps rest left q i n b l h =
-    ap (λ s. together s (lines_place rest q)) (n ∙ ap (together found) b)
-    ∙ sym (together-more found (line_place (on_line ps q) (is_among (ends_of_line ps) q)) (lines_place rest q))
-    ∙ ap (together found) (sym (ap (λ ls. lines_place ls q) l ∙ lines-cons ps rest q i))
-    ∙ h
+pub one-on : (q : PlanePoint) (es : List Edge) → list_any (λ e. on_edge e q) es ≡ true → HasEdge (λ e. IsOnEdge e q) es
+one-on q [] h = absurd (both_ways false refl h)
+one-on q (e ∷ es) h = ⊎_elim (λ here. inl here) (λ later. inr (one-on q es later)) (or_cases (on_edge e q) (list_any (λ d. on_edge d q) es) h)
+
+-- the place on one line, and on several
+pub on-line : (g : Geometry) (ps : List Coordinates) (q : PlanePoint) (end : Bool) (place : Place) → g ≡ LineString ps → end ≡ is_among (ends_of_line ps) q →
+    place ≡ line_place (list_any (λ e. on_edge e q) (edges_of g)) end → place ≡ place_by_tests g q
+on-line g ps q end place is ends h =
+    h
+    ∙ ap (λ a. line_place (list_any (λ e. on_edge e q) (edges_of a)) end) is
+    ∙ ap (λ b. line_place b end) (on-edges (ps ∷ []) q ∙ or-none (on_line ps q))
+    ∙ ap (line_place (on_line ps q)) ends
+    ∙ ap (λ a. place_by_tests a q) (sym is)
+
+pub on-lines-by : (g : Geometry) (lines : List (List Coordinates)) (q : PlanePoint) (end : Bool) (place : Place) → g ≡ MultiLineString lines →
+    end ≡ is_odd (count_by (λ ps. is_among (ends_of_line ps) q) lines) → place ≡ line_place (list_any (λ e. on_edge e q) (edges_of g)) end → place ≡ place_by_tests g q
+on-lines-by g lines q end place is ends h =
+    h
+    ∙ ap (λ a. line_place (list_any (λ e. on_edge e q) (edges_of a)) end) is
+    ∙ ap (λ b. line_place b end) (on-edges lines q)
+    ∙ ap (line_place (list_any (λ ps. on_line ps q) lines)) ends
+    ∙ ap (λ a. place_by_tests a q) (sym is)
 
 -- ---- the place by counts
 line-same : (on end : Bool) → (end ≡ true → on ≡ true) → line_place on end ≡ (if on then (if end then Boundary else Interior) else Exterior)

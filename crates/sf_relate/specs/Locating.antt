@@ -49,13 +49,3 @@ in_one_alone Exterior p = p
 in_one_alone Interior Interior = Exterior
 in_one_alone Interior Boundary = Boundary
 in_one_alone Interior Exterior = Interior
-
--- the place in two sets of lines together
-abbrev pub together : Place → Place → Place
-together Exterior p = p
-together Interior Interior = Interior
-together Interior Boundary = Boundary
-together Interior Exterior = Interior
-together Boundary Interior = Boundary
-together Boundary Boundary = Interior
-together Boundary Exterior = Boundary

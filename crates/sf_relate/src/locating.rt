@@ -2,17 +2,18 @@
 
 ghost use Rattle.std.specs.Prelude.{◌≡◌, ◌∷◌, ◌&&◌, [], pos, int_lt, int_le};
 ghost use Rattle.std.specs.List.{flat_map, list_any};
-ghost use Rattle.sf_grid.specs.Edge.{below_rightward, cross as cross_of, edge_above, edge_between};
+ghost use Rattle.sf_grid.specs.Edge.{below_rightward, cross as cross_of, edge_above, edge_between, on_edge};
 ghost use Rattle.sf_grid.specs.Plane.{grid_point, same_point};
-ghost use Rattle.sf_geometry.specs.Lists.{edges_of, ends_of};
-ghost use Rattle.sf_geometry.specs.Parts.{joined};
+ghost use Rattle.sf_geometry.specs.Lists.{edges_of as edges_of_list, ends_of};
+ghost use Rattle.sf_geometry.specs.Parts.{edges_of, joined};
 ghost use Rattle.sf_geometry.specs.PointSets.{is_among, on_line};
 ghost use Rattle.sf_relate.specs.Contact.{is_in};
-ghost use Rattle.sf_relate.specs.Locating.{edges_place, line_place, lines_place, place_by_tests, point_place};
+ghost use Rattle.sf_relate.specs.Locating.{edges_place, line_place, place_by_tests, point_place};
 ghost use Rattle.sf_relate.specs.Places.{IsPlaceOf};
 
 use super::place::Place;
-use sf_geometry::{Geometry, Sequence, line_ends};
+use super::told::is_odd_end;
+use sf_geometry::{EdgeTest, Geometry, Sequence, line_ends};
 use sf_grid::edges::{on_edge, orientation};
 use sf_grid::{GridPoint, Turn};
 use sf_validity::Valid;
@@ -38,8 +39,14 @@ fn place_in(geometry: &Geometry, point: GridPoint) -> Place
     match geometry {
         Geometry::Point(at) => place_by_presence(is_at(*at, point)),
         Geometry::MultiPoint(points) => place_by_presence(is_one_of(points.as_slice(), point)),
-        Geometry::LineString(line) => place_on_line(line.as_slice(), point),
-        Geometry::MultiLineString(lines) => place_on_lines(lines.as_slice(), point),
+        Geometry::LineString(line) => place_on_lines(
+            geometry,
+            is_end(line.as_slice(), point),
+            point,
+        ),
+        Geometry::MultiLineString(lines) => {
+            place_on_lines(geometry, is_odd_end(lines.as_slice(), point), point)
+        }
         Geometry::Polygon(rings) => place_in_rings(rings.as_slice(), point),
         Geometry::MultiPolygon(polygons) => place_in_polygons(polygons.as_slice(), point),
     }
@@ -56,27 +63,32 @@ fn place_by_presence(is_there: bool) -> Place
     }
 }
 
-/// The place in lines: in the boundary of an end of an odd number of those that aren't closed.
-fn place_on_lines(lines: &[Sequence<GridPoint>], point: GridPoint) -> Place
-    ensures { result ≡ lines_place lines.now (grid_point point) }
+/// The place in lines, by whether an odd number of them ends there.
+fn place_on_lines(geometry: &Geometry, is_odd_end: bool, point: GridPoint) -> Place
+    ensures { result ≡ line_place (list_any (λ e. on_edge e (grid_point point)) (edges_of geometry.now)) is_odd_end }
 {
-    let mut place = Place::Exterior;
-    for line in lines {
-        place = place.together(place_on_line(line.as_slice(), point));
-    }
-    place
-}
-
-/// The place in one line.
-fn place_on_line(line: &[GridPoint], point: GridPoint) -> Place
-    ensures { result ≡ line_place (on_line line.now (grid_point point)) (is_among (ends_of line.now) (grid_point point)) }
-{
-    if is_end(line, point) {
+    if is_odd_end {
         Place::Boundary
-    } else if is_on_line(line, point) {
+    } else if geometry.any_edge(&EdgesAt { point }) {
         Place::Interior
     } else {
         Place::Exterior
+    }
+}
+
+/// Searches for edges that have a point.
+#[derive(Drop)]
+struct EdgesAt {
+    point: GridPoint,
+}
+
+impl EdgeTest for EdgesAt {
+    ghost use Rattle.sf_grid.specs.Edge.{IsOnEdge};
+
+    ghost Passes = { λ s edge. IsOnEdge edge (grid_point s.point) };
+
+    fn test(&self, from: GridPoint, to: GridPoint) -> bool {
+        on_edge(self.point, from, to)
     }
 }
 
@@ -104,23 +116,6 @@ fn is_one_of(points: &[GridPoint], point: GridPoint) -> bool
     points.iter().any(|at| is_at(*at, point))
 }
 
-/// Whether an edge of a line has the point.
-fn is_on_line(line: &[GridPoint], point: GridPoint) -> bool
-    ensures { result ≡ on_line line.now (grid_point point) }
-{
-    let Some((first, others)) = line.split_first() else {
-        return false;
-    };
-    let mut from = *first;
-    for to in others {
-        if is_on_neighbours(from, *to, point) {
-            return true;
-        }
-        from = *to;
-    }
-    false
-}
-
 /// Whether the edge between two neighbours has the point. Equal ones have no edge.
 fn is_on_neighbours(from: GridPoint, to: GridPoint, point: GridPoint) -> bool
     ensures { result ≡ on_line (from ∷ to ∷ []) (grid_point point) }
@@ -130,7 +125,7 @@ fn is_on_neighbours(from: GridPoint, to: GridPoint, point: GridPoint) -> bool
 
 /// The place in polygons, by the edges of all their rings.
 fn place_in_polygons(polygons: &[Sequence<Sequence<GridPoint>>], point: GridPoint) -> Place
-    ensures { result ≡ edges_place (flat_map edges_of (joined polygons.now)) (grid_point point) }
+    ensures { result ≡ edges_place (flat_map edges_of_list (joined polygons.now)) (grid_point point) }
 {
     let mut place = Place::Exterior;
     for rings in polygons {
@@ -144,7 +139,7 @@ fn place_in_polygons(polygons: &[Sequence<Sequence<GridPoint>>], point: GridPoin
 
 /// The place in a polygon, by the edges of its rings.
 fn place_in_rings(rings: &[Sequence<GridPoint>], point: GridPoint) -> Place
-    ensures { result ≡ edges_place (flat_map edges_of rings.now) (grid_point point) }
+    ensures { result ≡ edges_place (flat_map edges_of_list rings.now) (grid_point point) }
 {
     let mut place = Place::Exterior;
     for ring in rings {
@@ -158,7 +153,7 @@ fn place_in_rings(rings: &[Sequence<GridPoint>], point: GridPoint) -> Place
 
 /// The place in one ring, by its edges.
 fn place_in_ring(ring: &[GridPoint], point: GridPoint) -> Place
-    ensures { result ≡ edges_place (edges_of ring.now) (grid_point point) }
+    ensures { result ≡ edges_place (edges_of_list ring.now) (grid_point point) }
 {
     let Some((first, others)) = ring.split_first() else {
         return Place::Exterior;
@@ -178,7 +173,7 @@ fn place_in_ring(ring: &[GridPoint], point: GridPoint) -> Place
 /// What the edge between two neighbours says of the place: that the point is on it, or below it.
 /// Equal ones have no edge.
 fn place_by_neighbours(from: GridPoint, to: GridPoint, point: GridPoint) -> Place
-    ensures { result ≡ edges_place (edges_of (from ∷ to ∷ [])) (grid_point point) }
+    ensures { result ≡ edges_place (edges_of_list (from ∷ to ∷ [])) (grid_point point) }
 {
     if is_on_neighbours(from, to, point) {
         Place::Boundary

@@ -1,5 +1,5 @@
 ghost use Rattle.std.specs.Prelude.{◌≡◌, ◌<◌, ◌||◌};
-ghost use Rattle.sf_relate.specs.Locating.{in_one_alone, together};
+ghost use Rattle.sf_relate.specs.Locating.{in_one_alone};
 ghost use Rattle.sf_relate.specs.Places.{is_place, place_by, row_of};
 ghost use Rattle.sf_relate.specs.declared.place.Place.TheVariants as places;
 
@@ -46,23 +46,6 @@ impl Place {
             (Place::Exterior, _) => other,
             (Place::Interior, Place::Exterior) => Place::Interior,
             (Place::Interior, Place::Interior) => Place::Exterior,
-        }
-    }
-
-    /// The place on two sets of lines together, from the places on both: on the boundary where it
-    /// is an end of an odd number of the lines.
-    pub(crate) fn together(self, other: Place) -> Place
-        ensures { result ≡ together self other }
-    {
-        match (self, other) {
-            (Place::Exterior, _) => other,
-            (_, Place::Exterior) => self,
-            (Place::Interior, Place::Interior) | (Place::Boundary, Place::Boundary) => {
-                Place::Interior
-            }
-            (Place::Interior, Place::Boundary) | (Place::Boundary, Place::Interior) => {
-                Place::Boundary
-            }
         }
     }
 

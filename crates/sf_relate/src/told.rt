@@ -101,7 +101,7 @@ fn has_odd_end(line: &[GridPoint], lines: &[Sequence<GridPoint>]) -> bool
 }
 
 /// Whether an odd number of the lines end at the point.
-fn is_odd_end(lines: &[Sequence<GridPoint>], point: GridPoint) -> bool
+pub(crate) fn is_odd_end(lines: &[Sequence<GridPoint>], point: GridPoint) -> bool
     ensures { result ≡ is_odd_end lines.now point }
 {
     let count = lines

@@ -1,21 +1,23 @@
-use Rattle.std.proofs.Common.{◌∙◌, ap, sym, ◌+◌, ◌∷◌, drop, List}
-use Rattle.std.proofs.lemmas.List.{drop_more}
-use Rattle.sf_grid.specs.Plane.{Coordinates, grid_point}
-use Rattle.sf_geometry.specs.Lists.{ends_of}
-use Rattle.sf_geometry.specs.PointSets.{is_among, on_line}
-use Rattle.sf_strands.proofs.EndLaws.{grid-IsPoint}
-use Rattle.sf_relate.specs.Locating.{line_place, lines_place}
-use Rattle.sf_relate.proofs.TestedPlaces.{lines-turn}
+use Rattle.std.proofs.Common.{◌≡◌, ◌∙◌, ap, sym, true≢false, false}
+use Rattle.std.specs.List.{list_any}
+use Rattle.std.proofs.lemmas.Bool.{false_from_ne_true}
+use Rattle.sf_grid.specs.Edge.{on_edge}
+use Rattle.sf_grid.specs.Plane.{grid_point}
+use Rattle.sf_geometry.specs.Parts.{edges_of}
+use Rattle.sf_relate.specs.Locating.{line_place}
+use Rattle.sf_relate.proofs.TestedPlaces.{on-one, one-on}
 use Rattle.sf_relate.proofs.locating.place_on_lines.Goals as goal
 
-pub loop-line-preserved : goal.loop-line-preserved
-loop-line-preserved c =
-    let lines : List (List Coordinates) = c.args.lines.now in
-    let line : List Coordinates = c.line-item.result in
-    let rest : List (List Coordinates) = drop (c.loop-line.line-index + 1) lines in
-    lines-turn c.loop-line.place c.place_on_line.result c.together-place.result (lines_place lines (grid_point c.args.point)) line rest
-    (drop c.loop-line.line-index lines) (grid_point c.args.point) (grid-IsPoint c.args.point) c.together-place.ensures
-    (c.place_on_line.ensures
-    ∙ ap (λ ps. line_place (on_line ps (grid_point c.args.point)) (is_among (ends_of ps) (grid_point c.args.point))) c.as_slice.ensures)
-    (drop_more lines c.loop-line.line-index line c.loop-line-test.true ∙ ap (λ r. r ∷ rest) (sym c.line-item.is))
-    c.loop-line.invariant
+pub returns-then-any_edge : goal.returns-then-any_edge
+returns-then-any_edge c =
+    let q = grid_point c.args.point in
+    let es = edges_of c.args.geometry.now in
+    sym (ap (line_place (list_any (λ e. on_edge e q) es)) c.if-is_odd_end.false ∙ ap (λ b. line_place b false) (on-one q es (c.any_edge.ensures.0 c.if-any_edge.true)))
+
+pub returns-else-any_edge : goal.returns-else-any_edge
+returns-else-any_edge c =
+    let q = grid_point c.args.point in
+    let es = edges_of c.args.geometry.now in
+    let on = list_any (λ e. on_edge e q) es in
+    let off : on ≡ false = false_from_ne_true on (λ t. true≢false (sym (c.any_edge.ensures.1 (one-on q es t)) ∙ c.if-any_edge.false)) in
+    sym (ap (line_place on) c.if-is_odd_end.false ∙ ap (λ b. line_place b false) off)
