@@ -1,25 +1,17 @@
--- An edge has no point of a box that lies on one side of it; where all edges whose boxes are in the way do so, the box is clear.
-use Rattle.std.proofs.Common.{◌≡◌, ℕ, ◌+◌, ◌<◌, ◌≤◌, arith, refl, ap, sym, ◌∙◌, subst, get_or, ℤ, pos, ◌+ℤ◌, ◌-ℤ◌, ◌*ℤ◌, ◌<ℤ◌, ◌≤ℤ◌, Bool, true, false, List, [], ◌∷◌, drop, take, length, map, filter}
-use Rattle.std.specs.Prelude.{if◌then◌else◌}
-use Rattle.std.specs.List.{AllByRecursion}
-use Rattle.std.specs.Map.{keys_of}
+-- An edge has no point of a box that lies on one side of it; where each of some edges has none, the box is clear of them.
+use Rattle.std.proofs.Common.{◌≡◌, ℕ, ◌+◌, ◌<◌, ◌≤◌, arith, refl, ap, sym, ◌∙◌, subst, get_or, ℤ, pos, ◌+ℤ◌, ◌-ℤ◌, ◌*ℤ◌, ◌<ℤ◌, ◌≤ℤ◌, true, List, [], ◌∷◌, drop, length, map}
 use Rattle.std.proofs.lemmas.Int.{by_lt_z, ints}
 use Rattle.std.proofs.lemmas.List.{drop_all, drop_more}
 use Rattle.sf_grid.specs.Plane.{Coordinates, IsPoint, Point, grid_point}
 use Rattle.sf_grid.specs.Edge.{cross, edge_between}
 use Rattle.sf_grid.proofs.CallerLemmas.{dif, lies, lt_from_test, mul, mul_nonneg-nonneg, mul_pos, num, ring, sum, var}
 use Rattle.sf_geometry.specs.declared.extent.Extent.{Extent}
-use Rattle.sf_geometry.specs.Envelope.{extents_meet}
 use Rattle.sf_geometry.specs.Parts.{edge_of}
 use Rattle.sf_paths.specs.Paths.{IsOffBox}
 use Rattle.sf_plane.specs.Boxes.{in_box}
 use Rattle.sf_validity.specs.Beside.{box_of_extent}
-use Rattle.sf_rtree.specs.Indexes.{ids_meeting}
-use Rattle.sf_crossing.specs.Meeting.{extent_of_edge}
-use Rattle.sf_prepared.specs.Boxes.{boxes_from}
 use Rattle.sf_prepared.specs.Places.{AreClear, IsBoxLeft, IsLeft}
-use Rattle.sf_prepared.proofs.AboveLaws.{boxed-sides, found-inside, next-drop}
-use Rattle.sf_prepared.proofs.TreeLaws.{off-box}
+use Rattle.sf_prepared.proofs.AboveLaws.{boxed-sides}
 
 -- ---- on one side
 -- the side of a point, by that of a corner
@@ -94,50 +86,11 @@ misses-right a b extent h p i inside on =
     back : (z w : ℤ) → w ≡ pos 0 -ℤ z → z ≡ pos 0 → w ≡ pos 0
     back z w e f = omega (arith, ints)
 
--- ---- of the edges in the way
--- the edge of a number misses the box
-abbrev misses_at : List (Coordinates × Coordinates) → Extent → ℕ → Type 0
-misses_at pairs extent id = AllByRecursion (λ pair. IsOffBox (box_of_extent extent) (edge_of pair)) (take 1 (drop id pairs))
+-- ---- one edge after another
+pub missed-next : (extent : Extent) (pairs : List (Coordinates × Coordinates)) (index : ℕ) (pair : Coordinates × Coordinates) → index < length pairs → pair ≡ get_or pairs index pair →
+    IsOffBox (box_of_extent extent) (edge_of pair) → (AreClear extent (map edge_of (drop index pairs)) → AreClear extent (map edge_of pairs)) → AreClear extent (map edge_of (drop (index + 1) pairs)) → AreClear extent (map edge_of pairs)
+missed-next extent pairs index pair l at off all rest =
+    all (subst (λ ps. AreClear extent (map edge_of ps)) (sym (drop_more pairs index pair l ∙ ap (λ p. p ∷ drop (index + 1) pairs) (sym at))) (off, rest))
 
--- there is an edge of each number, and where those that are left miss the box, it is clear
-pub record AreMissed (pairs : List (Coordinates × Coordinates)) (extent : Extent) (left : List ℕ) : Type 0 where
-  pub inside : AllByRecursion (λ id. id < length pairs) left
-  pub tells : AllByRecursion (misses_at pairs extent) left → AreClear extent (map edge_of pairs)
-
-missed-clear : (all : List (Coordinates × Coordinates)) (extent : Extent) (n : ℕ) (pairs : List (Coordinates × Coordinates)) → drop n all ≡ pairs → AllByRecursion (misses_at all extent) (ids_meeting extent (boxes_from n pairs)) →
-    AreClear extent (map edge_of pairs)
-missed-clear all extent n [] is h = tt
-missed-clear all extent n (pair ∷ pairs) is h = by_test (extents_meet (extent_of_edge pair) extent) refl h (missed-clear all extent (n + 1) pairs (next-drop all n pair pairs is))
-  where
-    by_test : (t : Bool) → extents_meet (extent_of_edge pair) extent ≡ t →
-        AllByRecursion (misses_at all extent) (keys_of (if t then (n, extent_of_edge pair) ∷ filter (λ entry. extents_meet entry.1 extent) (boxes_from (n + 1) pairs) else filter (λ entry. extents_meet entry.1 extent) (boxes_from (n + 1) pairs))) →
-        (AllByRecursion (misses_at all extent) (ids_meeting extent (boxes_from (n + 1) pairs)) → AreClear extent (map edge_of pairs)) → AreClear extent (map edge_of (pair ∷ pairs))
-    by_test true e k rest = ((subst (λ ps. AllByRecursion (λ r. IsOffBox (box_of_extent extent) (edge_of r)) (take 1 ps)) is k.0).0, rest k.1)
-    by_test false e k rest = (off-box extent pair e, rest k)
-
-pub missed-start : (pairs : List (Coordinates × Coordinates)) (extent : Extent) (near : List ℕ) → near ≡ ids_meeting extent (boxes_from 0 pairs) → AreMissed pairs extent near
-missed-start pairs extent near is =
-    record {
-      inside = subst (AllByRecursion (λ id. id < length pairs)) (sym is) (found-inside (length pairs) 0 extent pairs (omega arith));
-      tells = λ h. missed-clear pairs extent 0 pairs refl (subst (AllByRecursion (misses_at pairs extent)) is h);
-    }
-
-pub missed-inside : (pairs : List (Coordinates × Coordinates)) (extent : Extent) (near : List ℕ) (index : ℕ) → index < length near → AreMissed pairs extent (drop index near) → get_or near index 0 < length pairs
-missed-inside pairs extent near index l h = (subst (AllByRecursion (λ n. n < length pairs)) (drop_more near index 0 l) h.inside).0
-
-pub missed-next : (pairs : List (Coordinates × Coordinates)) (extent : Extent) (near : List ℕ) (index : ℕ) (pair : Coordinates × Coordinates) → index < length near → pair ≡ get_or pairs (get_or near index 0) pair →
-    IsOffBox (box_of_extent extent) (edge_of pair) → AreMissed pairs extent (drop index near) → AreMissed pairs extent (drop (index + 1) near)
-missed-next pairs extent near index pair l at off h =
-    let id = get_or near index 0 in
-    let left = drop_more near index 0 l in
-    let each = subst (AllByRecursion (λ n. n < length pairs)) left h.inside in
-    let there = drop_more pairs id pair each.0 ∙ ap (λ r. r ∷ drop (id + 1) pairs) (sym at) in
-    record {
-      inside = each.1;
-      tells =
-          λ k. h.tells (subst (AllByRecursion (misses_at pairs extent)) (sym left)
-          (subst (λ ps. AllByRecursion (λ r. IsOffBox (box_of_extent extent) (edge_of r)) (take 1 ps)) (sym there) (off, tt), k));
-    }
-
-pub missed-end : (pairs : List (Coordinates × Coordinates)) (extent : Extent) (near : List ℕ) (index : ℕ) → length near ≤ index → AreMissed pairs extent (drop index near) → AreClear extent (map edge_of pairs)
-missed-end pairs extent near index l h = h.tells (subst (AllByRecursion (misses_at pairs extent)) (sym (drop_all index near l)) tt)
+pub missed-end : (extent : Extent) (pairs : List (Coordinates × Coordinates)) (index : ℕ) → length pairs ≤ index → (AreClear extent (map edge_of (drop index pairs)) → AreClear extent (map edge_of pairs)) → AreClear extent (map edge_of pairs)
+missed-end extent pairs index l all = all (subst (λ ps. AreClear extent (map edge_of ps)) (sym (drop_all index pairs l)) tt)

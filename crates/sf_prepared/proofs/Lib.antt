@@ -1,9 +1,8 @@
 pub mod AboveLaws
 pub mod BesideLaws
+pub mod EdgeLaws
 pub mod FirstVertexLaws
 pub mod NearLaws
 pub mod NearbyLaws
-pub mod OverLaws
 pub mod PlacedLaws
 pub mod TransposedLaws
-pub mod TreeLaws

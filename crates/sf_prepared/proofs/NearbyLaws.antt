@@ -1,10 +1,8 @@
 -- The edges in the columns over a geometry's box, from its lower side up: they tell the place of each of its points, and where one of them leaves the box, the area has parts beyond it.
-use Rattle.std.proofs.Common.{◌≡◌, ◌≢◌, ℕ, ◌+◌, ◌<◌, ◌≤◌, arith, refl, ap, sym, ◌∙◌, subst, ℤ, pos, ◌+ℤ◌, ◌-ℤ◌, ◌*ℤ◌, ◌<ℤ◌, ◌≤ℤ◌, Bool, true, false, ◌&&◌, ◌||◌, not, List, [], ◌∷◌, ◌++◌, drop, take, length, map, filter, inl, inr}
-use Rattle.std.specs.Prelude.{◌^◌, ◌-◌, if◌then◌else◌, int_lt, Result, Ok, Err, Option, IfOk, IfSome}
-use Rattle.std.specs.Result.{result_ok}
+use Rattle.std.proofs.Common.{◌≡◌, ◌≢◌, ℕ, ◌≤◌, arith, lit<, refl, ap, sym, ◌∙◌, subst, ℤ, pos, ◌+ℤ◌, ◌-ℤ◌, ◌*ℤ◌, ◌<ℤ◌, ◌≤ℤ◌, Bool, true, false, ◌&&◌, ◌||◌, not, List, [], ◌∷◌, length, map, filter, inl, inr}
+use Rattle.std.specs.Prelude.{◌^◌, ◌-◌, if◌then◌else◌, int_lt}
 use Rattle.std.specs.Int.{int_max}
 use Rattle.std.specs.List.{AllByRecursion, list_any}
-use Rattle.std.specs.Map.{keys_of}
 use Rattle.std.proofs.lemmas.Bool.{and_from, and_parts, both_ways, false_from_ne_true, or_cases}
 use Rattle.std.proofs.lemmas.Int.{clamps, ints}
 use Rattle.std.proofs.lemmas.List.Elements.{All-filter, All-from_recursion, recursion_from_All}
@@ -17,9 +15,9 @@ use Rattle.sf_slabs.proofs.CallerLemmas.{each-map}
 use Rattle.sf_geometry.specs.declared.extent.Extent.{Extent}
 use Rattle.sf_geometry.specs.declared.geometry.Geometry.{Geometry}
 use Rattle.sf_geometry.specs.declared.geometry.Geometry.TheVariants.{LineString, MultiLineString, MultiPoint, MultiPolygon, Point, Polygon}
-use Rattle.sf_geometry.specs.Envelope.{envelope_of, extents_meet}
+use Rattle.sf_geometry.specs.Envelope.{envelope_of, extent_at, extents_meet}
 use Rattle.sf_geometry.specs.Lists.{is_same}
-use Rattle.sf_geometry.specs.Parts.{edge_of}
+use Rattle.sf_geometry.specs.Parts.{edge_of, edges_of}
 use Rattle.sf_geometry.specs.PointSets.{in_boundary, in_exterior, in_interior}
 use Rattle.sf_geometry.proofs.ListLaws.{same-is}
 use Rattle.sf_interiors.specs.Dimensions.{interior_dim}
@@ -33,6 +31,7 @@ use Rattle.sf_plane.specs.Dimension.{PointSet}
 use Rattle.sf_plane.proofs.BoxLaws.{common_point_meets, edge_in_box}
 use Rattle.sf_rules.specs.Validity.{IsValid}
 use Rattle.sf_validity.specs.Beside.{box_of_extent}
+use Rattle.sf_validity.specs.Held.{IsHeld}
 use Rattle.sf_relate.specs.Contact.{in_extent, is_in}
 use Rattle.sf_relate.specs.declared.shape.Shape.TheVariants.{Areas}
 use Rattle.sf_relate.specs.Locating.{area_place, edges_place}
@@ -41,49 +40,13 @@ use Rattle.sf_relate.specs.Nearby.{ReachesBeyond, TellPlaces}
 use Rattle.sf_relate.specs.Places.{IsPlaceOf, shape_of}
 use Rattle.sf_relate.proofs.TestedPlaces.{tests_tell_places}
 use Rattle.sf_relate.proofs.ToldLaws.{exterior-from}
-use Rattle.sf_rtree.specs.Indexes.{Boxes, ids_meeting}
 use Rattle.sf_crossing.specs.Meeting.{extent_of_edge}
-use Rattle.sf_prepared.specs.Boxes.{AreBoxesOf, AreEdgesOf, AreOnGrid, boxes_from}
-use Rattle.sf_prepared.specs.Nearby.{LeavingReachesBeyond, NearbyTellsPlaces, columns_over, edges_at, leaves, nearby}
-use Rattle.sf_prepared.proofs.AboveLaws.{above-meets, boxed-from, boxed-sides, found-inside, next-drop}
+use Rattle.sf_prepared.specs.Boxes.{AreEdgesOf, AreOnGrid, pairs_of}
+use Rattle.sf_prepared.specs.Nearby.{LeavingReachesBeyond, NearbyTellsPlaces, columns_over, leaves, nearby}
+use Rattle.sf_prepared.proofs.AboveLaws.{above-meets, boxed-from, boxed-sides, own-box}
 use Rattle.sf_prepared.proofs.PlacedLaws.{boxed, has-rings}
 use Rattle.sf_relate.proofs.CommonBoxLaws.{has-ends}
-use Rattle.sf_prepared.proofs.TreeLaws.{few-pairs, none-said}
-
--- ---- the edges of the numbers that the tree finds
-found-at : (all : List (Coordinates × Coordinates)) (extent : Extent) (n : ℕ) (pairs : List (Coordinates × Coordinates)) → drop n all ≡ pairs →
-    edges_at all (ids_meeting extent (boxes_from n pairs)) ≡ filter (λ pair. extents_meet (extent_of_edge pair) extent) pairs
-found-at all extent n [] is = refl
-found-at all extent n (pair ∷ pairs) is = by_test (extents_meet (extent_of_edge pair) extent) (found-at all extent (n + 1) pairs (next-drop all n pair pairs is))
-  where
-    later : List (ℕ × Extent)
-    later = filter (λ entry. extents_meet entry.1 extent) (boxes_from (n + 1) pairs)
-
-    rest : List (Coordinates × Coordinates)
-    rest = filter (λ r. extents_meet (extent_of_edge r) extent) pairs
-
-    by_test : (t : Bool) → edges_at all (ids_meeting extent (boxes_from (n + 1) pairs)) ≡ rest →
-        edges_at all (keys_of (if t then (n, extent_of_edge pair) ∷ later else later)) ≡ (if t then pair ∷ rest else rest)
-    by_test true k = ap (λ ps. take 1 ps ++ edges_at all (ids_meeting extent (boxes_from (n + 1) pairs))) is ∙ ap (λ ps. pair ∷ ps) k
-    by_test false k = k
-
--- each of these numbers has an edge in the slice, and their edges are those nearby
-pub record AreNear (extent : Extent) (pairs slice : List (Coordinates × Coordinates)) (ids : List ℕ) : Type 0 where
-  pub inside : AllByRecursion (λ id. id < length slice) ids
-  pub edges : edges_at slice ids ≡ nearby extent pairs
-
-pub found-near : (extent columns : Extent) (pairs held slice : List (Coordinates × Coordinates)) (boxes : Boxes) (found ids : List ℕ) → AreBoxesOf held boxes → held ≡ pairs → slice ≡ held → columns ≡ columns_over extent →
-    found ≡ ids_meeting columns boxes → ids ≡ found → AreNear extent pairs slice ids
-found-near extent columns pairs held slice boxes found ids are view same over meeting these =
-    let is = these ∙ meeting ∙ ap (ids_meeting columns) (are.same ∙ ap (boxes_from 0) view) ∙ ap (λ e. ids_meeting e (boxes_from 0 pairs)) over in
-    subst (λ ps. AreNear extent pairs ps ids) (sym (same ∙ view))
-    (subst (AreNear extent pairs pairs) (sym is)
-    (record { inside = found-inside (length pairs) 0 (columns_over extent) pairs (omega arith); edges = found-at pairs (columns_over extent) 0 pairs refl }))
-
--- what a result promises of a value, an option made of it does
-pub some-kept : {X E : Type 0} (r : Result X E) (o : Option X) (P Q : X → Type 0) → o ≡ result_ok r → ((x : X) → P x → Q x) → IfOk r P → IfSome o Q
-some-kept (Ok x) o P Q is f h = subst (λ s. IfSome s Q) (sym is) (f x h)
-some-kept (Err e) o P Q is f h = subst (λ s. IfSome s Q) (sym is) tt
+use Rattle.sf_prepared.proofs.EdgeLaws.{few-pairs, none-said, pairs-edges, pairs-on-grid}
 
 -- ---- an edge that has a point of the box is one of them
 on-meets : (pair : Coordinates × Coordinates) (q : PlanePoint) (extent : Extent) → AreOnGrid pair → IsPoint q → in_extent extent q ≡ true → on_edge (edge_of pair) q ≡ true →
@@ -129,18 +92,29 @@ kept-tell keep test join value (pair ∷ pairs) by h = by_keep (keep pair) refl 
         ∙ sym (ap (λ t. join t (value (map edge_of pairs))) (false_from_ne_true (test (edge_of pair)) (λ t. both_ways (keep pair) e (h.0 t))))
         ∙ sym (by.next (edge_of pair) (map edge_of pairs))
 
+abbrev keep : Extent → Coordinates × Coordinates → Bool
+keep extent pair = extents_meet (extent_of_edge pair) (columns_over extent)
+
+nearby-parity : (extent : Extent) (pairs : List (Coordinates × Coordinates)) (q : PlanePoint) → AllByRecursion AreOnGrid pairs → IsPoint q → in_extent extent q ≡ true →
+    is_odd (edges_above q (map edge_of (nearby extent pairs))) ≡ is_odd (edges_above q (map edge_of pairs))
+nearby-parity extent pairs q grid i inside =
+    kept-tell (keep extent) (λ e. edge_above e q) differ (λ es. is_odd (edges_above q es)) pairs (record { idle = λ b. refl; next = odd-count (λ e. edge_above e q) })
+    (each-map AreOnGrid (λ pair. edge_above (edge_of pair) q ≡ true → keep extent pair ≡ true) pairs (λ pair g. above-meets pair q extent g i inside) grid)
+
+-- those in the columns over a point of the grid
+pub odd-above : (p : Coordinates) (extent : Extent) (pairs near slice : List (Coordinates × Coordinates)) → AllByRecursion AreOnGrid pairs → extent ≡ extent_at p → near ≡ nearby extent pairs → slice ≡ near →
+    is_odd (edges_above (grid_point p) (map edge_of slice)) ≡ is_odd (edges_above (grid_point p) (map edge_of pairs))
+odd-above p extent pairs near slice grid at found same =
+    ap (λ es. is_odd (edges_above (grid_point p) (map edge_of es))) (same ∙ found ∙ ap (λ e. nearby e pairs) at)
+    ∙ nearby-parity (extent_at p) pairs (grid_point p) grid (record { positive = lit< tt }) (own-box p)
+
 nearby-place : (extent : Extent) (pairs : List (Coordinates × Coordinates)) (q : PlanePoint) → AllByRecursion AreOnGrid pairs → IsPoint q → in_extent extent q ≡ true →
     edges_place (map edge_of (nearby extent pairs)) q ≡ edges_place (map edge_of pairs) q
 nearby-place extent pairs q grid i inside =
     ap (λ on. area_place on (is_odd (edges_above q (map edge_of (nearby extent pairs)))))
-    (kept-tell keep (λ e. on_edge e q) (λ b c. b || c) (λ es. list_any (λ e. on_edge e q) es) pairs (record { idle = λ b. refl; next = λ e es. refl })
-    (each-map AreOnGrid (λ pair. on_edge (edge_of pair) q ≡ true → keep pair ≡ true) pairs (λ pair g. on-meets pair q extent g i inside) grid))
-    ∙ ap (area_place (list_any (λ e. on_edge e q) (map edge_of pairs)))
-    (kept-tell keep (λ e. edge_above e q) differ (λ es. is_odd (edges_above q es)) pairs (record { idle = λ b. refl; next = odd-count (λ e. edge_above e q) })
-    (each-map AreOnGrid (λ pair. edge_above (edge_of pair) q ≡ true → keep pair ≡ true) pairs (λ pair g. above-meets pair q extent g i inside) grid))
-  where
-    keep : Coordinates × Coordinates → Bool
-    keep pair = extents_meet (extent_of_edge pair) (columns_over extent)
+    (kept-tell (keep extent) (λ e. on_edge e q) (λ b c. b || c) (λ es. list_any (λ e. on_edge e q) es) pairs (record { idle = λ b. refl; next = λ e es. refl })
+    (each-map AreOnGrid (λ pair. on_edge (edge_of pair) q ≡ true → keep extent pair ≡ true) pairs (λ pair g. on-meets pair q extent g i inside) grid))
+    ∙ ap (area_place (list_any (λ e. on_edge e q) (map edge_of pairs))) (nearby-parity extent pairs q grid i inside)
 
 nearby-tell : (a b : Geometry) (pairs : List (Coordinates × Coordinates)) → IsValid a → IsValid b → shape_of b ≡ Areas → AreEdgesOf b pairs → AllByRecursion AreOnGrid pairs →
     TellPlaces a b (map edge_of (nearby (envelope_of a) pairs))
@@ -273,17 +247,18 @@ pub record AreEnough (a b : Geometry) (edges : List (Coordinates × Coordinates)
   pub places : TellPlaces a b (map edge_of edges)
   pub beyond : ReachesBeyond a b
 
-pub nearby-enough : (a b found : Geometry) (extent : Extent) (pairs edges : List (Coordinates × Coordinates)) → IsValid a → IsValid b → shape_of b ≡ Areas → AreEdgesOf b pairs → AllByRecursion AreOnGrid pairs →
-    found ≡ a → extent ≡ envelope_of found → edges ≡ nearby extent pairs → list_any (leaves extent) edges ≡ true → AreEnough a b edges
-nearby-enough a b found extent pairs edges v w s are grid is boxes those one =
-    let same = boxes ∙ ap envelope_of is in
-    let near = those ∙ ap (λ e. nearby e pairs) same in
+pub nearby-enough : (a b : Geometry) (extent : Extent) (edges : List (Coordinates × Coordinates)) → IsHeld a → IsHeld b → shape_of b ≡ Areas → extent ≡ envelope_of a → edges ≡ nearby extent (pairs_of b) →
+    list_any (leaves extent) edges ≡ true → AreEnough a b edges
+nearby-enough a b extent edges v w s is those one =
+    let pairs = pairs_of b in
+    let are = pairs-edges (edges_of b) in
+    let near = those ∙ ap (λ e. nearby e pairs) is in
     subst (AreEnough a b) (sym near)
     (record {
-      few = nearby-few b (envelope_of a) pairs w are;
-      long = nearby-long b (envelope_of a) pairs w s are;
-      places = nearby-tell a b pairs v w s are grid;
-      beyond = area-beyond a b pairs v w s are (ap (λ es. list_any (leaves (envelope_of a)) es) (sym near) ∙ ap (λ e. list_any (leaves e) edges) (sym same) ∙ one);
+      few = nearby-few b (envelope_of a) pairs w.valid are;
+      long = nearby-long b (envelope_of a) pairs w.valid s are;
+      places = nearby-tell a b pairs v.valid w.valid s are (pairs-on-grid b w.on_grid);
+      beyond = area-beyond a b pairs v.valid w.valid s are (ap (list_any (leaves (envelope_of a))) (sym near) ∙ ap (λ e. list_any (leaves e) edges) (sym is) ∙ one);
     })
 
 -- ---- as laws

@@ -1,7 +1,7 @@
 -- Internal: who wants to trust the program need not read this file.
 -- The edges that can be on a point of a box or above one: those in the columns over it, from its lower side up.
-use Rattle.std.specs.Prelude.{◌≡◌, ℕ, ◌^◌, ◌-◌, pos, Bool, ◌||◌, not, IsTrue, List, map, take, drop}
-use Rattle.std.specs.List.{AllByRecursion, filter, flat_map, list_any}
+use Rattle.std.specs.Prelude.{◌≡◌, ◌^◌, ◌-◌, pos, Bool, ◌||◌, not, IsTrue, List, map}
+use Rattle.std.specs.List.{AllByRecursion, filter, list_any}
 use Rattle.sf_grid.specs.Plane.{Coordinates, grid_point}
 use Rattle.sf_geometry.specs.declared.extent.Extent.{Extent}
 use Rattle.sf_geometry.specs.declared.geometry.Geometry.{Geometry}
@@ -26,10 +26,6 @@ nearby extent pairs = filter (λ pair. extents_meet (extent_of_edge pair) (colum
 -- an end of the edge is outside of the box
 abbrev pub leaves : Extent → Coordinates × Coordinates → Bool
 leaves extent pair = not (in_extent extent (grid_point pair.0)) || not (in_extent extent (grid_point pair.1))
-
--- the edges of these numbers
-abbrev pub edges_at : List (Coordinates × Coordinates) → List ℕ → List (Coordinates × Coordinates)
-edges_at pairs ids = flat_map (λ id. take 1 (drop id pairs)) ids
 
 -- a valid geometry, and a valid area with its edges as pairs of grid points
 pub record IsBesideArea (a area : Geometry) (pairs : List (Coordinates × Coordinates)) : Type 0 where

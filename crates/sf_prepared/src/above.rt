@@ -1,49 +1,27 @@
-//! The edges above a point, of those whose boxes are in the way of the ray from there up.
+//! The edges above a point.
 
 ghost use Rattle.std.specs.Prelude.{◌≡◌, ◌&&◌, map, int_le, int_lt, pos};
-ghost use Rattle.std.specs.List.{AllByRecursion};
+ghost use Rattle.std.specs.List.{count_by};
 ghost use Rattle.sf_grid.specs.Edge.{below_rightward, cross as cross_of, edge_above};
 ghost use Rattle.sf_grid.specs.EvenOdd.{edges_above, is_odd};
 ghost use Rattle.sf_grid.specs.Plane.{grid_point};
 ghost use Rattle.sf_geometry.specs.Parts.{edge_of};
-ghost use Rattle.sf_rtree.specs.Indexes.{ids_meeting};
-ghost use Rattle.sf_prepared.specs.Boxes.{AreOnGrid, boxes_from, ray_above};
 
-use sf_geometry::Extent;
 use sf_grid::edges::orientation;
 use sf_grid::{GridPoint, Turn};
 
-/// The box of the ray from a point up.
-pub(crate) fn ray_above(point: GridPoint) -> Extent
-    ensures { result ≡ ray_above point }
-{
-    Extent {
-        min_x: point.x(),
-        min_y: point.y(),
-        max_x: point.x(),
-        max_y: i32::MAX,
-    }
-}
-
-/// Whether an odd number of edges is above a point, where these are the numbers of those whose boxes are in
-/// the way of the ray from there up. No other one can be above.
-pub(crate) fn has_odd_above(
-    near: &[u32],
-    edges: &[(GridPoint, GridPoint)],
-    point: GridPoint,
-) -> bool
-    requires on_grid { AllByRecursion AreOnGrid edges.now }
-    requires near { near.now ≡ ids_meeting (ray_above point) (boxes_from 0 edges.now) }
+/// Whether an odd number of the edges is above a point.
+pub(crate) fn has_odd_above(edges: &[(GridPoint, GridPoint)], point: GridPoint) -> bool
     ensures { result ≡ is_odd (edges_above (grid_point point) (map edge_of edges.now)) }
 {
-    let mut odd = false;
-    for id in near {
-        let edge = &edges[*id as usize];
-        if is_above(edge, point) {
-            odd = !odd;
-        }
-    }
-    odd
+    count_above(edges, point) % 2 == 1
+}
+
+/// How many of the edges are above a point.
+fn count_above(edges: &[(GridPoint, GridPoint)], point: GridPoint) -> usize
+    ensures { result ≡ count_by (λ edge. edge_above (edge_of edge) (grid_point point)) edges.now }
+{
+    edges.iter().filter(|edge| is_above(edge, point)).count()
 }
 
 /// Whether the edge is strictly above the point. The column of its left end belongs to it and that of its
@@ -78,22 +56,4 @@ fn is_to_the_right(a: GridPoint, b: GridPoint, point: GridPoint) -> bool
         Turn::Right => true,
         Turn::Left | Turn::Straight => false,
     }
-}
-
-/// Shows a proof that the ends of each edge are on the grid. It reads them and does nothing with them, so a
-/// compiler may leave it out.
-pub(crate) fn edges_lie_on_grid(edges: &[(GridPoint, GridPoint)])
-    ensures { AllByRecursion AreOnGrid edges.now }
-{
-    for edge in edges {
-        ends_lie_on_grid(edge);
-    }
-}
-
-fn ends_lie_on_grid(edge: &(GridPoint, GridPoint))
-    ensures { AreOnGrid edge.now }
-{
-    let (a, b) = edge;
-    a.x();
-    b.x();
 }

@@ -6,22 +6,18 @@ ghost use Rattle.sf_grid.specs.Plane.{grid_point};
 ghost use Rattle.sf_geometry.specs.Parts.{edge_of};
 ghost use Rattle.sf_paths.specs.Paths.{IsOffBox};
 ghost use Rattle.sf_validity.specs.Beside.{box_of_extent};
-ghost use Rattle.sf_rtree.specs.Indexes.{ids_meeting};
-ghost use Rattle.sf_prepared.specs.Boxes.{boxes_from};
 ghost use Rattle.sf_prepared.specs.Places.{AreClear, IsBoxLeft, IsLeft};
 
 use sf_geometry::Extent;
 use sf_grid::edges::orientation;
 use sf_grid::{GridPoint, Turn};
 
-/// Whether all of these edges miss a box, where these are the numbers of those whose boxes are in its way. No
-/// other one can have a point of it.
-pub(crate) fn all_miss(near: &[u32], edges: &[(GridPoint, GridPoint)], extent: &Extent) -> bool
-    requires { near.now ≡ ids_meeting extent.now (boxes_from 0 edges.now) }
+/// Whether the box lies on one side of each edge.
+pub(crate) fn all_miss(edges: &[(GridPoint, GridPoint)], extent: &Extent) -> bool
     ensures { IsTrue result → AreClear extent.now (map edge_of edges.now) }
 {
-    for id in near {
-        if !misses(&edges[*id as usize], extent) {
+    for edge in edges {
+        if !misses(edge, extent) {
             return false;
         }
     }

@@ -1,48 +1,49 @@
-ghost use Rattle.std.specs.Prelude.{◌≡◌, ◌≢◌, ◌≤◌, ◌^◌, length, map, not, is_some, IfOk, IfSome, IsFalse, IsTrue, false, true};
-ghost use Rattle.std.specs.List.{list_any};
+ghost use Rattle.std.specs.Prelude.{◌≡◌, ◌≢◌, map, not, is_some, IfOk, IfSome, IsFalse, IsTrue, false, true};
+ghost use Rattle.std.specs.List.{AllByRecursion, list_any};
 ghost use Rattle.sf_grid.specs.Edge.{on_edge};
 ghost use Rattle.sf_grid.specs.EvenOdd.{edges_above, is_odd};
 ghost use Rattle.sf_grid.specs.Plane.{grid_point};
 ghost use Rattle.sf_geometry.specs.Envelope.{envelope_of};
 ghost use Rattle.sf_geometry.specs.Parts.{edge_of, edges_of};
 ghost use Rattle.sf_rules.specs.Validity.{IsValid};
+ghost use Rattle.sf_validity.specs.Held.{IsHeld};
 ghost use Rattle.sf_relate.specs.declared.place.Place.TheVariants.{Boundary};
 ghost use Rattle.sf_relate.specs.declared.shape.Shape.TheVariants.{Areas, Lines, Points};
 ghost use Rattle.sf_relate.specs.Locating.{area_place};
 ghost use Rattle.sf_relate.specs.Matrices.{matrix_of};
 ghost use Rattle.sf_relate.specs.Places.{IsPlaceOf, shape_of};
-ghost use Rattle.sf_crossing.specs.Meeting.{extent_of_edge};
-ghost use Rattle.sf_prepared.specs.Boxes.{AreEdgesOf, boxes_from, is_box_met};
+ghost use Rattle.sf_prepared.specs.Boxes.{AreEdgesOf, AreOnGrid, is_box_met};
+ghost use Rattle.sf_prepared.specs.Nearby.{nearby};
 ghost use Rattle.sf_prepared.specs.Places.{AreClear};
 
-use crate::above::{edges_lie_on_grid, has_odd_above, ray_above};
+use crate::above::has_odd_above;
 use crate::beside::all_miss;
+use crate::nearby::{columns_over, walked_nearby};
+use sf_edge_tree::EdgeTree;
 use sf_geometry::{Extent, Geometry};
 use sf_grid::GridPoint;
 use sf_relate::{Matrix, Place, locate, matrix_apart, matrix_within};
-use sf_rtree::{RTree, SpatialIndex};
 use sf_validity::Valid;
 use std::alloc::{AllocError, Global};
 use std::marker::Model;
 
-/// What is made once of a geometry that many others are asked about: its edges, and a tree of their boxes.
+/// How many edges there are at most where none are left out: nothing is saved by a walk over those nearby.
+const FEW_EDGES: usize = 16;
+
+/// What is made once of a geometry that many others are asked about: its edges, with boxes over runs of them.
 /// Contracts see it as the edges' ends.
 #[derive(Drop)]
 pub struct Prepared {
-    pub(crate) edges: Vec<(GridPoint, GridPoint)>,
-    pub(crate) boxes: RTree,
+    edges: EdgeTree,
 }
 
 impl Model for Prepared {
     ghost use Rattle.std.specs.Prelude.{List};
     ghost use Rattle.sf_grid.specs.Plane.{Coordinates};
-    ghost use Rattle.sf_prepared.specs.Boxes.{AreBoxesOf};
 
     ghost Value = { List (Coordinates × Coordinates) };
 
-    ghost view = { λ a. a.edges.items };
-
-    ghost invariant = { λ a. AreBoxesOf a.edges.items a.boxes };
+    ghost view = { λ a. a.edges };
 }
 
 impl Prepared {
@@ -51,11 +52,8 @@ impl Prepared {
         ensures { IfOk result (AreEdgesOf given.now) }
     {
         let edges = given.geometry().edges(alloc)?;
-        let pairs = edges.as_slice();
-        edges_lie_on_grid(pairs);
-        let boxes = boxes_of(alloc, pairs)?;
-        let boxes = RTree::from_boxes(alloc, boxes)?;
-        Ok(Prepared { edges, boxes })
+        let tree = EdgeTree::new(alloc, edges)?;
+        Ok(Prepared { edges: tree })
     }
 
     /// The matrix of a geometry with the one that was prepared, where the edges nearby show it. Where the box of
@@ -73,7 +71,7 @@ impl Prepared {
         if self.is_clear(alloc, &extent) {
             self.told_by_place(alloc, geometry, given, extent)
         } else {
-            self.told_by_walk(alloc, geometry, given)
+            self.told_by_walk(alloc, geometry, given, &extent)
         }
     }
 
@@ -90,15 +88,15 @@ impl Prepared {
         ensures clear { IsTrue result → AreClear extent.now (map edge_of self.now) }
         ensures boxes { result ≡ not (is_box_met extent.now self.now) }
     {
-        !self.boxes.has_meeting(extent)
+        !self.edges.has_near(*extent)
     }
 
     /// Whether each edge whose box is in the way misses the box. Where no memory is found nothing is known.
     fn is_missed(&self, alloc: Global, extent: &Extent) -> bool
         ensures { IsTrue result → AreClear extent.now (map edge_of self.now) }
     {
-        match self.boxes.meeting(alloc, extent) {
-            Ok(near) => all_miss(near.as_slice(), self.edges.as_slice(), extent),
+        match self.edges.near(alloc, *extent) {
+            Ok(near) => all_miss(near.as_slice(), extent),
             Err(_) => false,
         }
     }
@@ -141,7 +139,7 @@ impl Prepared {
     ) -> Option<Matrix>
         requires edges { AreEdgesOf given.now self.now }
         requires valid { IsValid geometry.now }
-        requires valid_given { IsValid given.now }
+        requires held { IsHeld given.now }
         requires extent { extent ≡ envelope_of geometry.now }
         requires clear { AreClear extent (edges_of given.now) }
         requires area { shape_of given.now ≡ Areas }
@@ -163,7 +161,7 @@ impl Prepared {
     /// memory is found.
     fn place_of(&self, alloc: Global, given: &Valid, point: GridPoint) -> Place
         requires edges { AreEdgesOf given.now self.now }
-        requires valid { IsValid given.now }
+        requires held { IsHeld given.now }
         requires area { shape_of given.now ≡ Areas }
         requires off { IsFalse (list_any (λ e. on_edge e (grid_point point)) (edges_of given.now)) }
         ensures place { IsPlaceOf given.now (grid_point point) result }
@@ -175,14 +173,54 @@ impl Prepared {
         }
     }
 
-    /// Whether an odd number of the edges is above the point: the tree finds those that can be.
+    /// Whether an odd number of the edges is above the point. No other one than those nearby can be.
     fn is_odd_above(&self, alloc: Global, point: GridPoint) -> Result<bool, AllocError>
+        requires { AllByRecursion AreOnGrid self.now }
         ensures { IfOk result (λ odd.
             odd ≡ is_odd (edges_above (grid_point point) (map edge_of self.now))) }
     {
-        let ray = ray_above(point);
-        let near = self.boxes.meeting(alloc, &ray)?;
-        Ok(has_odd_above(near.as_slice(), self.edges.as_slice(), point))
+        let near = self.nearby(alloc, &Extent::at(point))?;
+        Ok(has_odd_above(near.as_slice(), point))
+    }
+
+    /// The edges in the columns over a box, from its lower side up, in order.
+    fn nearby(
+        &self,
+        alloc: Global,
+        extent: &Extent,
+    ) -> Result<Vec<(GridPoint, GridPoint)>, AllocError>
+        ensures { IfOk result (λ near. near.items ≡ nearby extent.now self.now) }
+    {
+        self.edges.near(alloc, columns_over(extent))
+    }
+
+    /// The matrix of a geometry with the one that was prepared, by a walk over the edges that can be on a point of
+    /// the geometry or above one. None where that one is no area or has few edges, where many edges are near or none of
+    /// these leaves the geometry's box, `extent`, and where no memory is found.
+    fn told_by_walk(
+        &self,
+        alloc: Global,
+        geometry: &Valid,
+        given: &Valid,
+        extent: &Extent,
+    ) -> Option<Matrix>
+        requires edges { AreEdgesOf given.now self.now }
+        requires held { IsHeld geometry.now }
+        requires extent { extent.now ≡ envelope_of geometry.now }
+        ensures { IfSome result (λ matrix. matrix.0 ≡ matrix_of geometry.now given.now) }
+    {
+        if self.edges.edges().len() <= FEW_EDGES {
+            return None;
+        }
+        match given.geometry() {
+            Geometry::Polygon(_) | Geometry::MultiPolygon(_) => {
+                let Ok(edges) = self.nearby(alloc, extent) else {
+                    return None;
+                };
+                walked_nearby(alloc, geometry, given, extent, edges.as_slice())
+            }
+            _ => None,
+        }
     }
 }
 
@@ -207,29 +245,4 @@ fn apart_from_lines(geometry: &Valid, given: &Valid, extent: Extent) -> Matrix
     ensures { result.0 ≡ matrix_of geometry.now given.now }
 {
     matrix_apart(geometry, given)
-}
-
-/// The boxes of these edges, numbered from 0 on.
-fn boxes_of(
-    alloc: Global,
-    edges: &[(GridPoint, GridPoint)],
-) -> Result<Vec<(u32, Extent)>, AllocError>
-    requires { length edges.now ≤ 2 ^ 16 }
-    ensures { IfOk result (λ boxes. boxes.items ≡ boxes_from 0 edges.now) }
-{
-    let mut boxes = Vec::with_capacity(alloc, edges.len())?;
-    let mut number = 0;
-    for edge in edges {
-        boxes.push((number, extent_of(edge)))?;
-        number += 1;
-    }
-    Ok(boxes)
-}
-
-/// The box of an edge.
-fn extent_of(edge: &(GridPoint, GridPoint)) -> Extent
-    ensures { result ≡ extent_of_edge edge.now }
-{
-    let (a, b) = edge;
-    Extent::at(*a).with(*b)
 }

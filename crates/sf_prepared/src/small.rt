@@ -5,10 +5,10 @@ ghost use Rattle.sf_relate.specs.declared.shape.Shape.TheVariants.{Areas};
 ghost use Rattle.sf_relate.specs.Matrices.{matrix_of};
 ghost use Rattle.sf_relate.specs.Places.{shape_of};
 
-use crate::nearby::{MOST_NEARBY, columns_over, one_leaves};
+use crate::nearby::{columns_over, walked_nearby};
 use sf_crossing::edges_meeting;
 use sf_geometry::Geometry;
-use sf_relate::{Matrix, relate_nearby};
+use sf_relate::Matrix;
 use sf_validity::Valid;
 use std::alloc::Global;
 
@@ -20,7 +20,7 @@ pub fn matrix_nearby(alloc: Global, area: &Valid, small: &Valid) -> Option<Matri
 {
     match area.geometry() {
         Geometry::Polygon(_) | Geometry::MultiPolygon(_) => {
-            let Some(matrix) = walked_over(alloc, small, area) else {
+            let Some(matrix) = with_area(alloc, small, area) else {
                 return None;
             };
             Some(matrix.transposed())
@@ -30,7 +30,7 @@ pub fn matrix_nearby(alloc: Global, area: &Valid, small: &Valid) -> Option<Matri
 }
 
 /// The matrix of a small geometry with an area.
-fn walked_over(alloc: Global, small: &Valid, area: &Valid) -> Option<Matrix>
+fn with_area(alloc: Global, small: &Valid, area: &Valid) -> Option<Matrix>
     requires { shape_of area.now ≡ Areas }
     ensures { IfSome result (λ matrix. matrix.0 ≡ matrix_of small.now area.now) }
 {
@@ -39,12 +39,5 @@ fn walked_over(alloc: Global, small: &Valid, area: &Valid) -> Option<Matrix>
     let Ok(edges) = edges_meeting(alloc, area.geometry(), &columns) else {
         return None;
     };
-    let edges = edges.as_slice();
-    if edges.len() > MOST_NEARBY {
-        return None;
-    }
-    if !one_leaves(edges, &extent) {
-        return None;
-    }
-    relate_nearby(alloc, small, area, edges).ok()
+    walked_nearby(alloc, small, area, &extent, edges.as_slice())
 }

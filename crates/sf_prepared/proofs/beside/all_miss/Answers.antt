@@ -1,16 +1,12 @@
-use Rattle.sf_prepared.proofs.BesideLaws.{missed-end, missed-inside, missed-next, missed-start}
+use Rattle.sf_prepared.proofs.BesideLaws.{missed-end, missed-next}
 use Rattle.sf_prepared.proofs.beside.all_miss.Goals as goal
 
-pub loop-id-init : goal.loop-id-init
-loop-id-init c = missed-start c.args.edges.now c.args.extent.now c.args.near.now c.requires
+pub loop-edge-init : goal.loop-edge-init
+loop-edge-init c all = all
 
-pub bounds-edges-id : goal.bounds-edges-id
-bounds-edges-id c = missed-inside c.args.edges.now c.args.extent.now c.args.near.now c.loop-id.id-index c.loop-id-test.true c.loop-id.invariant
-
-pub loop-id-preserved : goal.loop-id-preserved
-loop-id-preserved c =
-    missed-next c.args.edges.now c.args.extent.now c.args.near.now c.loop-id.id-index c.index-edges-id.result c.loop-id-test.true c.index-edges-id.is
-    (c.misses.ensures c.if-not-misses.false) c.loop-id.invariant
+pub loop-edge-preserved : goal.loop-edge-preserved
+loop-edge-preserved c =
+    missed-next c.args.extent.now c.args.edges.now c.loop-edge.edge-index c.edge-item.result c.loop-edge-test.true c.edge-item.is (c.misses.ensures c.if-not-misses.false) c.loop-edge.invariant
 
 pub returns : goal.returns
-returns c said = missed-end c.args.edges.now c.args.extent.now c.args.near.now c.loop-id.id-index c.loop-id-test.false c.loop-id.invariant
+returns c said = missed-end c.args.extent.now c.args.edges.now c.loop-edge.edge-index c.loop-edge-test.false c.loop-edge.invariant

@@ -1,12 +1,12 @@
 use Rattle.std.proofs.Common.{◌∙◌, sym}
 use Rattle.sf_prepared.proofs.NearbyLaws.{AreEnough, nearby-enough}
-use Rattle.sf_prepared.proofs.prepared.Prepared.walked_nearby.Goals as goal
+use Rattle.sf_prepared.proofs.nearby.walked_nearby.Goals as goal
 
 -- what the steps up to the walk say
-enough : (c : goal.Else-not-one_leaves) → AreEnough c.args.geometry.now c.args.given.now c.as_slice-edges.result.now
+enough : (c : goal.Else-not-one_leaves) → AreEnough c.args.geometry.now c.args.area.now c.args.edges.now
 enough c =
-    nearby-enough c.args.geometry.now c.args.given.now c.geometry.result.now c.envelope-extent.result c.args.self.now c.as_slice-edges.result.now c.geometry.ensures.valid.valid c.requires.valid_given c.requires.area
-    c.requires.edges c.in-Some.ensures.on_grid c.geometry.ensures.same c.envelope-extent.ensures (c.as_slice-edges.ensures.value ∙ c.in-Some.ensures.near) (sym c.one_leaves.ensures ∙ c.if-not-one_leaves.false)
+    nearby-enough c.args.geometry.now c.args.area.now c.args.extent.now c.args.edges.now c.requires.held c.requires.held_area c.requires.area c.requires.extent c.requires.edges
+    (sym c.one_leaves.ensures ∙ c.if-not-one_leaves.false)
 
 pub relate_nearby-requires-clause-few : goal.relate_nearby-requires-clause-few
 relate_nearby-requires-clause-few c = (enough c).few
