@@ -1,0 +1,4 @@
+pub mod Numbered
+pub mod Sheared
+pub mod Orders
+pub mod Sweeps
