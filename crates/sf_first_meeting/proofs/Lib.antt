@@ -3,3 +3,7 @@ pub mod BelowLaws
 pub mod ShearLaws
 pub mod OrderLaws
 pub mod StepLaws
+pub mod TurnLaws
+pub mod PairLaws
+pub mod SpotLaws
+pub mod PassingLaws

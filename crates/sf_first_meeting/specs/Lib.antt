@@ -2,3 +2,4 @@ pub mod Numbered
 pub mod Sheared
 pub mod Orders
 pub mod Sweeps
+pub mod Spots

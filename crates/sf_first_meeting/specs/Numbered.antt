@@ -16,12 +16,19 @@ edge_at ps i = edge_between (point_of ps i) (point_of ps (i + 1))
 abbrev pub HasLengths : List Coordinates → Type 0
 HasLengths ps = (i : ℕ) → i + 1 < length ps → point_of ps i ≢ point_of ps (i + 1)
 
--- of the edges i and j, p is the common vertex as neighbours: of consecutive ones, or of the first and the last one of a
--- closed list
+-- the list is closed, by the edge j
+abbrev pub IsClosedBy : List Coordinates → ℕ → Type 0
+IsClosedBy ps j = (j + 2 ≡ length ps) × (point_of ps 0 ≡ point_of ps (j + 1))
+
+-- two edges are neighbours: one after the other, or the first and the last one of a closed list
+abbrev pub AreNeighbours : List Coordinates → ℕ → ℕ → Type 0
+AreNeighbours ps i j = (j ≡ i + 1) ⊎ ((i ≡ 0) × IsClosedBy ps j)
+
+-- p is their common vertex as neighbours
 abbrev pub IsJoint : List Coordinates → ℕ → ℕ → Point → Type 0
 IsJoint ps i j p =
     ((j ≡ i + 1) × IsSamePoint (grid_point (point_of ps j)) p)
-    ⊎ ((i ≡ 0) × (j + 2 ≡ length ps) × (point_of ps 0 ≡ point_of ps (j + 1)) × IsSamePoint (grid_point (point_of ps 0)) p)
+    ⊎ ((i ≡ 0) × IsClosedBy ps j × IsSamePoint (grid_point (point_of ps 0)) p)
 
 -- the edges i and j share no point but their common vertex as neighbours
 abbrev pub AreApart : List Coordinates → ℕ → ℕ → Type 0

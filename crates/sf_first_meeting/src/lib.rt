@@ -1,2 +1,12 @@
-//! Whether edges of a line or ring meet, by a sweep that ends at the first meeting.
+//! Whether edges of a line or ring meet, by a sweep from left to right that ends at the first meeting
+//! (Shamos and Hoey, 1976): the edges that go on stand in order from the lowest, and those that
+//! become neighbours are compared.
 #![tactic(auto)]
+
+mod apart;
+mod outcome;
+mod passing;
+mod sides;
+mod spot;
+
+pub use outcome::Outcome;
