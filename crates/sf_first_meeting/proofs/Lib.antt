@@ -7,3 +7,4 @@ pub mod TurnLaws
 pub mod PairLaws
 pub mod SpotLaws
 pub mod PassingLaws
+pub mod TableLaws

@@ -1,8 +1,9 @@
 -- The order of the edges at a vertex.
 use Rattle.std.proofs.Common.{◌≡◌, ℕ, zero, suc, ◌+◌, ◌-◌, ◌<◌, ◌≤◌, refl, ap, sym, ◌∙◌, arith, subst, List, [], ◌∷◌, ◌++◌, length, get_or, set, take, drop, inl, inr, ◌⊎◌, Option, Some, None}
+use Rattle.sf_grid.specs.Plane.{Coordinates}
 use Rattle.sf_first_meeting.specs.declared.spot.Spot.{Spot}
 use Rattle.sf_first_meeting.specs.Orders.{AtFirst, AtLast, Linked, Seam}
-use Rattle.sf_first_meeting.specs.Spots.{Along, Between, beginning_of, ending_of}
+use Rattle.sf_first_meeting.specs.Spots.{Along, Between, IsTested, beginning_of, ending_of}
 
 less_one : (n : ℕ) → suc (suc n) - 1 ≡ suc n
 less_one n = omega arith
@@ -78,3 +79,12 @@ pub replaced-at : (xs ys : List ℕ) (from : ℕ) (spot other : Spot) → spot �
     ys ≡ take from xs ++ (beginning_of spot ++ drop (length (ending_of spot)) (drop from xs))
 replaced-at xs ys from spot other e h =
     let P : Spot → Type 0 = λ s. ys ≡ take from xs ++ (beginning_of s ++ drop (length (ending_of s)) (drop from xs)) in subst P (sym e) h
+
+-- ---- what was tested, of the parts as they were cut
+pub tested-moved : (ps : List Coordinates) (at other : Coordinates) (b c e f a d : List ℕ) (spot : Spot) → at ≡ other → b ≡ c → e ≡ f → a ≡ d → IsTested ps at b e a spot → IsTested ps other c f d spot
+tested-moved ps at other b c e f a d spot g h k l t =
+    let P : Coordinates → Type 0 = λ p. IsTested ps p b e a spot in
+    let Q : List ℕ → Type 0 = λ xs. IsTested ps other xs e a spot in
+    let R : List ℕ → Type 0 = λ xs. IsTested ps other c xs a spot in
+    let S : List ℕ → Type 0 = λ xs. IsTested ps other c f xs spot in
+    subst S l (subst R k (subst Q h (subst P g t)))

@@ -429,7 +429,7 @@ side-of ps x at b e g a t i q m (in_beginning k) =
     y
 
 -- ---- what an edge reaches
-reach-rising : (e : Edge) (p : Point) → e.a.x <ℤ e.b.x → IsOnEdge e p → ((e.a.x *ℤ pos p.d) ≤ℤ p.x) × (p.x ≤ℤ (e.b.x *ℤ pos p.d))
+pub reach-rising : (e : Edge) (p : Point) → e.a.x <ℤ e.b.x → IsOnEdge e p → ((e.a.x *ℤ pos p.d) ≤ℤ p.x) × (p.x ≤ℤ (e.b.x *ℤ pos p.d))
 reach-rising e p h o =
     let r = reach e (x_of p) (lies e p o).x in
     let P : Coordinates → Type 0 = λ c. (c.x *ℤ pos p.d) ≤ℤ p.x in

@@ -3,3 +3,4 @@ pub mod Sheared
 pub mod Orders
 pub mod Sweeps
 pub mod Spots
+pub mod Tables

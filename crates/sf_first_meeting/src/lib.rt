@@ -4,9 +4,12 @@
 #![tactic(auto)]
 
 mod apart;
-mod outcome;
+mod doubt;
 mod passing;
 mod sides;
 mod spot;
+mod sweep;
+mod vertices;
 
-pub use outcome::Outcome;
+pub use doubt::Doubt;
+pub use sweep::first_meeting;

@@ -9,7 +9,7 @@ ghost use Rattle.sf_first_meeting.specs.Spots.{Along, Between, IsFound, IsTested
 ghost use Rattle.sf_first_meeting.specs.Sweeps.{ArePlain, IsOver, IsUnder};
 
 use crate::apart::share_ends;
-use crate::outcome::Outcome;
+use crate::doubt::Doubt;
 use crate::sides::{is_over, is_under};
 use crate::spot::{Spot, spot_at};
 use sf_grid::GridPoint;
@@ -21,23 +21,23 @@ pub(crate) fn found_at(
     points: &[GridPoint],
     active: &[usize],
     vertex: usize,
-) -> Result<(usize, Spot), Outcome>
+) -> Result<(usize, Spot), Doubt>
     requires lengths { HasLengths points.now }
     requires in_range { vertex < length points.now }
     requires edges { All (λ e. e + 1 < length points.now) active.now }
     ensures { IfOk result (λ found. IsFound points.now active.now vertex found.0 found.1) }
 {
     let Some(spot) = spot_at(points, vertex) else {
-        return Err(Outcome::GaveUp);
+        return Err(Doubt::Open);
     };
     let from = below_len(points, active, points[vertex]);
     let (below, rest) = active.split_at(from);
     if rest.len() < spot.ending_len() {
-        return Err(Outcome::GaveUp);
+        return Err(Doubt::Open);
     }
     let (ending, above) = rest.split_at(spot.ending_len());
     if !is_tested(points, points[vertex], below, ending, above, &spot) {
-        return Err(Outcome::GaveUp);
+        return Err(Doubt::Open);
     }
     Ok((from, spot))
 }
