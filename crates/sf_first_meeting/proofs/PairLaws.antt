@@ -81,15 +81,22 @@ at-read ps i j a b c d q r h n p is on = by n
     by : AreNeighbours ps i j → IsJoint ps i j p
     by (inl e) =
         let P : ℕ → Type 0 = λ k. IsOnEdge (edge_at ps i) (grid_point (point_of ps k)) in
-        inl (e, joint-same (edge_at ps i) (edge_at ps j) (point_of ps j) q p share
-          (subst P (sym e) (end-on (point_of ps i) (point_of ps (i + 1))))
-          (start-on (point_of ps j) (point_of ps (j + 1))) is on)
+        inl (
+          e,
+          joint-same (edge_at ps i) (edge_at ps j) (point_of ps j) q p share
+              (subst P (sym e) (end-on (point_of ps i) (point_of ps (i + 1))))
+              (start-on (point_of ps j) (point_of ps (j + 1))) is on,
+        )
     by (inr (e, closed)) =
         let P : ℕ → Type 0 = λ k. IsOnEdge (edge_at ps i) (grid_point (point_of ps k)) in
         let Q : Coordinates → Type 0 = λ v. IsOnEdge (edge_at ps j) (grid_point v) in
-        inr (e, closed, joint-same (edge_at ps i) (edge_at ps j) (point_of ps 0) q p share
-          (subst P e (start-on (point_of ps i) (point_of ps (i + 1))))
-          (subst Q (sym closed.1) (end-on (point_of ps j) (point_of ps (j + 1)))) is on)
+        inr (
+          e,
+          closed,
+          joint-same (edge_at ps i) (edge_at ps j) (point_of ps 0) q p share
+              (subst P e (start-on (point_of ps i) (point_of ps (i + 1))))
+              (subst Q (sym closed.1) (end-on (point_of ps j) (point_of ps (j + 1)))) is on,
+        )
 
 -- ---- sheared
 end-of : (a b v : Coordinates) (p : Point) → (v ≡ a) ⊎ (v ≡ b) → IsAt v p → IsEnd (risen a b) p

@@ -5,6 +5,7 @@
 
 mod apart;
 mod doubt;
+mod doubts;
 mod passing;
 mod sides;
 mod spot;

@@ -10,6 +10,7 @@ ghost use Rattle.sf_first_meeting.specs.Sweeps.{ArePlain, IsOver, IsUnder};
 
 use crate::apart::share_ends;
 use crate::doubt::Doubt;
+use crate::doubts::{doubt_at, doubt_near};
 use crate::sides::{is_over, is_under};
 use crate::spot::{Spot, spot_at};
 use sf_grid::GridPoint;
@@ -28,16 +29,16 @@ pub(crate) fn found_at(
     ensures { IfOk result (λ found. IsFound points.now active.now vertex found.0 found.1) }
 {
     let Some(spot) = spot_at(points, vertex) else {
-        return Err(Doubt::Open);
+        return Err(doubt_at(points, vertex));
     };
     let from = below_len(points, active, points[vertex]);
     let (below, rest) = active.split_at(from);
     if rest.len() < spot.ending_len() {
-        return Err(Doubt::Open);
+        return Err(doubt_near(points, active, from, &spot));
     }
     let (ending, above) = rest.split_at(spot.ending_len());
     if !is_tested(points, points[vertex], below, ending, above, &spot) {
-        return Err(Doubt::Open);
+        return Err(doubt_near(points, active, from, &spot));
     }
     Ok((from, spot))
 }
@@ -174,7 +175,7 @@ pub(crate) fn replace(active: &mut Vec<usize>, from: usize, spot: &Spot) -> Resu
     requires { from + length (ending_of spot.now) ≤ vec_len active.old }
     ensures { OnOk result (active.new.items
         ≡ take from active.old.items
-            ++ (beginning_of spot.now ++ drop (length (ending_of spot.now)) (drop from active.old.items))) }
+        ++ (beginning_of spot.now ++ drop (length (ending_of spot.now)) (drop from active.old.items))) }
 {
     match *spot {
         Spot::Opens(lower, upper) => insert_two(active, from, lower, upper),
@@ -205,7 +206,12 @@ fn insert_one(active: &mut Vec<usize>, from: usize, edge: usize) -> Result<(), A
 }
 
 /// Puts two edges at a place.
-fn insert_two(active: &mut Vec<usize>, from: usize, lower: usize, upper: usize) -> Result<(), AllocError>
+fn insert_two(
+    active: &mut Vec<usize>,
+    from: usize,
+    lower: usize,
+    upper: usize,
+) -> Result<(), AllocError>
     requires { from ≤ vec_len active.old }
     ensures { OnOk result (active.new.items ≡ take from active.old.items ++ (lower ∷ upper ∷ drop from active.old.items)) }
 {

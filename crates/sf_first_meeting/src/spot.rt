@@ -35,6 +35,17 @@ impl Spot {
         }
     }
 
+    /// Its edges, of which one alone stands twice.
+    pub fn edges(&self) -> (usize, usize) {
+        match *self {
+            Spot::Opens(first, second) => (first, second),
+            Spot::Passes(first, second) => (first, second),
+            Spot::Closes(first, second) => (first, second),
+            Spot::Begins(edge) => (edge, edge),
+            Spot::Ends(edge) => (edge, edge),
+        }
+    }
+
     /// Whether these are the edges that end, in whichever order.
     pub fn are_ending(&self, edges: &[usize]) -> bool
         ensures { IsTrue result → HasSame edges.now (ending_of self.now) }
@@ -95,7 +106,7 @@ fn edge_to(points: &[GridPoint], vertex: usize) -> Option<usize>
     ensures { MatchOption result
         ((i : ℕ) → i + 1 < length points.now → ¬ (LeadsTo points.now vertex i))
         (λ edge. (edge + 1 < length points.now) × LeadsTo points.now vertex edge
-            × ((i : ℕ) → i + 1 < length points.now → LeadsTo points.now vertex i → i ≡ edge)) }
+        × ((i : ℕ) → i + 1 < length points.now → LeadsTo points.now vertex i → i ≡ edge)) }
 {
     if vertex > 0 {
         return Some(vertex - 1);
@@ -130,7 +141,10 @@ fn spot_of_two(points: &[GridPoint], vertex: usize, first: usize, second: usize)
     requires edges { AreAtVertex points.now vertex (first ∷ second ∷ []) }
     ensures { IfSome result (IsSpot points.now vertex) }
 {
-    match (ends_at(points, first, vertex), ends_at(points, second, vertex)) {
+    match (
+        ends_at(points, first, vertex),
+        ends_at(points, second, vertex),
+    ) {
         (true, true) => Some(Spot::Closes(first, second)),
         (true, false) => Some(Spot::Passes(first, second)),
         (false, true) => Some(Spot::Passes(second, first)),

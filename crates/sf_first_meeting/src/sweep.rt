@@ -6,6 +6,7 @@ ghost use Rattle.sf_first_meeting.specs.Numbered.{AllAreApart, HasLengths};
 ghost use Rattle.sf_first_meeting.specs.Tables.{IsTable, Moves};
 
 use crate::doubt::Doubt;
+use crate::doubts::doubt_of_repeated;
 use crate::passing::{found_at, replace};
 use crate::vertices::{Vertex, do_ascend, lie_on_grid, vertices};
 use sf_grid::GridPoint;
@@ -23,7 +24,7 @@ pub fn first_meeting(alloc: Global, points: &[GridPoint]) -> Result<Option<Doubt
     if do_ascend(vertices.as_slice()) {
         sweep(alloc, points, vertices.as_slice())
     } else {
-        Ok(Some(Doubt::Open))
+        Ok(Some(doubt_of_repeated(vertices.as_slice())))
     }
 }
 

@@ -13,4 +13,5 @@ pub mod MeetingLaws
 pub mod NearLaws
 pub mod PlaceLaws
 pub mod PairLaws
+pub mod FarLaws
 pub mod ChangedLaws

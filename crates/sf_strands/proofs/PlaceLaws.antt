@@ -75,7 +75,7 @@ last-at : (p : Coordinates) (ps : List Coordinates) → point_of (p ∷ ps) (len
 last-at p [] = refl
 last-at p (q ∷ qs) = last-at q qs
 
-closed-at : (ps : List Coordinates) (j : ℕ) → j + 2 ≡ length ps → is_closed ps ≡ is_same (point_of ps 0) (point_of ps (j + 1))
+pub closed-at : (ps : List Coordinates) (j : ℕ) → j + 2 ≡ length ps → is_closed ps ≡ is_same (point_of ps 0) (point_of ps (j + 1))
 closed-at [] j e = absurd (omega (arith, e))
 closed-at (p ∷ ps) j e = ap (is_same p) (sym (last-at p ps) ∙ ap (λ n. point_of (p ∷ ps) n) (omega (arith, e)))
 

@@ -3,6 +3,7 @@
 
 mod beside;
 mod changed;
+mod far;
 pub mod laws;
 mod near;
 mod pairs;

@@ -5,9 +5,10 @@ ghost use Rattle.sf_rules.specs.Shapes.{meets_itself as meets_itself_at};
 ghost use Rattle.sf_strands.specs.Tight.{IsTight};
 ghost use Rattle.sf_strands.specs.Tangles.{are_tangled as are_tangled_at};
 
+use crate::far::some_far_pair_meets;
 use crate::near::some_near_pair_meets;
 use crate::pairs::some_pair_meets;
-use crate::strands::{push_strands, some_tangle, two_strands_meet};
+use crate::strands::{push_strands, some_tangle};
 use sf_edge_tree::Outcome;
 use sf_geometry::{Sequence, tight};
 use sf_grid::GridPoint;
@@ -39,7 +40,7 @@ fn does_tight_meet_itself(alloc: Global, points: &[GridPoint]) -> Result<bool, A
     match some_near_pair_meets(alloc, points)? {
         Outcome::Found => Ok(true),
         Outcome::Absent => Ok(false),
-        Outcome::GaveUp => two_strands_meet(alloc, points),
+        Outcome::GaveUp => some_far_pair_meets(alloc, points),
     }
 }
 
