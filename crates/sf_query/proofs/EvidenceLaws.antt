@@ -1,5 +1,6 @@
 -- What evidence shows is so of the matrix.
-use Rattle.std.proofs.Common.{◌≡◌, false, List, Option, None, Some, IfSome, IsTrue, refl, sym, subst, option_map, true}
+use Rattle.std.proofs.Common.{◌≡◌, Bool, false, List, Option, None, Some, IfSome, IsTrue, refl, sym, subst, option_map, true}
+use Rattle.std.specs.Bool.{then_some}
 use Rattle.std.proofs.lemmas.Bool.{both_ways}
 use Rattle.sf_grid.specs.Plane.{Coordinates, grid_point}
 use Rattle.sf_geometry.specs.declared.geometry.Geometry.{Geometry}
@@ -9,32 +10,14 @@ use Rattle.sf_rules.specs.Validity.{IsValid}
 use Rattle.sf_known.specs.declared.known.Known.{Known}
 use Rattle.sf_known.specs.declared.matrix.Matrix.{Matrix}
 use Rattle.sf_known.proofs.OrderLaws.{same-at-most}
-use Rattle.sf_known.specs.Known.{AreAtMost, Holds, exactly}
+use Rattle.sf_known.specs.Known.{AreAtMost, Holds, exactly, nothing_known}
 use Rattle.sf_known.specs.Patterns.{has_contact}
 use Rattle.sf_relate.specs.declared.place.Place.{Place}
 use Rattle.sf_relate.specs.Matrices.{matrix_of}
 use Rattle.sf_relate.specs.Placed.{known_of_place}
 use Rattle.sf_relate.specs.Places.{IsPlaceOf}
 use Rattle.sf_relate.proofs.PointLaws.{places_are_known}
-use Rattle.sf_query.specs.declared.shown.Shown.{Shown}
-use Rattle.sf_query.specs.declared.shown.Shown.TheVariants.{Part, Whole}
-use Rattle.sf_query.specs.Evidence.{IsShown}
-
--- the matrix itself, where there is one
-pub whole-shown : (given : Option Matrix) (shown : Option Shown) (m : List Dim) → shown ≡ option_map (λ matrix. Whole matrix) given → IfSome given (λ matrix. matrix.0 ≡ m)
-    → IfSome shown (IsShown m)
-whole-shown None shown m e is = subst (λ (o : Option Shown). IfSome o (IsShown m)) (sym e) tt
-whole-shown (Some matrix) shown m e is = subst (λ (o : Option Shown). IfSome o (IsShown m)) (sym e) is
-
--- some entries, where any are known
-pub part-shown : (given : Option Known) (shown : Option Shown) (m : List Dim) → shown ≡ option_map (λ known. Part known) given → IfSome given (λ known. Holds known m)
-    → IfSome shown (IsShown m)
-part-shown None shown m e is = subst (λ (o : Option Shown). IfSome o (IsShown m)) (sym e) tt
-part-shown (Some known) shown m e is = subst (λ (o : Option Shown). IfSome o (IsShown m)) (sym e) is
-
--- what is known stays so where contact is known too
-pub with-contact : (known : Known) (m : List Dim) → Holds known m → IsTrue (has_contact m) → Holds (record { least = known.least; most = known.most; contact = true }) m
-with-contact known m holds contact = record { least = holds.least; most = holds.most; contact = λ h. contact }
+use Rattle.sf_relate.proofs.FoundLaws.{nothing-holds}
 
 -- the matrix itself
 pub exactly-holds : (entries m : List Dim) → entries ≡ m → Holds (exactly entries) m
@@ -44,6 +27,30 @@ exactly-holds entries m e =
       most = subst (λ ds. AreAtMost ds entries) e (same-at-most entries);
       contact = λ h. absurd (both_ways false refl h);
     }
+
+pub exactly-known : (known : Known) (matrix : Matrix) (m : List Dim) → known ≡ exactly matrix.0 → matrix.0 ≡ m → Holds known m
+exactly-known known matrix m e is = subst (λ (k : Known). Holds k m) (sym e) (exactly-holds matrix.0 m is)
+
+-- the matrix, where there is one
+pub matrix-known : (given : Option Matrix) (known : Option Known) (m : List Dim) → known ≡ option_map (λ matrix. exactly matrix.0) given → IfSome given (λ matrix. matrix.0 ≡ m)
+    → IfSome known (λ known. Holds known m)
+matrix-known None known m e is = subst (λ (o : Option Known). IfSome o (λ known. Holds known m)) (sym e) tt
+matrix-known (Some matrix) known m e is = subst (λ (o : Option Known). IfSome o (λ known. Holds known m)) (sym e) (exactly-holds matrix.0 m is)
+
+-- contact alone
+pub sharing-holds : (known : Known) (a b : Geometry) → known ≡ record nothing_known { contact = true } → IsTrue (has_contact (matrix_of a b)) → Holds known (matrix_of a b)
+sharing-holds known a b is contact =
+    let holds = nothing-holds a b in
+    subst (λ (k : Known). Holds k (matrix_of a b)) (sym is) (record { least = holds.least; most = holds.most; contact = λ h. contact })
+
+pub told-sharing : (told : Bool) (known : Known) (shown : Option Known) (a b : Geometry) → shown ≡ then_some told known → known ≡ record nothing_known { contact = true }
+    → (told ≡ true → IsTrue (has_contact (matrix_of a b))) → IfSome shown (λ known. Holds known (matrix_of a b))
+told-sharing true known shown a b e is contact = subst (λ (o : Option Known). IfSome o (λ k. Holds k (matrix_of a b))) (sym e) (sharing-holds known a b is (contact refl))
+told-sharing false known shown a b e is contact = subst (λ (o : Option Known). IfSome o (λ k. Holds k (matrix_of a b))) (sym e) tt
+
+-- what is known of the matrix with the geometry that is held
+pub of-held : (shown : Option Known) (a g b : Geometry) → g ≡ b → IfSome shown (λ known. Holds known (matrix_of a g)) → IfSome shown (λ known. Holds known (matrix_of a b))
+of-held shown a g b e h = subst (λ (x : Geometry). IfSome shown (λ known. Holds known (matrix_of a x))) e h
 
 -- a Point's place
 pub place-holds : (a b : Geometry) (p : Coordinates) (place : Place) → a ≡ Point p → IsValid a → IsValid b → IsPlaceOf b (grid_point p) place → Holds (known_of_place place) (matrix_of a b)

@@ -6,18 +6,16 @@ ghost use Rattle.sf_grid.specs.Plane.{Coordinates};
 ghost use Rattle.sf_geometry.specs.declared.geometry.Geometry.TheVariants.{Point};
 ghost use Rattle.sf_geometry.specs.Size.{point_count};
 ghost use Rattle.sf_rules.specs.Validity.{IsValid};
+ghost use Rattle.sf_known.specs.Known.{Holds, exactly, nothing_known};
 ghost use Rattle.sf_relate.specs.Contact.{has_first_point_in};
 ghost use Rattle.sf_relate.specs.Matrices.{matrix_of};
 ghost use Rattle.sf_contact.specs.Few.{few_points};
-ghost use Rattle.sf_prepared.specs.Boxes.{AreEdgesOf};
-ghost use Rattle.sf_query.specs.Evidence.{IsShown};
-ghost use Rattle.sf_query.specs.declared.shown.Shown.TheVariants.{Part, Whole};
 
+use super::given::Given;
 use super::order::MANY_POINTS;
-use super::shown::Shown;
 use sf_contact::{FEW_POINTS, contact_between};
 use sf_geometry::Geometry;
-use sf_prepared::{Prepared, matrix_nearby};
+use sf_prepared::matrix_nearby;
 use sf_relate::{
     Known, Matrix, known_by_crossing, known_of_place, locate, matrix_apart, matrix_by_boxes,
     shares_first_point,
@@ -46,43 +44,34 @@ pub(crate) enum Evidence {
 
 impl Evidence {
     /// What the evidence shows of the matrix, if anything.
-    pub(crate) fn shown(
-        self,
-        alloc: Global,
-        geometry: &Valid,
-        given: &Valid,
-        prepared: &Option<Prepared>,
-    ) -> Option<Shown>
-        requires prepared { IfSome prepared.now (AreEdgesOf given.now) }
-        requires valid { IsValid given.now }
-        ensures { IfSome result (IsShown (matrix_of geometry.now given.now)) }
+    pub(crate) fn shown(self, alloc: Global, geometry: &Valid, given: &Given) -> Option<Known>
+        ensures { IfSome result (λ known. Holds known (matrix_of geometry.now given.now)) }
     {
         match self {
-            Evidence::Boxes => whole(by_boxes(geometry, given)),
-            Evidence::Prepared => by_prepared(alloc, geometry, given, prepared),
-            Evidence::Place => by_place(geometry, given),
-            Evidence::Edges => by_edges(geometry, given),
-            Evidence::FirstPoints => by_first_points(geometry, given),
-            Evidence::Crossing => part(known_by_crossing(alloc, geometry, given)),
-            Evidence::Nearby => whole(matrix_by_edges_nearby(alloc, geometry, given)),
+            Evidence::Boxes => exactly(matrix_by_boxes(geometry, given.valid, given.extent)),
+            Evidence::Prepared => by_prepared(alloc, geometry, given),
+            Evidence::Place => by_place(geometry, given.valid),
+            Evidence::Edges => by_edges(geometry, given.valid),
+            Evidence::FirstPoints => by_first_points(geometry, given.valid),
+            Evidence::Crossing => known_by_crossing(alloc, geometry, given.valid),
+            Evidence::Nearby => exactly(matrix_by_edges_nearby(alloc, geometry, given.valid)),
         }
     }
 }
 
 /// What each kind of evidence shows of the matrix of a feature's geometry with the given one, one beside the other: prepared
 /// geometry, place, edges, first points, crossing, nearby.
-pub fn shown_by_each(alloc: Global, geometry: &Valid, given: &Valid) -> [Option<Shown>; 6]
-    requires { IsValid given.now }
-    ensures { AllByRecursion (λ shown. IfSome shown (IsShown (matrix_of geometry.now given.now))) result }
+pub fn shown_by_each(alloc: Global, geometry: &Valid, given: &Valid) -> [Option<Known>; 6]
+    ensures { AllByRecursion (λ shown. IfSome shown (λ known. Holds known (matrix_of geometry.now given.now))) result }
 {
-    let prepared = Prepared::new(alloc, given).ok();
+    let given = Given::new(given).prepared(alloc);
     [
-        Evidence::Prepared.shown(alloc, geometry, given, &prepared),
-        Evidence::Place.shown(alloc, geometry, given, &prepared),
-        Evidence::Edges.shown(alloc, geometry, given, &prepared),
-        Evidence::FirstPoints.shown(alloc, geometry, given, &prepared),
-        Evidence::Crossing.shown(alloc, geometry, given, &prepared),
-        Evidence::Nearby.shown(alloc, geometry, given, &prepared),
+        Evidence::Prepared.shown(alloc, geometry, &given),
+        Evidence::Place.shown(alloc, geometry, &given),
+        Evidence::Edges.shown(alloc, geometry, &given),
+        Evidence::FirstPoints.shown(alloc, geometry, &given),
+        Evidence::Crossing.shown(alloc, geometry, &given),
+        Evidence::Nearby.shown(alloc, geometry, &given),
     ]
 }
 
@@ -99,45 +88,31 @@ fn matrix_by_edges_nearby(alloc: Global, geometry: &Valid, given: &Valid) -> Opt
     matrix_nearby(alloc, geometry, given)
 }
 
-/// The matrix of two geometries whose boxes share no point.
-fn by_boxes(geometry: &Valid, given: &Valid) -> Option<Matrix>
-    ensures { IfSome result (λ matrix. matrix.0 ≡ matrix_of geometry.now given.now) }
-{
-    let extent = given.geometry().envelope();
-    matrix_by_boxes(geometry, given, extent)
-}
-
 /// What was made of the given geometry shows the matrix, if anything.
-fn by_prepared(
-    alloc: Global,
-    geometry: &Valid,
-    given: &Valid,
-    prepared: &Option<Prepared>,
-) -> Option<Shown>
-    requires { IfSome prepared.now (AreEdgesOf given.now) }
-    ensures { IfSome result (IsShown (matrix_of geometry.now given.now)) }
+fn by_prepared(alloc: Global, geometry: &Valid, given: &Given) -> Option<Known>
+    ensures { IfSome result (λ known. Holds known (matrix_of geometry.now given.now)) }
 {
-    match prepared {
-        Some(prepared) => whole(prepared.matrix_told(alloc, geometry, given)),
+    match &given.prepared {
+        Some(prepared) => exactly(prepared.matrix_told(alloc, geometry, given.valid)),
         None => None,
     }
 }
 
 /// A Point's place shows its first row.
-fn by_place(geometry: &Valid, given: &Valid) -> Option<Shown>
+fn by_place(geometry: &Valid, given: &Valid) -> Option<Known>
     requires { IsValid given.now }
-    ensures holds { IfSome result (IsShown (matrix_of geometry.now given.now)) }
+    ensures holds { IfSome result (λ known. Holds known (matrix_of geometry.now given.now)) }
     ensures answers { (p : Coordinates) → geometry.now ≡ Point p → is_some result ≡ true }
 {
     match geometry.geometry() {
-        Geometry::Point(point) => Some(Shown::Part(known_of_place(locate(given, *point)))),
+        Geometry::Point(point) => Some(known_of_place(locate(given, *point))),
         _ => None,
     }
 }
 
 /// Edges that meet show contact, and the matrix where none do. Of a Point its place shows more.
-fn by_edges(geometry: &Valid, given: &Valid) -> Option<Shown>
-    ensures { IfSome result (IsShown (matrix_of geometry.now given.now)) }
+fn by_edges(geometry: &Valid, given: &Valid) -> Option<Known>
+    ensures { IfSome result (λ known. Holds known (matrix_of geometry.now given.now)) }
 {
     match geometry.geometry() {
         Geometry::Point(_) => None,
@@ -146,8 +121,8 @@ fn by_edges(geometry: &Valid, given: &Valid) -> Option<Shown>
 }
 
 /// Whether two geometries have contact shows at least that, where one of them is small.
-fn by_contact(geometry: &Valid, given: &Valid) -> Option<Shown>
-    ensures holds { IfSome result (IsShown (matrix_of geometry.now given.now)) }
+fn by_contact(geometry: &Valid, given: &Valid) -> Option<Known>
+    ensures holds { IfSome result (λ known. Holds known (matrix_of geometry.now given.now)) }
     ensures answers { is_some result
         ≡ (nat_le (point_count given.now) few_points || nat_le (point_count geometry.now) few_points) }
 {
@@ -155,40 +130,36 @@ fn by_contact(geometry: &Valid, given: &Valid) -> Option<Shown>
         return None;
     };
     if has_contact {
-        return Some(Shown::Contact);
+        return Some(sharing());
     }
-    Some(Shown::Whole(matrix_apart(geometry, given)))
+    Some(Known::exactly(&matrix_apart(geometry, given)))
 }
 
 /// First points that lie in the other geometry show contact.
-fn by_first_points(geometry: &Valid, given: &Valid) -> Option<Shown>
-    ensures holds { IfSome result (IsShown (matrix_of geometry.now given.now)) }
+fn by_first_points(geometry: &Valid, given: &Valid) -> Option<Known>
+    ensures holds { IfSome result (λ known. Holds known (matrix_of geometry.now given.now)) }
     ensures answers { is_some result
         ≡ (has_first_point_in geometry.now given.now || has_first_point_in given.now geometry.now) }
 {
-    if shares_first_point(geometry, given) {
-        Some(Shown::Contact)
-    } else {
-        None
-    }
+    shares_first_point(geometry, given).then_some(sharing())
 }
 
-/// That of some entries this is known, where anything is.
-fn part(known: Option<Known>) -> Option<Shown>
-    ensures { result ≡ option_map (λ known. Part known) known }
+/// That the geometries share a point.
+fn sharing() -> Known
+    ensures { result ≡ record nothing_known { contact = true } }
 {
-    match known {
-        Some(known) => Some(Shown::Part(known)),
-        None => None,
+    Known {
+        contact: true,
+        ..Known::nothing()
     }
 }
 
 /// That the matrix is this one, where there is one.
-fn whole(matrix: Option<Matrix>) -> Option<Shown>
-    ensures { result ≡ option_map (λ matrix. Whole matrix) matrix }
+fn exactly(matrix: Option<Matrix>) -> Option<Known>
+    ensures { result ≡ option_map (λ matrix. exactly matrix.0) matrix }
 {
     match matrix {
-        Some(matrix) => Some(Shown::Whole(matrix)),
+        Some(matrix) => Some(Known::exactly(&matrix)),
         None => None,
     }
 }

@@ -5,15 +5,14 @@ mod answering;
 mod ask;
 mod evidence;
 mod found;
+mod given;
 pub mod laws;
 mod order;
 mod queries;
 mod refusal;
-mod shown;
 
 pub use ask::Ask;
 pub use evidence::shown_by_each;
 pub use found::Found;
 pub use queries::{features_asked, query, relate_one};
 pub use refusal::Refusal;
-pub use shown::Shown;

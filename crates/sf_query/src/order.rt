@@ -1,7 +1,9 @@
 //! In which order evidence is asked for before a walk, and from which sizes on. All of it lies in this file.
 
 use super::ask::Ask;
-use super::evidence::Evidence;
+use super::evidence::Evidence::{
+    self, Boxes, Crossing, Edges, FirstPoints, Nearby, Place, Prepared,
+};
 use sf_contact::FEW_POINTS;
 
 /// How many features there are at least for what is made of the given geometry to pay.
@@ -13,41 +15,17 @@ pub(crate) const MANY_POINTS: usize = 32;
 
 /// Where contact is asked for by name, the first edges that meet show it, and a first point shows it where both are large.
 /// Edges that cross come after, since they have to be searched in all of both.
-static OF_CONTACT: [Evidence; 6] = [
-    Evidence::Prepared,
-    Evidence::Place,
-    Evidence::Edges,
-    Evidence::FirstPoints,
-    Evidence::Crossing,
-    Evidence::Nearby,
-];
+static OF_CONTACT: [Evidence; 6] = [Prepared, Place, Edges, FirstPoints, Crossing, Nearby];
 
 /// Whatever else is asked, edges that cross show most of it. Edges that meet show no more than that there is contact.
-static OF_MATRIX: [Evidence; 5] = [
-    Evidence::Prepared,
-    Evidence::Crossing,
-    Evidence::Place,
-    Evidence::Edges,
-    Evidence::Nearby,
-];
+static OF_MATRIX: [Evidence; 5] = [Prepared, Crossing, Place, Edges, Nearby];
 
 /// Where all entries of one feature are asked, and the given geometry has few points: edges nearby show all of them, whether or not
 /// boxes meet. For one feature nothing is prepared.
-static OF_ENTRIES_OF_FEW: [Evidence; 5] = [
-    Evidence::Place,
-    Evidence::Nearby,
-    Evidence::Boxes,
-    Evidence::Crossing,
-    Evidence::Edges,
-];
+static OF_ENTRIES_OF_FEW: [Evidence; 5] = [Place, Nearby, Boxes, Crossing, Edges];
 
 /// Where it has many, boxes come first.
-static OF_ENTRIES_OF_MANY: [Evidence; 4] = [
-    Evidence::Boxes,
-    Evidence::Place,
-    Evidence::Crossing,
-    Evidence::Edges,
-];
+static OF_ENTRIES_OF_MANY: [Evidence; 4] = [Boxes, Place, Crossing, Edges];
 
 /// The order for what is asked. A walk comes after all of them.
 pub(crate) fn order_of(ask: &Ask) -> &'static [Evidence] {

@@ -1,27 +1,22 @@
 //! Queries over a layer, by its index where it has one.
 
-ghost use Rattle.std.specs.Prelude.{◌≡◌, ◌&&◌, not, IfOk, IfSome, IsTrue};
-ghost use Rattle.sf_geometry.specs.Envelope.{envelope_of, extents_meet};
+ghost use Rattle.std.specs.Prelude.{◌≡◌, IfOk, IsTrue};
+ghost use Rattle.sf_geometry.specs.Envelope.{envelope_of};
 ghost use Rattle.sf_rtree.specs.Indexes.{ids_meeting};
 ghost use Rattle.sf_rules.specs.Validity.{IsValid};
 ghost use Rattle.sf_layers.specs.Boxes.{boxes_of};
 ghost use Rattle.sf_layers.specs.Content.{layer_of};
 ghost use Rattle.sf_layers.specs.WellFormed.{IsLayer};
-ghost use Rattle.sf_prepared.specs.Boxes.{AreEdgesOf};
 ghost use Rattle.sf_query.specs.Answers.{IsAnswer, needs_contact};
 ghost use Rattle.sf_query.specs.Replies.{IsQueried, IsRelated};
 
-use super::answering::{is_asked, is_asked_beside, matrix_with};
 use super::ask::Ask;
 use super::found::Found;
-use super::order::MANY_FEATURES;
+use super::given::Given;
 use super::refusal::Refusal;
-use sf_contact::FEW_POINTS;
-use sf_geometry::Extent;
 use sf_layers::{Layer, Store};
-use sf_prepared::Prepared;
 use sf_relate::Matrix;
-use sf_rtree::{RTree, SpatialIndex};
+use sf_rtree::RTree;
 use sf_validity::Valid;
 use std::alloc::{AllocError, Global};
 
@@ -65,7 +60,7 @@ pub fn relate_one(
     let Some(feature) = layer.feature(id) else {
         return Err(Refusal::NoFeature);
     };
-    Ok(matrix_with(alloc, feature.valid(), given)?)
+    Ok(Given::new(given).matrix_with(alloc, feature.valid())?)
 }
 
 /// The features of a layer of a store whose matrix with the given geometry is as asked.
@@ -84,10 +79,7 @@ pub fn features_asked(
 {
     match layer.index() {
         Some(index) if ask.needs_contact() => found_by_index(alloc, layer, index, ask, given),
-        _ => {
-            let prepared = prepared_for(alloc, ask, given, layer.feature_count());
-            found_by_pass(alloc, layer, ask, given, &prepared)
-        }
+        _ => found_by_pass(alloc, layer, ask, given),
     }
 }
 
@@ -105,9 +97,10 @@ fn found_by_index(
     requires contact { IsTrue (needs_contact ask.now) }
     ensures { IfOk result (IsAnswer layer.now ask.now given.now) }
 {
-    let near = near_ids(alloc, index, given)?;
-    let prepared = prepared_for(alloc, ask, given, near.len());
-    found_among(alloc, layer, near.as_slice(), ask, given, &prepared)
+    let given = Given::new(given);
+    let near = given.near_ids(alloc, index)?;
+    let given = given.prepared_for(alloc, ask, near.len());
+    found_among(alloc, layer, near.as_slice(), ask, &given)
 }
 
 /// The features that answer, where these are the identifiers of all whose boxes meet the given geometry's.
@@ -116,10 +109,8 @@ fn found_among(
     layer: &Layer,
     near: &[u32],
     ask: &Ask,
-    given: &Valid,
-    prepared: &Option<Prepared>,
+    given: &Given,
 ) -> Result<Found, AllocError>
-    requires prepared { IfSome prepared.now (AreEdgesOf given.now) }
     requires layer { IsLayer layer.now }
     requires valid { IsValid given.now }
     requires near { near.now ≡ ids_meeting (envelope_of given.now) (boxes_of layer.now.features) }
@@ -129,35 +120,12 @@ fn found_among(
     let mut ids = Vec::new(alloc);
     for id in near {
         let feature = layer.feature(*id).unwrap();
-        if is_asked(alloc, ask, feature.valid(), given, prepared)? {
+        if given.is_asked(alloc, ask, feature.valid())? {
             ids.push(*id)?;
         }
     }
     let looked = near.len();
     Ok(Found { ids, looked })
-}
-
-/// What is made of the given geometry where so many features are asked about it; else None, and where no memory is found. Of a
-/// small one its own edges show contact as soon.
-fn prepared_for(alloc: Global, ask: &Ask, given: &Valid, features: usize) -> Option<Prepared>
-    ensures { IfSome result (AreEdgesOf given.now) }
-{
-    if features < MANY_FEATURES {
-        return None;
-    }
-    if given.geometry().point_count() <= FEW_POINTS && ask.is_of_contact() {
-        return None;
-    }
-    Prepared::new(alloc, given).ok()
-}
-
-/// The identifiers of the features whose boxes meet the given geometry's, rising.
-fn near_ids(alloc: Global, index: &RTree, given: &Valid) -> Result<Vec<u32>, AllocError>
-    ensures ids { IfOk result (λ ids. ids.items ≡ ids_meeting (envelope_of given.now) index.now) }
-    ensures valid { IsValid given.now }
-{
-    let extent = given.geometry().envelope();
-    index.meeting(alloc, &extent)
 }
 
 /// The features that answer, by one pass over all of them. Those whose boxes don't meet the given
@@ -167,34 +135,24 @@ fn found_by_pass(
     layer: &Layer,
     ask: &Ask,
     given: &Valid,
-    prepared: &Option<Prepared>,
 ) -> Result<Found, AllocError>
-    requires prepared { IfSome prepared.now (AreEdgesOf given.now) }
     requires layer { IsLayer layer.now }
     ensures { IfOk result (IsAnswer layer.now ask.now given.now) }
 {
     layer.has_few_features();
-    let extent = given.geometry().envelope();
+    let given = Given::new(given).prepared_for(alloc, ask, layer.feature_count());
     let needs_contact = ask.needs_contact();
     let mut ids = Vec::new(alloc);
     let mut looked = 0;
     for (id, feature) in layer.features() {
         let valid = feature.valid();
-        if is_passed_over(valid, needs_contact, extent) {
+        if given.passes_over(valid, needs_contact) {
             continue;
         }
         looked += 1;
-        if is_asked_beside(alloc, ask, valid, given, extent, prepared)? {
+        if given.is_asked_beside(alloc, ask, valid)? {
             ids.push(*id)?;
         }
     }
     Ok(Found { ids, looked })
-}
-
-/// Whether a geometry can't answer by its box: contact is needed, and the box doesn't meet the given
-/// one.
-fn is_passed_over(geometry: &Valid, needs_contact: bool, extent: Extent) -> bool
-    ensures { result ≡ (needs_contact && not (extents_meet (envelope_of geometry.now) extent)) }
-{
-    needs_contact && !geometry.geometry().envelope().meets(extent)
 }

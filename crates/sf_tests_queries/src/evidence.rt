@@ -1,7 +1,7 @@
 //! Each kind of evidence shows something of some pairs of geometries that look random, and what it shows is so of the matrix
 //! that a walk finds.
 
-use sf_query::{Shown, shown_by_each};
+use sf_query::shown_by_each;
 use sf_relate::{Aim, Dim, Known, Matrix, Predicate, dimension, holds, known_of_kinds, walked};
 use sf_validity::{Valid, validate};
 use std::alloc::{AllocError, Global};
@@ -71,12 +71,9 @@ fn matrix_walked(alloc: Global, a: &Valid, b: &Valid) -> Result<Matrix, Fail> {
 }
 
 /// Whether what is shown is so of the matrix of geometries of these dimensions.
-fn is_so(shown: &Shown, a: Dim, b: Dim, matrix: &Matrix) -> bool {
-    match shown {
-        Shown::Contact => holds(Predicate::Intersects, a, b, matrix),
-        Shown::Part(known) => known.and(&Known::exactly(matrix)).matrix() == Some(*matrix),
-        Shown::Whole(whole) => *whole == *matrix,
-    }
+fn is_so(shown: &Known, a: Dim, b: Dim, matrix: &Matrix) -> bool {
+    let entries = shown.and(&Known::exactly(matrix)).matrix();
+    entries == Some(*matrix) && (!shown.contact || holds(Predicate::Intersects, a, b, matrix))
 }
 
 /// Counts what each kind of evidence shows of two geometries. An error where that isn't so.

@@ -1,4 +1,6 @@
+use Rattle.sf_query.proofs.EvidenceLaws.{told-sharing}
 use Rattle.sf_query.proofs.evidence.by_first_points.Goals as goal
 
-pub returns-then-shares_first_point-clause-holds : goal.returns-then-shares_first_point-clause-holds
-returns-then-shares_first_point-clause-holds c = c.shares_first_point.ensures.contact c.if-shares_first_point.true
+pub returns-clause-holds : goal.returns-clause-holds
+returns-clause-holds c =
+    told-sharing c.shares_first_point.result c.sharing.result c.then_some.result c.args.geometry.now c.args.given.now c.then_some.ensures c.sharing.ensures c.shares_first_point.ensures.contact

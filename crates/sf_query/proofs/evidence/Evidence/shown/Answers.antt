@@ -1,9 +1,29 @@
 use Rattle.sf_relate.specs.Matrices.{matrix_of}
-use Rattle.sf_query.proofs.EvidenceLaws.{part-shown, whole-shown}
+use Rattle.sf_query.proofs.EvidenceLaws.{matrix-known, of-held}
 use Rattle.sf_query.proofs.evidence.Evidence.shown.Goals as goal
 
+pub returns-in-Boxes : goal.returns-in-Boxes
+returns-in-Boxes c =
+    of-held c.exactly.result c.args.geometry.now c.given.inside.valid.now c.args.given.now c.given.view_is
+    (matrix-known c.matrix_by_boxes.result c.exactly.result (matrix_of c.args.geometry.now c.given.inside.valid.now) c.exactly.ensures c.matrix_by_boxes.ensures.told)
+
+pub returns-in-Place : goal.returns-in-Place
+returns-in-Place c =
+    of-held c.by_place.result c.args.geometry.now c.given.inside.valid.now c.args.given.now c.given.view_is c.by_place.ensures.holds
+
+pub returns-in-Edges : goal.returns-in-Edges
+returns-in-Edges c =
+    of-held c.by_edges.result c.args.geometry.now c.given.inside.valid.now c.args.given.now c.given.view_is c.by_edges.ensures
+
+pub returns-in-FirstPoints : goal.returns-in-FirstPoints
+returns-in-FirstPoints c =
+    of-held c.by_first_points.result c.args.geometry.now c.given.inside.valid.now c.args.given.now c.given.view_is c.by_first_points.ensures.holds
+
 pub returns-in-Crossing : goal.returns-in-Crossing
-returns-in-Crossing c = part-shown c.known_by_crossing.result c.part.result (matrix_of c.args.geometry.now c.args.given.now) c.part.ensures c.known_by_crossing.ensures
+returns-in-Crossing c =
+    of-held c.known_by_crossing.result c.args.geometry.now c.given.inside.valid.now c.args.given.now c.given.view_is c.known_by_crossing.ensures
 
 pub returns-in-Nearby : goal.returns-in-Nearby
-returns-in-Nearby c = whole-shown c.matrix_by_edges_nearby.result c.whole-in-Nearby.result (matrix_of c.args.geometry.now c.args.given.now) c.whole-in-Nearby.ensures c.matrix_by_edges_nearby.ensures
+returns-in-Nearby c =
+    of-held c.exactly-in-Nearby.result c.args.geometry.now c.given.inside.valid.now c.args.given.now c.given.view_is
+    (matrix-known c.matrix_by_edges_nearby.result c.exactly-in-Nearby.result (matrix_of c.args.geometry.now c.given.inside.valid.now) c.exactly-in-Nearby.ensures c.matrix_by_edges_nearby.ensures)

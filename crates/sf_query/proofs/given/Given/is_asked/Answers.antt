@@ -1,0 +1,37 @@
+use Rattle.std.proofs.Common.{◌∙◌, ap, subst, sym}
+use Rattle.sf_geometry.specs.declared.geometry.Geometry.{Geometry}
+use Rattle.sf_known.specs.declared.known.Known.{Known}
+use Rattle.sf_known.specs.Known.{Holds}
+use Rattle.sf_known.proofs.KnownLaws.{answers_are_true, both_hold}
+use Rattle.sf_relate.specs.Matrices.{matrix_of}
+use Rattle.sf_relate.proofs.FoundLaws.{nothing-holds}
+use Rattle.sf_relate.proofs.ResultLaws.{answered}
+use Rattle.sf_query.specs.Answers.{is_answered, is_asked}
+use Rattle.sf_query.proofs.given.Given.is_asked.Goals as goal
+
+pub loop-evidence-init : goal.loop-evidence-init
+loop-evidence-init c =
+    let a = c.args.geometry.now in
+    let b = c.args.self.now in
+    subst (λ (k : Known). Holds k (matrix_of a b)) (sym c.nothing-known.ensures) (nothing-holds a b)
+
+pub returns-in-Some-answer : goal.returns-in-Some-answer
+returns-in-Some-answer c =
+    let a = c.args.geometry.now in
+    let m = matrix_of a c.args.self.now in
+    answers_are_true c.in-Some.shown c.goal-goal.result m c.in-Some-answer.answer c.in-Some.ensures (sym c.in-Some-answer.ensures)
+    ∙ c.goal-goal.ensures m
+    ∙ ap (λ (g : Geometry). is_answered c.args.ask.now a g m) c.self.view_is
+
+pub loop-evidence-preserved : goal.loop-evidence-preserved
+loop-evidence-preserved c =
+    let m = matrix_of c.args.geometry.now c.args.self.now in
+    subst (λ (k : Known). Holds k m) (sym c.and-known.ensures) (both_hold c.loop-evidence.known c.in-Some.shown m c.loop-evidence.invariant c.in-Some.ensures)
+
+pub meets_from-requires : goal.meets_from-requires
+meets_from-requires c = subst (λ (g : Geometry). Holds c.loop-evidence.known (matrix_of c.args.geometry.now g)) (sym c.self.view_is) c.loop-evidence.invariant
+
+pub returns : goal.returns
+returns c =
+    let a = c.args.geometry.now in
+    answered c.meets_from.result (λ answer is. is ∙ c.goal-goal.ensures (matrix_of a c.self.inside.valid.now) ∙ ap (λ (g : Geometry). is_asked c.args.ask.now a g) c.self.view_is) c.meets_from.ensures
