@@ -41,9 +41,9 @@ impl Ask {
     pub(crate) fn is_of_contact(&self) -> bool
         ensures { result ≡ is_of_contact self.now }
     {
-        match self {
-            Ask::Named(Predicate::Intersects | Predicate::Disjoint) => true,
-            _ => false,
-        }
+        matches!(
+            self,
+            Ask::Named(Predicate::Intersects | Predicate::Disjoint)
+        )
     }
 }

@@ -16,7 +16,6 @@ use super::given::Given;
 use super::refusal::Refusal;
 use sf_layers::{Layer, Store};
 use sf_relate::Matrix;
-use sf_rtree::RTree;
 use sf_validity::Valid;
 use std::alloc::{AllocError, Global};
 
@@ -78,32 +77,18 @@ pub fn features_asked(
     ensures { IfOk result (IsAnswer layer.now ask.now given.now) }
 {
     match layer.index() {
-        Some(index) if ask.needs_contact() => found_by_index(alloc, layer, index, ask, given),
+        Some(index) if ask.needs_contact() => {
+            let given = Given::new(given);
+            let near = given.near_ids(alloc, index)?;
+            let given = given.prepared_for(alloc, ask, near.len());
+            found_among(alloc, layer, near.as_slice(), ask, &given)
+        }
         _ => found_by_pass(alloc, layer, ask, given),
     }
 }
 
-/// The features that answer, of those whose boxes meet the given geometry's. No other can, since the
-/// ask needs contact.
-fn found_by_index(
-    alloc: Global,
-    layer: &Layer,
-    index: &RTree,
-    ask: &Ask,
-    given: &Valid,
-) -> Result<Found, AllocError>
-    requires layer { IsLayer layer.now }
-    requires index { index.now ≡ boxes_of layer.now.features }
-    requires contact { IsTrue (needs_contact ask.now) }
-    ensures { IfOk result (IsAnswer layer.now ask.now given.now) }
-{
-    let given = Given::new(given);
-    let near = given.near_ids(alloc, index)?;
-    let given = given.prepared_for(alloc, ask, near.len());
-    found_among(alloc, layer, near.as_slice(), ask, &given)
-}
-
-/// The features that answer, where these are the identifiers of all whose boxes meet the given geometry's.
+/// The features that answer, where these are the identifiers of all whose boxes meet the given geometry's. No other can, since
+/// the ask needs contact.
 fn found_among(
     alloc: Global,
     layer: &Layer,
