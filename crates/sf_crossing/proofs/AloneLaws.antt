@@ -38,7 +38,7 @@ start_on a b =
     weighed : (s t : ℤ) → (pos 1 +ℤ pos 0) *ℤ s ≡ (pos 1 *ℤ s +ℤ pos 0 *ℤ t) *ℤ pos 1
     weighed s t = omega (arith, ints)
 
-low-on : (e f : Edge) (low high : Coordinates) → IsSharing e f (Along low high) → IsOnBoth e f (grid_point low)
+pub low-on : (e f : Edge) (low high : Coordinates) → IsSharing e f (Along low high) → IsOnBoth e f (grid_point low)
 low-on e f low high h = (h.1 (grid_point low) (is_grid low)).1 (start_on low high)
 
 high-on : (e f : Edge) (low high : Coordinates) → IsSharing e f (Along low high) → IsOnBoth e f (grid_point high)

@@ -3,3 +3,4 @@ pub mod EdgeLaws
 pub mod CountLaws
 pub mod AloneLaws
 pub mod MeetingLaws
+pub mod NearLaws

@@ -37,18 +37,18 @@ pub fn have_crossing(
 {
     let first = edges_meeting(alloc, a, common)?;
     let second = edges_meeting(alloc, b, common)?;
-    are_crossed(alloc, first.as_slice(), second.as_slice())
+    are_crossed(alloc, first, second)
 }
 
 /// Whether an edge of the first is found that crosses one of the second at a point of no other edge.
-fn are_crossed(alloc: Global, first: &[Edge], second: &[Edge]) -> Result<bool, AllocError>
-    requires first_long { AllByRecursion (λ pair. pair.0 ≢ pair.1) first.now }
-    requires second_long { AllByRecursion (λ pair. pair.0 ≢ pair.1) second.now }
+fn are_crossed(alloc: Global, first: Vec<Edge>, second: Vec<Edge>) -> Result<bool, AllocError>
+    requires first_long { AllByRecursion (λ pair. pair.0 ≢ pair.1) first.items }
+    requires second_long { AllByRecursion (λ pair. pair.0 ≢ pair.1) second.items }
     ensures { IfOk result (λ told. IsTrue told → HaveCrossing
-        (map edge_of first.now) (map edge_of second.now)) }
+        (map edge_of first.items) (map edge_of second.items)) }
 {
     if first.len().min(second.len()) <= FEW_EDGES {
-        Ok(some_pair_crosses(first, second))
+        Ok(some_pair_crosses(first.as_slice(), second.as_slice()))
     } else {
         some_near_pair_crosses(alloc, first, second)
     }
@@ -73,38 +73,29 @@ fn some_pair_crosses(first: &[Edge], second: &[Edge]) -> bool
 /// The same, where those are tried whose boxes meet.
 fn some_near_pair_crosses(
     alloc: Global,
-    first: &[Edge],
-    second: &[Edge],
+    first: Vec<Edge>,
+    second: Vec<Edge>,
 ) -> Result<bool, AllocError>
-    requires first_long { AllByRecursion (λ pair. pair.0 ≢ pair.1) first.now }
-    requires second_long { AllByRecursion (λ pair. pair.0 ≢ pair.1) second.now }
+    requires first_long { AllByRecursion (λ pair. pair.0 ≢ pair.1) first.items }
+    requires second_long { AllByRecursion (λ pair. pair.0 ≢ pair.1) second.items }
     ensures { IfOk result (λ told. IsTrue told → HaveCrossing
-        (map edge_of first.now) (map edge_of second.now)) }
+        (map edge_of first.items) (map edge_of second.items)) }
 {
-    let tree = tree_of(alloc, first)?;
-    let other = tree_of(alloc, second)?;
+    let edge_count = first.len().saturating_add(second.len());
     let budget = Budget {
-        at_first: LOOKS_FOR_EACH.saturating_mul(first.len().saturating_add(second.len())),
+        at_first: LOOKS_FOR_EACH.saturating_mul(edge_count),
         for_each_run: 0,
     };
-    match tree.find_pair_with(&other, &PairsOf { first, second }, &budget) {
+    let tree = EdgeTree::new(alloc, first)?;
+    let other = EdgeTree::new(alloc, second)?;
+    let pairs = PairsOf {
+        first: tree.edges(),
+        second: other.edges(),
+    };
+    match tree.find_pair_with(&other, &pairs, &budget) {
         Outcome::Found => Ok(true),
         Outcome::Absent | Outcome::GaveUp => Ok(false),
     }
-}
-
-/// The tree of a copy of edges.
-fn tree_of(alloc: Global, edges: &[Edge]) -> Result<EdgeTree, AllocError>
-    ensures { IfOk result (λ tree. tree ≡ edges.now) }
-{
-    EdgeTree::new(alloc, copy_of(alloc, edges)?)
-}
-
-/// A copy of edges.
-fn copy_of(alloc: Global, edges: &[Edge]) -> Result<Vec<Edge>, AllocError>
-    ensures { IfOk result (λ copy. copy.items ≡ edges.now) }
-{
-    edges.iter().copied().collect(alloc)
 }
 
 /// Pairs of edges of two lists, asked whether they cross at a point of no other edge.

@@ -4,9 +4,12 @@ ghost use Rattle.std.specs.Prelude.{◌≡◌, ◌≢◌, ◌↔◌, ◌<◌, le
 ghost use Rattle.std.specs.List.{AllByRecursion};
 ghost use Rattle.sf_grid.specs.Edge.{IsOnEdge};
 ghost use Rattle.sf_grid.specs.Plane.{same_point};
+ghost use Rattle.sf_geometry.specs.Envelope.{extents_meet};
 ghost use Rattle.sf_geometry.specs.Parts.{edge_of};
+ghost use Rattle.sf_edge_tree.specs.Boxes.{extent_of_edge};
 ghost use Rattle.sf_crossing.specs.Crossing.{CrossAlone, IsAlone, MayHave, are_parted, do_cross};
 
+use sf_geometry::Extent;
 use sf_grid::edges::{meet, orientation};
 use sf_grid::{FracPoint, GridPoint, Meet, Turn};
 use std::cmp::Ordering;
@@ -79,11 +82,21 @@ fn may_have(edge: &Edge, line: &Edge, point: &FracPoint) -> bool
 {
     // only a reader of the point tells that it is one of the plane
     let _column = point.x();
+    if !are_near(edge, line) {
+        return false;
+    }
     match meet(*edge, *line) {
         Meet::Apart => false,
         Meet::At(shared) => is_same(&shared, point),
         Meet::Along(..) => true,
     }
+}
+
+/// Whether the boxes of two edges share a point.
+fn are_near(a: &Edge, b: &Edge) -> bool
+    ensures { result ≡ extents_meet (extent_of_edge a.now) (extent_of_edge b.now) }
+{
+    Extent::at(a.0).with(a.1).meets(Extent::at(b.0).with(b.1))
 }
 
 /// Whether two points are one.

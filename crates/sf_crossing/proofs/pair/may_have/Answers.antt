@@ -1,7 +1,14 @@
-use Rattle.std.proofs.Common.{inr, sym, ◌∙◌}
+use Rattle.std.proofs.Common.{inr, sym, true≢false, ◌∙◌}
 use Rattle.sf_geometry.specs.Parts.{edge_of}
 use Rattle.sf_crossing.proofs.AloneLaws.{has-shared, none-have, shared-has}
+use Rattle.sf_crossing.proofs.NearLaws.{has-near}
 use Rattle.sf_crossing.proofs.pair.may_have.Goals as goal
+
+pub returns-then-not-are_near : goal.returns-then-not-are_near
+returns-then-not-are_near c = (
+  λ t. cc,
+  λ has. absurd (true≢false (sym (has-near c.args.edge.now c.args.line.now c.args.point.now c.x-column.ensures.point c.requires.on_line has) ∙ sym c.are_near.ensures ∙ c.if-not-are_near.true)),
+)
 
 pub returns-in-Apart : goal.returns-in-Apart
 returns-in-Apart c = (
