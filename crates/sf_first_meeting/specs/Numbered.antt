@@ -1,3 +1,4 @@
+-- Internal: who wants to trust the program need not read this file.
 -- The edges of a list of points by their numbers, and which points two of them may share.
 use Rattle.std.specs.Prelude.{◌≡◌, ◌≢◌, ℕ, ◌+◌, ◌<◌, ◌⊎◌, List, length, pos, slice_index_or}
 use Rattle.sf_grid.specs.Plane.{Coordinates, IsPoint, IsSamePoint, Point, grid_point}
