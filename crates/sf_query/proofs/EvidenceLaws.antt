@@ -1,5 +1,5 @@
 -- What evidence shows is so of the matrix.
-use Rattle.std.proofs.Common.{◌≡◌, Bool, false, List, Option, None, Some, IfSome, IsTrue, refl, sym, subst, option_map, true}
+use Rattle.std.proofs.Common.{◌≡◌, ◌∙◌, ap, not, Bool, false, List, Option, None, Some, IfSome, IsTrue, refl, sym, subst, option_map, true}
 use Rattle.std.specs.Bool.{then_some}
 use Rattle.std.proofs.lemmas.Bool.{both_ways}
 use Rattle.sf_grid.specs.Plane.{Coordinates, grid_point}
@@ -16,6 +16,11 @@ use Rattle.sf_relate.specs.declared.place.Place.{Place}
 use Rattle.sf_relate.specs.Matrices.{matrix_of}
 use Rattle.sf_relate.specs.Placed.{known_of_place}
 use Rattle.sf_relate.specs.Places.{IsPlaceOf}
+use Rattle.sf_known.specs.declared.predicate.Predicate.TheVariants.{Disjoint, Intersects}
+use Rattle.sf_query.specs.Answers.{dim_of_geometry, is_asked}
+use Rattle.sf_query.specs.declared.ask.Ask.{Ask}
+use Rattle.sf_query.specs.declared.ask.Ask.TheVariants.{Named}
+use Rattle.sf_relate.proofs.SharedLaws.{contact_is_shared}
 use Rattle.sf_relate.proofs.PointLaws.{places_are_known}
 use Rattle.sf_relate.proofs.FoundLaws.{nothing-holds}
 
@@ -56,3 +61,21 @@ of-held shown a g b e h = subst (λ (x : Geometry). IfSome shown (λ known. Hold
 pub place-holds : (a b : Geometry) (p : Coordinates) (place : Place) → a ≡ Point p → IsValid a → IsValid b → IsPlaceOf b (grid_point p) place → Holds (known_of_place place) (matrix_of a b)
 place-holds a b p place is v w at =
     subst (λ (g : Geometry). Holds (known_of_place place) (matrix_of g b)) (sym is) (places_are_known p b place (subst IsValid is v) w at)
+
+-- whether two geometries have contact tells what is asked of it by name
+pub told-intersects : (told : Option Bool) (ask : Ask) (a g b : Geometry) → ask ≡ Named Intersects → g ≡ b → IfSome told (λ has. has ≡ has_contact (matrix_of a g)) → IfSome told (λ answer. answer ≡ is_asked ask a b)
+told-intersects None ask a g b e same h = tt
+told-intersects (Some has) ask a g b e same h =
+    h
+    ∙ ap (λ (x : Geometry). has_contact (matrix_of a x)) same
+    ∙ sym ((contact_is_shared a b).intersects (dim_of_geometry a) (dim_of_geometry b))
+    ∙ ap (λ (x : Ask). is_asked x a b) (sym e)
+
+pub told-disjoint : (told answer : Option Bool) (ask : Ask) (a g b : Geometry) → answer ≡ option_map (λ has. not has) told → ask ≡ Named Disjoint → g ≡ b → IfSome told (λ has. has ≡ has_contact (matrix_of a g))
+    → IfSome answer (λ answer. answer ≡ is_asked ask a b)
+told-disjoint None answer ask a g b is e same h = subst (λ (o : Option Bool). IfSome o (λ answer. answer ≡ is_asked ask a b)) (sym is) tt
+told-disjoint (Some has) answer ask a g b is e same h =
+    subst (λ (o : Option Bool). IfSome o (λ answer. answer ≡ is_asked ask a b)) (sym is)
+    (ap not (h ∙ ap (λ (x : Geometry). has_contact (matrix_of a x)) same)
+    ∙ sym ((contact_is_shared a b).disjoint (dim_of_geometry a) (dim_of_geometry b))
+    ∙ ap (λ (x : Ask). is_asked x a b) (sym e))

@@ -1,13 +1,15 @@
 //! What is asked of a geometry: by one evidence after another until that is enough, and else by a walk.
 
-ghost use Rattle.std.specs.Prelude.{◌≡◌, IfOk};
+ghost use Rattle.std.specs.Prelude.{◌≡◌, IfOk, IfSome};
 ghost use Rattle.sf_relate.specs.Matrices.{matrix_of};
 ghost use Rattle.sf_query.specs.Answers.{is_asked};
 
 use super::ask::Ask;
 use super::given::Given;
 use super::order::{order_of, order_of_entries};
-use sf_relate::{Aim, Known, Matrix, matrix_by_boxes, meets_from, relate_from};
+use sf_contact::contact_between;
+use sf_geometry::Geometry;
+use sf_relate::{Aim, Known, Matrix, Predicate, matrix_by_boxes, meets_from, relate_from};
 use sf_validity::Valid;
 use std::alloc::{AllocError, Global};
 
@@ -36,6 +38,9 @@ impl Given<'_> {
     ) -> Result<bool, AllocError>
         ensures { IfOk result (λ answer. answer ≡ is_asked ask.now geometry.now self.now) }
     {
+        if let Some(answer) = self.told_by_contact(ask, geometry) {
+            return Ok(answer);
+        }
         let goal = ask.goal(geometry, self.valid);
         let mut known = Known::nothing();
         for evidence in order_of(ask) {
@@ -48,6 +53,23 @@ impl Given<'_> {
             known = known.and(&shown);
         }
         meets_from(alloc, &goal, geometry, self.valid, &known)
+    }
+
+    /// Whether it is as asked, by edges and first points alone, where contact or its absence is asked for by name and one of
+    /// the two is small. Of a Point its place shows as much.
+    fn told_by_contact(&self, ask: &Ask, geometry: &Valid) -> Option<bool>
+        ensures { IfSome result (λ answer. answer ≡ is_asked ask.now geometry.now self.now) }
+    {
+        if let Geometry::Point(_) = geometry.geometry() {
+            return None;
+        }
+        match ask {
+            Ask::Named(Predicate::Intersects) => contact_between(geometry, self.valid),
+            Ask::Named(Predicate::Disjoint) => {
+                contact_between(geometry, self.valid).map(|has_contact| !has_contact)
+            }
+            _ => None,
+        }
     }
 
     /// The matrix of a feature's geometry with this one. How the boundaries of two areas share points is left to edges that

@@ -19,14 +19,14 @@ pub returns-in-Some-answer : goal.returns-in-Some-answer
 returns-in-Some-answer c =
     let a = c.args.geometry.now in
     let m = matrix_of a c.args.self.now in
-    answers_are_true c.in-Some.shown c.goal-goal.result m c.in-Some-answer.answer c.in-Some.ensures (sym c.in-Some-answer.ensures)
+    answers_are_true c.in-Some-shown.shown c.goal-goal.result m c.in-Some-answer.answer c.in-Some-shown.ensures (sym c.in-Some-answer.ensures)
     ∙ c.goal-goal.ensures m
     ∙ ap (λ (g : Geometry). is_answered c.args.ask.now a g m) c.self.view_is
 
 pub loop-evidence-preserved : goal.loop-evidence-preserved
 loop-evidence-preserved c =
     let m = matrix_of c.args.geometry.now c.args.self.now in
-    subst (λ (k : Known). Holds k m) (sym c.and-known.ensures) (both_hold c.loop-evidence.known c.in-Some.shown m c.loop-evidence.invariant c.in-Some.ensures)
+    subst (λ (k : Known). Holds k m) (sym c.and-known.ensures) (both_hold c.loop-evidence.known c.in-Some-shown.shown m c.loop-evidence.invariant c.in-Some-shown.ensures)
 
 pub meets_from-requires : goal.meets_from-requires
 meets_from-requires c = subst (λ (g : Geometry). Holds c.loop-evidence.known (matrix_of c.args.geometry.now g)) (sym c.self.view_is) c.loop-evidence.invariant
