@@ -42,6 +42,9 @@ impl Given<'_> {
             return Ok(answer);
         }
         let goal = ask.goal(geometry, self.valid);
+        if let Some(matrix) = self.matrix_prepared(alloc, geometry) {
+            return Ok(goal.is_met(&matrix));
+        }
         let mut known = Known::nothing();
         for evidence in order_of(ask) {
             let Some(shown) = evidence.shown(alloc, geometry, self) else {
@@ -55,11 +58,14 @@ impl Given<'_> {
         meets_from(alloc, &goal, geometry, self.valid, &known)
     }
 
-    /// Whether it is as asked, by edges and first points alone, where contact or its absence is asked for by name and one of
-    /// the two is small. Of a Point its place shows as much.
+    /// Whether it is as asked, by edges and first points alone, where contact or its absence is asked for by name, one of the
+    /// two is small, and nothing was prepared. Of a Point its place shows as much.
     fn told_by_contact(&self, ask: &Ask, geometry: &Valid) -> Option<bool>
         ensures { IfSome result (λ answer. answer ≡ is_asked ask.now geometry.now self.now) }
     {
+        if self.prepared.is_some() {
+            return None;
+        }
         if let Geometry::Point(_) = geometry.geometry() {
             return None;
         }

@@ -28,8 +28,6 @@ use std::alloc::Global;
 pub(crate) enum Evidence {
     /// Boxes that share no point.
     Boxes,
-    /// What was made of the given geometry.
-    Prepared,
     /// The place of a Point in the given geometry.
     Place,
     /// Edges of a small geometry, one by one: whether they meet the other's.
@@ -49,7 +47,6 @@ impl Evidence {
     {
         match self {
             Evidence::Boxes => exactly(matrix_by_boxes(geometry, given.valid, given.extent)),
-            Evidence::Prepared => by_prepared(alloc, geometry, given),
             Evidence::Place => by_place(geometry, given.valid),
             Evidence::Edges => by_edges(geometry, given.valid),
             Evidence::FirstPoints => by_first_points(geometry, given.valid),
@@ -66,7 +63,7 @@ pub fn shown_by_each(alloc: Global, geometry: &Valid, given: &Valid) -> [Option<
 {
     let given = Given::new(given).prepared(alloc);
     [
-        Evidence::Prepared.shown(alloc, geometry, &given),
+        exactly(given.matrix_prepared(alloc, geometry)),
         Evidence::Place.shown(alloc, geometry, &given),
         Evidence::Edges.shown(alloc, geometry, &given),
         Evidence::FirstPoints.shown(alloc, geometry, &given),
@@ -86,16 +83,6 @@ fn matrix_by_edges_nearby(alloc: Global, geometry: &Valid, given: &Valid) -> Opt
         return None;
     }
     matrix_nearby(alloc, geometry, given)
-}
-
-/// What was made of the given geometry shows the matrix, if anything.
-fn by_prepared(alloc: Global, geometry: &Valid, given: &Given) -> Option<Known>
-    ensures { IfSome result (λ known. Holds known (matrix_of geometry.now given.now)) }
-{
-    match &given.prepared {
-        Some(prepared) => exactly(prepared.matrix_told(alloc, geometry, given.valid)),
-        None => None,
-    }
 }
 
 /// A Point's place shows its first row.

@@ -1,15 +1,17 @@
 //! A geometry that features are asked about, and what was made of it.
 
-ghost use Rattle.std.specs.Prelude.{◌≡◌, ◌&&◌, not, IfOk};
+ghost use Rattle.std.specs.Prelude.{◌≡◌, ◌&&◌, not, IfOk, IfSome};
 ghost use Rattle.sf_geometry.specs.Envelope.{envelope_of, extents_meet};
 ghost use Rattle.sf_rtree.specs.Indexes.{ids_meeting};
 ghost use Rattle.sf_rules.specs.Validity.{IsValid};
+ghost use Rattle.sf_relate.specs.Matrices.{matrix_of};
 
 use super::ask::Ask;
 use super::order::MANY_FEATURES;
 use sf_contact::FEW_POINTS;
 use sf_geometry::Extent;
 use sf_prepared::Prepared;
+use sf_relate::Matrix;
 use sf_rtree::{RTree, SpatialIndex};
 use sf_validity::Valid;
 use std::alloc::{AllocError, Global};
@@ -73,6 +75,16 @@ impl<'a> Given<'a> {
             return self;
         }
         self.prepared(alloc)
+    }
+
+    /// The matrix of a feature's geometry with it, where what was made of it shows that.
+    pub(crate) fn matrix_prepared(&self, alloc: Global, geometry: &Valid) -> Option<Matrix>
+        ensures { IfSome result (λ matrix. matrix.0 ≡ matrix_of geometry.now self.now) }
+    {
+        match &self.prepared {
+            Some(prepared) => prepared.matrix_told(alloc, geometry, self.valid),
+            None => None,
+        }
     }
 
     /// The identifiers of the features whose boxes meet its box, rising.

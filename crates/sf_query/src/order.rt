@@ -1,9 +1,7 @@
 //! In which order evidence is asked for before a walk, and from which sizes on. All of it lies in this file.
 
 use super::ask::Ask;
-use super::evidence::Evidence::{
-    self, Boxes, Crossing, Edges, FirstPoints, Nearby, Place, Prepared,
-};
+use super::evidence::Evidence::{self, Boxes, Crossing, Edges, FirstPoints, Nearby, Place};
 use sf_contact::FEW_POINTS;
 
 /// How many features there are at least for what is made of the given geometry to pay.
@@ -13,12 +11,12 @@ pub(crate) const MANY_FEATURES: usize = 8;
 /// all of them is as quick.
 pub(crate) const MANY_POINTS: usize = 32;
 
-/// Where contact is asked for by name, the first edges that meet show it, and a first point shows it where both are large.
-/// Edges that cross come after, since they have to be searched in all of both.
-static OF_CONTACT: [Evidence; 6] = [Prepared, Place, Edges, FirstPoints, Crossing, Nearby];
+/// Where contact is asked for by name, the first edges that meet show it, and a first point shows it where both are large. Edges
+/// that cross come after, since they have to be searched in all of both.
+static OF_CONTACT: [Evidence; 5] = [Place, Edges, FirstPoints, Crossing, Nearby];
 
 /// Whatever else is asked, edges that cross show most of it. Edges that meet show no more than that there is contact.
-static OF_MATRIX: [Evidence; 5] = [Prepared, Crossing, Place, Edges, Nearby];
+static OF_MATRIX: [Evidence; 4] = [Crossing, Place, Edges, Nearby];
 
 /// Where all entries of one feature are asked, and the given geometry has few points: edges nearby show all of them, whether or not
 /// boxes meet. For one feature nothing is prepared.
