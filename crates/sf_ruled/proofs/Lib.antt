@@ -1,1 +1,6 @@
 pub mod RuledLaws
+pub mod NameLaws
+pub mod ShapeLaws
+pub mod EditLaws
+pub mod CallLaws
+pub mod TurnLaws

@@ -40,7 +40,7 @@ all-layers content (rule ∷ rules) h =
 
 -- ---- accepted steps
 
-unless-kept : (ruled new : Ruled) (o : Option Broken) → unless_broken ruled o ≡ Ok new → (o ≡ None) × (ruled ≡ new)
+pub unless-kept : (ruled new : Ruled) (o : Option Broken) → unless_broken ruled o ≡ Ok new → (o ≡ None) × (ruled ≡ new)
 unless-kept ruled new None h = let same : ruled ≡ new = cc in (refl, same)
 unless-kept ruled new (Some broken) h = cc
 
@@ -59,16 +59,16 @@ change-kept old new change (Err refusal) h fine = cc
 change-kept old new change (Ok content) h fine = settled-kept (record { content = content; rules = rules_after old.rules change }) new h fine
 
 -- a rule that is added passed its checks
-record WasAdded (old : Ruled) (rule : Rule) (result : Result Ruled Refusal) : Type 0 where
-  layers : HasLayers old.content rule
-  last : result ≡ unless_broken (with_rule old rule) (broken_or (length old.rules) (break_of old.content rule) None)
+pub record WasAdded (old : Ruled) (rule : Rule) (result : Result Ruled Refusal) : Type 0 where
+  pub layers : HasLayers old.content rule
+  pub last : result ≡ unless_broken (with_rule old rule) (broken_or (length old.rules) (break_of old.content rule) None)
 
 -- ... or is refused for no rule that is broken
-data AddsOr (old : Ruled) (rule : Rule) (result : Result Ruled Refusal) : Type 0 where
+pub data AddsOr (old : Ruled) (rule : Rule) (result : Result Ruled Refusal) : Type 0 where
   Adds : WasAdded old rule result → AddsOr old rule result
   Refuses : ((new : Ruled) → result ≡ Ok new → ⊥) → ((broken : Broken) → result ≡ Err (RuleBroken broken) → ⊥) → AddsOr old rule result
 
-adds : (old : Ruled) (rule : Rule) → AddsOr old rule (added old rule)
+pub adds : (old : Ruled) (rule : Rule) → AddsOr old rule (added old rule)
 adds old rule = first (is_name rule.name)
   where
     tail : Bool → Result Ruled Refusal
@@ -109,7 +109,7 @@ adds old rule = first (is_name rule.name)
     first false = Refuses (λ new g. cc) (λ broken g. cc)
     first true = second (has_rule rule.name old.rules)
 
-only-none : (place : ℕ) (o : Option Break) → broken_or place o None ≡ None → o ≡ None
+pub only-none : (place : ℕ) (o : Option Break) → broken_or place o None ≡ None → o ≡ None
 only-none place None h = refl
 only-none place (Some least) h = cc
 
@@ -134,7 +134,7 @@ all-drop P zero rules all = all
 all-drop P (suc n) [] all = tt
 all-drop P (suc n) (rule ∷ rules) all = all-drop P n rules all.1
 
-all-removed : (P : Rule → Type 0) (rules : List Rule) (place : ℕ) → AllByRecursion P rules → AllByRecursion P (remove rules place)
+pub all-removed : (P : Rule → Type 0) (rules : List Rule) (place : ℕ) → AllByRecursion P rules → AllByRecursion P (remove rules place)
 all-removed P rules place all = each-append P (take place rules) (drop (suc place) rules) (all-take P place rules all) (all-drop P (suc place) rules all)
 
 dropped-kept : (old new : Ruled) (name : List ℕ) → IsKept old → dropped old name ≡ Ok new → IsKept new

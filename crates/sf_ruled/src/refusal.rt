@@ -1,7 +1,8 @@
 ghost use Rattle.std.specs.Prelude.{◌≡◌};
 ghost use Rattle.sf_ruled.specs.declared.refusal.Refusal.TheVariants.{Memory};
+ghost use Rattle.sf_ruled.specs.Outcomes.{as_edit as as_edit_of, by_edit as by_edit_of, by_member as by_member_of, by_rules as by_rules_of};
 
-use sf_constraints::Broken;
+use sf_constraints::{Broken, NotExchanged};
 use std::alloc::AllocError;
 
 /// Why a step is refused.
@@ -37,5 +38,45 @@ impl From<AllocError> for Refusal {
 
     fn from(_error: AllocError) -> Refusal {
         Refusal::Memory
+    }
+}
+
+/// The refusal of an edit that is refused so.
+pub(crate) fn by_edit(refusal: sf_steps::Refusal) -> Refusal
+    ensures { result ≡ by_edit_of refusal }
+{
+    match refusal {
+        sf_steps::Refusal::Memory => Refusal::Memory,
+        refusal => Refusal::ByEdit(refusal),
+    }
+}
+
+/// The refusal of a group that is refused so.
+pub(crate) fn by_member(refusal: sf_together::Refusal) -> Refusal
+    ensures { result ≡ by_member_of refusal }
+{
+    match refusal {
+        sf_together::Refusal::Member { number, refusal } => Refusal::ByMember { number, refusal },
+        sf_together::Refusal::Memory => Refusal::Memory,
+    }
+}
+
+/// The refusal of what rules refuse so.
+pub(crate) fn by_rules(refusal: NotExchanged) -> Refusal
+    ensures { result ≡ by_rules_of refusal }
+{
+    match refusal {
+        NotExchanged::Broken(broken) => Refusal::RuleBroken(broken),
+        NotExchanged::Memory => Refusal::Memory,
+    }
+}
+
+/// The refusal of an edit that is refused so as the only one of a group.
+pub(crate) fn as_edit(refusal: Refusal) -> Refusal
+    ensures { result ≡ as_edit_of refusal }
+{
+    match refusal {
+        Refusal::ByMember { refusal, .. } => Refusal::ByEdit(refusal),
+        refusal => refusal,
     }
 }

@@ -1,14 +1,15 @@
 //! Rules that are kept.
 
-ghost use Rattle.std.specs.Prelude.{◌≡◌, ◌++◌, ◌∷◌, [], Err, IfErr, IfOk, Ok, OnErr, OnOk, remove, slice_get, Some};
+ghost use Rattle.std.specs.Prelude.{◌≡◌, ◌≤◌, ◌<◌, ◌-◌, ◌++◌, ◌∷◌, [], Err, IfErr, IfNone, IfOk, IfSome, Ok, OnErr, OnOk, insert, length, map, remove, slice_get, Some, take};
 ghost use Rattle.sf_layers.specs.Content.{Content};
-ghost use Rattle.sf_ruled.specs.Ruled.{AddRule, DropRule, added, place_of_rule, ruled_step, with_rule};
+ghost use Rattle.sf_ruled.specs.Ruled.{AddRule, DropRule, added, place_of_rule, renamed, ruled_step, with_renamed, with_rule};
 ghost use Rattle.sf_ruled.specs.Outcomes.{IsRefusedAs, ruled};
+ghost use Rattle.sf_ruled.specs.Undos.{is_of_layer, names_layer};
 
 use super::refusal::Refusal;
 use sf_constraints::{Broken, Rule, first_break};
-use sf_layers::{Store, is_name};
-use std::alloc::Global;
+use sf_layers::{Store, Text, is_name};
+use std::alloc::{AllocError, Global};
 use std::marker::Model;
 
 /// How many rules there are at most.
@@ -55,6 +56,33 @@ impl Rules {
             .position(|rule| name == rule.name.as_str())
     }
 
+    /// Whether a rule names a layer.
+    pub fn names(&self, layer: &str) -> bool
+        ensures { result ≡ names_layer layer.now self.now }
+    {
+        self.as_slice().iter().any(|rule| is_of(rule, layer))
+    }
+
+    /// The rules with another name for a layer, each copied.
+    ///
+    /// # Errors
+    ///
+    /// Out of memory alone.
+    pub(crate) fn renamed(
+        &self,
+        alloc: Global,
+        layer: &str,
+        new_name: &str,
+    ) -> Result<Rules, AllocError>
+        ensures { IfOk result (λ rules. rules ≡ map (with_renamed layer.now new_name.now) self.now) }
+    {
+        let mut rules = Vec::with_capacity(alloc, self.as_slice().len())?;
+        for rule in self.as_slice() {
+            rules.push(copy_renamed(alloc, rule, layer, new_name)?)?;
+        }
+        Ok(Rules { rules })
+    }
+
     /// Adds a rule behind the others, where it holds of all features.
     ///
     /// # Errors
@@ -97,6 +125,41 @@ impl Rules {
         Ok((place, rule))
     }
 
+    /// Takes the last rule off.
+    pub(crate) fn take_last(&mut self) -> Option<Rule>
+        ensures rest { self.new ≡ take (length self.old - 1) self.old }
+        ensures taken { IfSome result (λ rule. self.old ≡ self.new ++ rule ∷ []) }
+        ensures none { IfNone result (self.old ≡ []) }
+    {
+        self.rules.pop()
+    }
+
+    /// Puts a rule back at a place.
+    ///
+    /// # Errors
+    ///
+    /// Where no memory is found, the rule is given back and nothing is changed.
+    pub(crate) fn put_back(&mut self, place: usize, rule: Rule) -> Result<(), Rule>
+        requires { place ≤ length self.old }
+        ensures put { OnOk result (self.new ≡ insert self.old place rule) }
+        ensures given_back { IfErr result (λ back. back ≡ rule) }
+        ensures unchanged { OnErr result (self.new ≡ self.old) }
+    {
+        match self.rules.insert(place, rule) {
+            Ok(()) => Ok(()),
+            Err(failed) => Err(failed.value),
+        }
+    }
+
+    /// Takes the rule at a place off.
+    pub(crate) fn take_at(&mut self, place: usize) -> Rule
+        requires { place < length self.old }
+        ensures taken { slice_get self.old place ≡ Some result }
+        ensures rest { self.new ≡ remove self.old place }
+    {
+        self.rules.remove(place)
+    }
+
     /// Whether a rule can be added.
     ///
     /// # Errors
@@ -127,5 +190,50 @@ impl Rules {
             None => Ok(()),
             Some(least) => Err(Refusal::RuleBroken(Broken { place, least })),
         }
+    }
+}
+
+/// Whether a layer of the rule has the name.
+fn is_of(rule: &Rule, layer: &str) -> bool
+    ensures { result ≡ is_of_layer layer.now rule.now }
+{
+    layer == rule.first.as_str() || layer == rule.second.as_str()
+}
+
+/// A copy of a rule with another name for a layer.
+///
+/// # Errors
+///
+/// Out of memory alone.
+fn copy_renamed(alloc: Global, rule: &Rule, layer: &str, new_name: &str) -> Result<Rule, AllocError>
+    ensures { IfOk result (λ copy. copy ≡ with_renamed layer.now new_name.now rule.now) }
+{
+    Ok(Rule {
+        name: rule.name.copy(alloc)?,
+        form: rule.form,
+        first: copy_unless_renamed(alloc, &rule.first, layer, new_name)?,
+        ask: rule.ask,
+        second: copy_unless_renamed(alloc, &rule.second, layer, new_name)?,
+    })
+}
+
+/// A copy of a name; of the new name where it is the old one.
+///
+/// # Errors
+///
+/// Out of memory alone.
+fn copy_unless_renamed(
+    alloc: Global,
+    name: &Text,
+    old: &str,
+    new_name: &str,
+) -> Result<Text, AllocError>
+    ensures { IfOk result (λ copy. copy ≡ renamed old.now new_name.now name.now) }
+{
+    if old == name.as_str() {
+        let copy = String::from_str(alloc, new_name)?;
+        Ok(Text::from_string(copy))
+    } else {
+        name.copy(alloc)
     }
 }

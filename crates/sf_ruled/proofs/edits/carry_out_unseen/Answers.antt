@@ -1,0 +1,16 @@
+use Rattle.std.proofs.Common.{sym, subst}
+use Rattle.sf_changes.specs.declared.undo.Undo.TheVariants as changes
+use Rattle.sf_ruled.specs.declared.undo.Undo.TheVariants as undos
+use Rattle.sf_ruled.specs.Outcomes.{ruled}
+use Rattle.sf_ruled.specs.Undos.{IsEdited}
+use Rattle.sf_ruled.proofs.CallLaws.{unseen-edited}
+use Rattle.sf_ruled.proofs.edits.carry_out_unseen.Goals as goal
+
+pub returns-in-Ok-clause-accepted : goal.returns-in-Ok-clause-accepted
+returns-in-Ok-clause-accepted c =
+    let old = c.args.store.now in
+    let new = c.apply.new.store in
+    let rules = c.args.rules.now in
+    let inverse = c.in-Ok.inverse in
+    subst (λ answer. IsEdited (ruled old rules) c.args.edit answer (undos.Change (changes.Edit inverse)) (ruled new rules)) (sym c.answer.ensures)
+    (unseen-edited old new rules c.args.edit inverse c.is_well_formed.ensures c.requires.settled c.requires.unseen c.in-Ok.ensures.carried_out.accepted)

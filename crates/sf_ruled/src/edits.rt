@@ -1,0 +1,250 @@
+//! Edits and groups carried out under rules.
+
+ghost use Rattle.std.specs.Prelude.{◌≡◌, IfErr, IfOk, OnErr, true};
+ghost use Rattle.sf_changes.specs.Changes.{OfEdit, OfGroup};
+ghost use Rattle.sf_steps.specs.Steps.{edit_layer};
+ghost use Rattle.sf_layers.specs.WellFormed.{IsWellFormed};
+ghost use Rattle.sf_ruled.specs.Ruled.{OfChange, ruled_step, rules_after};
+ghost use Rattle.sf_ruled.specs.Outcomes.{IsRefusedAs, answer_of as answer_of_ids, ruled};
+ghost use Rattle.sf_ruled.specs.Undos.{IsEdited, IsGrouped, IsSettled, IsUnseen, alone, changes_geometries as changes_geometries_of, is_renaming, names_layer};
+
+use super::refusal::{Refusal, as_edit, by_edit, by_member, by_rules};
+use super::rules::Rules;
+use super::undo::Undo;
+use sf_constraints::{NotExchanged, exchange_under};
+use sf_edits::apply;
+use sf_groups::{Group, Member};
+use sf_layers::Store;
+use sf_steps::{Answer, Edit};
+use sf_together::{Plan, plan};
+use std::alloc::{AllocError, Global};
+use std::mem::swap;
+
+/// An edit that was carried out.
+#[derive(Debug, Drop)]
+pub struct Edited {
+    pub answer: Answer,
+    pub undo: Undo,
+}
+
+/// A group that was carried out.
+#[derive(Debug, Drop)]
+pub struct Grouped {
+    /// The identifiers that its additions gave, in order; those of features that a later member removed too.
+    pub ids: Vec<u32>,
+    pub undo: Undo,
+}
+
+/// Carries out an edit.
+///
+/// # Errors
+///
+/// Those of `Ruled::edit`.
+pub(crate) fn carry_out_edit(
+    alloc: Global,
+    store: &mut Store,
+    rules: &mut Rules,
+    edit: Edit,
+) -> Result<Edited, Refusal>
+    requires { IsSettled (ruled store.old rules.old) }
+    ensures accepted { IfOk result (λ done.
+        IsEdited (ruled store.old rules.old) edit done.answer done.undo (ruled store.new rules.new)) }
+    ensures refused { IfErr result (IsRefusedAs (ruled_step (ruled store.old rules.old) (OfChange (OfEdit edit)))) }
+    ensures unchanged { OnErr result (store.new ≡ store.old) }
+    ensures kept { OnErr result (rules.new ≡ rules.old) }
+{
+    is_well_formed(store);
+    if !is_ruled(rules, &edit) {
+        return carry_out_unseen(alloc, store, rules, edit);
+    }
+    if changes_geometries(&edit) {
+        return carry_out_seen(alloc, store, rules, edit);
+    }
+    if let Edit::DropLayer { .. } = &edit {
+        return Err(Refusal::LayerRuled);
+    }
+    if let Edit::RenameLayer { name, new_name } = &edit {
+        let renamed = rules.renamed(alloc, name.as_str(), new_name.as_str())?;
+        return rename(alloc, store, rules, renamed, edit);
+    }
+    carry_out_unseen(alloc, store, rules, edit)
+}
+
+/// Whether a rule names the layer of an edit.
+fn is_ruled(rules: &Rules, edit: &Edit) -> bool
+    ensures { result ≡ names_layer (edit_layer edit.now) rules.now }
+{
+    rules.names(edit.layer_name().as_str())
+}
+
+/// Whether an edit puts a geometry into its layer, changes one or removes one.
+fn changes_geometries(edit: &Edit) -> bool
+    ensures { result ≡ changes_geometries_of edit.now }
+{
+    match edit {
+        Edit::AddFeature { .. }
+        | Edit::DeleteFeature { .. }
+        | Edit::ReplaceGeometry { .. }
+        | Edit::InsertVertex { .. }
+        | Edit::MoveVertex { .. }
+        | Edit::RemoveVertex { .. } => true,
+        Edit::AddLayer { .. }
+        | Edit::DropLayer { .. }
+        | Edit::RenameLayer { .. }
+        | Edit::MoveLayer { .. }
+        | Edit::AddColumn { .. }
+        | Edit::DropColumn { .. }
+        | Edit::SetValue { .. }
+        | Edit::ClearValue { .. } => false,
+    }
+}
+
+/// Carries out an edit that no rule sees.
+fn carry_out_unseen(
+    alloc: Global,
+    store: &mut Store,
+    rules: &Rules,
+    edit: Edit,
+) -> Result<Edited, Refusal>
+    requires settled { IsSettled (ruled store.old rules.now) }
+    requires unseen { IsUnseen rules.now edit }
+    ensures accepted { IfOk result (λ done.
+        IsEdited (ruled store.old rules.now) edit done.answer done.undo (ruled store.new rules.now)) }
+    ensures refused { IfErr result (IsRefusedAs (ruled_step (ruled store.old rules.now) (OfChange (OfEdit edit)))) }
+    ensures unchanged { OnErr result (store.new ≡ store.old) }
+{
+    is_well_formed(store);
+    match apply(alloc, store, edit) {
+        Ok(inverse) => Ok(Edited {
+            answer: inverse.answer(),
+            undo: Undo::Change(sf_changes::Undo::Edit(inverse)),
+        }),
+        Err((_, refusal)) => Err(by_edit(refusal)),
+    }
+}
+
+/// Carries out an edit of a feature's geometry in a layer that a rule names: as a group of one.
+fn carry_out_seen(
+    alloc: Global,
+    store: &mut Store,
+    rules: &Rules,
+    edit: Edit,
+) -> Result<Edited, Refusal>
+    requires settled { IsSettled (ruled store.old rules.now) }
+    requires of_geometries { changes_geometries_of edit ≡ true }
+    ensures accepted { IfOk result (λ done.
+        IsEdited (ruled store.old rules.now) edit done.answer done.undo (ruled store.new rules.now)) }
+    ensures refused { IfErr result (IsRefusedAs (ruled_step (ruled store.old rules.now) (OfChange (OfEdit edit)))) }
+    ensures unchanged { OnErr result (store.new ≡ store.old) }
+{
+    let group = alone(alloc, edit)?;
+    match carry_out_group(alloc, store, rules, group) {
+        Ok(Grouped { ids, undo }) => Ok(Edited {
+            answer: answer_of(ids.as_slice()),
+            undo,
+        }),
+        Err(refusal) => Err(as_edit(refusal)),
+    }
+}
+
+/// Carries out a group, as one step.
+///
+/// # Errors
+///
+/// Those of `Ruled::group`.
+pub(crate) fn carry_out_group(
+    alloc: Global,
+    store: &mut Store,
+    rules: &Rules,
+    group: Group,
+) -> Result<Grouped, Refusal>
+    requires { IsSettled (ruled store.old rules.now) }
+    ensures accepted { IfOk result (λ done.
+        IsGrouped (ruled store.old rules.now) group done.ids.items done.undo (ruled store.new rules.now)) }
+    ensures refused { IfErr result (IsRefusedAs (ruled_step (ruled store.old rules.now) (OfChange (OfGroup group)))) }
+    ensures unchanged { OnErr result (store.new ≡ store.old) }
+{
+    match plan(alloc, store, group) {
+        Ok(Plan { ids, mut halves }) => {
+            match exchange_under(alloc, store, rules.as_slice(), &mut halves) {
+                Ok(()) => Ok(Grouped {
+                    ids,
+                    undo: Undo::Change(sf_changes::Undo::Group(halves)),
+                }),
+                Err(refusal) => Err(by_rules(refusal)),
+            }
+        }
+        Err(refusal) => Err(by_member(refusal)),
+    }
+}
+
+/// Gives a layer that rules name another name, and puts the rules with that name in the place of the others.
+fn rename(
+    alloc: Global,
+    store: &mut Store,
+    rules: &mut Rules,
+    renamed: Rules,
+    edit: Edit,
+) -> Result<Edited, Refusal>
+    requires settled { IsSettled (ruled store.old rules.old) }
+    requires renaming { is_renaming edit ≡ true }
+    requires renamed { renamed ≡ rules_after rules.old (OfEdit edit) }
+    ensures accepted { IfOk result (λ done.
+        IsEdited (ruled store.old rules.old) edit done.answer done.undo (ruled store.new rules.new)) }
+    ensures refused { IfErr result (IsRefusedAs (ruled_step (ruled store.old rules.old) (OfChange (OfEdit edit)))) }
+    ensures unchanged { OnErr result (store.new ≡ store.old) }
+    ensures kept { OnErr result (rules.new ≡ rules.old) }
+{
+    let mut exchanged = renamed;
+    match apply(alloc, store, edit) {
+        Ok(inverse) => {
+            swap(rules, &mut exchanged);
+            Ok(Edited {
+                answer: inverse.answer(),
+                undo: Undo::Renamed {
+                    inverse,
+                    rules: exchanged,
+                },
+            })
+        }
+        Err((_, refusal)) => Err(by_edit(refusal)),
+    }
+}
+
+/// The edit as the only one of a group.
+///
+/// # Errors
+///
+/// Out of memory alone.
+fn alone(alloc: Global, edit: Edit) -> Result<Group, AllocError>
+    requires { changes_geometries_of edit ≡ true }
+    ensures { IfOk result (λ group. group ≡ alone edit) }
+{
+    let mut group = Group::new(alloc);
+    let member = Member {
+        edit,
+        of_last: false,
+    };
+    match group.push(alloc, member) {
+        Ok(()) => Ok(group),
+        // It is of a feature, and of none that was added before it.
+        Err(_) => Err(AllocError),
+    }
+}
+
+/// What an edit answers that gave these identifiers as a group: the one, or none.
+fn answer_of(ids: &[u32]) -> Answer
+    ensures { result ≡ answer_of_ids ids.now }
+{
+    match ids.first() {
+        Some(id) => Answer::Id(*id),
+        None => Answer::Done,
+    }
+}
+
+/// Shows a proof that a store is well formed. It does nothing, so a compiler may leave it out.
+fn is_well_formed(store: &Store)
+    ensures { IsWellFormed store.now }
+{
+    store.layer_count();
+}
