@@ -13,11 +13,11 @@ use sf_edge_tree::{Budget, EdgeTree, Outcome, PairTest};
 use sf_grid::GridPoint;
 use std::alloc::{AllocError, Global};
 
-/// What a search costs at most. As measured, pairs of some 1,000 edges are found sooner than a walk ends, however far they
-/// reach; of more edges those that reach far are given up after a small part of the time that a walk takes.
+/// What a search costs at most. As measured, the pairs of some hundred edges are found sooner than a sweep ends, however far
+/// they reach. More edges that reach far are given up after a small part of the time that a sweep takes.
 const BUDGET: Budget = Budget {
-    at_first: 131_072,
-    for_each_run: 2_048,
+    at_first: 8_192,
+    for_each_run: 256,
 };
 
 /// Whether a line or ring, given as a tight list, meets itself. Where its edges reach far, the search is given up.
