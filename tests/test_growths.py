@@ -38,6 +38,9 @@ relate
 match
 query
 join
+rule add
+rule drop
+rules
 undo
 redo
 together
@@ -193,7 +196,45 @@ GROUPS = [
     "layer drop w",
 ]
 
-WHOLE = [*SESSION, *(f"layer drop {name}" for name in "acd"), *TAKEN_BACK, *LAYERS, *VERTICES, *VALUES, *VALUES_BACK, *GROUPS, *EDITORS]
+# Rules added and dropped, edits and groups that they take or refuse, another name for a layer; undone and done again.
+RULES = [
+    "layer add p polygon",
+    "layer add w point",
+    "rule add apart never p T******** p",
+    "rule add placed each w intersects some p",
+    "add p POLYGON ((0 0, 9 0, 9 9, 0 9, 0 0))",
+    "add w POINT (1 1)",
+    "add p POLYGON ((5 5, 15 5, 15 15, 5 15, 5 5))",
+    "vertex move p 1 0 0 2 8 8",
+    "delete p 1",
+    "add w POINT (20 20)",
+    together("add p POLYGON ((0 0, 5 0, 5 5, 0 5, 0 0))", "delete p 1"),
+    together("delete p 2", "delete w 9"),
+    together("add w POINT (2 2)", "delete p 2"),
+    "layer drop p",
+    "layer rename p q",
+    "rules",
+    "undo",
+    "rules",
+    "undo",
+    "show p",
+    "redo",
+    "redo",
+    "show q",
+    "@2 rule drop placed",
+    "@2 undo",
+    "@2 redo",
+    "rules",
+    "rule add apart never q equals q",
+    "rule drop apart",
+    "undo",
+    "rules",
+    "redo",
+    "layer drop q",
+    "layer drop w",
+]
+
+WHOLE = [*SESSION, *(f"layer drop {name}" for name in "acd"), *TAKEN_BACK, *LAYERS, *VERTICES, *VALUES, *VALUES_BACK, *GROUPS, *RULES, *EDITORS]
 
 # A look at a layer of points: what its index finds, and the rest.
 LOOKS = ["query w intersects POLYGON ((0 0, 3 0, 3 3, 0 3, 0 0))", "query w disjoint POINT (2 2)"]
@@ -220,7 +261,8 @@ LABELS_SHOWN = ["rows 3", "1 POINT (1 1) label='it''s old'", "2 POINT (2 2)", "3
 AFTER_FIRST = [REFUSED, ["rows 1", "label text"], LABELS_SHOWN, ["ok"], ["rows 2", "depth int", "label text"], VALUES_SHOWN]
 
 # A store of several layers, with values and all kinds, and what is asked of it once it was loaded.
-STORED = [*VALUES[:-2], *EDITS[:-3], "layer add m point", *(f"add m POINT ({place % 6} {place // 6})" for place in range(COUNT))]
+POINTS = [f"add m POINT ({place % 6} {place // 6})" for place in range(COUNT)]
+STORED = [*VALUES[:-2], *EDITS[:-3], "layer add m point", *POINTS, "rule add single never m equals m"]
 ASKED = """\
 layers
 columns w
@@ -266,6 +308,12 @@ class Refused(Preloaded):
         moves = {str(place) for place, line in enumerate(GROUPS) if line.endswith(("undo", "redo"))}
         refused = {end for end, _ in found}
         self.assertTrue(groups & refused and moves & refused, refused)
+
+    def test_rules_hold_whatever_growth_is_refused(self) -> None:
+        found = self.ends(Call(STORE, saves=True), RULES)
+        refused = {RULES[int(end)] for end, _ in found if end.isdecimal()}
+        for begin in ("rule add apart never p", "add p", "vertex move p", "together", "layer rename", "undo", "redo"):
+            self.assertTrue(any(line.startswith(begin) for line in refused), (begin, refused))
 
     def test_the_session_has_every_command(self) -> None:
         given = answers(Call(STORE).run(sent(WHOLE), {}).output)

@@ -9,6 +9,7 @@ import sys
 import tempfile
 import unittest
 from importlib.util import find_spec
+from itertools import takewhile
 from pathlib import Path
 
 sys.path.insert(0, str(Path(__file__).resolve().parent))
@@ -162,6 +163,10 @@ get p 1 2: 21
 delete q 2: 18
 delete p 2: 21
 simple q 2: 18
+rule add 1 never q TTT q: 32
+rule add 1 never q equals q: 20
+rule add a never q equals q: 18
+rule drop a: 39
 @2 undo: 36
 @2 redo: 30
 """
@@ -181,7 +186,7 @@ class Referred(PageCase):
     def test_each_command_has_a_row(self):
         forms = re.findall(r"^\| `([^`]*)`", self.commands, re.MULTILINE)
         for command in language.COMMANDS:
-            words = [word for word in command.usage.split(" ") if not word.isupper()]
+            words = list(takewhile(lambda word: not word.isupper(), command.usage.split(" ")))
             self.assertTrue([form for form in forms if form.split(" ")[: len(words)] == words], command.usage)
 
     def test_refusals_have_their_names(self):

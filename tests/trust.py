@@ -28,6 +28,8 @@ HEADLINE: list[tuple[str, list[str]]] = [
     ("sf_run/src/running.rt", ["run", "run_from", "save"]),
     ("sf_console/src/laws.rt", []),
     ("sf_history/src/laws.rt", []),
+    ("sf_ruled/src/laws.rt", []),
+    ("sf_constraints/src/laws.rt", ["breaks_are_over_the_plane", "rules_are_over_the_plane"]),
     ("sf_commands/src/laws.rt", []),
     ("sf_steps/src/laws.rt", []),
     ("sf_format/src/laws.rt", []),
@@ -62,7 +64,8 @@ SUBJECTS: list[tuple[str, list[str]]] = [
         "Features, layers, edits and their inverses",
         ["sf_refusals", "sf_features", "sf_layers", "sf_steps", "sf_edits"],
     ),
-    ("Several edits as one step, and the history", ["sf_patches", "sf_groups", "sf_changes", "sf_history"]),
+    ("Several edits as one step", ["sf_patches", "sf_groups", "sf_changes"]),
+    ("Rules between features, and the history", ["sf_constraints", "sf_ruled", "sf_history"]),
     (
         "Texts, binary and files",
         ["sf_lines", "sf_streams", "sf_wkt", "sf_wkb", "sf_format", "sf_loading", "sf_saving"],

@@ -9,8 +9,8 @@ from sfstore import edits, spelling
 from sfstore.group import Group
 from sfstore.language import QUESTIONS, words_of_line
 from sfstore.program import Link, batches
-from sfstore.results import Answer, Column, ColumnType, Feature, Kind, Layer, Predicate, Refused, Value
-from sfstore.rows import feature_of
+from sfstore.results import Answer, Column, ColumnType, Feature, Kind, Layer, Predicate, Refused, Rule, RuleForm, Value
+from sfstore.rows import feature_of, rule_of
 
 __all__ = ["Editor"]
 
@@ -493,6 +493,50 @@ class Editor:
         """
         words = f"{spelling.name(layer)} {spelling.ask(ask)} {spelling.name(other)} {spelling.identifier(feature_id)}"
         return [int(row) for row in self._rows(f"join {words}")]
+
+    def add_rule(self, name: str, form: RuleForm, layer: str, ask: str, other: str) -> None:
+        """Adds a rule between the features of two layers, or of one, where it holds.
+
+        With ``never`` no feature of the first layer is as asked with one of the second; with ``each`` every
+        feature of the first layer is as asked with some other one of the second. ``ask`` is as that of `join`.
+        From then on an edit that would break the rule is refused as 37 RuleBroken, and `Refused.rule` and
+        `Refused.ids` say what would break it. An addition is undone and redone as an edit is.
+
+        >>> with Store() as store:
+        ...     store.add_layer("parcels")
+        ...     store.add("parcels", "POLYGON ((0 0, 9 0, 9 9, 0 9, 0 0))")
+        ...     store.add_rule("apart", "never", "parcels", "overlaps", "parcels")
+        ...     try:
+        ...         store.add("parcels", "POLYGON ((5 0, 15 0, 15 9, 5 9, 5 0))")
+        ...     except Refused as refused:
+        ...         refused.rule, refused.ids
+        1
+        ('apart', [1, 2])
+        """
+        spelling.one_of(RuleForm, form)
+        rule = Rule(spelling.name(name), form, spelling.name(layer), spelling.ask(ask), spelling.name(other))
+        self.run(f"rule add {rule.line}")
+
+    def drop_rule(self, name: str) -> None:
+        """Drops a rule.
+
+        >>> with Store() as store:
+        ...     store.add_layer("wells")
+        ...     store.add_rule("apart", "never", "wells", "equals", "wells")
+        ...     store.drop_rule("apart")
+        """
+        self.run(f"rule drop {spelling.name(name)}")
+
+    def rules(self) -> list[Rule]:
+        """The rules, in the order in which they were added.
+
+        >>> with Store() as store:
+        ...     store.add_layer("wells")
+        ...     store.add_rule("apart", "never", "wells", "equals", "wells")
+        ...     store.rules()
+        [Rule(name='apart', form='never', layer='wells', ask='equals', other='wells')]
+        """
+        return [rule_of(row) for row in self._rows("rules")]
 
     def undo(self) -> None:
         """Takes back the last edit that is not undone yet, if it is this editor's.

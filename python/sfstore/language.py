@@ -82,13 +82,13 @@ POINTS_MAX = 4_096
 """How many points a geometry has at most."""
 
 NAME = re.compile(r"[A-Za-z][A-Za-z0-9_]{0,31}")
-"""A name of a layer or a column."""
+"""A name of a layer, a column or a rule."""
 
 PATTERN = re.compile(r"[TtFf*012]{9}")
 """A pattern of matrices."""
 
-Touched = Literal["layers", "columns", "geometries", "values", "features", "history"]
-"""What an edit changes: which layers there are, their columns, geometries, values; or it moves a step.
+Touched = Literal["layers", "columns", "geometries", "values", "features", "rules", "history"]
+"""What an edit changes: which layers there are, their columns, geometries, values; rules; or it moves a step.
 
 A group changes features: geometries, values, or both.
 """
@@ -213,6 +213,20 @@ COMMANDS = [
         "lists the pairs of features of two layers that are so; with an ID behind them those beside one feature",
         "join wells within parcels",
     ),
+    Command(
+        "rule add NAME never LAYER ASK LAYER",
+        "from now on no two features of these layers, or of the one, are so",
+        "rule add apart never parcels overlaps parcels",
+        "rules",
+    ),
+    Command(
+        "rule add NAME each LAYER ASK some LAYER",
+        "from now on each feature of the first layer is so with some other one of the second",
+        "rule add fronted each parcels touches some roads",
+        "rules",
+    ),
+    Command("rule drop NAME", "drops a rule", "rule drop apart", "rules"),
+    Command("rules", "lists the rules", "rules"),
     Command("undo", "takes the last edit back", "undo", "history"),
     Command("redo", "redoes what was undone", "redo", "history"),
 ]

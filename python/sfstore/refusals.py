@@ -71,7 +71,11 @@ REFUSALS = {
     33: Words("the line is too long", f"It has at most {LINE_MAX:,} bytes."),
     35: Words("there is no such place among the layers", "Places count from 0."),
     36: Words("the step is another editor's", "Who made it can undo it."),
+    37: Words("a rule would be broken", "`rules` lists them. Change all features of a matter together, as one group."),
     38: Words("the input ended inside a group", "Send all of its lines at once."),
+    39: Words("no rule has this name", "`rules` lists them."),
+    40: Words("a rule has this name already", "Take another name."),
+    41: Words("a rule names this layer", "Drop the rule first: `rules` lists them."),
 }
 """The words of each refusal, by its number."""
 

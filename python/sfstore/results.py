@@ -24,6 +24,8 @@ __all__ = [
     "ProgramEnded",
     "Recovered",
     "Refused",
+    "Rule",
+    "RuleForm",
     "Value",
 ]
 
@@ -45,6 +47,9 @@ Predicate = Literal[
     "equals", "disjoint", "intersects", "touches", "within", "contains", "crosses", "overlaps"
 ]
 """What may be asked of a feature's geometry and a given one."""
+RuleForm = Literal["never", "each"]
+"""What a rule says: that no two features are so, or that each is so with some other one."""
+
 PathName = Union[str, "os.PathLike[str]"]
 """The name of a file."""
 
@@ -118,12 +123,35 @@ class Refused(Exception):
         """
         return member_of(self.detail)
 
+    @property
+    def rule(self) -> str | None:
+        """The name of the rule that would be broken; None if the refusal is of another kind.
+
+        >>> Refused(37, "RuleBroken", "delete parcels 1", "housed 4").rule
+        'housed'
+        """
+        return self.detail.partition(" ")[0] if self.number == RULE_BROKEN else None
+
+    @property
+    def ids(self) -> list[int]:
+        """The features that would break the rule, by their identifiers.
+
+        Of a rule with ``never`` they are two, one of its first layer and one of its second; of a rule with
+        ``each`` it is the one that no other would go with. Where no rule would be broken there are none.
+
+        >>> Refused(37, "RuleBroken", "add parcels POLYGON ..", "apart 1 3").ids
+        [1, 3]
+        """
+        return [int(word) for word in self.detail.split(" ")[1:]] if self.number == RULE_BROKEN else []
+
     def __str__(self) -> str:
         shown = self.line if len(self.line) <= 200 else self.line[:200] + ".."
         which = f" of member {self.member}" if self.member else ""
-        return f"{self.number} {self.name}{which}: {shown}"
+        broken = f" {self.detail}" if self.rule else ""
+        return f"{self.number} {self.name}{broken}{which}: {shown}"
 
 
+RULE_BROKEN = 37
 _PLACE = re.compile(r"(?:ring|part|line)(?: [0-9]+)+(?: edges?(?: [0-9]+)+)?")
 
 
@@ -191,6 +219,29 @@ class Layer(NamedTuple):
 
     name: str
     kind: Kind
+
+
+class Rule(NamedTuple):
+    """A rule between the features of two layers, or of one.
+
+    >>> Rule("placed", "each", "wells", "within", "parcels").line
+    'placed each wells within some parcels'
+    """
+
+    name: str
+    form: RuleForm
+    layer: str
+    """The first layer. The feature of it is the first geometry of what is asked."""
+    ask: str
+    """A predicate, or a pattern of nine letters of ``TF*012``."""
+    other: str
+    """The second layer, which may be the first."""
+
+    @property
+    def line(self) -> str:
+        """Its row of ``rules``, and what stands behind ``rule add``."""
+        some = ["some"] if self.form == "each" else []
+        return " ".join([self.name, self.form, self.layer, self.ask, *some, self.other])
 
 
 class Column(NamedTuple):

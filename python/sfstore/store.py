@@ -38,6 +38,8 @@ from sfstore.results import (
     ProgramEnded,
     Recovered,
     Refused,
+    Rule,
+    RuleForm,
     Value,
 )
 from sfstore.rows import row_values
@@ -58,6 +60,8 @@ __all__ = [
     "ProgramEnded",
     "Recovered",
     "Refused",
+    "Rule",
+    "RuleForm",
     "Store",
     "Value",
     "Which",

@@ -62,6 +62,8 @@ class Language(TestCase):
                     continue
                 if command.usage.startswith("column drop"):
                     store.run("column add wells depth int")
+                if command.usage.startswith("rule drop"):
+                    store.run("rule add apart never wells equals wells")
                 store.run("layer add before any")
                 try:
                     store.run(command.example + "\rset wells 1 label 'a'\rset wells 1 label 'b'" * (command.word == "together"))

@@ -361,6 +361,24 @@ class Editing(PageCase):
         self.assertFalse(page.one("#overlay .refused").get_attribute("d"))
         self.assertEqual(page.drawn("parcels"), 200)
 
+    def test_what_would_break_a_rule_is_shown(self):
+        page = self.open()
+        page.type("rule add apart never parcels T******** parcels")
+        page.logged("rule add apart never parcels T******** parcels", "ok")
+        line = "add parcels POLYGON ((10 10, 90 10, 90 20, 10 20, 10 10))"
+        page.type(line)
+        page.logged(line, "refused 37 RuleBroken")
+        page.until(lambda: page.text("#refusal h2") == "Refused (37 RuleBroken): a rule would be broken.")
+        self.assertRegex(
+            page.text("#refusal .reason"),
+            r"^The rule is apart never parcels T\*{8} parcels; parcels [0-9]+ and parcels 201 would break it\.$",
+        )
+        [broken] = page.all("#overlay .breaks .refused")
+        self.assertTrue(broken.get_attribute("d"))
+        self.assertTrue(page.one("#overlay > .refused").get_attribute("d"))
+        page.use("#refusal button")
+        self.assertEqual(page.all("#overlay .breaks .refused"), [])
+
     def test_a_vertex_is_inserted_and_taken_out(self):
         page = self.open()
         page.choose((270, 150), "parcels 2, a polygon")

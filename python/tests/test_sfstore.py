@@ -728,7 +728,8 @@ class Files(TestCase):
         path = self.folder / "bad.sfs"
         faults = {
             b"": "0 7",
-            b"SFSTORE3": "0 34",
+            b"SFSTORE4": "0 34",
+            b"SFSTORE3": "8 7",
             b"SFSTORE2": "8 7",
             b"SFSTORE2\x14\0\0\0\0": "8 34",
             b"SFSTORE2\x18\0\0\0\1": "13 7",

@@ -206,8 +206,9 @@ class Remembered(unittest.TestCase):
             self.assertEqual(targets_of(line, answer), tuple(targets), line)
 
     def test_each_edit_of_the_language_is_known(self):
-        # A group changes what its members do.
+        # A group changes what its members do, and a rule no feature.
         changes_nothing = {"layer move LAYER PLACE", "together N", "undo", "redo"}
+        changes_nothing |= {command.usage for command in COMMANDS if command.word == "rule"}
         for command in COMMANDS:
             if command.touches:
                 self.assertEqual(bool(feature_of(command.example)), " LAYER ID" in command.usage, command.usage)

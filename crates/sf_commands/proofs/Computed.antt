@@ -8,8 +8,10 @@ use Rattle.sf_known.specs.declared.predicate.Predicate.TheVariants as predicates
 use Rattle.sf_layers.specs.declared.layer_kind.LayerKind.TheVariants.{Only}
 use Rattle.sf_features.specs.declared.attr_value.AttrValue.TheVariants as values
 use Rattle.sf_features.specs.declared.column_type.ColumnType.TheVariants as types
+use Rattle.sf_query.specs.declared.ask.Ask.TheVariants.{Matching, Named}
+use Rattle.sf_constraints.specs.declared.rule.Form.TheVariants.{Never, Each}
 use Rattle.sf_steps.specs.declared.edit.Edit.TheVariants as edits
-use Rattle.sf_commands.specs.declared.command.Command.TheVariants.{Edit, Undo, Redo, Layers, Columns, Show, Get, Find, Hex, Simple, Extent, JoinMatching, JoinNamed}
+use Rattle.sf_commands.specs.declared.command.Command.TheVariants.{Edit, AddRule, DropRule, Undo, Redo, Layers, Columns, Rules, Show, Get, Find, Hex, Simple, Extent, JoinMatching, JoinNamed}
 use Rattle.sf_commands.specs.Commands.{command_of}
 
 layer_added : command_of (codes "layer add wells multipolygon") ≡ Ok (0, Edit (edits.AddLayer (codes "wells") (Only kinds.MultiPolygon)))
@@ -99,6 +101,35 @@ pairs_asked = (refl, refl, refl)
 pairs_not_asked : (command_of (codes "join") ≡ Err BadCommand) × (command_of (codes "join wells within") ≡ Err BadCommand) × (command_of (codes "join wells near parcels x") ≡ Err BadCommand)
     × (command_of (codes "join wells near parcels 1 2") ≡ Err BadCommand) × (command_of (codes "join wells near parcels 4294967296") ≡ Err BadCommand) × (command_of (codes "join wells near parcels") ≡ Err BadPattern) × (command_of (codes "join wells T*T parcels 1") ≡ Err BadPattern)
 pairs_not_asked = (refl, refl, refl, refl, refl, refl, refl)
+
+rules_added : (command_of (codes "rule add apart never parcels overlaps parcels") ≡ Ok (0, AddRule (record { name = codes "apart"; form = Never; first = codes "parcels"; ask = Named predicates.Overlaps; second = codes "parcels" })))
+    × (command_of (codes "@2  rule add inside each parcels within some districts ") ≡ Ok (2, AddRule (record { name = codes "inside"; form = Each; first = codes "parcels"; ask = Named predicates.Within; second = codes "districts" })))
+    × (command_of (codes "rule add 9 never wells t*F**F*** parcels") ≡ Ok (0, AddRule (record { name = codes "9"; form = Never; first = codes "wells"; ask = Matching (Filled ∷ Any ∷ Empty ∷ Any ∷ Any ∷ Empty ∷ Any ∷ Any ∷ Any ∷ []); second = codes "parcels" })))
+    × (command_of (codes "rule add never each some T******** some some") ≡ Ok (0, AddRule (record { name = codes "never"; form = Each; first = codes "some"; ask = Matching (Filled ∷ Any ∷ Any ∷ Any ∷ Any ∷ Any ∷ Any ∷ Any ∷ Any ∷ []); second = codes "some" })))
+rules_added = (refl, refl, refl, refl)
+
+rules_dropped : (command_of (codes "rule drop apart") ≡ Ok (0, DropRule (codes "apart"))) × (command_of (codes "@3 rule  drop 9 ") ≡ Ok (3, DropRule (codes "9")))
+rules_dropped = (refl, refl)
+
+rules_listed : (command_of (codes "rules") ≡ Ok (0, Rules)) × (command_of (codes "@3 rules ") ≡ Ok (3, Rules)) × (command_of (codes "rules apart") ≡ Err BadCommand)
+rules_listed = (refl, refl, refl)
+
+-- no form, no action, or a wrong number of words; all of them come before a wrong pattern
+no_rules : (command_of (codes "rule") ≡ Err BadCommand) × (command_of (codes "rule rename apart asunder") ≡ Err BadCommand) × (command_of (codes "rule Add r never p overlaps p") ≡ Err BadCommand)
+    × (command_of (codes "Rule add r never p overlaps p") ≡ Err BadCommand) × (command_of (codes "rule add") ≡ Err BadCommand) × (command_of (codes "rule add r") ≡ Err BadCommand)
+    × (command_of (codes "rule add r never") ≡ Err BadCommand) × (command_of (codes "rule add r never p") ≡ Err BadCommand) × (command_of (codes "rule add r never p near") ≡ Err BadCommand)
+    × (command_of (codes "rule add r always p near p") ≡ Err BadCommand) × (command_of (codes "rule add r Never p near p") ≡ Err BadCommand) × (command_of (codes "rule add r never p near p p") ≡ Err BadCommand)
+    × (command_of (codes "rule add r never p near some d") ≡ Err BadCommand) × (command_of (codes "rule drop") ≡ Err BadCommand) × (command_of (codes "rule drop r r") ≡ Err BadCommand)
+no_rules = (refl, refl, refl, refl, refl, refl, refl, refl, refl, refl, refl, refl, refl, refl, refl)
+
+no_rules_for_each : (command_of (codes "rule add r each p near") ≡ Err BadCommand) × (command_of (codes "rule add r each p near d") ≡ Err BadCommand) × (command_of (codes "rule add r each p near some") ≡ Err BadCommand)
+    × (command_of (codes "rule add r each p near any d") ≡ Err BadCommand) × (command_of (codes "rule add r each p near Some d") ≡ Err BadCommand) × (command_of (codes "rule add r each p near some d d") ≡ Err BadCommand)
+no_rules_for_each = (refl, refl, refl, refl, refl, refl)
+
+-- a word that is neither a predicate nor a pattern
+rules_without_pattern : (command_of (codes "rule add r never p near p") ≡ Err BadPattern) × (command_of (codes "rule add r never p Overlaps p") ≡ Err BadPattern)
+    × (command_of (codes "rule add r each p T*T some d") ≡ Err BadPattern) × (command_of (codes "rule add r each p T*F**F**3 some d") ≡ Err BadPattern)
+rules_without_pattern = (refl, refl, refl, refl)
 
 geometries_asked : (command_of (codes "hex wells 7") ≡ Ok (0, Hex (codes "wells") 7)) × (command_of (codes "box wells 7") ≡ Ok (0, Extent (codes "wells") 7))
     × (command_of (codes "simple wells 7") ≡ Ok (0, Simple (codes "wells") 7))

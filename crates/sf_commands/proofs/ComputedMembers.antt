@@ -27,7 +27,8 @@ sets = refl
 
 no_members :
     (member_of (codes "layer drop w") ≡ Err BadCommand) × (member_of (codes "@2 delete w 1") ≡ Err BadCommand)
+    × (member_of (codes "rule add r never w within w") ≡ Err BadCommand) × (member_of (codes "rule drop r") ≡ Err BadCommand) × (member_of (codes "rules") ≡ Err BadCommand)
     × (member_of (codes "undo") ≡ Err BadCommand) × (member_of (codes "together 2") ≡ Err BadCommand) × (member_of (codes "show w") ≡ Err BadCommand)
     × (member_of (codes "add w POINT (x 1)") ≡ Err Syntax) × (member_of (codes "vertex remove p 1 last 0 4") ≡ Err BadCommand)
     × (member_of (codes "delete w Last") ≡ Err BadCommand) × (member_of (codes "delete w lasts") ≡ Err BadCommand)
-no_members = (refl, refl, refl, refl, refl, refl, refl, refl, refl)
+no_members = (refl, refl, refl, refl, refl, refl, refl, refl, refl, refl, refl, refl)

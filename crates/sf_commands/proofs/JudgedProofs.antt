@@ -1,5 +1,5 @@
 -- Geometries that features are compared with are judged over all points of the plane.
-use Rattle.std.proofs.Common.{◌≡◌, ℕ, ℤ, Bool, true, false, nat_lt, List, [], ◌∷◌, length, Option, None, Some, ok_or, Result, Ok, Err, IfErr, IfOk, if◌then◌else◌, refl, sym, ap, ◌∙◌, subst, true≢false}
+use Rattle.std.proofs.Common.{◌≡◌, ℕ, ℤ, Bool, true, false, nat_lt, bytes_eq, codes, List, [], ◌∷◌, length, Option, None, Some, ok_or, Result, Ok, Err, IfErr, IfOk, if◌then◌else◌, refl, sym, ap, ◌∙◌, subst, true≢false}
 use Rattle.std.specs.List.{AllByRecursion}
 use Rattle.hex.specs.declared.error.FromHexError.{FromHexError}
 use Rattle.hex.specs.Hex.{decode_of}
@@ -29,9 +29,11 @@ use Rattle.sf_wkb.specs.declared.fault.WkbFault.{WkbFault}
 use Rattle.sf_wkb.specs.declared.fault.WkbFault.TheVariants as binaries
 use Rattle.sf_wkb.specs.Faults.{refusal_of as refusal_of_bytes}
 use Rattle.sf_wkb.specs.Grammar.{read as read_bytes}
+use Rattle.sf_constraints.specs.declared.rule.Form.{Form}
+use Rattle.sf_constraints.specs.declared.rule.Form.TheVariants.{Never, Each}
 use Rattle.sf_steps.specs.declared.edit.Edit.TheVariants as edits
 use Rattle.sf_commands.specs.declared.command.Command.{Command}
-use Rattle.sf_commands.specs.declared.command.Command.TheVariants.{Edit, Undo, Redo, Layers, Columns, Show, Hex, Simple, Extent, Relate, Match, Query}
+use Rattle.sf_commands.specs.declared.command.Command.TheVariants.{Edit, Undo, Redo, Layers, Columns, Rules, Show, Hex, Simple, Extent, Relate, Match, Query}
 use Rattle.sf_commands.specs.declared.naming.Naming.TheVariants.{ById}
 use Rattle.sf_commands.specs.declared.verb.Verb.{Verb}
 use Rattle.sf_commands.specs.declared.verb.Verb.TheVariants as verbs
@@ -39,7 +41,7 @@ use Rattle.sf_commands.specs.declared.verb.Action.{Action}
 use Rattle.sf_commands.specs.declared.verb.Action.TheVariants as actions
 use Rattle.sf_commands.specs.Words.{words, skip_blanks, skip_word, trimmed_end}
 use Rattle.sf_commands.specs.Values.{point_by, point_of, value_of}
-use Rattle.sf_commands.specs.Commands.{action_of, add_arguments, add_column, check_arguments, add_layer, addhex_arguments, addressed, addressed_command, after_two_words, alone, behind_at, by_editor, by_verb, by_words, by_digits, by_first_word, bytes_command, column_arguments, column_command, column_type_of, delete_arguments, drop_column, drop_layer, editor_of, faultless, feature_arguments, feature_command, feature_named, find_arguments, get_arguments, join_arguments, join_by, beside_of, given, hex_command, id_of, ids_of, insert_vertex, layer_arguments, layer_command, layer_kind_of, made, match_arguments, move_layer, move_vertex, of_layer, of_text, predicate_of, query_arguments, relate_arguments, remove_vertex, rename_layer, replace_arguments, set_arguments, sought_of, unset_arguments, valid_of, verb_of, vertex_arguments, vertex_command, vertex_place, with_geometry, with_id}
+use Rattle.sf_commands.specs.Commands.{action_of, add_arguments, add_column, check_arguments, add_layer, add_rule, addhex_arguments, addressed, addressed_command, after_two_words, alone, ask_by, ask_of, behind_at, by_editor, by_verb, by_words, by_digits, by_first_word, bytes_command, column_arguments, column_command, column_type_of, delete_arguments, drop_column, drop_layer, drop_rule, editor_of, faultless, feature_arguments, feature_command, feature_named, find_arguments, form_of, get_arguments, join_arguments, join_by, beside_of, given, hex_command, id_of, ids_of, insert_vertex, layer_arguments, layer_command, layer_kind_of, made, match_arguments, move_layer, move_vertex, of_layer, of_text, predicate_of, query_arguments, relate_arguments, remove_vertex, rename_layer, replace_arguments, rule_arguments, rule_asked, rule_command, second_of, set_arguments, sought_of, unset_arguments, valid_of, verb_of, vertex_arguments, vertex_command, vertex_place, with_geometry, with_id}
 use Rattle.sf_commands.specs.Laws.{GivenGeometriesAreJudgedOverThePlane, HasFaultyGiven, HasJudgedGiven, HasValidGiven, SpellsValid, given_text}
 
 -- what is said of what was made of a text behind the verb
@@ -123,6 +125,10 @@ hex_judged t layer (Err fault) = other t Syntax refl
 given_other : {X Y : Type 0} (o : Option X) (make : X → Result Y Refusal) → ((x : X) → IfErr (make x) IsOther) → IfErr (given o make) IsOther
 given_other None make others = refl
 given_other (Some x) make others = others x
+
+made_other : {X Y : Type 0} (r : Result X Refusal) (make : X → Result Y Refusal) → IfErr r IsOther → ((x : X) → IfErr (make x) IsOther) → IfErr (made r make) IsOther
+made_other (Ok x) make others further = further x
+made_other (Err refusal) make others further = others
 
 place_other : (id part ring index : List ℕ) → IfErr (vertex_place ById id part ring index) IsOther
 place_other id part ring index =
@@ -337,6 +343,47 @@ join_judged t (first ∷ []) = bad t
 join_judged t (first ∷ ask ∷ []) = bad t
 join_judged t (first ∷ ask ∷ second ∷ beside) = made_judged t (beside_of beside) _ (beside_other beside) (λ beside. join_by_judged t first ask (predicate_of ask) second beside)
 
+ask_by_other : (word : List ℕ) (predicate : Option Predicate) → IfErr (ask_by word predicate) IsOther
+ask_by_other word (Some predicate) = tt
+ask_by_other word None = made_other (ok_or (pattern_of word) BadPattern) _ (spelled_other (pattern_of word) BadPattern refl) (λ letters. tt)
+
+some_other : (is : Bool) (second : List ℕ) → IfErr (if is then Ok second else Err BadCommand) IsOther
+some_other true second = tt
+some_other false second = refl
+
+second_other : (form : Form) (arguments : List (List ℕ)) → IfErr (second_of form arguments) IsOther
+second_other Never [] = refl
+second_other Never (second ∷ []) = tt
+second_other Never (second ∷ word ∷ more) = refl
+second_other Each [] = refl
+second_other Each (some ∷ []) = refl
+second_other Each (some ∷ second ∷ []) = some_other (bytes_eq some (codes "some")) second
+second_other Each (some ∷ second ∷ word ∷ more) = refl
+
+rule_asked_judged : (t name : List ℕ) (form : Form) (first ask second : List ℕ) → Judged t (rule_asked name form first ask second)
+rule_asked_judged t name form first ask second = made_judged t (ask_of ask) _ (ask_by_other ask (predicate_of ask)) (λ ask. tt)
+
+add_rule_judged : (t : List ℕ) (arguments : List (List ℕ)) → Judged t (add_rule arguments)
+add_rule_judged t [] = bad t
+add_rule_judged t (name ∷ []) = bad t
+add_rule_judged t (name ∷ form ∷ []) = bad t
+add_rule_judged t (name ∷ form ∷ first ∷ []) = bad t
+add_rule_judged t (name ∷ form ∷ first ∷ ask ∷ second) =
+    given_judged t (form_of form) _ (λ form. made_judged t (second_of form second) _ (second_other form second) (λ second. rule_asked_judged t name form first ask second))
+
+drop_rule_judged : (t : List ℕ) (arguments : List (List ℕ)) → Judged t (drop_rule arguments)
+drop_rule_judged t (name ∷ []) = tt
+drop_rule_judged t arguments = bad t
+
+rule_command_judged : (t : List ℕ) (action : Option Action) (arguments : List (List ℕ)) → Judged t (rule_command action arguments)
+rule_command_judged t (Some actions.Add) arguments = add_rule_judged t arguments
+rule_command_judged t (Some actions.Drop) arguments = drop_rule_judged t arguments
+rule_command_judged t action arguments = bad t
+
+rule_judged : (t : List ℕ) (arguments : List (List ℕ)) → Judged t (rule_arguments arguments)
+rule_judged t [] = bad t
+rule_judged t (action ∷ arguments) = rule_command_judged t (action_of action) arguments
+
 after_two_words_judged : (t : List ℕ) (make : List ℕ → List ℕ → List ℕ → Result Command Refusal) (arguments : List (List ℕ)) → ((layer word : List ℕ) → Judged t (make layer word t))
     → Judged t (after_two_words make arguments t)
 after_two_words_judged t make (layer ∷ word ∷ first ∷ more) judged = judged layer word
@@ -378,10 +425,12 @@ by_verb_judged (Some verbs.Replace) rest = replace_judged (behind rest) (words r
 by_verb_judged (Some verbs.Vertex) rest = vertex_judged (behind rest) (words rest)
 by_verb_judged (Some verbs.Set) rest = set_judged (behind rest) (words rest) (skip_blanks (skip_word (skip_word (skip_word rest))))
 by_verb_judged (Some verbs.Unset) rest = unset_judged (behind rest) (words rest)
+by_verb_judged (Some verbs.Rule) rest = rule_judged (behind rest) (words rest)
 by_verb_judged (Some verbs.Undo) rest = alone_judged (behind rest) Undo (words rest) tt
 by_verb_judged (Some verbs.Redo) rest = alone_judged (behind rest) Redo (words rest) tt
 by_verb_judged (Some verbs.Layers) rest = alone_judged (behind rest) Layers (words rest) tt
 by_verb_judged (Some verbs.Columns) rest = of_layer_judged (behind rest) Columns (words rest) (λ layer. tt)
+by_verb_judged (Some verbs.Rules) rest = alone_judged (behind rest) Rules (words rest) tt
 by_verb_judged (Some verbs.Show) rest = of_layer_judged (behind rest) Show (words rest) (λ layer. tt)
 by_verb_judged (Some verbs.Get) rest = get_judged (behind rest) (words rest)
 by_verb_judged (Some verbs.Find) rest = find_judged (behind rest) (words rest) (behind rest)

@@ -21,12 +21,13 @@ use Rattle.sf_wkb.specs.declared.fault.WkbFault.{WkbFault}
 use Rattle.sf_wkb.specs.declared.grid.Grid.TheVariants.{Bits24}
 use Rattle.sf_wkb.specs.Grammar.{read as read_bytes}
 use Rattle.sf_wkb.proofs.Sized.{read_is_sized as bytes_are_sized}
+use Rattle.sf_constraints.specs.declared.rule.Form.{Form}
 use Rattle.sf_steps.specs.declared.edit.Edit.TheVariants as edits
 use Rattle.sf_steps.specs.Laws.{BringsGridPoints}
 use Rattle.sf_groups.specs.declared.member.Member.{Member}
 use Rattle.sf_groups.specs.Members.{may_follow}
 use Rattle.sf_commands.specs.declared.command.Command.{Command}
-use Rattle.sf_commands.specs.declared.command.Command.TheVariants.{Edit, Undo, Redo, Layers, Columns, Show, Hex, Simple, Extent, Relate, Match, Query}
+use Rattle.sf_commands.specs.declared.command.Command.TheVariants.{Edit, Undo, Redo, Layers, Columns, Rules, Show, Hex, Simple, Extent, Relate, Match, Query}
 use Rattle.sf_commands.specs.declared.group_text.GroupRefusal.{GroupRefusal}
 use Rattle.sf_commands.specs.declared.naming.Naming.{Naming}
 use Rattle.sf_commands.specs.declared.naming.Naming.TheVariants.{ById, OrLast}
@@ -36,7 +37,7 @@ use Rattle.sf_commands.specs.declared.verb.Action.{Action}
 use Rattle.sf_commands.specs.declared.verb.Action.TheVariants as actions
 use Rattle.sf_commands.specs.Words.{words, skip_blanks, skip_word, trimmed_end}
 use Rattle.sf_commands.specs.Values.{point_by, point_of, value_of}
-use Rattle.sf_commands.specs.Commands.{action_of, add_arguments, add_column, check_arguments, add_layer, addhex_arguments, addressed, addressed_command, after_two_words, alone, by_editor, by_verb, by_words, bytes_command, column_arguments, column_command, column_type_of, command_of, delete_arguments, drop_column, drop_layer, feature_arguments, feature_command, feature_named, find_arguments, get_arguments, join_arguments, join_by, beside_of, given, hex_command, id_named, id_of, ids_of, insert_vertex, layer_arguments, layer_command, layer_kind_of, made, match_arguments, move_layer, move_vertex, of_layer, of_text, predicate_of, query_arguments, relate_arguments, remove_vertex, rename_layer, replace_arguments, set_arguments, sought_of, unset_arguments, valid_of, verb_of, vertex_arguments, vertex_command, vertex_place, with_geometry}
+use Rattle.sf_commands.specs.Commands.{action_of, add_arguments, add_column, check_arguments, add_layer, add_rule, addhex_arguments, addressed, addressed_command, after_two_words, alone, ask_of, by_editor, by_verb, by_words, bytes_command, column_arguments, column_command, column_type_of, command_of, delete_arguments, drop_column, drop_layer, drop_rule, feature_arguments, feature_command, feature_named, find_arguments, form_of, get_arguments, join_arguments, join_by, beside_of, given, hex_command, id_named, id_of, ids_of, insert_vertex, layer_arguments, layer_command, layer_kind_of, made, match_arguments, move_layer, move_vertex, of_layer, of_text, predicate_of, query_arguments, relate_arguments, remove_vertex, rename_layer, replace_arguments, rule_arguments, rule_asked, rule_command, second_of, set_arguments, sought_of, unset_arguments, valid_of, verb_of, vertex_arguments, vertex_command, vertex_place, with_geometry}
 use Rattle.sf_commands.specs.Members.{member_by, member_by_verb, member_by_words, member_of, second_is_last, third_is_last}
 use Rattle.sf_commands.specs.GroupTexts.{and_behind, members_behind, members_in, parts_of, placed}
 use Rattle.sf_commands.specs.Laws.{CommandsBringGridPoints, MembersBringGridPoints}
@@ -216,6 +217,31 @@ join_brings (first ∷ []) = tt
 join_brings (first ∷ ask ∷ []) = tt
 join_brings (first ∷ ask ∷ second ∷ beside) = made_brings (beside_of beside) _ (λ beside. join_by_brings first ask (predicate_of ask) second beside)
 
+rule_asked_brings : (name : List ℕ) (form : Form) (first ask second : List ℕ) → Brings (rule_asked name form first ask second)
+rule_asked_brings name form first ask second = made_brings (ask_of ask) _ (λ ask. tt)
+
+add_rule_brings : (arguments : List (List ℕ)) → Brings (add_rule arguments)
+add_rule_brings [] = tt
+add_rule_brings (name ∷ []) = tt
+add_rule_brings (name ∷ form ∷ []) = tt
+add_rule_brings (name ∷ form ∷ first ∷ []) = tt
+add_rule_brings (name ∷ form ∷ first ∷ ask ∷ second) =
+    given_brings (form_of form) _ (λ form. made_brings (second_of form second) _ (λ second. rule_asked_brings name form first ask second))
+
+drop_rule_brings : (arguments : List (List ℕ)) → Brings (drop_rule arguments)
+drop_rule_brings (name ∷ []) = tt
+drop_rule_brings arguments = tt
+
+rule_command_brings : (action : Option Action) (arguments : List (List ℕ)) → Brings (rule_command action arguments)
+rule_command_brings (Some actions.Add) arguments = add_rule_brings arguments
+rule_command_brings (Some actions.Drop) arguments = drop_rule_brings arguments
+rule_command_brings action arguments = tt
+
+-- a rule brings no geometry
+rule_brings : (arguments : List (List ℕ)) → Brings (rule_arguments arguments)
+rule_brings [] = tt
+rule_brings (action ∷ arguments) = rule_command_brings (action_of action) arguments
+
 -- of questions with a geometry of their own
 with_geometry_brings : {X : Type 0} (command : List ℕ → X → Geometry → Command) (layer : List ℕ) (spelled : Result X Refusal) (geometry : Result Geometry Refusal)
     → ((x : X) (given : Geometry) → BringsOnGrid (command layer x given)) → Brings (with_geometry command layer spelled geometry)
@@ -258,10 +284,12 @@ by_verb_brings (Some verbs.Replace) rest = replace_brings ById (words rest) (ski
 by_verb_brings (Some verbs.Vertex) rest = vertex_brings ById (words rest)
 by_verb_brings (Some verbs.Set) rest = set_brings ById (words rest) (skip_blanks (skip_word (skip_word (skip_word rest))))
 by_verb_brings (Some verbs.Unset) rest = unset_brings ById (words rest)
+by_verb_brings (Some verbs.Rule) rest = rule_brings (words rest)
 by_verb_brings (Some verbs.Undo) rest = alone_brings Undo (words rest) tt
 by_verb_brings (Some verbs.Redo) rest = alone_brings Redo (words rest) tt
 by_verb_brings (Some verbs.Layers) rest = alone_brings Layers (words rest) tt
 by_verb_brings (Some verbs.Columns) rest = of_layer_brings Columns (words rest) (λ layer. tt)
+by_verb_brings (Some verbs.Rules) rest = alone_brings Rules (words rest) tt
 by_verb_brings (Some verbs.Show) rest = of_layer_brings Show (words rest) (λ layer. tt)
 by_verb_brings (Some verbs.Get) rest = get_brings (words rest)
 by_verb_brings (Some verbs.Find) rest = find_brings (words rest) (skip_blanks (skip_word (skip_word rest)))

@@ -30,13 +30,17 @@ use Rattle.sf_layers.specs.declared.layer_kind.LayerKind.TheVariants.{Any, Only}
 use Rattle.sf_features.specs.declared.attr_value.AttrValue.{AttrValue}
 use Rattle.sf_features.specs.declared.column_type.ColumnType.{ColumnType}
 use Rattle.sf_features.specs.declared.column_type.ColumnType.TheVariants as types
+use Rattle.sf_query.specs.declared.ask.Ask.{Ask}
+use Rattle.sf_query.specs.declared.ask.Ask.TheVariants.{Matching, Named}
+use Rattle.sf_constraints.specs.declared.rule.Form.{Form}
+use Rattle.sf_constraints.specs.declared.rule.Form.TheVariants.{Never, Each}
 use Rattle.sf_steps.specs.declared.edit.Edit.TheVariants as edits
 use Rattle.sf_commands.specs.declared.verb.Verb.{Verb}
 use Rattle.sf_commands.specs.declared.verb.Verb.TheVariants as verbs
 use Rattle.sf_commands.specs.declared.verb.Action.{Action}
 use Rattle.sf_commands.specs.declared.verb.Action.TheVariants as actions
 use Rattle.sf_commands.specs.declared.command.Command.{Command}
-use Rattle.sf_commands.specs.declared.command.Command.TheVariants.{Edit, Undo, Redo, Layers, Columns, Show, Get, Find, Check, Hex, Simple, Extent, Relate, Match, Query, JoinMatching, JoinNamed}
+use Rattle.sf_commands.specs.declared.command.Command.TheVariants.{Edit, AddRule, DropRule, Undo, Redo, Layers, Columns, Rules, Show, Get, Find, Check, Hex, Simple, Extent, Relate, Match, Query, JoinMatching, JoinNamed}
 use Rattle.sf_commands.specs.declared.vertex_place.VertexPlace.{VertexPlace}
 use Rattle.sf_commands.specs.declared.naming.Naming.{Naming}
 use Rattle.sf_commands.specs.declared.naming.Naming.TheVariants.{ById, OrLast}
@@ -45,7 +49,7 @@ use Rattle.sf_commands.specs.Values.{point_of, value_of}
 
 -- the words of the verbs that ask, and change neither the store nor its history
 abbrev pub asking_verbs : List (List ℕ × Verb)
-asking_verbs = (codes "layers", verbs.Layers) ∷ (codes "columns", verbs.Columns) ∷ (codes "show", verbs.Show)
+asking_verbs = (codes "layers", verbs.Layers) ∷ (codes "columns", verbs.Columns) ∷ (codes "rules", verbs.Rules) ∷ (codes "show", verbs.Show)
     ∷ (codes "get", verbs.Get) ∷ (codes "find", verbs.Find) ∷ (codes "check", verbs.Check) ∷ (codes "hex", verbs.Hex) ∷ (codes "box", verbs.Box) ∷ (codes "simple", verbs.Simple)
     ∷ (codes "relate", verbs.Relate) ∷ (codes "match", verbs.Match) ∷ (codes "query", verbs.Query) ∷ (codes "join", verbs.Join) ∷ []
 
@@ -57,10 +61,10 @@ asking_verb_of word = lookup (bytes_eq word) asking_verbs
 abbrev pub verb_of : List ℕ → Option Verb
 verb_of word = lookup (bytes_eq word) ((codes "layer", verbs.Layer) ∷ (codes "column", verbs.Column)
     ∷ (codes "add", verbs.Add) ∷ (codes "addhex", verbs.AddHex) ∷ (codes "delete", verbs.Delete) ∷ (codes "replace", verbs.Replace)
-    ∷ (codes "vertex", verbs.Vertex) ∷ (codes "set", verbs.Set) ∷ (codes "unset", verbs.Unset) ∷ (codes "undo", verbs.Undo) ∷ (codes "redo", verbs.Redo)
+    ∷ (codes "vertex", verbs.Vertex) ∷ (codes "set", verbs.Set) ∷ (codes "unset", verbs.Unset) ∷ (codes "rule", verbs.Rule) ∷ (codes "undo", verbs.Undo) ∷ (codes "redo", verbs.Redo)
     ∷ asking_verbs)
 
--- what is done with a layer, a column or a vertex
+-- what is done with a layer, a column, a vertex or a rule
 abbrev pub action_of : List ℕ → Option Action
 action_of word = lookup (bytes_eq word) ((codes "add", actions.Add) ∷ (codes "drop", actions.Drop) ∷ (codes "rename", actions.Rename)
     ∷ (codes "move", actions.Move) ∷ (codes "insert", actions.Insert) ∷ (codes "remove", actions.Remove) ∷ [])
@@ -362,6 +366,52 @@ abbrev pub join_arguments : List (List ℕ) → Result Command Refusal
 join_arguments (first ∷ ask ∷ second ∷ beside) = made (beside_of beside) (λ beside. join_asked first ask second beside)
 join_arguments arguments = Err BadCommand
 
+-- what is asked by a word, which may name a predicate; one that names none is taken as a pattern
+abbrev pub ask_by : List ℕ → Option Predicate → Result Ask Refusal
+ask_by word (Some predicate) = Ok (Named predicate)
+ask_by word None = made (ok_or (pattern_of word) BadPattern) (λ letters. Ok (Matching letters))
+
+-- what a word asks of two features
+abbrev pub ask_of : List ℕ → Result Ask Refusal
+ask_of word = ask_by word (predicate_of word)
+
+-- the form of a rule that a word spells
+abbrev pub form_of : List ℕ → Option Form
+form_of word = lookup (bytes_eq word) ((codes "never", Never) ∷ (codes "each", Each) ∷ [])
+
+-- the second layer of a rule, of the words behind what is asked: `some` stands before it in a rule for each
+abbrev pub second_of : Form → List (List ℕ) → Result (List ℕ) Refusal
+second_of Never (second ∷ []) = Ok second
+second_of Each (some ∷ second ∷ []) = if bytes_eq some (codes "some") then Ok second else Err BadCommand
+second_of form arguments = Err BadCommand
+
+-- a new rule, if what is asked could be read
+abbrev pub rule_asked : List ℕ → Form → List ℕ → List ℕ → List ℕ → Result Command Refusal
+rule_asked name form first ask second =
+    made (ask_of ask) (λ ask. Ok (AddRule (record { name = name; form = form; first = first; ask = ask; second = second })))
+
+-- the words after `rule add`: a name, a form, a layer, what is asked, and another layer
+abbrev pub add_rule : List (List ℕ) → Result Command Refusal
+add_rule (name ∷ form ∷ first ∷ ask ∷ second) =
+    given (form_of form) (λ form. made (second_of form second) (λ second. rule_asked name form first ask second))
+add_rule arguments = Err BadCommand
+
+-- the words after `rule drop`: a name
+abbrev pub drop_rule : List (List ℕ) → Result Command Refusal
+drop_rule (name ∷ []) = Ok (DropRule name)
+drop_rule arguments = Err BadCommand
+
+-- what is done with a rule, and the words after it
+abbrev pub rule_command : Option Action → List (List ℕ) → Result Command Refusal
+rule_command (Some actions.Add) arguments = add_rule arguments
+rule_command (Some actions.Drop) arguments = drop_rule arguments
+rule_command action arguments = Err BadCommand
+
+-- the command of the words after `rule`
+abbrev pub rule_arguments : List (List ℕ) → Result Command Refusal
+rule_arguments [] = Err BadCommand
+rule_arguments (action ∷ arguments) = rule_command (action_of action) arguments
+
 -- a command with a layer's name alone after its verb
 abbrev pub of_layer : (List ℕ → Command) → List (List ℕ) → Result Command Refusal
 of_layer command (layer ∷ []) = Ok (command layer)
@@ -383,10 +433,12 @@ by_verb (Some verbs.Replace) rest = replace_arguments ById (words rest) (skip_bl
 by_verb (Some verbs.Vertex) rest = vertex_arguments ById (words rest)
 by_verb (Some verbs.Set) rest = set_arguments ById (words rest) (skip_blanks (skip_word (skip_word (skip_word rest))))
 by_verb (Some verbs.Unset) rest = unset_arguments ById (words rest)
+by_verb (Some verbs.Rule) rest = rule_arguments (words rest)
 by_verb (Some verbs.Undo) rest = alone Undo (words rest)
 by_verb (Some verbs.Redo) rest = alone Redo (words rest)
 by_verb (Some verbs.Layers) rest = alone Layers (words rest)
 by_verb (Some verbs.Columns) rest = of_layer Columns (words rest)
+by_verb (Some verbs.Rules) rest = alone Rules (words rest)
 by_verb (Some verbs.Show) rest = of_layer Show (words rest)
 by_verb (Some verbs.Get) rest = get_arguments (words rest)
 by_verb (Some verbs.Find) rest = find_arguments (words rest) (skip_blanks (skip_word (skip_word rest)))
@@ -457,6 +509,7 @@ verb_takes_memory None = false
 verb_takes_memory (Some verbs.Undo) = false
 verb_takes_memory (Some verbs.Redo) = false
 verb_takes_memory (Some verbs.Layers) = false
+verb_takes_memory (Some verbs.Rules) = false
 verb_takes_memory (Some verb) = true
 
 -- whether it is taken for the command of these words

@@ -17,6 +17,7 @@ mod naming;
 mod parsing;
 mod point;
 mod query_commands;
+mod rule_commands;
 mod spelling;
 mod value;
 mod verb;

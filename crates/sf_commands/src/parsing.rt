@@ -17,6 +17,7 @@ use super::layer_commands::{layer_arguments, layers_arguments};
 use super::lookup_commands::{find_arguments, get_arguments};
 use super::naming::Naming;
 use super::query_commands::{match_arguments, query_arguments, relate_arguments};
+use super::rule_commands::{rule_arguments, rules_arguments};
 use super::verb::{Verb, verb_of};
 use super::vertex_commands::vertex_arguments;
 use super::words::Words;
@@ -30,7 +31,7 @@ use std::alloc::Global;
 /// then `Syntax` for a text that is no hexadecimal, the faults of a well-known text or binary, and those of a
 /// coordinate, x before y; last, of a geometry that features are compared with, its first fault. `Memory` may come in
 /// place of any of them where memory is taken: not for a line that is too long or whose editor's word names none, nor
-/// for one without a verb, whose verb is unknown, or that is `undo`, `redo` or `layers`.
+/// for one without a verb, whose verb is unknown, or that is `undo`, `redo`, `layers` or `rules`.
 pub fn parse(alloc: Global, line: &str) -> Result<(u8, Command), Refusal>
     ensures { OrMemoryIf (takes_memory line.now) (command_of line.now) result }
 {
@@ -65,10 +66,12 @@ fn arguments_of(alloc: Global, verb: Option<Verb>, words: Words<'_>) -> Result<C
         Some(Verb::Vertex) => vertex_arguments(alloc, Naming::ById, words),
         Some(Verb::Set) => set_arguments(alloc, Naming::ById, words),
         Some(Verb::Unset) => unset_arguments(alloc, Naming::ById, words),
+        Some(Verb::Rule) => rule_arguments(alloc, words),
         Some(Verb::Undo) => undo_arguments(words),
         Some(Verb::Redo) => redo_arguments(words),
         Some(Verb::Layers) => layers_arguments(words),
         Some(Verb::Columns) => columns_arguments(alloc, words),
+        Some(Verb::Rules) => rules_arguments(words),
         Some(Verb::Show) => show_arguments(alloc, words),
         Some(Verb::Get) => get_arguments(alloc, words),
         Some(Verb::Find) => find_arguments(alloc, words),

@@ -1,16 +1,19 @@
-//! What single words spell: kinds of layers, types of columns, predicates, identifiers, bytes and names.
+//! What single words spell: kinds of layers, types of columns, predicates, what is asked, forms of rules, identifiers, bytes and
+//! names.
 ghost use Rattle.std.specs.Prelude.{◌≡◌, ◌⊎◌, ◌&&◌, nat_le, length, Ok, IsErr, IfOk, MatchResult};
 ghost use Rattle.std.specs.Char.{is_ascii_digit};
 ghost use Rattle.std.specs.List.{list_all};
 ghost use Rattle.hex.specs.Hex.{decode_of};
-ghost use Rattle.sf_commands.specs.Commands.{id_of as id_spelled, layer_kind_of as layer_kind_named, column_type_of as column_type_named, predicate_of as predicate_named, id_named, is_last};
+ghost use Rattle.sf_commands.specs.Commands.{id_of as id_spelled, layer_kind_of as layer_kind_named, column_type_of as column_type_named, predicate_of as predicate_named, ask_of as ask_spelled, form_of as form_named, id_named, is_last};
 
 use super::naming::Naming;
 use hex::FromHexError;
+use sf_constraints::Form;
 use sf_geometry::Kind;
 use sf_layers::{ColumnType, LayerKind, Text};
+use sf_query::Ask;
 use sf_refusals::Refusal;
-use sf_relate::Predicate;
+use sf_relate::{Pattern, Predicate};
 use std::alloc::{AllocError, Global};
 
 /// How many digits an identifier has at most.
@@ -72,6 +75,29 @@ pub(crate) fn predicate_of(word: &str) -> Option<Predicate>
         Some(Predicate::Overlaps)
     } else if word == "intersects" {
         Some(Predicate::Intersects)
+    } else {
+        None
+    }
+}
+
+/// What a word asks of two features: a predicate that it names; any other word is taken as a pattern.
+pub(crate) fn ask_of(word: &str) -> Result<Ask, Refusal>
+    ensures { result ≡ ask_spelled word.now }
+{
+    match predicate_of(word) {
+        Some(predicate) => Ok(Ask::Named(predicate)),
+        None => Ok(Ask::Matching(Pattern::parse(word)?)),
+    }
+}
+
+/// The form of a rule that a word spells, in small letters.
+pub(crate) fn form_of(word: &str) -> Option<Form>
+    ensures { result ≡ form_named word.now }
+{
+    if word == "never" {
+        Some(Form::Never)
+    } else if word == "each" {
+        Some(Form::Each)
     } else {
         None
     }

@@ -13,10 +13,12 @@ pub(crate) enum Verb {
     Vertex,
     Set,
     Unset,
+    Rule,
     Undo,
     Redo,
     Layers,
     Columns,
+    Rules,
     Show,
     Get,
     Find,
@@ -30,7 +32,7 @@ pub(crate) enum Verb {
     Join,
 }
 
-/// What is done with a layer, a column or a vertex.
+/// What is done with a layer, a column, a vertex or a rule.
 #[derive(Clone, Copy, Debug, PartialEq, Eq)]
 pub(crate) enum Action {
     Add,
@@ -63,6 +65,8 @@ pub(crate) fn verb_of(word: &str) -> Option<Verb>
         Some(Verb::Set)
     } else if word == "unset" {
         Some(Verb::Unset)
+    } else if word == "rule" {
+        Some(Verb::Rule)
     } else if word == "undo" {
         Some(Verb::Undo)
     } else if word == "redo" {
@@ -80,6 +84,8 @@ fn asking_verb_of(word: &str) -> Option<Verb>
         Some(Verb::Layers)
     } else if word == "columns" {
         Some(Verb::Columns)
+    } else if word == "rules" {
+        Some(Verb::Rules)
     } else if word == "show" {
         Some(Verb::Show)
     } else if word == "get" {

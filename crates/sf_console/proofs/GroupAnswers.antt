@@ -5,11 +5,14 @@ use Rattle.std.proofs.lemmas.List.{length-append}
 use Rattle.sf_layers.specs.Content.{Content}
 use Rattle.sf_steps.specs.declared.answer.Answer.{Answer}
 use Rattle.sf_steps.specs.declared.answer.Answer.TheVariants.{Done, Id}
-use Rattle.sf_steps.specs.declared.refusal.Refusal.{Refusal as StepRefusal}
+use Rattle.sf_steps.specs.declared.refusal.Refusal.{Refusal as EditRefusal}
 use Rattle.sf_steps.specs.Steps.{step}
 use Rattle.sf_groups.specs.declared.member.Member.{Member}
 use Rattle.sf_groups.specs.Members.{Refused, and_behind, ids_given, in_front, members_from, resolved, together}
-use Rattle.sf_history.specs.History.{Machine, after_group, grouped}
+use Rattle.sf_changes.specs.Changes.{OfGroup}
+use Rattle.sf_ruled.specs.declared.refusal.Refusal.{Refusal as StepRefusal}
+use Rattle.sf_ruled.specs.Ruled.{OfChange}
+use Rattle.sf_history.specs.History.{Machine, giving, grouped, identifying, stepped}
 
 -- an answer gives at most one identifier
 one_id : (answer : Answer) → length (ids_given answer) ≤ 1
@@ -49,7 +52,7 @@ few_from number content new [] ids is =
 few_from number content new (member ∷ members) ids is = by (λ next last more. few_from (number + 1) next last members more) (step content (resolved content member)) is
   where
     by : ((next last : Content) (more : List ℕ) → members_from (number + 1) next members ≡ Ok (last, more) → length more ≤ length members)
-        → (r : Result (Content × Answer) StepRefusal) → and_behind number r (λ next. members_from (number + 1) next members) ≡ Ok (new, ids)
+        → (r : Result (Content × Answer) EditRefusal) → and_behind number r (λ next. members_from (number + 1) next members) ≡ Ok (new, ids)
         → length ids ≤ length (member ∷ members)
     by later (Ok done) h =
         let few = with_front ids (ids_given done.1) (members_from (number + 1) done.0 members) new h (length members) (one_id done.1)
@@ -59,18 +62,20 @@ few_from number content new (member ∷ members) ids is = by (λ next last more.
 
 -- so does a group
 pub few-identifiers : (editor : ℕ) (old new : Machine) (members : List Member) (ids : List ℕ) → grouped editor old members ≡ Ok (new, ids) → length ids ≤ length members
-few-identifiers editor old new members ids is = by (together old.now members) refl is
+few-identifiers editor old new members ids is = by (stepped editor old (OfChange (OfGroup members))) (together old.now members) refl is
   where
-    by : (r : Result (Content × List ℕ) Refused) → together old.now members ≡ r → after_group editor old r ≡ Ok (new, ids) → length ids ≤ length members
-    by (Ok done) led h = few_from 1 old.now done.0 members ids (led ∙ ap (λ (given : List ℕ). let r : Result (Content × List ℕ) Refused = Ok (done.0, given) in r) (ids_of h))
+    by : (result : Result Machine StepRefusal) (r : Result (Content × List ℕ) Refused) → together old.now members ≡ r
+        → identifying result r ≡ Ok (new, ids) → length ids ≤ length members
+    by (Ok next) (Ok done) led h = few_from 1 old.now done.0 members ids (led ∙ ap (λ (given : List ℕ). let r : Result (Content × List ℕ) Refused = Ok (done.0, given) in r) (ids_of h))
       where
-        given_by : Result (Machine × List ℕ) Refused → List ℕ
+        given_by : Result (Machine × List ℕ) StepRefusal → List ℕ
         given_by (Ok found) = found.1
-        given_by (Err refused) = []
+        given_by (Err refusal) = []
 
-        ids_of : after_group editor old (Ok done) ≡ Ok (new, ids) → done.1 ≡ ids
+        ids_of : giving done.1 (Ok next) ≡ Ok (new, ids) → done.1 ≡ ids
         ids_of same = ap given_by same
-    by (Err refused) led h = absurd cc
+    by (Err refusal) (Ok done) led h = absurd cc
+    by result (Err refused) led h = absurd cc
 
 -- ---- room
 

@@ -8,63 +8,79 @@ use Rattle.sf_steps.specs.declared.edit.Edit.{Edit}
 use Rattle.sf_steps.specs.Steps.{step}
 use Rattle.sf_groups.specs.declared.member.Member.{Member}
 use Rattle.sf_groups.specs.Members.{Refused, together}
-use Rattle.sf_changes.specs.Changes.{OfEdit, OfGroup, group_led}
-use Rattle.sf_history.specs.History.{Machine, advanced, after_group, fresh, changed, edited, grouped, undone, redone}
+use Rattle.sf_steps.specs.declared.refusal.Refusal.{Refusal as EditRefusal}
+use Rattle.sf_changes.specs.Changes.{OfEdit, OfGroup}
+use Rattle.sf_ruled.specs.declared.refusal.Refusal.{Refusal as StepRefusal}
+use Rattle.sf_ruled.specs.Ruled.{AddRule, DropRule, OfChange}
+use Rattle.sf_history.specs.History.{Machine, answering, fresh_under, giving, identifying, stepped, undone, redone}
 use Rattle.sf_history.specs.Laws.{Turn, Leads, LeadInTurn}
-use Rattle.sf_history.proofs.LawProofs.{edited-changed}
 use Rattle.sf_history.proofs.OwnSteps.{own_steps_law}
 use Rattle.sf_commands.specs.declared.command.Command.TheVariants as commands
-use Rattle.sf_console.specs.Answers.{edit_reply, history_reply, step_reply}
+use Rattle.sf_console.specs.Answers.{edit_reply, history_reply, rule_reply, step_reply}
+use Rattle.sf_console.proofs.WellFormedSessions.{machine_after}
 use Rattle.sf_console.specs.Readings.{Reading, Blank, Unreadable, Asked, Grouped, Cut}
 use Rattle.sf_console.specs.Requests.{readings_of}
 use Rattle.sf_console.specs.Session.{IsAnswered, Run}
 use Rattle.sf_console.specs.Laws.{turn_of, SessionsMoveOwnSteps}
 
 -- a line that asks nothing of the history leaves it, and one that does is its turn or is refused
-abbrev LeadsOrStays : Option Turn → Machine → Machine → Type 0
+abbrev pub LeadsOrStays : Option Turn → Machine → Machine → Type 0
 LeadsOrStays None old new = new ≡ old
 LeadsOrStays (Some turn) old new = Leads old turn new ⊎ (new ≡ old)
 
-edit_turn : (editor : ℕ) (edit : Edit) (old new : Machine) (text : List ℕ) (r : Result (Machine × Answer) Refusal) → edited editor old edit ≡ r → edit_reply old r ≡ (new, text)
-    → (changed editor old (OfEdit edit) ≡ Some new) ⊎ (new ≡ old)
-edit_turn editor edit old new text (Ok done) is h =
-    inl (edited-changed editor old new done.1 (step old.now edit) (is ∙ ap (λ (m : Machine). let r : Result (Machine × Answer) Refusal = Ok (m, done.1) in r) (ap (λ p. p.0) h)))
-edit_turn editor edit old new text (Err refusal) is h = inr (sym (ap (λ p. p.0) h))
+-- a step whose answer is this was carried out, or changed nothing
+step_turn : (old new : Machine) (result : Result Machine StepRefusal) → machine_after old result ≡ new → (result ≡ Ok new) ⊎ (new ≡ old)
+step_turn old new (Ok next) led = inl (ap (λ (m : Machine). let r : Result Machine StepRefusal = Ok m in r) led)
+step_turn old new (Err refusal) led = inr (sym led)
+
+edit_machine : (old : Machine) (answer : Answer) (result : Result Machine StepRefusal) → (edit_reply old (giving answer result)).0 ≡ machine_after old result
+edit_machine old answer (Ok next) = refl
+edit_machine old answer (Err refusal) = refl
+
+edit_turn : (editor : ℕ) (edit : Edit) (old new : Machine) (text : List ℕ) (result : Result Machine StepRefusal) (done : Result (Content × Answer) EditRefusal)
+    → edit_reply old (answering result done) ≡ (new, text) → (result ≡ Ok new) ⊎ (new ≡ old)
+edit_turn editor edit old new text result (Ok done) h = step_turn old new result (sym (edit_machine old done.1 result) ∙ ap (λ p. p.0) h)
+edit_turn editor edit old new text result (Err refusal) h = inr (sym (ap (λ p. p.0) h))
+
+group_machine : (old : Machine) (ids : List ℕ) (result : Result Machine StepRefusal) → (step_reply old (giving ids result)).0 ≡ machine_after old result
+group_machine old ids (Ok next) = refl
+group_machine old ids (Err refusal) = refl
+
+group_turn : (old new : Machine) (text : List ℕ) (result : Result Machine StepRefusal) (done : Result (Content × List ℕ) Refused)
+    → step_reply old (identifying result done) ≡ (new, text) → (result ≡ Ok new) ⊎ (new ≡ old)
+group_turn old new text result (Ok done) h = step_turn old new result (sym (group_machine old done.1 result) ∙ ap (λ p. p.0) h)
+group_turn old new text result (Err refused) h = inr (sym (ap (λ p. p.0) h))
+
+rule_machine : (old : Machine) (name : List ℕ) (result : Result Machine StepRefusal) → (rule_reply old name result).0 ≡ machine_after old result
+rule_machine old name (Ok next) = refl
+rule_machine old name (Err refusal) = refl
+
+rule_turn : (old new : Machine) (text name : List ℕ) (result : Result Machine StepRefusal) → rule_reply old name result ≡ (new, text) → (result ≡ Ok new) ⊎ (new ≡ old)
+rule_turn old new text name result h = step_turn old new result (sym (rule_machine old name result) ∙ ap (λ p. p.0) h)
 
 move_turn : (old new : Machine) (text : List ℕ) (r e : Result Machine Refusal) → e ≡ r → history_reply old r ≡ (new, text) → (e ≡ Ok new) ⊎ (new ≡ old)
 move_turn old new text (Ok other) e is h = inl (is ∙ ap (λ (m : Machine). let r : Result Machine Refusal = Ok m in r) (ap (λ p. p.0) h))
 move_turn old new text (Err refusal) e is h = inr (sym (ap (λ p. p.0) h))
 
-abbrev machine_at : Result (Machine × List ℕ) Refused → Option Machine
-machine_at (Ok done) = Some done.0
-machine_at (Err refused) = None
-
--- an accepted group is an accepted change
-pub grouped-changed : (editor : ℕ) (old new : Machine) (ids : List ℕ) (r : Result (Content × List ℕ) Refused) → after_group editor old r ≡ Ok (new, ids)
-    → option_map (advanced editor old) (group_led r) ≡ Some new
-grouped-changed editor old new ids (Ok done) h = ap machine_at h
-grouped-changed editor old new ids (Err refused) h = cc
-
-group_turn : (editor : ℕ) (members : List Member) (old new : Machine) (text : List ℕ) (r : Result (Machine × List ℕ) Refused) → grouped editor old members ≡ r
-    → step_reply old r ≡ (new, text) → (changed editor old (OfGroup members) ≡ Some new) ⊎ (new ≡ old)
-group_turn editor members old new text (Ok done) is h =
-    inl (grouped-changed editor old new done.1 (together old.now members) (is ∙ ap (λ (m : Machine). let r : Result (Machine × List ℕ) Refused = Ok (m, done.1) in r) (ap (λ p. p.0) h)))
-group_turn editor members old new text (Err refused) is h = inr (sym (ap (λ p. p.0) h))
-
-line_turn : (old new : Machine) (line : Reading) (text : List ℕ) → IsAnswered old line text new → LeadsOrStays (turn_of line) old new
+pub line_turn : (old new : Machine) (line : Reading) (text : List ℕ) → IsAnswered old line text new → LeadsOrStays (turn_of line) old new
 line_turn old new Blank text answered = answered.1
 line_turn old new (Unreadable refusal) text answered = answered.1
 line_turn old new (Asked takes (Err refusal)) text (inl replied) = sym (ap (λ p. p.0) replied)
 line_turn old new (Asked takes (Err refusal)) text (inr refused) = refused.1
-line_turn old new (Asked takes (Ok (editor, commands.Edit edit))) text (inl replied) = edit_turn editor edit old new text (edited editor old edit) refl replied
+line_turn old new (Asked takes (Ok (editor, commands.Edit edit))) text (inl replied) =
+    edit_turn editor edit old new text (stepped editor old (OfChange (OfEdit edit))) (step old.now edit) replied
 line_turn old new (Asked takes (Ok (editor, commands.Edit edit))) text (inr refused) = inr refused.1
+line_turn old new (Asked takes (Ok (editor, commands.AddRule rule))) text (inl replied) = rule_turn old new text rule.name (stepped editor old (AddRule rule)) replied
+line_turn old new (Asked takes (Ok (editor, commands.AddRule rule))) text (inr refused) = inr refused.1
+line_turn old new (Asked takes (Ok (editor, commands.DropRule name))) text (inl replied) = rule_turn old new text name (stepped editor old (DropRule name)) replied
+line_turn old new (Asked takes (Ok (editor, commands.DropRule name))) text (inr refused) = inr refused.1
 line_turn old new (Asked takes (Ok (editor, commands.Undo))) text (inl replied) = move_turn old new text (undone editor old) (undone editor old) refl replied
 line_turn old new (Asked takes (Ok (editor, commands.Undo))) text (inr refused) = inr refused.1
 line_turn old new (Asked takes (Ok (editor, commands.Redo))) text (inl replied) = move_turn old new text (redone editor old) (redone editor old) refl replied
 line_turn old new (Asked takes (Ok (editor, commands.Redo))) text (inr refused) = inr refused.1
 line_turn old new (Asked takes (Ok (editor, command))) text (inl replied) = sym (ap (λ p. p.0) replied)
 line_turn old new (Asked takes (Ok (editor, command))) text (inr refused) = refused.1
-line_turn old new (Grouped editor (Ok members)) text (inl replied) = group_turn editor members old new text (grouped editor old members) refl replied
+line_turn old new (Grouped editor (Ok members)) text (inl replied) = group_turn old new text (stepped editor old (OfChange (OfGroup members))) (together old.now members) replied
 line_turn old new (Grouped editor (Ok members)) text (inr refused) = inr refused.1
 line_turn old new (Grouped editor (Err refusal)) text (inl replied) = sym (ap (λ p. p.0) replied)
 line_turn old new (Grouped editor (Err refusal)) text (inr refused) = refused.1
@@ -82,5 +98,5 @@ turns_lead old new (line ∷ lines) output (mid, text, rest, answered, ran, part
     one_more old mid new (turn_of line) lines (line_turn old mid line text answered) (turns_lead mid new lines rest ran)
 
 pub sessions_move_own_steps : SessionsMoveOwnSteps
-sessions_move_own_steps content input output machine ran =
-    own_steps_law content (filter_map turn_of (readings_of input)) machine (turns_lead (fresh content) machine (readings_of input) output ran)
+sessions_move_own_steps first input output machine ran =
+    own_steps_law first (filter_map turn_of (readings_of input)) machine (turns_lead (fresh_under first) machine (readings_of input) output ran)

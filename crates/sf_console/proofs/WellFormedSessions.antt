@@ -1,11 +1,11 @@
 -- Sessions lead from well-formed contents to well-formed ones.
-use Rattle.std.proofs.Common.{◌≡◌, ℕ, Bool, true, false, not, zero, suc, ◌-◌, nat_eq, inl, inr, List, [], ◌∷◌, ◌++◌, length, Option, None, Some, Result, Ok, Err, if◌then◌else◌, refl, sym, ap, ◌∙◌, subst, arith}
+use Rattle.std.proofs.Common.{◌≡◌, ℕ, Bool, true, false, not, zero, suc, ◌-◌, nat_eq, inl, inr, List, [], ◌∷◌, ◌++◌, length, Option, None, Some, Result, Ok, Err, if◌then◌else◌, nat_lt, refl, sym, ap, ◌∙◌, subst, arith}
 use Rattle.std.specs.List.{AllByRecursion, IsDistinct, list_all}
 use Rattle.std.specs.Str.{is_utf8}
 use Rattle.sf_refusals.specs.declared.refusal.Refusal.{Refusal}
 use Rattle.sf_refusals.specs.declared.refusal.Refusal.TheVariants.{BadCommand, NotYours}
 use Rattle.sf_wkt.specs.Tokens.{is_blank}
-use Rattle.sf_layers.specs.Content.{Content}
+use Rattle.sf_layers.specs.Content.{Content, has_layer}
 use Rattle.sf_layers.specs.WellFormed.{IsWellFormed}
 use Rattle.sf_steps.specs.declared.answer.Answer.{Answer}
 use Rattle.sf_steps.specs.declared.edit.Edit.{Edit}
@@ -13,7 +13,15 @@ use Rattle.sf_steps.specs.declared.refusal.Refusal.{Refusal as EditRefusal}
 use Rattle.sf_steps.specs.Laws.{BringsGridPoints}
 use Rattle.sf_steps.specs.Steps.{step}
 use Rattle.sf_steps.proofs.StepsFine.{IsWellFormed-step}
-use Rattle.sf_history.specs.History.{Kept, Machine, after_group, after_step, back_to, forth_to, fresh}
+use Rattle.sf_changes.specs.Changes.{OfEdit, OfGroup}
+use Rattle.sf_features.specs.Names.{is_name}
+use Rattle.sf_constraints.specs.declared.breaks.Broken.{Broken}
+use Rattle.sf_constraints.specs.declared.rule.Rule.{Rule}
+use Rattle.sf_constraints.specs.Rules.{break_of, broken_or, first_broken}
+use Rattle.sf_ruled.specs.declared.refusal.Refusal.{Refusal as StepRefusal}
+use Rattle.sf_ruled.specs.declared.refusal.Refusal.TheVariants.{BadName, LayerRuled, NoLayer, RuleExists, TooManyRules}
+use Rattle.sf_ruled.specs.Ruled.{Ruled, added, after_change, edit_led, group_led, has_layers, has_rule, place_of_rule, rules_after, rules_max, settled, unless_broken, with_rule, without_rule}
+use Rattle.sf_history.specs.History.{Kept, Machine, after_step, answering, back_to, forth_to, fresh, giving, identifying, ruled_now}
 use Rattle.sf_commands.specs.declared.command.Command.{Command}
 use Rattle.sf_commands.specs.declared.command.Command.TheVariants as commands
 use Rattle.sf_groups.specs.declared.member.Member.{Member}
@@ -23,7 +31,7 @@ use Rattle.sf_commands.specs.declared.group_text.GroupRefusal.{GroupRefusal}
 use Rattle.sf_commands.specs.declared.head.Head.{Head}
 use Rattle.sf_commands.specs.GroupTexts.{group_by_head, group_by_parts, group_of, head_of, members_of, parts_of}
 use Rattle.sf_commands.proofs.LawProofs.{commands_bring_grid_points, members_bring_grid_points}
-use Rattle.sf_console.specs.Answers.{edit_reply, group_reply, history_reply, reply, step_reply}
+use Rattle.sf_console.specs.Answers.{edit_reply, group_reply, history_reply, reply, rule_reply, step_reply}
 use Rattle.sf_console.specs.Readings.{Reading, Blank, Unreadable, Asked, Grouped, Cut, by_group, reading_of, text_reading}
 use Rattle.sf_console.specs.Requests.{Closed, Comes, Ends, Event, Gathering, Open, events_of, gathered, gathered_on, is_passed_over, line_head, nothing_asked, outside, readings, readings_of, requests_from, whole_lines_come, whole_readings_of, with_member}
 use Rattle.sf_console.specs.Session.{IsAnswered, Run}
@@ -32,14 +40,71 @@ use Rattle.sf_console.specs.Laws.{AreWellFormed, FreshMachinesAreWellFormed, Ser
 
 -- ---- a command
 
-after_edit : (machine : Machine) (editor : ℕ) (edit : Edit) (stepped : Result (Content × Answer) EditRefusal) → step machine.now edit ≡ stepped
-    → BringsGridPoints edit → AreWellFormed machine → AreWellFormed (edit_reply machine (after_step editor machine stepped)).0
-after_edit machine editor edit (Ok done) is brings fine = record {
-  now = IsWellFormed-step machine.now done.0 edit done.1 brings fine.now is;
-  past = (fine.now, fine.past);
-  future = tt;
-}
+-- the machine after a step; the one before where it is refused
+abbrev pub machine_after : Machine → Result Machine StepRefusal → Machine
+machine_after machine (Ok next) = next
+machine_after machine (Err refusal) = machine
+
+edit_fine : (machine : Machine) (answer : Answer) (result : Result Machine StepRefusal) → AreWellFormed (machine_after machine result)
+    → AreWellFormed (edit_reply machine (giving answer result)).0
+edit_fine machine answer (Ok next) fine = fine
+edit_fine machine answer (Err refusal) fine = fine
+
+group_fine : (machine : Machine) (ids : List ℕ) (result : Result Machine StepRefusal) → AreWellFormed (machine_after machine result)
+    → AreWellFormed (step_reply machine (giving ids result)).0
+group_fine machine ids (Ok next) fine = fine
+group_fine machine ids (Err refusal) fine = fine
+
+rule_fine : (machine : Machine) (name : List ℕ) (result : Result Machine StepRefusal) → AreWellFormed (machine_after machine result)
+    → AreWellFormed (rule_reply machine name result).0
+rule_fine machine name (Ok next) fine = fine
+rule_fine machine name (Err refusal) fine = fine
+
+-- a step to a content that is well formed
+led_fine : (machine : Machine) (editor : ℕ) (next : Ruled) → IsWellFormed next.content → AreWellFormed machine
+    → AreWellFormed (machine_after machine (after_step editor machine (settled next)))
+led_fine machine editor next well fine = by (list_all (has_layers next.content) next.rules) (first_broken next.content next.rules)
+  where
+    by : (there : Bool) (broken : Option Broken)
+        → AreWellFormed (machine_after machine (after_step editor machine (if there then unless_broken next broken else Err LayerRuled)))
+    by true None = record { now = well; past = (fine.now, fine.past); future = tt }
+    by true (Some broken) = fine
+    by false broken = fine
+
+after_edit : (machine : Machine) (editor : ℕ) (edit : Edit) (done : Result (Content × Answer) EditRefusal) → step machine.now edit ≡ done
+    → BringsGridPoints edit → AreWellFormed machine
+    → AreWellFormed (edit_reply machine (answering (after_step editor machine (after_change (ruled_now machine) (OfEdit edit) (edit_led done))) done)).0
+after_edit machine editor edit (Ok done) is brings fine =
+    let next : Ruled = record { content = done.0; rules = rules_after machine.rules (OfEdit edit) } in
+    edit_fine machine done.1 (after_step editor machine (settled next))
+    (led_fine machine editor next (IsWellFormed-step machine.now done.0 edit done.1 brings fine.now is) fine)
 after_edit machine editor edit (Err refusal) is brings fine = fine
+
+-- a check that refuses a step, or what is behind it
+checked_fine : (machine : Machine) (editor : ℕ) (fails : Bool) (refusal : StepRefusal) (rest : Result Ruled StepRefusal) → AreWellFormed machine
+    → AreWellFormed (machine_after machine (after_step editor machine rest))
+    → AreWellFormed (machine_after machine (after_step editor machine (if fails then Err refusal else rest)))
+checked_fine machine editor true refusal rest fine behind = fine
+checked_fine machine editor false refusal rest fine behind = behind
+
+after_rule : (machine : Machine) (editor : ℕ) (rule : Rule) → AreWellFormed machine
+    → AreWellFormed (machine_after machine (after_step editor machine (added (ruled_now machine) rule)))
+after_rule machine editor rule fine =
+    checked_fine machine editor (not (is_name rule.name)) BadName _ fine
+    (checked_fine machine editor (has_rule rule.name machine.rules) RuleExists _ fine
+    (checked_fine machine editor (not (has_layer machine.now rule.first)) NoLayer _ fine
+    (checked_fine machine editor (not (has_layer machine.now rule.second)) NoLayer _ fine
+    (checked_fine machine editor (not (nat_lt (length machine.rules) rules_max)) TooManyRules _ fine
+    (by (broken_or (length machine.rules) (break_of machine.now rule) None))))))
+  where
+    by : (broken : Option Broken) → AreWellFormed (machine_after machine (after_step editor machine (unless_broken (with_rule (ruled_now machine) rule) broken)))
+    by None = record { now = fine.now; past = (fine.now, fine.past); future = tt }
+    by (Some broken) = fine
+
+after_drop : (machine : Machine) (editor : ℕ) (place : Option ℕ) → AreWellFormed machine
+    → AreWellFormed (machine_after machine (after_step editor machine (without_rule (ruled_now machine) place)))
+after_drop machine editor None fine = fine
+after_drop machine editor (Some place) fine = record { now = fine.now; past = (fine.now, fine.past); future = tt }
 
 -- a machine that a move leads to, where the editor who asks may make it
 if_own_fine : (is : Bool) (machine next : Machine) (refusal : Refusal) → AreWellFormed machine → AreWellFormed next
@@ -65,20 +130,25 @@ Brings command = (editor : ℕ) (edit : Edit) → command ≡ Ok (editor, comman
 
 after_command : (machine : Machine) (command : Result (ℕ × Command) Refusal) → Brings command → AreWellFormed machine → AreWellFormed (reply machine command).0
 after_command machine (Ok (editor, commands.Edit edit)) brings fine = after_edit machine editor edit (step machine.now edit) refl (brings editor edit refl) fine
+after_command machine (Ok (editor, commands.AddRule rule)) brings fine =
+    rule_fine machine rule.name (after_step editor machine (added (ruled_now machine) rule)) (after_rule machine editor rule fine)
+after_command machine (Ok (editor, commands.DropRule name)) brings fine =
+    let place = place_of_rule name machine.rules in
+    rule_fine machine name (after_step editor machine (without_rule (ruled_now machine) place)) (after_drop machine editor place fine)
 after_command machine (Ok (editor, commands.Undo)) brings fine = after_undo machine editor machine.past fine.past fine
 after_command machine (Ok (editor, commands.Redo)) brings fine = after_redo machine editor machine.future fine.future fine
 after_command machine command brings fine = fine
 
 -- ---- a group
 
-after_step_of : (machine : Machine) (editor : ℕ) (members : List Member) (done : Result (Content × List ℕ) Refused) → together machine.now members ≡ done
-    → AllByRecursion (λ member. BringsGridPoints member.edit) members → AreWellFormed machine → AreWellFormed (step_reply machine (after_group editor machine done)).0
-after_step_of machine editor members (Ok done) is bring fine = record {
-  now = groups-fine machine.now done.0 members done.1 bring fine.now is;
-  past = (fine.now, fine.past);
-  future = tt;
-}
-after_step_of machine editor members (Err refused) is bring fine = fine
+after_members : (machine : Machine) (editor : ℕ) (members : List Member) (done : Result (Content × List ℕ) Refused) → together machine.now members ≡ done
+    → AllByRecursion (λ member. BringsGridPoints member.edit) members → AreWellFormed machine
+    → AreWellFormed (step_reply machine (identifying (after_step editor machine (after_change (ruled_now machine) (OfGroup members) (group_led done))) done)).0
+after_members machine editor members (Ok done) is bring fine =
+    let next : Ruled = record { content = done.0; rules = rules_after machine.rules (OfGroup members) } in
+    group_fine machine done.1 (after_step editor machine (settled next))
+    (led_fine machine editor next (groups-fine machine.now done.0 members done.1 bring fine.now is) fine)
+after_members machine editor members (Err refused) is bring fine = fine
 
 -- the points that the members of a group bring are on the grid
 abbrev GroupBrings : Result (List Member) GroupRefusal → Type 0
@@ -86,13 +156,13 @@ GroupBrings group = (members : List Member) → group ≡ Ok members → AllByRe
 
 after_group_of : (machine : Machine) (editor : ℕ) (group : Result (List Member) GroupRefusal) → GroupBrings group → AreWellFormed machine
     → AreWellFormed (group_reply machine editor group).0
-after_group_of machine editor (Ok members) brings fine = after_step_of machine editor members (together machine.now members) refl (brings members refl) fine
+after_group_of machine editor (Ok members) brings fine = after_members machine editor members (together machine.now members) refl (brings members refl) fine
 after_group_of machine editor (Err refusal) brings fine = fine
 
 -- ---- what is asked
 
 -- the same of what is asked
-abbrev LineBrings : Reading → Type 0
+abbrev pub LineBrings : Reading → Type 0
 LineBrings (Asked takes command) = Brings command
 LineBrings (Grouped editor group) = GroupBrings group
 LineBrings other = Unit {0}
@@ -149,11 +219,11 @@ event_brings (Open text left) (Comes line) = by_passed (is_passed_over line)
     by_passed false = by_left (with_member text line) (left - 1)
 event_brings (Open text left) Ends = tt
 
-events_bring : (gathering : Gathering) (events : List Event) → AllByRecursion LineBrings (readings (requests_from gathering events))
+pub events_bring : (gathering : Gathering) (events : List Event) → AllByRecursion LineBrings (readings (requests_from gathering events))
 events_bring gathering [] = tt
 events_bring gathering (event ∷ events) = (event_brings gathering event, events_bring (gathered gathering event).0 events)
 
-after_line : (old new : Machine) (line : Reading) (text : List ℕ) → LineBrings line → AreWellFormed old → IsAnswered old line text new → AreWellFormed new
+pub after_line : (old new : Machine) (line : Reading) (text : List ℕ) → LineBrings line → AreWellFormed old → IsAnswered old line text new → AreWellFormed new
 after_line old new Blank text brings fine answered = subst AreWellFormed (sym answered.1) fine
 after_line old new (Unreadable refusal) text brings fine answered = subst AreWellFormed (sym answered.1) fine
 after_line old new (Asked takes command) text brings fine (inl replied) = subst AreWellFormed (ap (λ p. p.0) replied) (after_command old command brings fine)
@@ -164,16 +234,16 @@ after_line old new (Cut group) text brings fine answered = subst AreWellFormed (
 
 -- ---- lines
 
-after_lines : (old new : Machine) (lines : List Reading) (output : List ℕ) → AllByRecursion LineBrings lines → AreWellFormed old → Run old lines output new → AreWellFormed new
+pub after_lines : (old new : Machine) (lines : List Reading) (output : List ℕ) → AllByRecursion LineBrings lines → AreWellFormed old → Run old lines output new → AreWellFormed new
 after_lines old new [] output bring fine ran = subst AreWellFormed (sym ran.1) fine
 after_lines old new (line ∷ lines) output bring fine (mid, text, rest, answered, ran, parts) =
     after_lines mid new lines rest bring.1 (after_line old mid line text bring.0 fine answered) ran
 
-parts_bring : (lines more : List Reading) → AllByRecursion LineBrings (lines ++ more) → AllByRecursion LineBrings lines × AllByRecursion LineBrings more
+pub parts_bring : (lines more : List Reading) → AllByRecursion LineBrings (lines ++ more) → AllByRecursion LineBrings lines × AllByRecursion LineBrings more
 parts_bring [] more bring = (tt, bring)
 parts_bring (line ∷ lines) more bring = let parts = parts_bring lines more bring.1 in ((bring.0, parts.0), parts.1)
 
-first_bring : (lines : List Reading) (taken : List ℕ) (left : Option (List ℕ)) → AreFirst lines taken left → AllByRecursion LineBrings lines
+pub first_bring : (lines : List Reading) (taken : List ℕ) (left : Option (List ℕ)) → AreFirst lines taken left → AllByRecursion LineBrings lines
 first_bring lines taken left (inl (later, parts)) =
     (parts_bring lines later (subst (λ all. AllByRecursion LineBrings all) parts (events_bring Closed (whole_lines_come taken)))).0
 first_bring lines taken left (inr (at_end, later, parts)) =

@@ -6,10 +6,7 @@ use Rattle.std.specs.Str.{is_utf8}
 use Rattle.sf_lines.specs.Lines.{HasNoFeed}
 use Rattle.sf_wkt.specs.Tokens.{is_blank}
 use Rattle.sf_groups.specs.declared.member.Member.{Member as GroupMember}
-use Rattle.sf_steps.specs.Refusals.{refusal_of}
 use Rattle.sf_history.specs.History.{Machine}
-use Rattle.sf_together.specs.declared.outcome.Refusal.{Refusal}
-use Rattle.sf_together.specs.declared.outcome.Refusal.TheVariants as together
 use Rattle.sf_commands.specs.declared.group_text.GroupRefusal.{GroupRefusal}
 use Rattle.sf_commands.specs.declared.group_text.GroupRefusal.TheVariants.{Member, Memory}
 use Rattle.sf_commands.specs.declared.head.Head.{Head}
@@ -67,11 +64,6 @@ IsHeld Closed lines.Closed = Unit {0}
 IsHeld (Open text left) (lines.Open held to_come) = (string_bytes held ≡ text) × (to_come ≡ left) × IsOpen text left
 IsHeld (Open text left) (lines.Lost to_come) = (to_come ≡ left) × IsOpen text left
 IsHeld gathering held = ⊥
-
--- why a group that its text does not refuse is refused
-abbrev pub told_as : Refusal → GroupRefusal
-told_as (together.Member number refusal) = Member number (refusal_of refusal)
-told_as together.Memory = Memory
 
 -- it is a group
 abbrev pub IsGrouped : Reading → Type 0

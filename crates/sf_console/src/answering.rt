@@ -20,6 +20,7 @@ use super::grouping::{answer_cut, answer_group};
 use super::joining::joined;
 use super::reply::{Reply, hex_line};
 use super::rows::{column_rows, feature_rows, id_rows, layer_rows, rows_under};
+use super::rules::{add_rule, drop_rule, refused_by_rules, rules};
 use sf_commands::{Command, Identifiers, is_blank_text, parse, parse_group};
 use sf_history::Editor;
 use sf_layers::{AttrValue, Store, Text};
@@ -192,6 +193,8 @@ pub fn execute(
 {
     match command {
         Command::Edit(edit) => carry_out_edit(alloc, editor, asker, edit),
+        Command::AddRule(rule) => add_rule(alloc, editor, asker, rule),
+        Command::DropRule(name) => drop_rule(alloc, editor, asker, &name),
         Command::Undo => {
             editor.undo_as(alloc, asker)?;
             Ok(Reply::Accepted(Answer::Done))
@@ -201,6 +204,7 @@ pub fn execute(
             Ok(Reply::Accepted(Answer::Done))
         }
         Command::Layers => layers(alloc, editor.store()),
+        Command::Rules => rules(alloc, editor.rules()),
         Command::Columns(name) => columns(alloc, editor.store(), &name),
         Command::Show(name) => show(alloc, editor.store(), &name),
         Command::Get(layer, ids) => get(alloc, editor.store(), &layer, &ids),
@@ -242,7 +246,7 @@ fn carry_out_edit(
 {
     match editor.edit_as(alloc, asker, edit) {
         Ok(answer) => Ok(Reply::Accepted(answer)),
-        Err((_, refusal)) => Err(refusal),
+        Err(refusal) => refused_by_rules(alloc, editor.rules(), refusal),
     }
 }
 

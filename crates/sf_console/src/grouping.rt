@@ -1,19 +1,19 @@
 //! Groups of edits carried out, and the texts of their answers.
-ghost use Rattle.std.specs.Prelude.{◌≡◌, ◌≤◌, ◌+◌, ◌*◌, ◌++◌, ◌⊎◌, ◌∷◌, ℕ, [], List, Ok, Result, codes, decimal, flat_map, length, vec_capacity, IfErr, IfOk, OnErr};
+ghost use Rattle.std.specs.Prelude.{◌≡◌, ◌≤◌, ◌+◌, ◌*◌, ◌++◌, ◌⊎◌, ◌∷◌, ℕ, [], List, Ok, Result, codes, decimal, flat_map, length, vec_capacity, Err, IfErr, IfOk, OnErr};
 ghost use Rattle.sf_groups.specs.declared.member.Member.{Member as GroupMember};
 ghost use Rattle.sf_commands.specs.declared.group_text.GroupRefusal.{GroupRefusal as GroupRefusalOf};
 ghost use Rattle.sf_commands.specs.GroupTexts.{OrNoMemory, members_of};
 ghost use Rattle.sf_history.specs.History.{grouped};
 ghost use Rattle.sf_console.specs.Answers.{cut_line, group_refusal_line, group_reply, identifiers_line, refusal_line, reply_text};
-ghost use Rattle.sf_console.specs.Gatherings.{told_as};
 ghost use Rattle.sf_console.specs.Readings.{Grouped};
 ghost use Rattle.sf_console.specs.Session.{IsAnswered};
 
 use super::one_line::AnswerLine;
 use super::reply::Reply;
+use super::rules::refused_by_rules;
 use sf_commands::{GroupRefusal, parse_members};
 use sf_groups::Group;
-use sf_history::Editor;
+use sf_history::{Editor, StepRefusal};
 use sf_refusals::Refusal;
 use std::alloc::{AllocError, Global};
 
@@ -70,7 +70,7 @@ fn execute_group(
 {
     match carry_out_group(alloc, editor, asker, group) {
         Ok(answer) => Ok(Reply::Identifiers(answer)),
-        Err(refusal) => refused(refusal),
+        Err(refusal) => refused_by_rules(alloc, editor.rules(), refusal),
     }
 }
 
@@ -78,26 +78,26 @@ fn execute_group(
 ///
 /// # Errors
 ///
-/// The first member that is refused, or `Memory`. Nothing is changed then.
+/// The first member that is refused, then the first rule that would be broken; or `Memory`. Nothing is changed then.
 pub fn carry_out_group(
     alloc: Global,
     editor: &mut Editor,
     asker: u8,
     group: Group,
-) -> Result<Vec<u8>, GroupRefusal>
+) -> Result<Vec<u8>, StepRefusal>
     ensures accepted { IfOk result (λ answer. (ids : List ℕ) × (grouped asker editor.old group ≡ Ok (editor.new, ids)) × (answer.items ≡ identifiers_line ids)) }
-    ensures refused { IfErr result (λ refusal. (group_reply editor.old asker (Ok group) ≡ (editor.old, group_refusal_line refusal)) ⊎ (refusal ≡ GroupRefusal.Memory)) }
+    ensures refused { IfErr result (λ refusal. (grouped asker editor.old group ≡ Err refusal) ⊎ (refusal ≡ StepRefusal.Memory)) }
     ensures unchanged { OnErr result (editor.new ≡ editor.old) }
 {
     let Ok(mut answer) = room_for(alloc, group.members().len()) else {
-        return Err(GroupRefusal::Memory);
+        return Err(StepRefusal::Memory);
     };
     match editor.group_as(alloc, asker, group) {
         Ok(ids) => {
             write_identifiers(&mut answer, ids.as_slice());
             Ok(answer)
         }
-        Err(refusal) => Err(told(refusal)),
+        Err(refusal) => Err(refusal),
     }
 }
 
@@ -132,18 +132,5 @@ fn push_identifiers(text: &mut Vec<u8>, ids: &[u32])
     for id in ids {
         text.extend_from_slice(AnswerLine::identifier(*id).as_bytes())
             .unwrap();
-    }
-}
-
-/// Why a group is refused, with the number and the name of the refusal.
-fn told(refusal: sf_together::Refusal) -> GroupRefusal
-    ensures { result ≡ told_as refusal }
-{
-    match refusal {
-        sf_together::Refusal::Member { number, refusal } => GroupRefusal::Member {
-            number,
-            refusal: refusal.into(),
-        },
-        sf_together::Refusal::Memory => GroupRefusal::Memory,
     }
 }

@@ -1,4 +1,3 @@
--- Internal: who wants to trust the program need not read this file.
 -- The order of breaks, and the least of several.
 use Rattle.std.specs.Prelude.{Bool, true, false, ◌&&◌, ◌||◌, List, [], ◌∷◌, Option, None, Some, nat_eq, nat_lt, if◌then◌else◌}
 use Rattle.sf_constraints.specs.declared.breaks.Break.{Break}

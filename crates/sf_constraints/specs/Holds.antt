@@ -1,4 +1,3 @@
--- Internal: who wants to trust the program need not read this file.
 -- When rules hold, over all points of the plane.
 use Rattle.std.specs.Prelude.{◌≡◌, ◌↔◌, ℕ, Bool, false, List, Contains, IsSome, IsTrue, None, Option, Some, slice_get}
 use Rattle.std.specs.List.{AllByRecursion}

@@ -1,4 +1,3 @@
--- Internal: who wants to trust the program need not read this file.
 -- Rules between features, and what breaks them.
 use Rattle.std.specs.Prelude.{ℕ, ◌+◌, Bool, not, List, [], ◌∷◌, filter, map, Option, None, Some, bytes_eq}
 use Rattle.std.specs.List.{list_any}

@@ -3,6 +3,7 @@
 use Rattle.std.specs.Prelude.{◌≡◌, ℕ, ◌+◌, ◌*◌, ◌/◌, List, Option, None, Some, IfNone, IfSome, find, max, min, not, string_bytes}
 use Rattle.sf_layers.specs.Content.{Content, has_layer}
 use Rattle.sf_streams.specs.Streams.{WritesFront}
+use Rattle.sf_ruled.specs.Ruled.{Ruled}
 use Rattle.sf_loading.specs.Loading.{FailsBy, Loads}
 use Rattle.sf_picture.specs.Pictures.{Choice, picture, row_height}
 use Rattle.sf_picture.specs.Views.{HasAllShown, IsOver, IsRound, bar_length, box_shown, framing_height, map_height_max, share, shown_count}
@@ -35,9 +36,9 @@ pub record Draws (choice : Choice) (content : Content) (width : ℕ) (Writes : L
 
 -- a file was loaded, and its content was drawn
 pub record DrawsFrom (file_before file : Option (List ℕ)) (choice : Choice) (width : ℕ) (Writes : List ℕ → Type 0) : Type 0 where
-  pub content : Content
-  pub loaded : Loads file_before file content
-  pub drawn : Draws choice content width Writes
+  pub ruled : Ruled
+  pub loaded : Loads file_before file ruled
+  pub drawn : Draws choice ruled.content width Writes
 
 -- drawing a content ended by the fault
 abbrev pub EndsEarly : RunFault → Choice → Content → ℕ → Option (List ℕ) → Option (List ℕ) → Type 0
@@ -50,9 +51,9 @@ EndsEarly (Draw fault) choice content width written_before written = Draws choic
 
 -- a file was loaded, and drawing its content ended by the fault
 pub record Stops (fault : RunFault) (file_before file : Option (List ℕ)) (choice : Choice) (width : ℕ) (written_before written : Option (List ℕ)) : Type 0 where
-  pub content : Content
-  pub loaded : Loads file_before file content
-  pub ended : EndsEarly fault choice content width written_before written
+  pub ruled : Ruled
+  pub loaded : Loads file_before file ruled
+  pub ended : EndsEarly fault choice ruled.content width written_before written
 
 -- a run from a file ended by the fault
 abbrev pub Breaks : RunFault → Option (List ℕ) → Option (List ℕ) → Choice → ℕ → Option (List ℕ) → Option (List ℕ) → Type 0

@@ -46,7 +46,7 @@ pub fn draw_from<R: Read, W: Write>(
 {
     match load(alloc, file) {
         Err(fault) => Err(RunFault::Load(fault)),
-        Ok(store) => draw_store(alloc, &store, choice, width, picture),
+        Ok(ruled) => draw_store(alloc, ruled.store(), choice, width, picture),
     }
 }
 

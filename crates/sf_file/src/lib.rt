@@ -1,4 +1,4 @@
-//! Files: a store from the bytes of a file, and a store's bytes to one.
+//! Files: a store with its rules from the bytes of a file, and their bytes to one.
 #![tactic(auto)]
 
 pub use sf_format::laws;

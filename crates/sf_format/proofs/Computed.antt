@@ -102,8 +102,8 @@ other_grid = refl
 pub grid_missing : load (codes "SFSTORE2") ≡ Err (8, 7)
 grid_missing = refl
 
-pub neither_version : load (codes "SFSTORE3" ++ 24 ∷ drop 8 saved) ≡ Err (0, 34)
-neither_version = refl
+pub no_version : load (codes "SFSTORE4" ++ 24 ∷ drop 8 saved) ≡ Err (0, 34)
+no_version = refl
 
 -- the file with the x 524288
 abbrev far_saved : List ℕ

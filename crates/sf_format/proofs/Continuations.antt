@@ -7,11 +7,15 @@ use Rattle.sf_features.specs.declared.attr_value.AttrValue.{AttrValue}
 use Rattle.sf_features.specs.Features.{FeatureContent}
 use Rattle.sf_layers.specs.declared.layer_kind.LayerKind.{LayerKind}
 use Rattle.sf_layers.specs.Content.{Content, LayerContent}
-use Rattle.sf_format.specs.declared.defect.Defect.TheVariants.{NoColumn, WrongValue, WrongKind, IdsExhausted, ColumnsExhausted}
-use Rattle.sf_wkb.specs.declared.grid.Grid.{Grid}
+use Rattle.sf_query.specs.declared.ask.Ask.{Ask}
+use Rattle.sf_constraints.specs.declared.rule.Rule.{Rule}
+use Rattle.sf_constraints.specs.declared.rule.Form.{Form}
+use Rattle.sf_ruled.specs.Ruled.{Ruled}
+use Rattle.sf_format.specs.declared.version.Version.{Version}
+use Rattle.sf_format.specs.declared.defect.Defect.TheVariants.{NoColumn, WrongValue, WrongKind, IdsExhausted, ColumnsExhausted, BadFile}
 use Rattle.sf_wkb.specs.Grammar.{read_in}
 use Rattle.sf_format.specs.Readings.{Reading, ◌>>=◌, done, bytes, field, number, items, end}
-use Rattle.sf_format.specs.Format.{RowReading, allowed, present, name, type_of_byte, kind_of_byte, fresh_column_name, column, admitted, typed_value, value, geometry, feature, layers}
+use Rattle.sf_format.specs.Format.{RowReading, allowed, present, name, type_of_byte, kind_of_byte, fresh_column_name, column, admitted, typed_value, value, geometry, feature, layers, form_of_byte, known_layer_name, ask, grid_of, rules_in}
 
 -- ---- a column
 
@@ -89,14 +93,41 @@ layer_after_name row title = do
   kind ← field (number 1) (λ byte. present (kind_of_byte byte) WrongKind)
   layer_after_kind row title kind
 
+-- ---- a rule
+
+abbrev pub rule_after_ask : Content → List ℕ → Form → List ℕ → Ask → Reading Rule
+rule_after_ask content title form first asked = do
+  second ← field name (known_layer_name content)
+  done (record { name = title; form = form; first = first; ask = asked; second = second })
+
+abbrev pub rule_after_first : Content → List ℕ → Form → List ℕ → Reading Rule
+rule_after_first content title form first = do
+  asked ← ask
+  rule_after_ask content title form first asked
+
+abbrev pub rule_after_form : Content → List ℕ → Form → Reading Rule
+rule_after_form content title form = do
+  first ← field name (known_layer_name content)
+  rule_after_first content title form first
+
+abbrev pub rule_after_name : Content → List ℕ → Reading Rule
+rule_after_name content title = do
+  form ← field (number 1) (λ byte. present (form_of_byte byte) BadFile)
+  rule_after_form content title form
+
 -- ---- a file
 
-abbrev pub file_after_layers : Content → Reading Content
-file_after_layers content = do
+abbrev pub file_after_rules : Content → List Rule → Reading Ruled
+file_after_rules content kept = do
   ended ← end
-  done content
+  done (record { content = content; rules = kept })
 
-abbrev pub file_after_head : Grid → Reading Content
-file_after_head grid = do
-  content ← layers (read_in grid)
-  file_after_layers content
+abbrev pub file_after_layers : Version → Content → Reading Ruled
+file_after_layers version content = do
+  kept ← rules_in version content
+  file_after_rules content kept
+
+abbrev pub file_after_head : Version → Reading Ruled
+file_after_head version = do
+  content ← layers (read_in (grid_of version))
+  file_after_layers version content

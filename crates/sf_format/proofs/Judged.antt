@@ -1,6 +1,6 @@
 -- Where a file is refused for a fault of shape it has a geometry with that fault at the place that is told: what each
 -- reading of the format keeps of the place of what is left, and which faults it finds.
-use Rattle.std.proofs.Common.{◌≡◌, ℕ, zero, suc, ◌+◌, Bool, true, false, cond, ltb, ◌&&◌, not, List, [], ◌∷◌, ◌++◌, length, take, drop, Option, None, Some, Result, Ok, Err, IfErr, IfOk, codes, refl, sym, ap, ap₂, subst, ◌∙◌, arith, bytes_eq, nat_eq}
+use Rattle.std.proofs.Common.{◌≡◌, ℕ, zero, suc, ◌+◌, Bool, true, false, cond, ltb, ◌&&◌, not, List, [], ◌∷◌, ◌++◌, length, take, drop, Option, None, Some, Result, Ok, Err, IfErr, IfOk, codes, option_map, refl, sym, ap, subst, ◌∙◌, bytes_eq, nat_eq}
 use Rattle.std.specs.Prelude.{is_some, nat_lt, nat_le}
 use Rattle.std.specs.Int.{w64, cast_signed}
 use Rattle.std.proofs.lemmas.List.{drop-drop}
@@ -15,29 +15,34 @@ use Rattle.sf_rules.specs.Verdicts.{first_fault}
 use Rattle.sf_rules.proofs.FirstLaws.{first_fault-over_plane}
 use Rattle.sf_wkb.specs.declared.fault.WkbFault.{WkbFault}
 use Rattle.sf_wkb.specs.declared.fault.WkbFault.TheVariants as binaries
-use Rattle.sf_wkb.specs.declared.grid.Grid.{Grid}
 use Rattle.sf_wkb.specs.Grammar.{read_in}
 use Rattle.sf_wkb.proofs.Sized.{read_is_sized}
+use Rattle.sf_known.specs.Patterns.{pattern_of}
+use Rattle.sf_query.specs.declared.ask.Ask.TheVariants.{Matching, Named}
+use Rattle.sf_constraints.specs.declared.rule.Rule.{Rule}
+use Rattle.sf_constraints.specs.Rules.{break_of}
+use Rattle.sf_ruled.specs.Ruled.{Ruled, has_rule}
 use Rattle.sf_features.specs.declared.column.Column.{Column}
 use Rattle.sf_features.specs.declared.column_type.ColumnType.{ColumnType}
 use Rattle.sf_features.specs.declared.column_type.ColumnType.TheVariants as types
 use Rattle.sf_features.specs.declared.attr_value.AttrValue.{AttrValue}
 use Rattle.sf_features.specs.declared.attr_value.AttrValue.TheVariants as values
 use Rattle.sf_features.specs.Names.{is_name}
-use Rattle.sf_features.specs.Columns.{named, numbered}
 use Rattle.sf_features.specs.Features.{FeatureContent}
 use Rattle.sf_features.specs.Values.{is_attr_text, text_max}
 use Rattle.sf_layers.specs.declared.layer_kind.LayerKind.{LayerKind}
 use Rattle.sf_layers.specs.Content.{Content, LayerContent, admits, has_layer}
 use Rattle.sf_layers.specs.WellFormed.{layers_max}
 use Rattle.sf_streams.specs.Streams.{Left}
+use Rattle.sf_format.specs.declared.version.Version.{Version}
+use Rattle.sf_format.specs.declared.version.Version.TheVariants.{First, Second, Third}
 use Rattle.sf_format.specs.declared.defect.Defect.{Defect}
-use Rattle.sf_format.specs.declared.defect.Defect.TheVariants.{Truncated, Trailing, TooManyVertices, Wkb, Invalid, LayerExists, BadName, NoColumn, ColumnExists, WrongValue, WrongKind, IdsExhausted, ColumnsExhausted, BadFile}
-use Rattle.sf_format.specs.Readings.{Fault, Reads, Reading, and_then, ◌>>=◌, done, bytes, judged, field, number, sized, items, end}
+use Rattle.sf_format.specs.declared.defect.Defect.TheVariants.{Truncated, TooManyVertices, Invalid, LayerExists, BadName, NoColumn, ColumnExists, WrongValue, WrongKind, IdsExhausted, ColumnsExhausted, BadFile, NoLayer, RuleExists, BadPattern, RuleBroken}
+use Rattle.sf_format.specs.Readings.{Reads, Reading, and_then, ◌>>=◌, done, bytes, judged, field, number, sized, items, end}
 use Rattle.sf_format.specs.Laws.{FilesAreJudgedOverThePlane, HasFaultyGeometry}
-use Rattle.sf_format.specs.Format.{RowReading, row_max, allowed, present, last_number, name, kind_of_byte, type_of_byte, fresh_number, fresh_column_name, column, without_fault, admitted, geometry, typed_value, next_column_of, value, next_of, feature, fresh_layer_name, layer, layers, head, is_second, grid_of, grid_of_byte, file, value_of}
+use Rattle.sf_format.specs.Format.{RowReading, row_max, allowed, present, last_number, name, kind_of_byte, type_of_byte, fresh_number, fresh_column_name, column, without_fault, admitted, geometry, typed_value, next_column_of, value, next_of, feature, fresh_layer_name, layer, layers, ask, asked_by, form_of_byte, fresh_rule_name, held_rule, known_layer_name, predicate_of_byte, rule, rules_in, unbroken, head, version_of, on_grid, grid_of, value_of}
 use Rattle.sf_format.proofs.Again.{at}
-use Rattle.sf_format.proofs.Continuations.{column_after_type, column_after_number, value_after_column, geometry_after_size, feature_after_count, feature_after_geometry, feature_after_id, layer_after_feature_count, layer_after_columns, layer_after_column_count, layer_after_next_column, layer_after_next_id, layer_after_kind, layer_after_name, file_after_head, file_after_layers}
+use Rattle.sf_format.proofs.Continuations.{column_after_type, column_after_number, value_after_column, geometry_after_size, feature_after_count, feature_after_geometry, feature_after_id, layer_after_feature_count, layer_after_columns, layer_after_column_count, layer_after_next_column, layer_after_next_id, layer_after_kind, layer_after_name, rule_after_ask, rule_after_first, rule_after_form, rule_after_name, file_after_head, file_after_layers, file_after_rules}
 use Rattle.sf_format.proofs.Loaded.{GivesSized}
 
 -- what is left of a text is what stands behind its place
@@ -247,27 +252,77 @@ Finds-layers row text sized =
     (Finds-rule row text 4 _ (λ n. allowed_other (nat_le n layers_max) IdsExhausted n ids_exhausted))
     (λ count. Finds-items row text (layer row) (Finds-layer row text sized) count [])
 
+-- ---- rules
+
+bad_file : IsOther BadFile
+bad_file fault same = cc
+
+no_layer : IsOther NoLayer
+no_layer fault same = cc
+
+rule_exists : IsOther RuleExists
+rule_exists fault same = cc
+
+bad_pattern : IsOther BadPattern
+bad_pattern fault same = cc
+
+rule_broken : IsOther RuleBroken
+rule_broken fault same = cc
+
+Finds-asked : (row : RowReading) (text : List ℕ) (n : ℕ) → Finds row text (asked_by n)
+Finds-asked row text zero = Finds-then row text (bytes 9) (λ word. done (option_map Matching (pattern_of word))) (Finds-bytes row text 9)
+    (λ word. Finds-done row text (option_map Matching (pattern_of word)))
+Finds-asked row text (suc n) = Finds-done row text (option_map Named (predicate_of_byte (suc n)))
+
+Finds-ask : (row : RowReading) (text : List ℕ) → Finds row text ask
+Finds-ask row text = Finds-field row text (number 1 >>= asked_by) (λ found. present found BadPattern)
+    (Finds-then row text (number 1) asked_by (Finds-number row text 1) (Finds-asked row text)) (λ found. present_other found BadPattern bad_pattern)
+
+Finds-known : (row : RowReading) (text : List ℕ) (content : Content) → Finds row text (field name (known_layer_name content))
+Finds-known row text content = Finds-field row text name (known_layer_name content) (Finds-name row text) (λ title. allowed_other (has_layer content title) NoLayer title no_layer)
+
+Finds-kept : (row : RowReading) (text : List ℕ) (content : Content) (earlier : List Rule) → Finds row text (rule content earlier)
+Finds-kept row text content earlier =
+    Finds-then row text (field name (fresh_rule_name earlier)) (rule_after_name content)
+    (Finds-field row text name (fresh_rule_name earlier) (Finds-name row text) (λ title. allowed_other (not (has_rule title earlier)) RuleExists title rule_exists))
+    (λ title. Finds-then row text (field (number 1) (λ byte. present (form_of_byte byte) BadFile)) (rule_after_form content title)
+    (Finds-rule row text 1 _ (λ byte. present_other (form_of_byte byte) BadFile bad_file))
+    (λ form. Finds-then row text (field name (known_layer_name content)) (rule_after_first content title form) (Finds-known row text content)
+    (λ first. Finds-then row text ask (rule_after_ask content title form first) (Finds-ask row text)
+    (λ asked. Finds-then row text (field name (known_layer_name content)) (λ second. done (record { name = title; form = form; first = first; ask = asked; second = second }))
+    (Finds-known row text content) (λ second. Finds-done {T = Rule} row text (record { name = title; form = form; first = first; ask = asked; second = second }))))))
+
+Finds-held : (row : RowReading) (text : List ℕ) (content : Content) (earlier : List Rule) → Finds row text (held_rule content earlier)
+Finds-held row text content earlier = Finds-field row text (rule content earlier) (unbroken content) (Finds-kept row text content earlier)
+    (λ r. allowed_other (not (is_some (break_of content r))) RuleBroken r rule_broken)
+
+Finds-rules : (row : RowReading) (text : List ℕ) (version : Version) (content : Content) → Finds row text (rules_in version content)
+Finds-rules row text First content = Finds-done {T = List Rule} row text []
+Finds-rules row text Second content = Finds-done {T = List Rule} row text []
+Finds-rules row text Third content =
+    Finds-then row text (number 2) (λ count. items (held_rule content) count []) (Finds-number row text 2)
+    (λ count. Finds-items row text (held_rule content) (Finds-held row text content) count [])
+
 -- ---- the front and the end of a file, which have no fault of shape
 
-second_other : (word : List ℕ) → IfErr (is_second word) IsOther
-second_other word = by_test (bytes_eq word (codes "SFSTORE1"))
+version_other : (word : List ℕ) → IfErr (version_of word) IsOther
+version_other word = by_first (bytes_eq word (codes "SFSTORE1"))
   where
-    bad_file : IsOther BadFile
-    bad_file fault same = cc
+    by_second : (b : Bool) → IfErr (cond b (Ok Second) (allowed (bytes_eq word (codes "SFSTORE3")) BadFile Third)) IsOther
+    by_second true = tt
+    by_second false = allowed_other (bytes_eq word (codes "SFSTORE3")) BadFile Third bad_file
 
-    by_test : (b : Bool) → IfErr (cond b (Ok false) (allowed (bytes_eq word (codes "SFSTORE2")) BadFile true)) IsOther
-    by_test true = tt
-    by_test false = allowed_other (bytes_eq word (codes "SFSTORE2")) BadFile true bad_file
+    by_first : (b : Bool) → IfErr (cond b (Ok First) (cond (bytes_eq word (codes "SFSTORE2")) (Ok Second) (allowed (bytes_eq word (codes "SFSTORE3")) BadFile Third))) IsOther
+    by_first true = tt
+    by_first false = by_second (bytes_eq word (codes "SFSTORE2"))
 
-Finds-grid : (row : RowReading) (text : List ℕ) (second : Bool) → Finds row text (grid_of second)
-Finds-grid row text false = λ left is. is
-Finds-grid row text true = Finds-rule row text 1 grid_of_byte (λ byte. allowed_other (nat_eq byte 24) BadFile _ bad_file)
-  where
-    bad_file : IsOther BadFile
-    bad_file fault same = cc
+Finds-grid : (row : RowReading) (text : List ℕ) (version : Version) → Finds row text (on_grid version)
+Finds-grid row text First = Finds-done row text First
+Finds-grid row text Second = Finds-rule row text 1 (λ byte. allowed (nat_eq byte 24) BadFile Second) (λ byte. allowed_other (nat_eq byte 24) BadFile Second bad_file)
+Finds-grid row text Third = Finds-rule row text 1 (λ byte. allowed (nat_eq byte 24) BadFile Third) (λ byte. allowed_other (nat_eq byte 24) BadFile Third bad_file)
 
 Finds-head : (row : RowReading) (text : List ℕ) → Finds row text head
-Finds-head row text = Finds-then row text (field (bytes 8) is_second) grid_of (Finds-field row text (bytes 8) is_second (Finds-bytes row text 8) second_other) (Finds-grid row text)
+Finds-head row text = Finds-then row text (field (bytes 8) version_of) on_grid (Finds-field row text (bytes 8) version_of (Finds-bytes row text 8) version_other) (Finds-grid row text)
 
 Fits-end : (row : RowReading) (text : List ℕ) (left : Left) → IsOf text left → Fits row text (end left)
 Fits-end row text left is = by_bytes left.bytes left.place is
@@ -276,10 +331,15 @@ Fits-end row text left is = by_bytes left.bytes left.place is
     by_bytes [] place is = is
     by_bytes (b ∷ more) place is = λ fault same. absurd cc
 
-Finds-rest : (row : RowReading) (text : List ℕ) → GivesSized row → Finds row text (layers row >>= file_after_layers)
-Finds-rest row text sized =
-    Finds-then row text (layers row) file_after_layers (Finds-layers row text sized)
-    (λ content. Finds-then row text end (λ ended. done content) (Fits-end row text) (λ ended. Finds-done row text content))
+Finds-rest : (row : RowReading) (text : List ℕ) (version : Version) (content : Content) → Finds row text (file_after_layers version content)
+Finds-rest row text version content =
+    Finds-then row text (rules_in version content) (file_after_rules content) (Finds-rules row text version content)
+    (λ kept. Finds-then row text end (λ ended. done (record { content = content; rules = kept })) (Fits-end row text) (λ ended. Finds-done {T = Ruled} row text (record { content = content; rules = kept })))
+
+Finds-behind : (text : List ℕ) (version : Version) → Finds (read_in (grid_of version)) text (file_after_head version)
+Finds-behind text version =
+    let row = read_in (grid_of version) in
+    Finds-then row text (layers row) (file_after_layers version) (Finds-layers row text (read_is_sized (grid_of version))) (Finds-rest row text version)
 
 -- ---- the whole file
 
@@ -293,19 +353,19 @@ none_there text place fault faulty = by_row faulty.is_there
     by_row : no_row (take faulty.size (drop place text)) ≡ Ok faulty.geometry → ⊥
     by_row is = cc
 
-by_rest : (row : RowReading) (text : List ℕ) (place : ℕ) (fault : ShapeFault) (r : Reads Content) → Fits row text r
+by_rest : (row : RowReading) (text : List ℕ) (place : ℕ) (fault : ShapeFault) (r : Reads Ruled) → Fits row text r
     → value_of r ≡ Err (record { place = place; defect = Invalid fault }) → Faulty row text place fault
 by_rest row text place fault (Ok x) fits refused = absurd cc
 by_rest row text place fault (Err found) fits refused =
     let same : found ≡ record { place = place; defect = Invalid fault } = cc in
     subst (λ p. Faulty row text p fault) (ap (λ f. f.place) same) (fits fault (ap (λ f. f.defect) same))
 
-by_head : (text : List ℕ) (place : ℕ) (fault : ShapeFault) (front : Reads Grid) → head (at 0 text) ≡ front → Fits no_row text front
+by_head : (text : List ℕ) (place : ℕ) (fault : ShapeFault) (front : Reads Version) → head (at 0 text) ≡ front → Fits no_row text front
     → value_of (and_then front file_after_head) ≡ Err (record { place = place; defect = Invalid fault }) → HasFaultyGeometry text place fault
 by_head text place fault (Ok x) is fits refused =
-    let faulty = by_rest (read_in x.0) text place fault (file_after_head x.0 x.1) (Finds-rest (read_in x.0) text (read_is_sized x.0) x.1 fits) refused in
+    let faulty = by_rest (read_in (grid_of x.0)) text place fault (file_after_head x.0 x.1) (Finds-behind text x.0 x.1 fits) refused in
     record {
-      grid = x.0;
+      version = x.0;
       behind_head = x.1;
       told = is;
       size = faulty.size;

@@ -1,11 +1,17 @@
 pub mod Computed
+pub mod ComputedRules
 pub mod First
 pub mod Continuations
 pub mod Again
 pub mod Counts
 pub mod Rules
+pub mod Names
+pub mod TakenNames
+pub mod RulesAgain
 pub mod Rows
 pub mod RoundTrip
 pub mod Promises
+pub mod Pushed
+pub mod RulesLoaded
 pub mod Loaded
 pub mod Judged

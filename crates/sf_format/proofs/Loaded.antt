@@ -1,8 +1,8 @@
 -- Only well-formed contents have files: what each reading of the format promises of its value.
-use Rattle.std.proofs.Common.{SFits, ◌≡◌, ℕ, zero, suc, ◌+◌, ◌^◌, ◌<◌, ◌≤◌, Bool, true, false, cond, ◌&&◌, ◌||◌, ℤ, pos, negsuc, List, [], ◌∷◌, ◌++◌, map, length, Option, Some, None, IsTrue, Result, Ok, Err, bytes_eq, nat_eq, codes, refl, sym, ap, subst, ◌∙◌, arith, length-append}
+use Rattle.std.proofs.Common.{SFits, ◌≡◌, ℕ, ◌^◌, ◌<◌, ◌≤◌, Bool, true, false, cond, ◌&&◌, ◌||◌, ℤ, pos, negsuc, List, [], ◌∷◌, ◌++◌, map, length, Option, Some, None, IsTrue, Result, Ok, Err, bytes_eq, nat_eq, refl, sym, ap, subst, ◌∙◌, arith}
 use Rattle.std.specs.Prelude.{IfOk, IsSomeAnd, find, nat_lt, nat_le}
 use Rattle.std.specs.Int.{w64, cast_signed}
-use Rattle.std.specs.List.{list_any, AllByRecursion}
+use Rattle.std.specs.List.{list_all, list_any, AllByRecursion}
 use Rattle.std.specs.List.Sorted.{IsStrictlySortedBy}
 use Rattle.std.specs.Map.{keys_of, values_of}
 use Rattle.std.specs.Ordering.{nat_cmp}
@@ -20,8 +20,6 @@ use Rattle.sf_rules.specs.Validity.{IsVerdict, IsValid}
 use Rattle.sf_rules.specs.Verdicts.{first_fault}
 use Rattle.sf_rules.proofs.FirstLaws.{first_fault-over_plane}
 use Rattle.sf_wkb.specs.declared.fault.WkbFault.{WkbFault}
-use Rattle.sf_wkb.specs.declared.grid.Grid.{Grid}
-use Rattle.sf_wkb.specs.declared.grid.Grid.TheVariants.{Bits20}
 use Rattle.sf_wkb.specs.Grammar.{read_in}
 use Rattle.sf_wkb.proofs.Sized.{read_is_sized}
 use Rattle.sf_features.specs.declared.column.Column.{Column}
@@ -34,19 +32,27 @@ use Rattle.sf_features.specs.Columns.{IsDistinct, named, numbered}
 use Rattle.sf_features.specs.Features.{FeatureContent}
 use Rattle.sf_features.specs.Values.{fits_int, is_attr_text, is_of_type, text_max}
 use Rattle.sf_layers.specs.declared.layer_kind.LayerKind.{LayerKind}
-use Rattle.sf_layers.specs.Content.{Content, LayerContent, layer_of, admits}
+use Rattle.sf_layers.specs.Content.{Content, LayerContent, has_layer, layer_of, admits}
 use Rattle.sf_layers.specs.WellFormed.{IsIssued, IsColumn, IsValue, IsFeature, IsLayer, IsWellFormed, layers_max}
 use Rattle.sf_layers.proofs.Issued.{all-push}
-use Rattle.sf_layers.proofs.Kept.{none_or, none-from}
+use Rattle.sf_layers.proofs.Kept.{none-from}
+use Rattle.sf_constraints.specs.declared.rule.Rule.{Rule}
+use Rattle.sf_constraints.specs.Holds.{HasLayers}
+use Rattle.sf_constraints.proofs.HoldsLaws.{rules_are_over_the_plane}
+use Rattle.sf_ruled.specs.Ruled.{Ruled, has_layers}
 use Rattle.sf_streams.specs.Streams.{Left}
+use Rattle.sf_format.specs.declared.version.Version.{Version}
+use Rattle.sf_format.specs.declared.version.Version.TheVariants.{First, Second, Third}
 use Rattle.sf_format.specs.declared.defect.Defect.{Defect}
-use Rattle.sf_format.specs.declared.defect.Defect.TheVariants.{TooManyVertices, LayerExists, BadName, NoColumn, ColumnExists, WrongValue, WrongKind, IdsExhausted, ColumnsExhausted, BadFile}
-use Rattle.sf_format.specs.Readings.{Reads, Reading, done, bytes, field, number, sized, items, end}
-use Rattle.sf_format.specs.Laws.{AreBytes, FilesAreWellFormed}
-use Rattle.sf_format.specs.Format.{RowReading, row_max, allowed, present, last_number, name, kind_of_byte, type_of_byte, fresh_number, fresh_column_name, column, without_fault, admitted, geometry, typed_value, next_column_of, value, next_of, feature, fresh_layer_name, layer, layers, head, is_second, grid_of, grid_of_byte, file, value_of}
+use Rattle.sf_format.specs.declared.defect.Defect.TheVariants.{TooManyVertices, LayerExists, NoColumn, ColumnExists, WrongValue, WrongKind, IdsExhausted, ColumnsExhausted, BadFile}
+use Rattle.sf_format.specs.Readings.{Fault, Reads, done, bytes, field, number, sized, items, end}
+use Rattle.sf_format.specs.Laws.{AreBytes, FilesAreRuledWell, FilesAreWellFormed, IsRule, IsRuledWell, RulesOfFilesHold}
+use Rattle.sf_format.specs.Format.{RowReading, row_max, allowed, present, last_number, name, kind_of_byte, type_of_byte, fresh_number, fresh_column_name, column, without_fault, admitted, geometry, typed_value, next_column_of, value, next_of, feature, fresh_layer_name, layer, layers, content_in, head, version_of, on_grid, grid_of, rules_in, ruled_content_of, file, value_of}
 use Rattle.sf_format.proofs.Again.{at}
-use Rattle.sf_format.proofs.Continuations.{column_after_type, column_after_number, value_after_column, geometry_after_size, feature_after_count, feature_after_geometry, feature_after_id, layer_after_feature_count, layer_after_columns, layer_after_column_count, layer_after_next_column, layer_after_next_id, layer_after_kind, layer_after_name, file_after_head, file_after_layers}
+use Rattle.sf_format.proofs.Continuations.{column_after_type, column_after_number, value_after_column, geometry_after_size, feature_after_count, feature_after_geometry, feature_after_id, layer_after_feature_count, layer_after_columns, layer_after_column_count, layer_after_next_column, layer_after_next_id, layer_after_kind, layer_after_name, file_after_head, file_after_layers, file_after_rules}
 use Rattle.sf_format.proofs.Counts.{below_from_cmp}
+use Rattle.sf_format.proofs.Pushed.{all-more, distinct-push, items-length, name-promises}
+use Rattle.sf_format.proofs.RulesLoaded.{none-broken, rules-in-promise}
 use Rattle.sf_format.proofs.Rules.{allowed_of, both_of, none_of, not_true, present_of}
 use Rattle.sf_format.proofs.Promises.{Promises, Promises-bytes, Promises-done, Promises-field, Promises-items, Promises-number, Promises-rule, Promises-sized, Promises-then, and_then_ok}
 
@@ -61,16 +67,6 @@ any-from_find {X} test (x ∷ xs) e = by_test (test x) (any-from_find test xs) e
     by_test false later e = later e
 
 -- ---- one more at the end
-
-distinct-push : {X Y : Type 0} (eq : Y → Y → Bool) (f : X → Y) (xs : List X) (x : X) → IsDistinct eq (map f xs) → list_any (λ e. eq (f e) (f x)) xs ≡ false → IsDistinct eq (map f (xs ++ x ∷ []))
-distinct-push eq f [] x h new = (refl, tt)
-distinct-push {X = X} {Y = Y} eq f (e ∷ es) x h new =
-    let parts = none_or (eq (f e) (f x)) (list_any (λ e. eq (f e) (f x)) es) new in
-    (none-push (eq (f e)) es h.0 parts.0, distinct-push eq f es x h.1 parts.1)
-  where
-    none-push : (test : Y → Bool) (ys : List X) → list_any test (map f ys) ≡ false → test (f x) ≡ false → list_any test (map f (ys ++ x ∷ [])) ≡ false
-    none-push test [] h last = none-from (test (f x)) false last refl
-    none-push test (y ∷ ys) h last = let parts = none_or (test (f y)) (list_any test (map f ys)) h in none-from (test (f y)) (list_any test (map f (ys ++ x ∷ []))) parts.0 (none-push test ys parts.1 last)
 
 less : (m n : ℕ) → m < n → nat_cmp m n ≡ Less
 less m n h = ap (λ b. cond b Less (cond (nat_eq m n) Equal Greater)) (lt-ltb m n h)
@@ -91,11 +87,6 @@ rising-push {X = X} (e ∷ (next ∷ more)) x rising above =
         at_end (y ∷ ys) h = at_end ys h.1
 
 -- ---- names and columns
-
-pub name-promises : Promises name (λ text. IsTrue (is_name text))
-name-promises = Promises-field (sized 1 (λ size. allowed (nat_le 1 size && nat_le size 32) BadName size)) (λ text. allowed (is_name text) BadName text) AreBytes (λ text. IsTrue (is_name text))
-    (Promises-sized 1 (λ size. allowed (nat_le 1 size && nat_le size 32) BadName size))
-    (λ x y fits e. let r = allowed_of (is_name x) BadName x y e in subst (λ t. IsTrue (is_name t)) r.1 r.0)
 
 any-from_named : (title : List ℕ) (columns : List Column) → named columns title ≡ None → list_any (λ e. bytes_eq e.name title) columns ≡ false
 any-from_named title [] h = refl
@@ -134,10 +125,6 @@ column-promises next earlier =
 
 abbrev pub AreColumns : ℕ → List Column → Type 0
 AreColumns next cs = AllByRecursion (IsColumn next) cs × IsDistinct bytes_eq (map (λ c. c.name) cs) × IsDistinct nat_eq (map (λ c. c.number) cs)
-
-all-more : {X : Type 0} (P : X → Type 0) (xs : List X) (x : X) → AllByRecursion P xs → P x → AllByRecursion P (xs ++ x ∷ [])
-all-more P [] x all new = (new, tt)
-all-more P (y ∷ ys) x all new = (all.0, all-more P ys x all.1 new)
 
 pub columns-promise : (next count : ℕ) → Promises (items (column next) count []) (AreColumns next)
 columns-promise next count = Promises-items (column next) (AreColumns next)
@@ -326,15 +313,6 @@ layers-promise row sized count = Promises-items (layer row) AreLayers
     ))
     count [] (tt, tt, tt)
 
--- as many items as were counted
-items-length : {X : Type 0} (item : List X → Reading X) (count : ℕ) (earlier : List X) (left : Left) (xs : List X) (rest : Left) → items item count earlier left ≡ Ok (xs, rest) → length xs ≡ length earlier + count
-items-length item zero earlier left xs rest e =
-    let pair : ◌≡◌ {A = _ × Left} (earlier, left) (xs, rest) = cc in ap length (ap (λ p. p.0) (sym pair)) ∙ omega arith
-items-length item (suc count) earlier left xs rest e =
-    let s = and_then_ok (item earlier left) (λ x. items item count (earlier ++ x ∷ [])) xs rest e in
-    let later = items-length item count (earlier ++ s.0 ∷ []) s.1 xs rest s.3 in
-    omega (arith, later, length-append earlier (s.0 ∷ []))
-
 pub content-promises : (row : RowReading) → GivesSized row → Promises (layers row) IsWellFormed
 content-promises row sized left content rest fits e =
     let rule : ℕ → Result ℕ Defect = λ n. allowed (nat_le n layers_max) IdsExhausted n in
@@ -350,26 +328,66 @@ value_of_ok : {T : Type 0} (r : Reads T) (x : T) → value_of r ≡ Ok x → (re
 value_of_ok (Ok y) x e = let same : y.0 ≡ x = cc in (y.1, ap (λ v. Ok (v, y.1)) same)
 value_of_ok (Err fault) x e = absurd cc
 
-done_of : (a b : Content) (mid rest : Left) → done a mid ≡ Ok (b, rest) → a ≡ b
-done_of a b mid rest e = let pair : ◌≡◌ {A = Content × Left} (a, mid) (b, rest) = cc in ap (λ p. p.0) pair
+done_of : (a b : Ruled) (mid rest : Left) → done a mid ≡ Ok (b, rest) → a ≡ b
+done_of a b mid rest e = let pair : ◌≡◌ {A = Ruled × Left} (a, mid) (b, rest) = cc in ap (λ p. p.0) pair
 
 -- what stands behind the head are bytes
-head-promises : Promises head (λ grid. Unit {0})
-head-promises left grid rest fits e =
-    let s = and_then_ok (field (bytes 8) is_second left) grid_of grid rest e in
-    let front = Promises-field (bytes 8) is_second AreBytes (λ second. Unit {0}) (Promises-bytes 8) (λ x y fits e. tt) left s.0 s.1 fits s.2 in
-    by_version s.0 s.1 front.1 s.3
-  where
-    by_version : (second : Bool) (mid : Left) → AreBytes mid.bytes → grid_of second mid ≡ Ok (grid, rest) → Unit {0} × AreBytes rest.bytes
-    by_version false mid fits e = let pair : ◌≡◌ {A = Grid × Left} (Bits20, mid) (grid, rest) = cc in (tt, subst (λ (l : Left). AreBytes l.bytes) (ap (λ p. p.1) pair) fits)
-    by_version true mid fits e = (tt, (Promises-rule 1 grid_of_byte (λ g. Unit {0}) (λ x y fits e. tt) mid grid rest fits e).1)
+grid-promises : (version : Version) → Promises (on_grid version) (λ v. Unit {0})
+grid-promises First = Promises-done (λ v. Unit {0}) First tt
+grid-promises Second = Promises-rule 1 (λ byte. allowed (nat_eq byte 24) BadFile Second) (λ v. Unit {0}) (λ x y fits e. tt)
+grid-promises Third = Promises-rule 1 (λ byte. allowed (nat_eq byte 24) BadFile Third) (λ v. Unit {0}) (λ x y fits e. tt)
+
+head-promises : Promises head (λ version. Unit {0})
+head-promises = Promises-then (field (bytes 8) version_of) on_grid (λ version. Unit {0}) (λ version. Unit {0})
+    (Promises-field (bytes 8) version_of AreBytes (λ version. Unit {0}) (Promises-bytes 8) (λ x y fits e. tt)) (λ version any. grid-promises version)
+
+names-of : (rules : List Rule) → AllByRecursion IsRule rules → AllByRecursion (λ rule. IsTrue (is_name rule.name)) rules
+names-of [] are = tt
+names-of (rule ∷ rules) are = (are.0.named, names-of rules are.1)
+
+pub files-are-ruled-well : FilesAreRuledWell
+files-are-ruled-well text ruled fits e =
+    let whole = value_of_ok (file (at 0 text)) ruled e in
+    let first = and_then_ok (head (at 0 text)) file_after_head ruled whole.0 whole.1 in
+    let row = read_in (grid_of first.0) in
+    let kept = head-promises (at 0 text) first.0 first.1 fits first.2 in
+    let second = and_then_ok (layers row first.1) (file_after_layers first.0) ruled whole.0 first.3 in
+    let good = content-promises row (read_is_sized (grid_of first.0)) first.1 second.0 second.1 kept.1 second.2 in
+    let third = and_then_ok (rules_in first.0 second.0 second.1) (file_after_rules second.0) ruled whole.0 second.3 in
+    let fine = rules-in-promise first.0 second.0 second.1 third.0 third.1 good.1 third.2 in
+    let found : Ruled = record { content = second.0; rules = third.0 } in
+    let fourth = and_then_ok (end third.1) (λ ended. done found) ruled whole.0 third.3 in
+    subst IsRuledWell (done_of found ruled fourth.1 whole.0 fourth.3)
+    (record {
+      content = good.0;
+      settled = record {
+        named = record { few = fine.0.1; named = names-of third.0 fine.0.0.are; distinct = fine.0.0.distinct };
+        layers = fine.0.0.layers;
+        held = none-broken second.0 0 third.0 fine.0.0.held;
+      };
+      rules = fine.0.0.are;
+    })
+
+-- the content alone
+content_in_ok : (r : Result Ruled Fault) (content : Content) → content_in r ≡ Ok content → (ruled : Ruled) × (r ≡ Ok ruled) × (ruled.content ≡ content)
+content_in_ok (Ok ruled) content e = (ruled, refl, cc)
+content_in_ok (Err fault) content e = absurd cc
 
 pub files-are-well-formed : FilesAreWellFormed
 files-are-well-formed text content fits e =
-    let whole = value_of_ok (file (at 0 text)) content e in
-    let first = and_then_ok (head (at 0 text)) file_after_head content whole.0 whole.1 in
-    let kept = head-promises (at 0 text) first.0 first.1 fits first.2 in
-    let second = and_then_ok (layers (read_in first.0) first.1) file_after_layers content whole.0 first.3 in
-    let good = content-promises (read_in first.0) (read_is_sized first.0) first.1 second.0 second.1 kept.1 second.2 in
-    let third = and_then_ok (end second.1) (λ ended. done second.0) content whole.0 second.3 in
-    subst IsWellFormed (done_of second.0 content third.1 whole.0 third.3) good.0
+    let found = content_in_ok (ruled_content_of text) content e in
+    subst IsWellFormed found.2 (files-are-ruled-well text found.0 fits found.1).content
+
+-- ---- rules over the plane
+
+has-layers : (content : Content) (rs : List Rule) → list_all (has_layers content) rs ≡ true → AllByRecursion (HasLayers content) rs
+has-layers content [] h = tt
+has-layers content (r ∷ rs) h =
+    let parts = both_of (has_layers content r) (list_all (has_layers content) rs) h in
+    let layers = both_of (has_layer content r.first) (has_layer content r.second) parts.0 in
+    ((layers.0, layers.1), has-layers content rs parts.1)
+
+pub rules-of-files-hold : RulesOfFilesHold
+rules-of-files-hold text ruled fits e =
+    let is = files-are-ruled-well text ruled fits e in
+    (rules_are_over_the_plane ruled.content ruled.rules is.content (has-layers ruled.content ruled.rules is.settled.layers)).0 is.settled.held

@@ -17,7 +17,6 @@ use Rattle.sf_geometry.specs.declared.geometry.Geometry.{Geometry}
 use Rattle.sf_geometry.specs.declared.kind.Kind.TheVariants as kinds
 use Rattle.sf_geometry.specs.Kinds.{kind_of}
 use Rattle.sf_rules.specs.Verdicts.{first_fault}
-use Rattle.sf_wkb.specs.declared.grid.Grid.{Grid}
 use Rattle.sf_wkb.specs.declared.grid.Grid.TheVariants.{Bits20, Bits24}
 use Rattle.sf_wkb.specs.Grammar.{read_in, canonical as canonical_wkb}
 use Rattle.sf_features.specs.declared.column.Column.{Column}
@@ -25,7 +24,7 @@ use Rattle.sf_features.specs.declared.column_type.ColumnType.{ColumnType}
 use Rattle.sf_features.specs.declared.column_type.ColumnType.TheVariants as types
 use Rattle.sf_features.specs.declared.attr_value.AttrValue.{AttrValue}
 use Rattle.sf_features.specs.declared.attr_value.AttrValue.TheVariants as values
-use Rattle.sf_features.specs.Names.{is_name, is_name_byte}
+use Rattle.sf_features.specs.Names.{is_name}
 use Rattle.sf_features.specs.Columns.{IsDistinct, named, numbered}
 use Rattle.sf_features.specs.Features.{FeatureContent}
 use Rattle.sf_features.specs.Values.{fits_int, is_attr_text, is_of_type, is_text_byte, text_max}
@@ -33,29 +32,25 @@ use Rattle.sf_layers.specs.declared.layer_kind.LayerKind.{LayerKind}
 use Rattle.sf_layers.specs.declared.layer_kind.LayerKind.TheVariants.{Any, Only}
 use Rattle.sf_layers.specs.Content.{Content, LayerContent, layer_of, admits}
 use Rattle.sf_layers.specs.WellFormed.{IsIssued, IsColumn, IsValue, IsFeature, IsLayer, IsWellFormed, column_end, layers_max}
-use Rattle.sf_layers.proofs.Kept.{none_or, none-from}
-use Rattle.sf_format.specs.declared.defect.Defect.TheVariants.{TooManyVertices, LayerExists, BadName, NoColumn, ColumnExists, WrongValue, WrongKind, IdsExhausted, ColumnsExhausted, BadFile}
+use Rattle.sf_layers.proofs.Kept.{none_or}
+use Rattle.sf_constraints.specs.declared.rule.Rule.{Rule}
+use Rattle.sf_ruled.specs.Ruled.{Ruled}
+use Rattle.sf_format.specs.declared.version.Version.{Version}
+use Rattle.sf_format.specs.declared.version.Version.TheVariants.{First, Second, Third}
+use Rattle.sf_format.specs.declared.defect.Defect.TheVariants.{TooManyVertices, LayerExists, NoColumn, ColumnExists, WrongValue, WrongKind, IdsExhausted, ColumnsExhausted, BadFile}
 use Rattle.sf_format.specs.Readings.{Fault, and_then, bytes, field, number, sized, items}
-use Rattle.sf_format.specs.Format.{RowReading, row_max, allowed, present, last_number, name, kind_of_byte, type_of_byte, fresh_number, fresh_column_name, column, without_fault, admitted, geometry, typed_value, next_column_of, value, next_of, feature, fresh_layer_name, layer, layers, content_of, head, is_second, grid_of, grid_of_byte, value_of}
-use Rattle.sf_format.specs.Canonical.{behind_length, kind_byte, type_byte, column_bytes, typed_bytes, value_bytes, feature_bytes, layer_bytes, layers_bytes, front}
-use Rattle.sf_format.specs.Laws.{CanonicalBytesLoad, CanonicalBytesDiffer, FirstCanonicalBytesLoad}
-use Rattle.sf_format.proofs.Again.{at, Again, Again-then, Again-made, Again-value, Again-bytes, Again-field, Again-number, Again-number_field, Again-sized, EachAgain, Again-items}
-use Rattle.sf_format.proofs.Continuations.{column_after_type, column_after_number, value_after_column, geometry_after_size, feature_after_count, feature_after_geometry, feature_after_id, layer_after_feature_count, layer_after_columns, layer_after_column_count, layer_after_next_column, layer_after_next_id, layer_after_kind, layer_after_name, file_after_head, file_after_layers}
+use Rattle.sf_format.specs.Format.{RowReading, row_max, allowed, present, last_number, name, kind_of_byte, type_of_byte, fresh_number, fresh_column_name, column, without_fault, admitted, geometry, typed_value, next_column_of, value, next_of, feature, fresh_layer_name, layer, layers, content_in, content_of, ruled_content_of, head, version_of, on_grid, grid_of, rules_in, value_of}
+use Rattle.sf_format.specs.Canonical.{behind_length, kind_byte, type_byte, column_bytes, typed_bytes, value_bytes, feature_bytes, layer_bytes, layers_bytes, canonical, canonical_with, front, ruled_front, rules_bytes}
+use Rattle.sf_format.specs.Laws.{CanonicalBytesLoad, CanonicalBytesDiffer, FirstCanonicalBytesLoad, IsRuledWell, RuledBytesDiffer, RuledBytesLoad}
+use Rattle.sf_format.proofs.Again.{at, Again, Again-done, Again-then, Again-made, Again-value, Again-bytes, Again-field, Again-number, Again-number_field, Again-sized, EachAgain, Again-items}
+use Rattle.sf_format.proofs.Continuations.{column_after_type, column_after_number, value_after_column, geometry_after_size, feature_after_count, feature_after_geometry, feature_after_id, layer_after_feature_count, layer_after_columns, layer_after_column_count, layer_after_next_column, layer_after_next_id, layer_after_kind, layer_after_name, file_after_head, file_after_layers, file_after_rules}
 use Rattle.sf_format.proofs.Counts.{below_from_cmp, column-count, feature-count, value-count}
+use Rattle.sf_format.proofs.Names.{distinct-fresh, name-again}
 use Rattle.sf_format.proofs.Rules.{allowed-ok, both, both_of}
+use Rattle.sf_format.proofs.RulesAgain.{rules-again}
 use Rattle.sf_format.proofs.Rows.{HasRows, IsRow, narrow-rows, wide-rows}
 
 -- ---- what stands before
-
-any-at : {X Y : Type 0} (test : Y → Bool) (f : X → Y) (xs : List X) (x : X) (later : List X) → list_any test (map f (xs ++ x ∷ later)) ≡ false → test (f x) ≡ false
-any-at test f [] x later h = (none_or (test (f x)) (list_any test (map f later)) h).0
-any-at test f (y ∷ ys) x later h = any-at test f ys x later (none_or (test (f y)) (list_any test (map f (ys ++ x ∷ later))) h).1
-
-distinct-fresh : {X Y : Type 0} (eq : Y → Y → Bool) (f : X → Y) (earlier : List X) (x : X) (later : List X) → IsDistinct eq (map f (earlier ++ x ∷ later))
-    → list_any (λ e. eq (f e) (f x)) earlier ≡ false
-distinct-fresh eq f [] x later h = refl
-distinct-fresh eq f (e ∷ es) x later h =
-    none-from (eq (f e) (f x)) (list_any (λ y. eq (f y) (f x)) es) (any-at (eq (f e)) f es x later h.0) (distinct-fresh eq f es x later h.1)
 
 find-none : {X : Type 0} (test : X → Bool) (xs : List X) → list_any test xs ≡ false → find test xs ≡ None
 find-none test [] h = refl
@@ -90,21 +85,6 @@ last-below (e ∷ []) x later some rising = below_from_cmp e.0 x.0 rising.0.0
 last-below (e ∷ (next ∷ more)) x later some rising = last-below (next ∷ more) x later some rising.1
 
 -- ---- names and columns
-
-pub name_len : (text : List ℕ) → is_name text ≡ true → (1 ≤ length text) × (length text ≤ 32)
-name_len [] is = absurd cc
-name_len (first ∷ rest) is =
-    let front = (both_of _ (list_all is_name_byte rest) is).0 in
-    let le = leb-true (length rest) 31 (both_of _ (nat_le (length rest) 31) front).1 in
-    (omega arith, omega (arith, le))
-
-name-again : (text : List ℕ) → is_name text ≡ true → Again name (behind_length 1 text) text
-name-again text is =
-    let len = name_len text is in
-    Again-field (sized 1 (λ size. allowed (nat_le 1 size && nat_le size 32) BadName size)) (λ text. allowed (is_name text) BadName text) (behind_length 1 text) text text
-    (Again-sized 1 (λ size. allowed (nat_le 1 size && nat_le size 32) BadName size) text (omega (arith, len.1))
-    (allowed-ok _ BadName (length text) (both _ _ (le-leb 1 (length text) len.0) (le-leb (length text) 32 len.1))))
-    (allowed-ok (is_name text) BadName text is)
 
 type_byte-fits : (t : ColumnType) → type_byte t < 256
 type_byte-fits types.Int = omega arith
@@ -305,32 +285,65 @@ content-again row content stored is =
 
 -- ---- the whole file
 
--- what follows the first bytes is read again, where those are read
-behind-front : (grid : Grid) (front : List ℕ) (content : Content) → IsWellFormed content → AllByRecursion (HasRows (read_in grid)) (values_of content) → Again head front grid
-    → content_of (front ++ layers_bytes content) ≡ Ok content
-behind-front grid front content is stored first =
+-- what follows the first bytes is read again, where those are read: layers and rules
+whole-again : (version : Version) (front tail : List ℕ) (content : Content) (kept : List Rule) → Again head front version → Again (layers (read_in (grid_of version))) (layers_bytes content) content
+    → Again (rules_in version content) tail kept → ruled_content_of (front ++ (layers_bytes content ++ tail)) ≡ Ok (record { content = content; rules = kept })
+whole-again version front tail content kept first second third =
     let text = layers_bytes content in
     let place : ℕ = 0 + length front in
-    ap value_of (ap (λ r. and_then r file_after_head) (first 0 text)
-    ∙ ap (λ (t : List ℕ). file_after_head grid (at place t)) (sym (append-nil text))
-    ∙ ap (λ r. and_then r file_after_layers) (content-again (read_in grid) content stored is place []))
+    let behind : ℕ = place + length text in
+    ap value_of (ap (λ r. and_then r file_after_head) (first 0 (text ++ tail))
+    ∙ ap (λ r. and_then r (file_after_layers version)) (second place tail)
+    ∙ ap (λ (t : List ℕ). file_after_layers version content (at behind t)) (sym (append-nil tail))
+    ∙ ap (λ r. and_then r (file_after_rules content)) (third behind []))
 
-second-head : Again head front Bits24
-second-head = Again-then (field (bytes 8) is_second) grid_of (codes "SFSTORE2") (24 ∷ []) true Bits24
-    (Again-field (bytes 8) is_second (codes "SFSTORE2") (codes "SFSTORE2") true (Again-bytes 8 (codes "SFSTORE2") refl) refl)
-    (Again-number_field 1 24 grid_of_byte Bits24 (omega arith) refl)
+-- the same where no rules follow
+plain-again : (version : Version) (front : List ℕ) (content : Content) → Again head front version → Again (layers (read_in (grid_of version))) (layers_bytes content) content
+    → Again (rules_in version content) [] [] → ruled_content_of (front ++ layers_bytes content) ≡ Ok (record { content = content; rules = [] })
+plain-again version front content first second third =
+    ap (λ (t : List ℕ). ruled_content_of (front ++ t)) (sym (append-nil (layers_bytes content))) ∙ whole-again version front [] content [] first second third
 
-first-head : Again head (codes "SFSTORE1") Bits20
-first-head place rest = ap (λ r. and_then r grid_of) (Again-field (bytes 8) is_second (codes "SFSTORE1") (codes "SFSTORE1") false (Again-bytes 8 (codes "SFSTORE1") refl) refl place rest)
+second-head : Again head front Second
+second-head = Again-then (field (bytes 8) version_of) on_grid (codes "SFSTORE2") (24 ∷ []) Second Second
+    (Again-field (bytes 8) version_of (codes "SFSTORE2") (codes "SFSTORE2") Second (Again-bytes 8 (codes "SFSTORE2") refl) refl)
+    (Again-number_field 1 24 (λ byte. allowed (nat_eq byte 24) BadFile Second) Second (omega arith) refl)
+
+third-head : Again head ruled_front Third
+third-head = Again-then (field (bytes 8) version_of) on_grid (codes "SFSTORE3") (24 ∷ []) Third Third
+    (Again-field (bytes 8) version_of (codes "SFSTORE3") (codes "SFSTORE3") Third (Again-bytes 8 (codes "SFSTORE3") refl) refl)
+    (Again-number_field 1 24 (λ byte. allowed (nat_eq byte 24) BadFile Third) Third (omega arith) refl)
+
+first-head : Again head (codes "SFSTORE1") First
+first-head place rest = ap (λ r. and_then r on_grid) (Again-field (bytes 8) version_of (codes "SFSTORE1") (codes "SFSTORE1") First (Again-bytes 8 (codes "SFSTORE1") refl) refl place rest)
+
+-- a content without rules
+plain-loads : (content : Content) → IsWellFormed content → ruled_content_of (canonical content) ≡ Ok (record { content = content; rules = [] })
+plain-loads content is = plain-again Second front content second-head (content-again (read_in Bits24) content (wide-rows content is) is) (Again-done {T = List Rule} [])
+
+pub ruled-loads : RuledBytesLoad
+ruled-loads ruled is = by ruled.content ruled.rules is
+  where
+    by : (content : Content) (kept : List Rule) → IsRuledWell (record { content = content; rules = kept }) → ruled_content_of (canonical_with content kept) ≡ Ok (record { content = content; rules = kept })
+    by content [] is = plain-loads content is.content
+    by content (rule ∷ later) is =
+        whole-again Third ruled_front (rules_bytes (rule ∷ later)) content (rule ∷ later) third-head (content-again (read_in Bits24) content (wide-rows content is.content) is.content)
+        (rules-again content (rule ∷ later) is.content.named is.settled.named.few is.rules is.settled.named.distinct is.settled.layers is.settled.held)
 
 pub canonical-loads : CanonicalBytesLoad
-canonical-loads content is = behind-front Bits24 front content is (wide-rows content is) second-head
+canonical-loads content is = ap content_in (plain-loads content is)
 
 pub first-canonical-loads : FirstCanonicalBytesLoad
-first-canonical-loads content is narrow = behind-front Bits20 (codes "SFSTORE1") content is (narrow-rows content is narrow) first-head
+first-canonical-loads content is narrow =
+    ap content_in (plain-again First (codes "SFSTORE1") content first-head (content-again (read_in Bits20) content (narrow-rows content is narrow) is) (Again-done {T = List Rule} []))
 
 done_is : (a b : Content) → ◌≡◌ {A = Result Content Fault} (Ok a) (Ok b) → a ≡ b
 done_is a b same = cc
 
 pub canonical-differ : CanonicalBytesDiffer
 canonical-differ a b a_is b_is same = done_is a b (sym (canonical-loads a a_is) ∙ ap content_of same ∙ canonical-loads b b_is)
+
+ruled_is : (a b : Ruled) → ◌≡◌ {A = Result Ruled Fault} (Ok a) (Ok b) → a ≡ b
+ruled_is a b same = cc
+
+pub ruled-differ : RuledBytesDiffer
+ruled-differ a b a_is b_is same = ruled_is a b (sym (ruled-loads a a_is) ∙ ap ruled_content_of same ∙ ruled-loads b b_is)

@@ -2,20 +2,18 @@
 use Rattle.std.proofs.Common.{◌≡◌, ◌≤◌, List, [], ◌∷◌, None, Ok, length, arith}
 use Rattle.std.specs.List.{AllByRecursion}
 use Rattle.std.specs.Map.{values_of}
-use Rattle.sf_grid.specs.Plane.{Coordinates}
 use Rattle.sf_geometry.specs.declared.geometry.Geometry.{Geometry}
 use Rattle.sf_rules.specs.Verdicts.{first_fault}
 use Rattle.sf_rules.specs.Validity.{IsValid}
 use Rattle.sf_rules.proofs.FirstLaws.{first_fault-over_plane}
 use Rattle.sf_rules.proofs.VerdictLaws.{verdict-one}
-use Rattle.sf_geometry.specs.Parts.{LiesOnGrid, points_of}
+use Rattle.sf_geometry.specs.Parts.{points_of}
 use Rattle.sf_wkb.specs.declared.grid.Grid.{Grid}
 use Rattle.sf_wkb.specs.declared.grid.Grid.TheVariants.{Bits20, Bits24}
 use Rattle.sf_wkb.specs.Words.{IsIn}
 use Rattle.sf_wkb.specs.Grammar.{read_in, canonical as canonical_wkb}
 use Rattle.sf_wkb.proofs.Lengths.{canonical_bytes_are_few}
 use Rattle.sf_wkb.proofs.RoundTrip.{on_wide, round_trip_in}
-use Rattle.sf_features.specs.Features.{FeatureContent}
 use Rattle.sf_layers.specs.Content.{Content, LayerContent}
 use Rattle.sf_layers.specs.WellFormed.{IsFeature, IsLayer, IsWellFormed}
 use Rattle.sf_format.specs.Format.{RowReading, row_max}

@@ -1,8 +1,17 @@
--- The canonical bytes of a content: the one file that is written for it.
+-- The canonical bytes of a content with rules: the one file that is written for it.
 use Rattle.std.specs.Prelude.{ℕ, List, [], ◌∷◌, ◌++◌, length, flat_map, codes}
 use Rattle.std.specs.Int.{w64, cast_unsigned}
 use Rattle.byteorder.specs.Endian.{big_bytes}
 use Rattle.sf_wkb.specs.Grammar.{code_of, canonical as canonical_wkb}
+use Rattle.sf_known.specs.Patterns.{pattern_text}
+use Rattle.sf_known.specs.declared.predicate.Predicate.{Predicate}
+use Rattle.sf_known.specs.declared.predicate.Predicate.TheVariants as predicates
+use Rattle.sf_query.specs.declared.ask.Ask.{Ask}
+use Rattle.sf_query.specs.declared.ask.Ask.TheVariants.{Matching, Named}
+use Rattle.sf_constraints.specs.declared.rule.Rule.{Rule}
+use Rattle.sf_constraints.specs.declared.rule.Form.{Form}
+use Rattle.sf_constraints.specs.declared.rule.Form.TheVariants.{Never, Each}
+use Rattle.sf_ruled.specs.Ruled.{Ruled}
 use Rattle.sf_features.specs.Features.{FeatureContent}
 use Rattle.sf_layers.specs.Content.{Content, LayerContent}
 use Rattle.sf_layers.specs.declared.layer_kind.LayerKind.{LayerKind}
@@ -57,13 +66,58 @@ layer_bytes entry =
 abbrev pub layers_bytes : Content → List ℕ
 layers_bytes content = big_bytes 4 (length content) ++ flat_map layer_bytes content
 
--- the bytes at the front of a file that is written: those of the second version, and the byte of the grid
+-- ---- rules
+
+-- the byte of a rule's form
+abbrev pub form_byte : Form → ℕ
+form_byte Never = 1
+form_byte Each = 2
+
+-- the byte of a named predicate
+abbrev pub predicate_byte : Predicate → ℕ
+predicate_byte predicates.Equals = 1
+predicate_byte predicates.Disjoint = 2
+predicate_byte predicates.Intersects = 3
+predicate_byte predicates.Touches = 4
+predicate_byte predicates.Within = 5
+predicate_byte predicates.Contains = 6
+predicate_byte predicates.Crosses = 7
+predicate_byte predicates.Overlaps = 8
+
+-- the bytes of what is asked: the byte of a named predicate, or 0 and the text of a pattern
+abbrev pub ask_bytes : Ask → List ℕ
+ask_bytes (Named predicate) = big_bytes 1 (predicate_byte predicate)
+ask_bytes (Matching pattern) = big_bytes 1 0 ++ pattern_text pattern
+
+-- the bytes of a rule, behind its name
+abbrev pub rule_bytes : Rule → List ℕ
+rule_bytes rule = behind_length 1 rule.name ++ (big_bytes 1 (form_byte rule.form) ++ (behind_length 1 rule.first ++ (ask_bytes rule.ask ++ behind_length 1 rule.second)))
+
+-- the bytes of the rules
+abbrev pub rules_bytes : List Rule → List ℕ
+rules_bytes rules = big_bytes 2 (length rules) ++ flat_map rule_bytes rules
+
+-- ---- files
+
+-- the bytes at the front of a file that is written for a store without rules: those of the second version, and the byte of the grid
 abbrev pub front : List ℕ
 front = codes "SFSTORE2" ++ 24 ∷ []
 
--- the canonical bytes of a content
+-- and for a store with rules: those of the third
+abbrev pub ruled_front : List ℕ
+ruled_front = codes "SFSTORE3" ++ 24 ∷ []
+
+-- the canonical bytes of a content without rules
 abbrev pub canonical : Content → List ℕ
 canonical content = front ++ layers_bytes content
+
+-- the canonical bytes of a content with these rules
+abbrev pub canonical_with : Content → List Rule → List ℕ
+canonical_with content [] = canonical content
+canonical_with content (rule ∷ rules) = ruled_front ++ (layers_bytes content ++ rules_bytes (rule ∷ rules))
+
+abbrev pub canonical_ruled : Ruled → List ℕ
+canonical_ruled ruled = canonical_with ruled.content ruled.rules
 
 -- the bytes that the first version has for a content
 abbrev pub first_canonical : Content → List ℕ

@@ -6,7 +6,7 @@ use Rattle.sf_refusals.specs.Refusals.{number_of as number_of_refusal}
 use Rattle.sf_rules.specs.Faults.{refusal_of as fault_refusal_of}
 use Rattle.sf_wkb.specs.Faults.{refusal_of as wkb_refusal_of}
 use Rattle.sf_format.specs.declared.defect.Defect.{Defect}
-use Rattle.sf_format.specs.declared.defect.Defect.TheVariants.{Truncated, Trailing, TooManyVertices, Wkb, Invalid, LayerExists, BadName, NoColumn, ColumnExists, WrongValue, WrongKind, IdsExhausted, ColumnsExhausted, BadFile}
+use Rattle.sf_format.specs.declared.defect.Defect.TheVariants.{Truncated, Trailing, TooManyVertices, Wkb, Invalid, LayerExists, BadName, NoColumn, ColumnExists, WrongValue, WrongKind, IdsExhausted, ColumnsExhausted, BadFile, NoLayer, RuleExists, BadPattern, RuleBroken}
 
 -- the refusal of a defect
 abbrev pub refusal_of : Defect → Refusal
@@ -24,6 +24,10 @@ refusal_of WrongKind = refusals.WrongKind
 refusal_of IdsExhausted = refusals.IdsExhausted
 refusal_of ColumnsExhausted = refusals.ColumnsExhausted
 refusal_of BadFile = refusals.BadFile
+refusal_of NoLayer = refusals.NoLayer
+refusal_of RuleExists = refusals.RuleExists
+refusal_of BadPattern = refusals.BadPattern
+refusal_of RuleBroken = refusals.RuleBroken
 
 -- the number of a defect among the refusals
 abbrev pub number_of : Defect → ℕ

@@ -1,5 +1,5 @@
--- The file format: the content of a file's bytes, or the first fault in them.
-use Rattle.std.specs.Prelude.{ℕ, Bool, true, false, not, ◌&&◌, List, [], ◌∷◌, length, Option, None, Some, Result, Ok, Err, nat_lt, nat_le, nat_eq, bytes_eq, codes, is_some, if◌then◌else◌}
+-- The file format: the content and the rules of a file's bytes, or the first fault in them.
+use Rattle.std.specs.Prelude.{ℕ, Bool, true, false, not, ◌&&◌, List, [], ◌∷◌, length, Option, None, Some, Result, Ok, Err, nat_lt, nat_le, nat_eq, bytes_eq, codes, is_some, option_map, zero, suc, if◌then◌else◌}
 use Rattle.std.specs.Int.{w64, cast_signed}
 use Rattle.std.specs.Map.{lookup}
 use Rattle.sf_geometry.specs.declared.geometry.Geometry.{Geometry}
@@ -7,6 +7,11 @@ use Rattle.sf_geometry.specs.declared.kind.Kind.TheVariants as kinds
 use Rattle.sf_geometry.specs.Kinds.{kind_of}
 use Rattle.sf_rules.specs.declared.fault.Fault.{Fault as ShapeFault}
 use Rattle.sf_rules.specs.Verdicts.{first_fault}
+use Rattle.sf_known.specs.declared.predicate.Predicate.{Predicate}
+use Rattle.sf_known.specs.declared.predicate.Predicate.TheVariants.{Equals, Disjoint, Intersects, Touches, Within, Contains, Crosses, Overlaps}
+use Rattle.sf_known.specs.Patterns.{pattern_of}
+use Rattle.sf_query.specs.declared.ask.Ask.{Ask}
+use Rattle.sf_query.specs.declared.ask.Ask.TheVariants.{Matching, Named}
 use Rattle.sf_wkb.specs.declared.fault.WkbFault.{WkbFault}
 use Rattle.sf_wkb.specs.declared.grid.Grid.{Grid}
 use Rattle.sf_wkb.specs.declared.grid.Grid.TheVariants.{Bits20, Bits24}
@@ -24,8 +29,15 @@ use Rattle.sf_features.specs.declared.column_type.ColumnType.{ColumnType}
 use Rattle.sf_features.specs.declared.column_type.ColumnType.TheVariants as types
 use Rattle.sf_features.specs.declared.attr_value.AttrValue.{AttrValue}
 use Rattle.sf_features.specs.declared.attr_value.AttrValue.TheVariants as values
+use Rattle.sf_constraints.specs.declared.rule.Rule.{Rule}
+use Rattle.sf_constraints.specs.declared.rule.Form.{Form}
+use Rattle.sf_constraints.specs.declared.rule.Form.TheVariants.{Never, Each}
+use Rattle.sf_constraints.specs.Rules.{break_of}
+use Rattle.sf_ruled.specs.Ruled.{Ruled, has_rule}
+use Rattle.sf_format.specs.declared.version.Version.{Version}
+use Rattle.sf_format.specs.declared.version.Version.TheVariants.{First, Second, Third}
 use Rattle.sf_format.specs.declared.defect.Defect.{Defect}
-use Rattle.sf_format.specs.declared.defect.Defect.TheVariants.{TooManyVertices, Wkb, Invalid, LayerExists, BadName, NoColumn, ColumnExists, WrongValue, WrongKind, IdsExhausted, ColumnsExhausted, BadFile}
+use Rattle.sf_format.specs.declared.defect.Defect.TheVariants.{TooManyVertices, Wkb, Invalid, LayerExists, BadName, NoColumn, ColumnExists, WrongValue, WrongKind, IdsExhausted, ColumnsExhausted, BadFile, NoLayer, RuleExists, BadPattern, RuleBroken}
 use Rattle.sf_format.specs.Readings.{Fault, Reads, Reading, ◌>>=◌, done, bytes, field, number, sized, items, end}
 
 -- how many bytes a binary geometry of a file has at most
@@ -152,54 +164,151 @@ layers row = do
   count ← field (number 4) (λ n. allowed (nat_le n layers_max) IdsExhausted n)
   items (layer row) count []
 
--- whether the first bytes are those of the second version, where they are those of a version
-abbrev pub is_second : List ℕ → Result Bool Defect
-is_second text = if bytes_eq text (codes "SFSTORE1") then Ok false else allowed (bytes_eq text (codes "SFSTORE2")) BadFile true
+-- ---- rules
 
--- the grid that a byte stands for
-abbrev pub grid_of_byte : ℕ → Result Grid Defect
-grid_of_byte byte = allowed (nat_eq byte 24) BadFile Bits24
+-- a name that no earlier rule has
+abbrev pub fresh_rule_name : List Rule → List ℕ → Result (List ℕ) Defect
+fresh_rule_name earlier text = allowed (not (has_rule text earlier)) RuleExists text
 
--- the grid of the binary geometries: the first version has 20 bits, in the second one a byte says
-abbrev pub grid_of : Bool → Reading Grid
-grid_of false = done Bits20
-grid_of true = field (number 1) grid_of_byte
+-- a name that a layer of the file has
+abbrev pub known_layer_name : Content → List ℕ → Result (List ℕ) Defect
+known_layer_name content text = allowed (has_layer content text) NoLayer text
 
--- the bytes at the front that say which version follows: the grid on which its binary geometries are read
-abbrev pub head : Reading Grid
+-- the form of a rule that a byte stands for
+abbrev pub form_of_byte : ℕ → Option Form
+form_of_byte byte = lookup (nat_eq byte) ((1, Never) ∷ (2, Each) ∷ [])
+
+-- the named predicate that a byte stands for
+abbrev pub predicate_of_byte : ℕ → Option Predicate
+predicate_of_byte byte = lookup (nat_eq byte) ((1, Equals) ∷ (2, Disjoint) ∷ (3, Intersects) ∷ (4, Touches) ∷ (5, Within) ∷ (6, Contains) ∷ (7, Crosses)
+    ∷ (8, Overlaps) ∷ [])
+
+-- what is asked, behind its first byte: a pattern of nine letters behind 0, else a named predicate
+abbrev pub asked_by : ℕ → Reading (Option Ask)
+asked_by zero = do
+  text ← bytes 9
+  done (option_map Matching (pattern_of text))
+asked_by (suc n) = done (option_map Named (predicate_of_byte (suc n)))
+
+abbrev pub asked : Reading (Option Ask)
+asked = do
+  byte ← number 1
+  asked_by byte
+
+-- what is asked, where its bytes stand for something
+abbrev pub ask : Reading Ask
+ask = field asked (λ found. present found BadPattern)
+
+-- a rule behind its name, between layers of the file
+abbrev pub rule : Content → List Rule → Reading Rule
+rule content earlier = do
+  title ← field name (fresh_rule_name earlier)
+  form ← field (number 1) (λ byte. present (form_of_byte byte) BadFile)
+  first ← field name (known_layer_name content)
+  asked ← ask
+  second ← field name (known_layer_name content)
+  done (record { name = title; form = form; first = first; ask = asked; second = second })
+
+-- the rule, where nothing in the content breaks it
+abbrev pub unbroken : Content → Rule → Result Rule Defect
+unbroken content rule = allowed (not (is_some (break_of content rule))) RuleBroken rule
+
+-- a rule that holds in the content; where it does not, the fault is at its first byte
+abbrev pub held_rule : Content → List Rule → Reading Rule
+held_rule content earlier = field (rule content earlier) (unbroken content)
+
+-- the rules
+abbrev pub rules : Content → Reading (List Rule)
+rules content = do
+  count ← number 2
+  items (held_rule content) count []
+
+-- ---- versions
+
+-- the version whose files begin with these eight bytes
+abbrev pub version_of : List ℕ → Result Version Defect
+version_of text =
+    if bytes_eq text (codes "SFSTORE1") then Ok First
+    else if bytes_eq text (codes "SFSTORE2") then Ok Second
+    else allowed (bytes_eq text (codes "SFSTORE3")) BadFile Third
+
+-- the byte of the grid, which files of the first version don't have; it is 24
+abbrev pub on_grid : Version → Reading Version
+on_grid First = done First
+on_grid version = field (number 1) (λ byte. allowed (nat_eq byte 24) BadFile version)
+
+-- the bytes at the front that say which version follows
+abbrev pub head : Reading Version
 head = do
-  second ← field (bytes 8) is_second
-  grid_of second
+  version ← field (bytes 8) version_of
+  on_grid version
+
+-- the grid of the binary geometries: the first version has 20 bits
+abbrev pub grid_of : Version → Grid
+grid_of First = Bits20
+grid_of version = Bits24
+
+-- the rules of a file of a version, behind its layers
+abbrev pub rules_in : Version → Content → Reading (List Rule)
+rules_in Third content = rules content
+rules_in version content = done []
 
 -- a whole file
-abbrev pub file : Reading Content
+abbrev pub file : Reading Ruled
 file = do
-  grid ← head
-  content ← layers (read_in grid)
+  version ← head
+  content ← layers (read_in (grid_of version))
+  kept ← rules_in version content
   ended ← end
-  done content
+  done (record { content = content; rules = kept })
 
 -- what reading gives without what is left
 abbrev pub value_of : {T : Type 0} → Reads T → Result T Fault
 value_of (Ok x) = Ok x.0
 value_of (Err fault) = Err fault
 
--- what the first version asks of the first bytes
-abbrev pub is_first : List ℕ → Result (Unit {0}) Defect
-is_first text = allowed (bytes_eq text (codes "SFSTORE1")) BadFile tt
+-- the content and the rules of the bytes of a file, or the first fault in them
+abbrev pub ruled_content_of : List ℕ → Result Ruled Fault
+ruled_content_of text = value_of (file (record { place = 0; bytes = text }))
+
+-- the content alone
+abbrev pub content_in : Result Ruled Fault → Result Content Fault
+content_in (Ok ruled) = Ok ruled.content
+content_in (Err fault) = Err fault
+
+abbrev pub content_of : List ℕ → Result Content Fault
+content_of text = content_in (ruled_content_of text)
+
+-- ---- the earlier versions by themselves
+
+-- eight bytes that are these
+abbrev pub begins : List ℕ → List ℕ → Result (Unit {0}) Defect
+begins front text = allowed (bytes_eq text front) BadFile tt
+
+-- the layers, up to the end of the file
+abbrev pub all_layers : RowReading → Reading Content
+all_layers row = do
+  content ← layers row
+  ended ← end
+  done content
 
 -- a whole file of the first version
 abbrev pub first_file : Reading Content
 first_file = do
-  front ← field (bytes 8) is_first
-  content ← layers (read_in Bits20)
-  ended ← end
-  done content
+  front ← field (bytes 8) (begins (codes "SFSTORE1"))
+  all_layers (read_in Bits20)
+
+-- a whole file of the second version
+abbrev pub second_file : Reading Content
+second_file = do
+  front ← field (bytes 8) (begins (codes "SFSTORE2"))
+  grid ← field (number 1) (λ byte. allowed (nat_eq byte 24) BadFile Bits24)
+  all_layers (read_in grid)
 
 -- the content of the bytes of a file of the first version, or the first fault in them
 abbrev pub first_content_of : List ℕ → Result Content Fault
 first_content_of text = value_of (first_file (record { place = 0; bytes = text }))
 
--- the content of the bytes of a file, or the first fault in them
-abbrev pub content_of : List ℕ → Result Content Fault
-content_of text = value_of (file (record { place = 0; bytes = text }))
+-- and of the second version
+abbrev pub second_content_of : List ℕ → Result Content Fault
+second_content_of text = value_of (second_file (record { place = 0; bytes = text }))

@@ -1,21 +1,78 @@
 -- Laws of files.
-use Rattle.std.specs.Prelude.{◌≡◌, ◌<◌, ℕ, List, ◌++◌, Ok, Err, codes, drop, take}
+use Rattle.std.specs.Prelude.{◌≡◌, ◌<◌, ◌≤◌, ℕ, List, [], ◌++◌, Result, Ok, Err, IsTrue, bytes_eq, codes, drop, length, map, take}
 use Rattle.std.specs.List.{AllByRecursion}
 use Rattle.std.specs.Map.{values_of}
 use Rattle.sf_geometry.specs.declared.geometry.Geometry.{Geometry}
 use Rattle.sf_geometry.specs.Parts.{points_of}
 use Rattle.sf_rules.specs.declared.fault.Fault.{Fault as ShapeFault}
 use Rattle.sf_rules.specs.Validity.{IsFirstFault}
-use Rattle.sf_wkb.specs.declared.grid.Grid.{Grid}
 use Rattle.sf_wkb.specs.declared.grid.Grid.TheVariants.{Bits20}
 use Rattle.sf_wkb.specs.Grammar.{read_in}
 use Rattle.sf_wkb.specs.Words.{IsIn}
+use Rattle.sf_features.specs.Columns.{IsDistinct}
+use Rattle.sf_features.specs.Names.{is_name}
 use Rattle.sf_layers.specs.Content.{Content}
 use Rattle.sf_layers.specs.WellFormed.{IsWellFormed}
+use Rattle.sf_joins.specs.Converse.{HasNineLetters}
+use Rattle.sf_constraints.specs.declared.rule.Rule.{Rule}
+use Rattle.sf_constraints.specs.Holds.{AllHold}
+use Rattle.sf_ruled.specs.Ruled.{Ruled, rules_max}
+use Rattle.sf_ruled.specs.Undos.{IsSettled}
 use Rattle.sf_streams.specs.Streams.{Left}
+use Rattle.sf_format.specs.declared.version.Version.{Version}
 use Rattle.sf_format.specs.declared.defect.Defect.TheVariants.{Invalid}
-use Rattle.sf_format.specs.Format.{content_of, first_content_of, head}
-use Rattle.sf_format.specs.Canonical.{canonical, first_canonical}
+use Rattle.sf_format.specs.Readings.{Fault}
+use Rattle.sf_format.specs.Format.{content_of, first_content_of, grid_of, head, ruled_content_of, second_content_of}
+use Rattle.sf_format.specs.Canonical.{canonical, canonical_ruled, first_canonical}
+
+-- ---- rules
+
+-- a rule has a name, and asks for nine letters where it asks for a pattern
+pub record IsRule (rule : Rule) : Type 0 where
+  pub named : IsTrue (is_name rule.name)
+  pub nine : HasNineLetters rule.ask
+
+-- a content with rules is well formed: so is the content; the rules are between its layers, and hold; no two have one name, and
+-- there are not too many
+pub record IsRuledWell (ruled : Ruled) : Type 0 where
+  pub content : IsWellFormed ruled.content
+  pub settled : IsSettled ruled
+  pub rules : AllByRecursion IsRule ruled.rules
+
+-- the canonical bytes of a well-formed content with rules load as it
+abbrev pub RuledBytesLoad : Type 0
+RuledBytesLoad = (ruled : Ruled) → IsRuledWell ruled → ruled_content_of (canonical_ruled ruled) ≡ Ok ruled
+
+-- and they are those of no other one
+abbrev pub RuledBytesDiffer : Type 0
+RuledBytesDiffer = (a b : Ruled) → IsRuledWell a → IsRuledWell b → canonical_ruled a ≡ canonical_ruled b → a ≡ b
+
+-- each number is that of a byte
+abbrev pub AreBytes : List ℕ → Type 0
+AreBytes text = AllByRecursion (λ b. b < 256) text
+
+-- only well-formed contents with rules have files
+abbrev pub FilesAreRuledWell : Type 0
+FilesAreRuledWell = (text : List ℕ) (ruled : Ruled) → AreBytes text → ruled_content_of text ≡ Ok ruled → IsRuledWell ruled
+
+-- the rules of a file hold in its content, over all points of the plane
+abbrev pub RulesOfFilesHold : Type 0
+RulesOfFilesHold = (text : List ℕ) (ruled : Ruled) → AreBytes text → ruled_content_of text ≡ Ok ruled → AllHold ruled.content ruled.rules
+
+-- a content as one without rules
+abbrev pub without_rules : Result Content Fault → Result Ruled Fault
+without_rules (Ok content) = Ok (record { content = content; rules = [] })
+without_rules (Err fault) = Err fault
+
+-- behind the first bytes of the second version nothing has changed: the same content without rules, or the same first fault
+abbrev pub SecondVersionIsKept : Type 0
+SecondVersionIsKept = (text : List ℕ) → ruled_content_of (codes "SFSTORE2" ++ text) ≡ without_rules (second_content_of (codes "SFSTORE2" ++ text))
+
+-- nor behind those of the first one
+abbrev pub FirstVersionIsKept : Type 0
+FirstVersionIsKept = (text : List ℕ) → ruled_content_of (codes "SFSTORE1" ++ text) ≡ without_rules (first_content_of (codes "SFSTORE1" ++ text))
+
+-- ---- contents
 
 -- the canonical bytes of a well-formed content load as it
 abbrev pub CanonicalBytesLoad : Type 0
@@ -25,13 +82,9 @@ CanonicalBytesLoad = (content : Content) → IsWellFormed content → content_of
 abbrev pub CanonicalBytesDiffer : Type 0
 CanonicalBytesDiffer = (a b : Content) → IsWellFormed a → IsWellFormed b → canonical a ≡ canonical b → a ≡ b
 
--- what bytes have as a file of the first version they have as a file
+-- what bytes have as a file of the first version they have as a file, without rules
 abbrev pub FirstVersionLoads : Type 0
-FirstVersionLoads = (text : List ℕ) (content : Content) → first_content_of text ≡ Ok content → content_of text ≡ Ok content
-
--- behind the first bytes of the first version both have the same content, or the same first fault
-abbrev pub FirstVersionIsKept : Type 0
-FirstVersionIsKept = (text : List ℕ) → content_of (codes "SFSTORE1" ++ text) ≡ first_content_of (codes "SFSTORE1" ++ text)
+FirstVersionLoads = (text : List ℕ) (content : Content) → first_content_of text ≡ Ok content → ruled_content_of text ≡ without_rules (Ok content)
 
 -- all points of a content are of 20 bits
 abbrev pub IsNarrow : Content → Type 0
@@ -41,10 +94,6 @@ IsNarrow content = AllByRecursion (λ layer. AllByRecursion (λ feature. AllByRe
 abbrev pub FirstCanonicalBytesLoad : Type 0
 FirstCanonicalBytesLoad = (content : Content) → IsWellFormed content → IsNarrow content → content_of (first_canonical content) ≡ Ok content
 
--- each number is that of a byte
-abbrev pub AreBytes : List ℕ → Type 0
-AreBytes text = AllByRecursion (λ b. b < 256) text
-
 -- only well-formed contents have files
 abbrev pub FilesAreWellFormed : Type 0
 FilesAreWellFormed = (text : List ℕ) (content : Content) → AreBytes text → content_of text ≡ Ok content → IsWellFormed content
@@ -52,16 +101,16 @@ FilesAreWellFormed = (text : List ℕ) (content : Content) → AreBytes text →
 -- a file has at this place a binary geometry, of so many bytes and on the grid that the file's front says, whose first
 -- fault over all points of the plane is this one
 pub record HasFaultyGeometry (text : List ℕ) (place : ℕ) (fault : ShapeFault) : Type 0 where
-  pub grid : Grid
+  pub version : Version
   pub behind_head : Left
-  pub told : head (record { place = 0; bytes = text }) ≡ Ok (grid, behind_head)
+  pub told : head (record { place = 0; bytes = text }) ≡ Ok (version, behind_head)
   pub size : ℕ
   pub geometry : Geometry
-  pub is_there : read_in grid (take size (drop place text)) ≡ Ok geometry
+  pub is_there : read_in (grid_of version) (take size (drop place text)) ≡ Ok geometry
   pub first : IsFirstFault geometry fault
 
 -- a file that is refused for a fault of shape has at the place that is reported a geometry with that first fault; those of a file
 -- that is not refused are valid, as its content is well formed
 abbrev pub FilesAreJudgedOverThePlane : Type 0
 FilesAreJudgedOverThePlane =
-    (text : List ℕ) (place : ℕ) (fault : ShapeFault) → content_of text ≡ Err (record { place = place; defect = Invalid fault }) → HasFaultyGeometry text place fault
+    (text : List ℕ) (place : ℕ) (fault : ShapeFault) → ruled_content_of text ≡ Err (record { place = place; defect = Invalid fault }) → HasFaultyGeometry text place fault

@@ -38,8 +38,17 @@ pub enum Defect {
     /// A column number is 0, used before or not below the layer's next one, or these are too few for
     /// the columns.
     ColumnsExhausted,
-    /// The first eight bytes aren't those of a file of a store, or the byte of the grid isn't 24.
+    /// The first eight bytes aren't those of a file of a store, the byte of the grid isn't 24, or the byte is of no form of a
+    /// rule.
     BadFile,
+    /// No layer of the file has the name.
+    NoLayer,
+    /// An earlier rule has the name.
+    RuleExists,
+    /// The byte is of no ask of a rule, or the nine letters are no pattern.
+    BadPattern,
+    /// The rule doesn't hold in the layers of the file.
+    RuleBroken,
 }
 
 impl Defect {
@@ -70,6 +79,10 @@ impl From<Defect> for Refusal {
             Defect::IdsExhausted => Refusal::IdsExhausted,
             Defect::ColumnsExhausted => Refusal::ColumnsExhausted,
             Defect::BadFile => Refusal::BadFile,
+            Defect::NoLayer => Refusal::NoLayer,
+            Defect::RuleExists => Refusal::RuleExists,
+            Defect::BadPattern => Refusal::BadPattern,
+            Defect::RuleBroken => Refusal::RuleBroken,
         }
     }
 }

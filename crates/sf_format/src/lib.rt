@@ -1,8 +1,10 @@
-//! The files of a store: the content of a file's bytes, or the first fault in them, and the canonical
-//! bytes of a content. Definitions, with their laws.
+//! The files of a store with rules: the content and the rules of a file's bytes, or the first fault in
+//! them, and the canonical bytes of both. Definitions, with their laws.
 #![tactic(auto)]
 
 mod defect;
 pub mod laws;
+mod version;
 
 pub use defect::Defect;
+pub use version::Version;

@@ -5,36 +5,36 @@ use Rattle.std.proofs.lemmas.Grind.{common_steps}
 use Rattle.std.proofs.lemmas.List.{reverse-append, length-reverse, length-take, length-drop, get_or-reverse, get_or-take, get_or-drop}
 use Rattle.sf_refusals.specs.declared.refusal.Refusal.{Refusal}
 use Rattle.sf_refusals.specs.declared.refusal.Refusal.TheVariants.{NotYours}
-use Rattle.sf_layers.specs.Content.{Content}
-use Rattle.sf_changes.specs.declared.undo.Undo.{Undo}
-use Rattle.sf_changes.specs.declared.redo.Redo.{Redo}
-use Rattle.sf_changes.specs.Changes.{redone_by, undone_by}
-use Rattle.sf_history.specs.History.{Machine, Kept, kept, past_of, future_of, if_own, back_to, forth_to, undone, redone}
+use Rattle.sf_ruled.specs.declared.undo.Undo.{Undo}
+use Rattle.sf_ruled.specs.declared.redo.Redo.{Redo}
+use Rattle.sf_ruled.specs.Ruled.{Ruled}
+use Rattle.sf_ruled.specs.Undos.{redone_under, undone_under}
+use Rattle.sf_history.specs.History.{Machine, Kept, advanced, kept, past_of, future_of, if_own, back_to, forth_to, undone, redone}
 use Rattle.sf_history.proofs.LawProofs.{own_allowed}
 
-length-past_of : (content : Content) (undos : List Undo) (editors : List ℕ) → length undos ≡ length editors
+length-past_of : (content : Ruled) (undos : List Undo) (editors : List ℕ) → length undos ≡ length editors
     → length (past_of content undos editors) ≡ length undos
 length-past_of content [] editors same = refl
 length-past_of content (undo ∷ undos) [] same = absurd (omega arith)
 length-past_of content (undo ∷ undos) (editor ∷ editors) same =
-    ap (λ n. suc n) (length-past_of (undone_by content undo) undos editors (omega arith))
+    ap (λ n. suc n) (length-past_of (undone_under content undo) undos editors (omega arith))
 
-length-future_of : (content : Content) (redos : List Redo) (editors : List ℕ) → length redos ≡ length editors
+length-future_of : (content : Ruled) (redos : List Redo) (editors : List ℕ) → length redos ≡ length editors
     → length (future_of content redos editors) ≡ length redos
 length-future_of content [] editors same = refl
 length-future_of content (redo ∷ redos) [] same = absurd (omega arith)
 length-future_of content (redo ∷ redos) (editor ∷ editors) same =
-    ap (λ n. suc n) (length-future_of (redone_by content redo) redos editors (omega arith))
+    ap (λ n. suc n) (length-future_of (redone_under content redo) redos editors (omega arith))
 
 -- as many past contents as undos, whose editors stand first
-pub length-past : (content : Content) (done : List Undo) (later : ℕ) (editors : List ℕ) → length editors ≡ length done + later
+pub length-past : (content : Ruled) (done : List Undo) (later : ℕ) (editors : List ℕ) → length editors ≡ length done + later
     → length (past_of content (reverse done) (reverse (take (length done) editors))) ≡ length done
 length-past content done later editors all =
     let first : length (reverse (take (length done) editors)) ≡ length done = grind (arith, length-reverse, length-take) in
     length-past_of content (reverse done) (reverse (take (length done) editors)) (length-reverse done ∙ sym first) ∙ length-reverse done
 
 -- as many future contents as redos, whose editors stand behind the others
-pub length-future : (content : Content) (undone : List Redo) (earlier : ℕ) (editors : List ℕ) → length editors ≡ earlier + length undone
+pub length-future : (content : Ruled) (undone : List Redo) (earlier : ℕ) (editors : List ℕ) → length editors ≡ earlier + length undone
     → length (future_of content (reverse undone) (drop earlier editors)) ≡ length undone
 length-future content undone earlier editors all =
     let rest : length (drop earlier editors) ≡ length undone = grind (arith, length-drop) in
@@ -46,22 +46,22 @@ length-future content undone earlier editors all =
 abbrev pub BeginsWith : ℕ → List Kept → Type 0
 BeginsWith editor contents = (beside : Kept) × (more : List Kept) × (contents ≡ beside ∷ more) × (beside.editor ≡ editor)
 
-past-first : (content : Content) (undos : List Undo) (editors : List ℕ) (d : ℕ) → 0 < length undos → length undos ≡ length editors
+past-first : (content : Ruled) (undos : List Undo) (editors : List ℕ) (d : ℕ) → 0 < length undos → length undos ≡ length editors
     → BeginsWith (get_or editors 0 d) (past_of content undos editors)
 past-first content [] editors d some same = absurd (omega arith)
 past-first content (undo ∷ undos) [] d some same = absurd (omega arith)
 past-first content (undo ∷ undos) (editor ∷ editors) d some same =
-    (kept editor (undone_by content undo), past_of (undone_by content undo) undos editors, refl, refl)
+    (kept editor (undone_under content undo), past_of (undone_under content undo) undos editors, refl, refl)
 
-future-first : (content : Content) (redos : List Redo) (editors : List ℕ) (d : ℕ) → 0 < length redos → length redos ≡ length editors
+future-first : (content : Ruled) (redos : List Redo) (editors : List ℕ) (d : ℕ) → 0 < length redos → length redos ≡ length editors
     → BeginsWith (get_or editors 0 d) (future_of content redos editors)
 future-first content [] editors d some same = absurd (omega arith)
 future-first content (redo ∷ redos) [] d some same = absurd (omega arith)
 future-first content (redo ∷ redos) (editor ∷ editors) d some same =
-    let next = redone_by content redo in (kept editor next, future_of next redos editors, refl, refl)
+    let next = redone_under content redo in (kept editor next, future_of next redos editors, refl, refl)
 
 -- the last step done is of the editor who stands before those of the steps undone
-pub past-begins : (content : Content) (done : List Undo) (editors : List ℕ) (last d : ℕ) → last + 1 ≡ length done → length done ≤ length editors
+pub past-begins : (content : Ruled) (done : List Undo) (editors : List ℕ) (last d : ℕ) → last + 1 ≡ length done → length done ≤ length editors
     → BeginsWith (get_or editors last d) (past_of content (reverse done) (reverse (take (length done) editors)))
 past-begins content done editors last d is within =
     let first = take (length done) editors in
@@ -75,7 +75,7 @@ past-begins content done editors last d is within =
     (past-first content (reverse done) (reverse first) d some same)
 
 -- the next step to be done again is of the editor who stands behind those of the steps done
-pub future-begins : (content : Content) (undone : List Redo) (editors : List ℕ) (earlier d : ℕ) → 0 < length undone → length editors ≡ earlier + length undone
+pub future-begins : (content : Ruled) (undone : List Redo) (editors : List ℕ) (earlier d : ℕ) → 0 < length undone → length editors ≡ earlier + length undone
     → BeginsWith (get_or editors earlier d) (future_of content (reverse undone) (drop earlier editors))
 future-begins content undone editors earlier d some all =
     let rest : length (drop earlier editors) ≡ length undone = grind (arith, length-drop) in
@@ -110,8 +110,8 @@ pub redone-own : (editor owner : ℕ) (machine : Machine) → BeginsWith owner m
 redone-own editor owner machine (after, later, is, whose) same = subst (λ future. IsOk (forth_to editor machine future)) (sym is) (own editor owner after _ whose same)
 
 -- one more undo and one more editor, where the others are cut off: one more past content
-pub past-advanced : (content before : Content) (done more : List Undo) (undo : Undo) (editors whose : List ℕ) (editor : ℕ) → length done ≤ length editors
-    → more ≡ done ++ undo ∷ [] → whose ≡ take (length done) editors ++ editor ∷ [] → before ≡ undone_by content undo
+pub past-advanced : (content before : Ruled) (done more : List Undo) (undo : Undo) (editors whose : List ℕ) (editor : ℕ) → length done ≤ length editors
+    → more ≡ done ++ undo ∷ [] → whose ≡ take (length done) editors ++ editor ∷ [] → before ≡ undone_under content undo
     → past_of content (reverse more) (reverse (take (length more) whose)) ≡ kept editor before ∷ past_of before (reverse done) (reverse (take (length done) editors))
 past-advanced content before done more undo editors whose editor within longer cut is =
     let first = take (length done) editors in
@@ -120,3 +120,28 @@ past-advanced content before done more undo editors whose editor within longer c
     ap (λ xs. past_of content xs (reverse (take (length more) whose))) (ap reverse longer ∙ reverse-append done (undo ∷ []))
     ∙ ap (λ es. past_of content (undo ∷ reverse done) es) (ap reverse (all ∙ cut) ∙ reverse-append first (editor ∷ []))
     ∙ ap (λ c. kept editor c ∷ past_of c (reverse done) (reverse first)) (sym is)
+
+-- ---- what an editor stands for
+
+-- the machine of a content with rules, of what takes steps back and makes them again, and of whose steps these are
+abbrev pub seen : Ruled → List Undo → List Redo → List ℕ → Machine
+seen content done undone editors = record {
+  past = past_of content (reverse done) (reverse (take (length done) editors));
+  now = content.content;
+  rules = content.rules;
+  future = future_of content (reverse undone) (drop (length done) editors);
+}
+
+-- one more step, which can be taken back: the machine goes on to it
+pub advanced-seen : (before content : Ruled) (done more : List Undo) (undone left : List Redo) (undo : Undo) (editors whose : List ℕ) (editor : ℕ) → length done ≤ length editors
+    → more ≡ done ++ undo ∷ [] → left ≡ [] → whose ≡ take (length done) editors ++ editor ∷ [] → undone_under content undo ≡ before
+    → seen content more left whose ≡ advanced editor (seen before done undone editors) content
+advanced-seen before content done more undone left undo editors whose editor within longer emptied cut back =
+    let reached : List Kept → List Redo → Machine = λ past next. record {
+      past = past;
+      now = content.content;
+      rules = content.rules;
+      future = future_of content (reverse next) (drop (length more) whose);
+    } in
+    ap (λ past. reached past left) (past-advanced content before done more undo editors whose editor within longer cut (sym back))
+    ∙ ap (reached (kept editor before ∷ past_of before (reverse done) (reverse (take (length done) editors)))) emptied

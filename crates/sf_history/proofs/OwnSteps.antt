@@ -1,28 +1,29 @@
 -- Whose steps an undo and a redo move.
-use Rattle.std.proofs.Common.{◌≡◌, ◌≢◌, ◌⊎◌, ℕ, suc, Bool, true, false, inl, inr, List, [], ◌∷◌, cond, Option, None, Some, option_map, Result, Ok, Err, nat_eq, refl, sym, ap, ◌∙◌, subst, arith}
+use Rattle.std.proofs.Common.{◌≡◌, ◌≢◌, ◌⊎◌, ℕ, suc, Bool, true, false, inl, inr, List, [], ◌∷◌, cond, Result, Ok, Err, nat_eq, refl, sym, ◌∙◌, subst, arith}
 use Rattle.std.specs.Prelude.{Contains}
 use Rattle.std.proofs.lemmas.Bool.{eqb-true}
 use Rattle.sf_layers.specs.Content.{Content}
-use Rattle.sf_changes.specs.Changes.{led_by}
-use Rattle.sf_refusals.specs.declared.refusal.Refusal.{Refusal}
-use Rattle.sf_history.specs.History.{Machine, Kept, fresh, advanced, back_to, forth_to}
-use Rattle.sf_history.specs.Laws.{Asked, Turn, Changes, Undoes, Redoes, Leads, LeadInTurn, IsMadeBy, steps_of, KeepsOthers, OwnStepsLaw}
-use Rattle.sf_history.proofs.LawProofs.{allowed_own}
+use Rattle.sf_constraints.specs.declared.rule.Rule.{Rule}
+use Rattle.sf_ruled.specs.declared.refusal.Refusal.{Refusal as StepRefusal}
+use Rattle.sf_ruled.specs.Ruled.{Ruled, ruled_step}
+use Rattle.sf_history.specs.History.{Machine, Kept, fresh_under, kept, ruled_in, ruled_now, after_step, back_to, forth_to}
+use Rattle.sf_history.specs.Laws.{Asked, Turn, Steps, Undoes, Redoes, Leads, LeadInTurn, IsMadeBy, steps_of, KeepsOthers, OwnStepsLaw}
+use Rattle.sf_history.proofs.LawProofs.{allowed_own, machine-of}
 
 -- ---- what was made in some of the turns
 
 -- the steps beside past contents were made by their editors
-abbrev PastMade : List Turn → Content → List Kept → Type 0
+abbrev PastMade : List Turn → Ruled → List Kept → Type 0
 PastMade turns now [] = Unit {0}
-PastMade turns now (before ∷ earlier) = IsMadeBy turns before.editor before.content now × PastMade turns before.content earlier
+PastMade turns now (before ∷ earlier) = IsMadeBy turns before.editor (ruled_in before) now × PastMade turns (ruled_in before) earlier
 
 -- the steps beside future contents were made by their editors
-abbrev FutureMade : List Turn → Content → List Kept → Type 0
+abbrev FutureMade : List Turn → Ruled → List Kept → Type 0
 FutureMade turns now [] = Unit {0}
-FutureMade turns now (after ∷ later) = IsMadeBy turns after.editor now after.content × FutureMade turns after.content later
+FutureMade turns now (after ∷ later) = IsMadeBy turns after.editor now (ruled_in after) × FutureMade turns (ruled_in after) later
 
 abbrev AllMade : List Turn → Machine → Type 0
-AllMade turns machine = PastMade turns machine.now machine.past × FutureMade turns machine.now machine.future
+AllMade turns machine = PastMade turns (ruled_now machine) machine.past × FutureMade turns (ruled_now machine) machine.future
 
 -- ---- the steps of others
 
@@ -38,56 +39,51 @@ steps_of-another editor other beside rest is apart =
 -- ---- moves
 
 -- what a move of a step between two contents does, of an editor
-abbrev Moved : List Turn → ℕ → Machine → Machine → Content → Content → Type 0
+abbrev Moved : List Turn → ℕ → Machine → Machine → Ruled → Ruled → Type 0
 Moved turns editor old new before after = IsMadeBy turns editor before after × KeepsOthers editor old new
 
-undone_own : (turns : List Turn) (editor : ℕ) (past : List Kept) (now : Content) (future : List Kept) (new : Machine)
-    → let old : Machine = record { past = past; now = now; future = future } in
-    back_to editor old past ≡ Ok new → AllMade turns old → AllMade turns new × Moved turns editor old new new.now now
-undone_own turns editor [] now future new h made = cc
-undone_own turns editor (before ∷ earlier) now future new h made =
-    let old : Machine = record { past = before ∷ earlier; now = now; future = future } in
+undone_own : (turns : List Turn) (editor : ℕ) (past : List Kept) (now : Content) (rules : List Rule) (future : List Kept) (new : Machine)
+    → let old : Machine = record { past = past; now = now; rules = rules; future = future } in
+    back_to editor old past ≡ Ok new → AllMade turns old → AllMade turns new × Moved turns editor old new (ruled_now new) (ruled_now old)
+undone_own turns editor [] now rules future new h made = cc
+undone_own turns editor (before ∷ earlier) now rules future new h made =
+    let old : Machine = record { past = before ∷ earlier; now = now; rules = rules; future = future } in
     let own = allowed_own editor before _ new h in
     let is : before.editor ≡ editor = eqb-true before.editor editor own.0 in
-    subst (λ m. AllMade turns m × Moved turns editor old m m.now now) own.1 (
+    subst (λ m. AllMade turns m × Moved turns editor old m (ruled_now m) (ruled_now old)) own.1 (
       (made.0.1, (made.0.0, made.1)),
       (
-        subst (λ e. IsMadeBy turns e before.content now) is made.0.0,
-        λ other apart. (sym (steps_of-another editor other before earlier is apart), steps_of-another editor other (record before { content = now }) future is apart),
+        subst (λ e. IsMadeBy turns e (ruled_in before) (ruled_now old)) is made.0.0,
+        λ other apart. (sym (steps_of-another editor other before earlier is apart), steps_of-another editor other (kept before.editor (ruled_now old)) future is apart),
       ),
     )
 
-redone_own : (turns : List Turn) (editor : ℕ) (past : List Kept) (now : Content) (future : List Kept) (new : Machine)
-    → let old : Machine = record { past = past; now = now; future = future } in
-    forth_to editor old future ≡ Ok new → AllMade turns old → AllMade turns new × Moved turns editor old new now new.now
-redone_own turns editor past now [] new h made = cc
-redone_own turns editor past now (after ∷ later) new h made =
-    let old : Machine = record { past = past; now = now; future = after ∷ later } in
+redone_own : (turns : List Turn) (editor : ℕ) (past : List Kept) (now : Content) (rules : List Rule) (future : List Kept) (new : Machine)
+    → let old : Machine = record { past = past; now = now; rules = rules; future = future } in
+    forth_to editor old future ≡ Ok new → AllMade turns old → AllMade turns new × Moved turns editor old new (ruled_now old) (ruled_now new)
+redone_own turns editor past now rules [] new h made = cc
+redone_own turns editor past now rules (after ∷ later) new h made =
+    let old : Machine = record { past = past; now = now; rules = rules; future = after ∷ later } in
     let own = allowed_own editor after _ new h in
     let is : after.editor ≡ editor = eqb-true after.editor editor own.0 in
-    subst (λ m. AllMade turns m × Moved turns editor old m now m.now) own.1 (
+    subst (λ m. AllMade turns m × Moved turns editor old m (ruled_now old) (ruled_now m)) own.1 (
       ((made.1.0, made.0), made.1.1),
       (
-        subst (λ e. IsMadeBy turns e now after.content) is made.1.0,
-        λ other apart. (steps_of-another editor other (record after { content = now }) past is apart, sym (steps_of-another editor other after later is apart)),
+        subst (λ e. IsMadeBy turns e (ruled_now old) (ruled_in after)) is made.1.0,
+        λ other apart. (steps_of-another editor other (kept after.editor (ruled_now old)) past is apart, sym (steps_of-another editor other after later is apart)),
       ),
     )
 
--- the machine that a change leads to
-abbrev machine_in : Option Machine → Machine → Machine
-machine_in (Some next) machine = next
-machine_in None machine = machine
-
-change_made : (turns : List Turn) (asked : Asked) (old new : Machine) (next : Option Content) → Contains turns (Changes asked) → led_by old.now asked.change ≡ next
-    → option_map (advanced asked.editor old) next ≡ Some new → AllMade turns old → AllMade turns new
-change_made turns asked old new None among is h made = cc
-change_made turns asked old new (Some content) among is h made =
-    subst (AllMade turns) (ap (λ o. machine_in o old) h) ((record { change = asked.change; asked = among; leads = is }, made.0), tt)
+step_made : (turns : List Turn) (asked : Asked) (old new : Machine) (result : Result Ruled StepRefusal) → Contains turns (Steps asked) → ruled_step (ruled_now old) asked.step ≡ result
+    → after_step asked.editor old result ≡ Ok new → AllMade turns old → AllMade turns new
+step_made turns asked old new (Err refusal) among is h made = cc
+step_made turns asked old new (Ok next) among is h made =
+    subst (AllMade turns) (machine-of h) ((record { step = asked.step; asked = among; leads = is }, made.0), tt)
 
 turn_made : (turns : List Turn) (turn : Turn) (old new : Machine) → Contains turns turn → Leads old turn new → AllMade turns old → AllMade turns new
-turn_made turns (Changes asked) old new among h made = change_made turns asked old new (led_by old.now asked.change) among refl h made
-turn_made turns (Undoes editor) old new among h made = (undone_own turns editor old.past old.now old.future new h made).0
-turn_made turns (Redoes editor) old new among h made = (redone_own turns editor old.past old.now old.future new h made).0
+turn_made turns (Steps asked) old new among h made = step_made turns asked old new (ruled_step (ruled_now old) asked.step) among refl h made
+turn_made turns (Undoes editor) old new among h made = (undone_own turns editor old.past old.now old.rules old.future new h made).0
+turn_made turns (Redoes editor) old new among h made = (redone_own turns editor old.past old.now old.rules old.future new h made).0
 
 or_refused : (turns : List Turn) (turn : Turn) (old new : Machine) → Contains turns turn → Leads old turn new ⊎ (new ≡ old) → AllMade turns old → AllMade turns new
 or_refused turns turn old new among (inl led) made = turn_made turns turn old new among led made
@@ -109,9 +105,9 @@ made_in_turn turns (turn ∷ rest) first last among (mid, led, h) made =
     (or_refused turns turn first mid (among turn (first_contained turn rest)) led made)
 
 pub own_steps_law : OwnStepsLaw
-own_steps_law content turns machine h editor next =
-    let made = made_in_turn turns turns (fresh content) machine (λ turn at. at) h (tt, tt) in
+own_steps_law first turns machine h editor next =
+    let made = made_in_turn turns turns (fresh_under first) machine (λ turn at. at) h (tt, tt) in
     record {
-      undo = λ done. (undone_own turns editor machine.past machine.now machine.future next done made).1;
-      redo = λ done. (redone_own turns editor machine.past machine.now machine.future next done made).1;
+      undo = λ done. (undone_own turns editor machine.past machine.now machine.rules machine.future next done made).1;
+      redo = λ done. (redone_own turns editor machine.past machine.now machine.rules machine.future next done made).1;
     }

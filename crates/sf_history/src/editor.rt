@@ -1,26 +1,23 @@
-ghost use Rattle.std.specs.Prelude.{◌≡◌, ◌⊎◌, ◌+◌, ◌≤◌, ◌∷◌, ◌++◌, [], length, take, Ok, Err, IsOk, OnOk, OnErr, IfOk, IfErr, IsTrue, MatchResult, vec_capacity};
-ghost use Rattle.sf_steps.specs.declared.edit.Edit.{Edit as EditOf};
-ghost use Rattle.sf_steps.specs.Steps.{step};
-ghost use Rattle.sf_groups.specs.Members.{ids_given};
-ghost use Rattle.sf_together.specs.Outcomes.{IsRefusedAs, refused_as};
-ghost use Rattle.sf_history.specs.History.{alone, fresh, edited, grouped, undone, redone};
+ghost use Rattle.std.specs.Prelude.{◌≡◌, ◌⊎◌, ◌+◌, ◌≤◌, ◌∷◌, ◌++◌, [], length, take, Ok, Err, IsOk, OnOk, OnErr, IfOk, IfErr, vec_capacity};
+ghost use Rattle.sf_ruled.specs.declared.refusal.Refusal.TheVariants.{Memory};
+ghost use Rattle.sf_ruled.specs.Ruled.{AddRule, DropRule};
+ghost use Rattle.sf_history.specs.History.{edited, fresh, fresh_under, grouped, redone, ruled_now, stepped, undone};
 
-use sf_changes::{Redo, Undo, make_again, take_back};
-use sf_edits::apply;
-use sf_groups::{Group, Member};
+use sf_constraints::Rule;
+use sf_groups::Group;
 use sf_layers::Store;
 use sf_refusals::Refusal;
-use sf_steps::{Answer, Edit, Refusal as StepRefusal};
-use sf_together::{Refusal as GroupRefusal, Together, together};
-use std::alloc::Global;
+use sf_ruled::{Edited, Grouped, Redo, Refusal as StepRefusal, Ruled, Rules, Undo};
+use sf_steps::{Answer, Edit};
+use std::alloc::{AllocError, Global};
 use std::marker::Model;
 
-/// A store with the history of its changes, which several editors make in turn, each known by a number. Contracts
-/// see the content now with the past and future contents, and whose step stands beside each.
+/// A store and its rules with the history of their steps, which several editors make in turn, each known by a number.
+/// Contracts see the content and the rules now with the past and future ones, and whose step stands beside each.
 #[derive(Drop)]
 pub struct Editor {
-    store: Store,
-    // The last one is that of the last change.
+    ruled: Ruled,
+    // The last one is that of the last step.
     done: Vec<Undo>,
     // The last one is the next to be redone.
     undone: Vec<Redo>,
@@ -29,7 +26,7 @@ pub struct Editor {
     editors: Vec<u8>,
 }
 
-/// How many changes can be undone, and how many redone.
+/// How many steps can be undone, and how many redone.
 #[derive(Clone, Copy, Debug, PartialEq, Eq)]
 pub struct Depths {
     pub past: usize,
@@ -43,95 +40,68 @@ impl Model for Editor {
     ghost Value = { Machine };
 
     ghost view = { λ a. record {
-      past = past_of a.store (reverse a.done.items) (reverse (take (length a.done.items) a.editors.items));
-      now = a.store;
-      future = future_of a.store (reverse a.undone.items) (drop (length a.done.items) a.editors.items);
+      past = past_of a.ruled (reverse a.done.items) (reverse (take (length a.done.items) a.editors.items));
+      now = a.ruled.content;
+      rules = a.ruled.rules;
+      future = future_of a.ruled (reverse a.undone.items) (drop (length a.done.items) a.editors.items);
     } };
 
     ghost invariant = { λ a.
-        FitInTurn a.store (reverse a.done.items) × LeadOnInTurn a.store (reverse a.undone.items)
+        FitInTurn a.ruled (reverse a.done.items) × LeadOnInTurn a.ruled (reverse a.undone.items)
         × (length a.editors.items ≡ length a.done.items + length a.undone.items) };
 }
 
 impl Editor {
-    /// An editor of a store with no layer, with neither past nor future.
+    /// An editor of a store with no layer and no rule, with neither past nor future.
     pub fn new(alloc: Global) -> Editor
         ensures { result ≡ fresh [] }
     {
         Editor::from_store(alloc, Store::new(alloc))
     }
 
-    /// An editor of a store, with neither past nor future.
+    /// An editor of a store with no rule, with neither past nor future.
     pub fn from_store(alloc: Global, store: Store) -> Editor
         ensures { result ≡ fresh store }
     {
+        Editor::from_ruled(alloc, Ruled::from_store(alloc, store))
+    }
+
+    /// An editor of a store with rules, with neither past nor future.
+    pub fn from_ruled(alloc: Global, ruled: Ruled) -> Editor
+        ensures { result ≡ fresh_under ruled }
+    {
         Editor {
-            store,
+            ruled,
             done: Vec::new(alloc),
             undone: Vec::new(alloc),
             editors: Vec::new(alloc),
         }
     }
 
-    /// Carries out an edit of editor 0.
-    pub fn edit(&mut self, alloc: Global, edit: Edit) -> Result<Answer, (Edit, Refusal)>
-        ensures accepted { IfOk result (λ answer. edited 0 self.old edit ≡ Ok (self.new, answer)) }
-        ensures refused { IfErr result (λ e.
-            (edited 0 self.old edit ≡ Err e.1) ⊎ (e.1 ≡ Refusal.Memory)) }
-        ensures given_back { IfErr result (λ e. e.0 ≡ edit) }
-        ensures unchanged { OnErr result (self.new ≡ self.old) }
-    {
-        self.edit_as(alloc, 0, edit)
-    }
-
-    /// Carries out an edit of the editor, and empties the future. A refused edit is given back and changes
-    /// nothing.
-    pub fn edit_as(
-        &mut self,
-        alloc: Global,
-        editor: u8,
-        edit: Edit,
-    ) -> Result<Answer, (Edit, Refusal)>
+    /// Carries out an edit of the editor, and empties the future.
+    ///
+    /// # Errors
+    ///
+    /// Those of `Ruled::edit`. Nothing is changed then.
+    pub fn edit_as(&mut self, alloc: Global, editor: u8, edit: Edit) -> Result<Answer, StepRefusal>
         ensures accepted { IfOk result (λ answer. edited editor self.old edit ≡ Ok (self.new, answer)) }
-        ensures refused { IfErr result (λ e.
-            (edited editor self.old edit ≡ Err e.1) ⊎ (e.1 ≡ Refusal.Memory)) }
-        ensures given_back { IfErr result (λ e. e.0 ≡ edit) }
+        ensures refused { IfErr result (λ refusal.
+            (edited editor self.old edit ≡ Err refusal) ⊎ (refusal ≡ Memory)) }
         ensures unchanged { OnErr result (self.new ≡ self.old) }
     {
-        match self.step_as(alloc, editor, edit) {
-            Ok(answer) => Ok(answer),
-            Err((edit, refusal)) => Err((edit, refusal.into())),
-        }
-    }
-
-    // The same, with the refusal of the step.
-    fn step_as(
-        &mut self,
-        alloc: Global,
-        editor: u8,
-        edit: Edit,
-    ) -> Result<Answer, (Edit, StepRefusal)>
-        ensures accepted { IfOk result (λ answer. edited editor self.old edit ≡ Ok (self.new, answer)) }
-        ensures refused { IfErr result (λ e. (step self.old.now edit ≡ Err e.1) ⊎ (e.1 ≡ StepRefusal.Memory)) }
-        ensures given_back { IfErr result (λ e. e.0 ≡ edit) }
-        ensures unchanged { OnErr result (self.new ≡ self.old) }
-    {
-        if self.done.reserve(1).is_err() || self.editors.reserve(1).is_err() {
-            return Err((edit, StepRefusal::Memory));
-        }
-        match apply(alloc, &mut self.store, edit) {
-            Ok(inverse) => {
-                let answer = inverse.answer();
+        reserve_step(&mut self.done, &mut self.editors)?;
+        match self.ruled.edit(alloc, edit) {
+            Ok(Edited { answer, undo }) => {
                 advance(
                     &mut self.done,
                     &mut self.undone,
                     &mut self.editors,
-                    Undo::Edit(inverse),
+                    undo,
                     editor,
                 );
                 Ok(answer)
             }
-            Err((edit, refusal)) => Err((edit, refusal)),
+            Err(refusal) => Err(refusal),
         }
     }
 
@@ -140,67 +110,26 @@ impl Editor {
     ///
     /// # Errors
     ///
-    /// The first member that is refused; `Memory` may come in its place, and in the place of success. Nothing is changed
-    /// then.
+    /// Those of `Ruled::group`. Nothing is changed then.
     pub fn group_as(
         &mut self,
         alloc: Global,
         editor: u8,
         group: Group,
-    ) -> Result<Vec<u32>, GroupRefusal>
+    ) -> Result<Vec<u32>, StepRefusal>
         ensures accepted { IfOk result (λ ids. grouped editor self.old group ≡ Ok (self.new, ids.items)) }
-        ensures refused { IfErr result (IsRefusedAs self.old.now group) }
+        ensures refused { IfErr result (λ refusal.
+            (grouped editor self.old group ≡ Err refusal) ⊎ (refusal ≡ Memory)) }
         ensures unchanged { OnErr result (self.new ≡ self.old) }
     {
-        match only_edit(group) {
-            Ok(edit) => self.edit_alone_as(alloc, editor, edit),
-            Err(group) => self.several_as(alloc, editor, group),
-        }
-    }
-
-    // One edit as a group is the edit: nothing has to be tried beside the store, and its inverse takes it back.
-    fn edit_alone_as(
-        &mut self,
-        alloc: Global,
-        editor: u8,
-        edit: Edit,
-    ) -> Result<Vec<u32>, GroupRefusal>
-        ensures accepted { IfOk result (λ ids. grouped editor self.old (alone edit) ≡ Ok (self.new, ids.items)) }
-        ensures refused { IfErr result (IsRefusedAs self.old.now (alone edit)) }
-        ensures unchanged { OnErr result (self.new ≡ self.old) }
-    {
-        // The place for its identifier comes first.
-        let mut ids = Vec::with_capacity(alloc, 1)?;
-        match self.step_as(alloc, editor, edit) {
-            Ok(answer) => {
-                put_id(&mut ids, answer);
-                Ok(ids)
-            }
-            Err((_, refusal)) => Err(refused_alone(refusal)),
-        }
-    }
-
-    // The same of several edits.
-    fn several_as(
-        &mut self,
-        alloc: Global,
-        editor: u8,
-        group: Group,
-    ) -> Result<Vec<u32>, GroupRefusal>
-        ensures accepted { IfOk result (λ ids. grouped editor self.old group ≡ Ok (self.new, ids.items)) }
-        ensures refused { IfErr result (IsRefusedAs self.old.now group) }
-        ensures unchanged { OnErr result (self.new ≡ self.old) }
-    {
-        if self.done.reserve(1).is_err() || self.editors.reserve(1).is_err() {
-            return Err(GroupRefusal::Memory);
-        }
-        match together(alloc, &mut self.store, group) {
-            Ok(Together { ids, halves }) => {
+        reserve_step(&mut self.done, &mut self.editors)?;
+        match self.ruled.group(alloc, group) {
+            Ok(Grouped { ids, undo }) => {
                 advance(
                     &mut self.done,
                     &mut self.undone,
                     &mut self.editors,
-                    Undo::Group(halves),
+                    undo,
                     editor,
                 );
                 Ok(ids)
@@ -209,7 +138,69 @@ impl Editor {
         }
     }
 
-    /// Takes the last change back, where it was editor 0's.
+    /// Adds a rule as a step of the editor, and empties the future.
+    ///
+    /// # Errors
+    ///
+    /// Those of `Ruled::add_rule`. The rule is given back, and nothing is changed then.
+    pub fn add_rule_as(
+        &mut self,
+        alloc: Global,
+        editor: u8,
+        rule: Rule,
+    ) -> Result<(), (Rule, StepRefusal)>
+        ensures accepted { OnOk result (stepped editor self.old (AddRule rule) ≡ Ok self.new) }
+        ensures refused { IfErr result (λ e.
+            (stepped editor self.old (AddRule rule) ≡ Err e.1) ⊎ (e.1 ≡ Memory)) }
+        ensures given_back { IfErr result (λ e. e.0 ≡ rule) }
+        ensures unchanged { OnErr result (self.new ≡ self.old) }
+    {
+        if reserve_step(&mut self.done, &mut self.editors).is_err() {
+            return Err((rule, StepRefusal::Memory));
+        }
+        match self.ruled.add_rule(alloc, rule) {
+            Ok(undo) => {
+                advance(
+                    &mut self.done,
+                    &mut self.undone,
+                    &mut self.editors,
+                    undo,
+                    editor,
+                );
+                Ok(())
+            }
+            Err(refused) => Err(refused),
+        }
+    }
+
+    /// Drops the rule of a name as a step of the editor, and empties the future.
+    ///
+    /// # Errors
+    ///
+    /// `NoRule` where no rule has the name; out of memory in its place, and in the place of success. Nothing is changed then.
+    pub fn drop_rule_as(&mut self, editor: u8, name: &str) -> Result<(), StepRefusal>
+        ensures accepted { OnOk result (stepped editor self.old (DropRule name.now) ≡ Ok self.new) }
+        ensures refused { IfErr result (λ refusal.
+            (stepped editor self.old (DropRule name.now) ≡ Err refusal) ⊎ (refusal ≡ Memory)) }
+        ensures unchanged { OnErr result (self.new ≡ self.old) }
+    {
+        reserve_step(&mut self.done, &mut self.editors)?;
+        match self.ruled.drop_rule(name) {
+            Ok(undo) => {
+                advance(
+                    &mut self.done,
+                    &mut self.undone,
+                    &mut self.editors,
+                    undo,
+                    editor,
+                );
+                Ok(())
+            }
+            Err(refusal) => Err(refusal),
+        }
+    }
+
+    /// Takes the last step back, where it was editor 0's.
     pub fn undo(&mut self, alloc: Global) -> Result<(), Refusal>
         ensures done { OnOk result (undone 0 self.old ≡ Ok self.new) }
         ensures refused { IfErr result (λ refusal. (undone 0 self.old ≡ Err refusal)
@@ -219,7 +210,7 @@ impl Editor {
         self.undo_as(alloc, 0)
     }
 
-    /// Takes the last change back, where it was the editor's: `NothingToUndo` without a past, `NotYours` where it
+    /// Takes the last step back, where it was the editor's: `NothingToUndo` without a past, `NotYours` where it
     /// was another's. A refused undo changes nothing, and but for `Memory` it takes no memory.
     pub fn undo_as(&mut self, alloc: Global, editor: u8) -> Result<(), Refusal>
         ensures done { OnOk result (undone editor self.old ≡ Ok self.new) }
@@ -234,12 +225,12 @@ impl Editor {
         if owner != editor {
             return Err(Refusal::NotYours(owner));
         }
-        // The place among the changes to be redone comes first.
+        // The place among the steps to be redone comes first.
         if self.undone.reserve(1).is_err() {
             return Err(Refusal::Memory);
         }
         let undo = self.done.pop().unwrap();
-        match take_back(alloc, &mut self.store, undo) {
+        match self.ruled.take_back(alloc, undo) {
             Ok(redo) => {
                 self.undone.push(redo).unwrap();
                 Ok(())
@@ -251,7 +242,7 @@ impl Editor {
         }
     }
 
-    /// Redoes the last change that was taken back, where it was editor 0's.
+    /// Redoes the last step that was taken back, where it was editor 0's.
     pub fn redo(&mut self, alloc: Global) -> Result<(), Refusal>
         ensures done { OnOk result (redone 0 self.old ≡ Ok self.new) }
         ensures refused { IfErr result (λ refusal. (redone 0 self.old ≡ Err refusal)
@@ -261,7 +252,7 @@ impl Editor {
         self.redo_as(alloc, 0)
     }
 
-    /// Redoes the last change that was taken back, where it was the editor's: `NothingToRedo` without a
+    /// Redoes the last step that was taken back, where it was the editor's: `NothingToRedo` without a
     /// future, `NotYours` where it was another's. A refused redo changes nothing, and but for `Memory` it takes
     /// no memory.
     pub fn redo_as(&mut self, alloc: Global, editor: u8) -> Result<(), Refusal>
@@ -281,7 +272,7 @@ impl Editor {
             return Err(Refusal::Memory);
         }
         let redo = self.undone.pop().unwrap();
-        match make_again(alloc, &mut self.store, redo) {
+        match self.ruled.make_again(alloc, redo) {
             Ok(undo) => {
                 self.done.push(undo).unwrap();
                 Ok(())
@@ -298,17 +289,38 @@ impl Editor {
     pub fn store(&self) -> &Store
         ensures { result.now ≡ self.now.now }
     {
-        &self.store
+        self.ruled.store()
+    }
+
+    /// The rules as they are now.
+    pub fn rules(&self) -> &Rules
+        ensures { result.now ≡ self.now.rules }
+    {
+        self.ruled.rules()
+    }
+
+    /// The store with its rules as they are now.
+    pub fn ruled(&self) -> &Ruled
+        ensures { result.now ≡ ruled_now self.now }
+    {
+        &self.ruled
     }
 
     /// The store as it is now, moved out of its editor.
     pub fn into_store(self) -> Store
         ensures { result ≡ self.now }
     {
-        self.store
+        self.ruled.into_store()
     }
 
-    /// How many changes can be undone, and how many redone.
+    /// The store with its rules as they are now, moved out of their editor.
+    pub fn into_ruled(self) -> Ruled
+        ensures { result ≡ ruled_now self }
+    {
+        self.ruled
+    }
+
+    /// How many steps can be undone, and how many redone.
     pub fn depths(&self) -> Depths
         ensures { result ≡ record { past = length self.now.past; future = length self.now.future } }
     {
@@ -319,7 +331,18 @@ impl Editor {
     }
 }
 
-// Puts what takes a change of the editor back behind the others, and empties the future. There is room for it.
+// Finds room for one more step.
+fn reserve_step(done: &mut Vec<Undo>, editors: &mut Vec<u8>) -> Result<(), AllocError>
+    ensures done { OnOk result (length done.new.items + 1 ≤ vec_capacity done.new) }
+    ensures editors { OnOk result (length editors.new.items + 1 ≤ vec_capacity editors.new) }
+    ensures same_done { done.new.items ≡ done.old.items }
+    ensures same_editors { editors.new.items ≡ editors.old.items }
+{
+    done.reserve(1)?;
+    editors.reserve(1)
+}
+
+// Puts what takes a step of the editor back behind the others, and empties the future. There is room for it.
 fn advance(
     done: &mut Vec<Undo>,
     undone: &mut Vec<Redo>,
@@ -337,46 +360,4 @@ fn advance(
     editors.push(editor).unwrap();
     done.push(undo).unwrap();
     undone.clear();
-}
-
-// The edit of a group that has no other.
-fn only_edit(group: Group) -> Result<Edit, Group>
-    ensures { MatchResult result (λ edit. group ≡ alone edit) (λ back. back ≡ group) }
-{
-    if !is_alone(group.members()) {
-        return Err(group);
-    }
-    let member = group.into_members().pop().unwrap();
-    Ok(member.edit)
-}
-
-// Whether one member stands alone, of a feature that it names.
-fn is_alone(members: &[Member]) -> bool
-    ensures { IsTrue result → (edit : EditOf) × (members.now ≡ alone edit) }
-{
-    match members {
-        [member] => !member.of_last,
-        _ => false,
-    }
-}
-
-// Puts the identifier that an edit gave behind the others, where it gave one. There is room for it.
-fn put_id(ids: &mut Vec<u32>, answer: Answer)
-    requires { length ids.old.items + 1 ≤ vec_capacity ids.old }
-    ensures { ids.new.items ≡ ids.old.items ++ ids_given answer }
-{
-    match answer {
-        Answer::Id(id) => ids.push(id).unwrap(),
-        Answer::Done => {}
-    }
-}
-
-// Why a group of one edit is refused that is refused so.
-fn refused_alone(refusal: StepRefusal) -> GroupRefusal
-    ensures { result ≡ refused_as 1 refusal }
-{
-    match refusal {
-        StepRefusal::Memory => GroupRefusal::Memory,
-        refusal => GroupRefusal::Member { number: 1, refusal },
-    }
 }

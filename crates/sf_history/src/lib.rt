@@ -1,4 +1,4 @@
-//! A store with the history of its edits: what was done can be undone, and redone.
+//! A store and its rules with the history of their steps: what was done can be undone, and redone.
 #![tactic(auto)]
 
 mod editor;
@@ -6,3 +6,4 @@ pub mod laws;
 
 pub use editor::{Depths, Editor};
 pub use sf_refusals::Refusal;
+pub use sf_ruled::Refusal as StepRefusal;

@@ -1,4 +1,3 @@
--- Internal: who wants to trust the program need not read this file.
 -- An ask the other way round: of the second geometry with the first.
 use Rattle.std.specs.Prelude.{◌≡◌, length}
 use Rattle.sf_geometry.specs.declared.geometry.Geometry.{Geometry}

@@ -3,31 +3,39 @@ use Rattle.std.specs.Prelude.{◌≡◌, ℕ, List, [], ◌∷◌, Option, None,
 use Rattle.sf_refusals.specs.declared.refusal.Refusal.{Refusal}
 use Rattle.sf_steps.specs.declared.answer.Answer.{Answer}
 use Rattle.sf_groups.specs.declared.member.Member.{Member}
-use Rattle.sf_groups.specs.Members.{Refused}
-use Rattle.sf_history.specs.History.{Machine, edited, grouped, undone, redone}
+use Rattle.sf_ruled.specs.Ruled.{AddRule as Adding, DropRule as Dropping}
+use Rattle.sf_ruled.specs.declared.refusal.Refusal.{Refusal as StepRefusal}
+use Rattle.sf_history.specs.History.{Machine, edited, grouped, stepped, undone, redone}
 use Rattle.sf_commands.specs.declared.command.Command.{Command}
 use Rattle.sf_commands.specs.declared.group_text.GroupRefusal.{GroupRefusal}
-use Rattle.sf_commands.specs.declared.command.Command.TheVariants.{Edit, Undo, Redo}
+use Rattle.sf_commands.specs.declared.command.Command.TheVariants.{AddRule, DropRule, Edit, Undo, Redo}
 use Rattle.sf_console.specs.Readings.{Reading, Asked, Grouped, text_reading}
 
 -- the machine of an accepted edit
-abbrev pub after_edit : Result (Machine × Answer) Refusal → Option Machine
+abbrev pub after_edit : Result (Machine × Answer) StepRefusal → Option Machine
 after_edit (Ok done) = Some done.0
 after_edit (Err refusal) = None
 
 -- the machine of an accepted group
-abbrev pub after_group : Result (Machine × List ℕ) Refused → Option Machine
+abbrev pub after_group : Result (Machine × List ℕ) StepRefusal → Option Machine
 after_group (Ok done) = Some done.0
-after_group (Err refused) = None
+after_group (Err refusal) = None
+
+-- the machine of a rule that was added or dropped
+abbrev pub after_rule : Result Machine StepRefusal → Option Machine
+after_rule (Ok machine) = Some machine
+after_rule (Err refusal) = None
 
 -- the machine of an accepted undo or redo
 abbrev pub after_move : Result Machine Refusal → Option Machine
 after_move (Ok machine) = Some machine
 after_move (Err refusal) = None
 
--- the machine after an accepted edit, undo or redo; nothing else changes it
+-- the machine after an accepted edit, rule added or dropped, undo or redo; nothing else changes it
 abbrev pub commanded : Machine → Result (ℕ × Command) Refusal → Option Machine
 commanded machine (Ok (editor, Edit edit)) = after_edit (edited editor machine edit)
+commanded machine (Ok (editor, AddRule rule)) = after_rule (stepped editor machine (Adding rule))
+commanded machine (Ok (editor, DropRule name)) = after_rule (stepped editor machine (Dropping name))
 commanded machine (Ok (editor, Undo)) = after_move (undone editor machine)
 commanded machine (Ok (editor, Redo)) = after_move (redone editor machine)
 commanded machine other = None

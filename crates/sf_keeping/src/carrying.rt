@@ -6,7 +6,9 @@ ghost use Rattle.sf_commands.specs.GroupTexts.{OrNoMemory};
 ghost use Rattle.sf_keeping.specs.Outcomes.{Becomes, BecomesGrouped, IsOutcome};
 
 use sf_commands::{Command, GroupRefusal, is_blank_text, parse, parse_group};
-use sf_console::{Editor, Reply, carry_out_group, execute, refused};
+use sf_console::{
+    Editor, Reply, carry_out_group, execute, refused, refused_by_rules, refused_step,
+};
 use sf_groups::Group;
 use sf_refusals::Refusal;
 use sf_steps::Answer;
@@ -16,7 +18,7 @@ use std::str::from_utf8;
 /// What became of a text.
 #[derive(Drop)]
 pub(crate) enum Outcome {
-    /// It was accepted as an edit, an undo or a redo.
+    /// It was accepted as an edit, a rule that is added or dropped, an undo or a redo.
     Changed(Answer),
     /// It was accepted as a group, and this is the line that answers it.
     Grouped(Vec<u8>),
@@ -56,7 +58,7 @@ fn carry_out_members(
     match group {
         Ok(group) => match carry_out_group(alloc, editor, asker, group) {
             Ok(answer) => Outcome::Grouped(answer),
-            Err(refusal) => Outcome::Told(refused(refusal)),
+            Err(refusal) => Outcome::Told(refused_by_rules(alloc, editor.rules(), refusal)),
         },
         Err(refusal) => Outcome::Told(refused(refusal)),
     }
@@ -69,7 +71,17 @@ fn carry_out_command(alloc: Global, editor: &mut Editor, asker: u8, command: Com
     match command {
         Command::Edit(edit) => match editor.edit_as(alloc, asker, edit) {
             Ok(answer) => Outcome::Changed(answer),
-            Err((_, refusal)) => Outcome::Told(Err(refusal)),
+            Err(refusal) => Outcome::Told(refused_by_rules(alloc, editor.rules(), refusal)),
+        },
+        Command::AddRule(rule) => match editor.add_rule_as(alloc, asker, rule) {
+            Ok(()) => Outcome::Changed(Answer::Done),
+            Err((rule, refusal)) => {
+                Outcome::Told(refused_step(alloc, rule.name.as_str(), refusal))
+            }
+        },
+        Command::DropRule(name) => match editor.drop_rule_as(asker, name.as_str()) {
+            Ok(()) => Outcome::Changed(Answer::Done),
+            Err(refusal) => Outcome::Told(refused_step(alloc, name.as_str(), refusal)),
         },
         Command::Undo => match editor.undo_as(alloc, asker) {
             Ok(()) => Outcome::Changed(Answer::Done),

@@ -4,3 +4,4 @@ pub mod OrderLaws
 pub mod NineLaws
 pub mod KnownLaws
 pub mod ComputedPredicates
+pub mod TextLaws

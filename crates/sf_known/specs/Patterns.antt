@@ -1,5 +1,5 @@
 -- Patterns of nine letters, and which matrices match (6.1.15.2).
-use Rattle.std.specs.Prelude.{◌≡◌, ℕ, Bool, true, false, List, [], ◌∷◌, Option, Some, None, option_map, option_and_then, codes, length, nat_eq, ◌==◌, zip, if◌then◌else◌, IsTrue, IsFalse}
+use Rattle.std.specs.Prelude.{◌≡◌, ℕ, Bool, true, false, List, [], ◌∷◌, Option, Some, None, option_map, option_and_then, codes, length, map, nat_eq, ◌==◌, zip, if◌then◌else◌, IsTrue, IsFalse}
 use Rattle.std.specs.Map.{lookup}
 use Rattle.std.specs.List.{list_all, list_any}
 use Rattle.sf_plane.specs.declared.dim.Dim.{Dim}
@@ -22,6 +22,19 @@ letters_of (byte ∷ bytes) =
 -- the pattern of a text of nine letters
 abbrev pub pattern_of : List ℕ → Option (List Letter)
 pattern_of text = if length text == 9 then letters_of text else None
+
+-- the character of a letter
+abbrev pub letter_character : Letter → ℕ
+letter_character Any = 42
+letter_character Filled = 84
+letter_character Empty = 70
+letter_character Zero = 48
+letter_character One = 49
+letter_character Two = 50
+
+-- the text of a pattern, with capital letters
+abbrev pub pattern_text : List Letter → List ℕ
+pattern_text letters = map letter_character letters
 
 -- the entry is as the letter asks
 abbrev pub admits : Letter → Dim → Bool
@@ -69,3 +82,7 @@ abbrev pub PatternsNeedContact : Type 0
 PatternsNeedContact =
     (letters : List Letter) (entries : List Dim) → IsTrue (asks_contact letters) → IsFalse (has_contact entries)
     → length entries ≡ 9 → IsFalse (matches letters entries)
+
+-- a pattern is that of its text
+abbrev pub PatternsAreOfTheirTexts : Type 0
+PatternsAreOfTheirTexts = (letters : List Letter) → length letters ≡ 9 → pattern_of (pattern_text letters) ≡ Some letters

@@ -7,6 +7,17 @@ use Rattle.sf_known.specs.declared.predicate.Predicate.{Predicate}
 use Rattle.sf_known.specs.declared.predicate.Predicate.TheVariants.{Equals, Disjoint, Intersects, Touches, Within, Contains, Crosses, Overlaps}
 use Rattle.sf_known.specs.Patterns.{has_contact, matches, pattern_of}
 
+-- the name of a predicate
+abbrev pub predicate_name : Predicate → List ℕ
+predicate_name Equals = codes "equals"
+predicate_name Disjoint = codes "disjoint"
+predicate_name Intersects = codes "intersects"
+predicate_name Touches = codes "touches"
+predicate_name Within = codes "within"
+predicate_name Contains = codes "contains"
+predicate_name Crosses = codes "crosses"
+predicate_name Overlaps = codes "overlaps"
+
 -- the entries match the pattern of a text
 abbrev pub is_like : List ℕ → List Dim → Bool
 is_like text entries = option_map_or (λ letters. matches letters entries) (pattern_of text) false

@@ -1,12 +1,17 @@
 //! Laws of patterns, predicates and what is known of a matrix, each the contract of a function that does nothing.
 
 ghost use Rattle.sf_known.specs.Known.{AnswersAreTrue, AnswersWhereAllAgree, BothHold, ContactAnswers, SettledIsEnough};
-ghost use Rattle.sf_known.specs.Patterns.{PatternsNeedContact};
+ghost use Rattle.sf_known.specs.Patterns.{PatternsAreOfTheirTexts, PatternsNeedContact};
 ghost use Rattle.sf_known.specs.Predicates.{PredicatesNeedContact};
 
 /// A pattern that needs contact matches no matrix without it.
 pub fn patterns_need_contact()
     ensures { PatternsNeedContact }
+{}
+
+/// A pattern is that of its text.
+pub fn patterns_are_of_their_texts()
+    ensures { PatternsAreOfTheirTexts }
 {}
 
 /// A predicate that needs contact holds of no matrix without it.

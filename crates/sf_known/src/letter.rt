@@ -1,5 +1,5 @@
-ghost use Rattle.std.specs.Prelude.{◌≡◌};
-ghost use Rattle.sf_known.specs.Patterns.{admits, asks_filled, is_filled, letter_of};
+ghost use Rattle.std.specs.Prelude.{◌≡◌, ◌∷◌, []};
+ghost use Rattle.sf_known.specs.Patterns.{admits, asks_filled, is_filled, letter_character, letter_of};
 ghost use Rattle.sf_known.specs.Known.{highest, lowest};
 
 use sf_plane::Dim;
@@ -34,6 +34,20 @@ impl Letter {
             b'1' => Some(Letter::One),
             b'2' => Some(Letter::Two),
             _ => None,
+        }
+    }
+
+    /// Its character, `T` and `F` as capitals.
+    pub fn text(self) -> &'static str
+        ensures { result.now ≡ letter_character self ∷ [] }
+    {
+        match self {
+            Letter::Any => "*",
+            Letter::Filled => "T",
+            Letter::Empty => "F",
+            Letter::Zero => "0",
+            Letter::One => "1",
+            Letter::Two => "2",
         }
     }
 

@@ -46,6 +46,13 @@ impl Pattern {
         Ok(Pattern(letters))
     }
 
+    /// Its nine letters, row by row.
+    pub fn letters(&self) -> &[Letter; 9]
+        ensures { result.now ≡ self.now }
+    {
+        &self.0
+    }
+
     /// The pattern of the two geometries the other way round: its columns as rows.
     pub fn transposed(&self) -> Pattern
         ensures turned { result ≡ transposed self.now }

@@ -1,6 +1,6 @@
 ghost use Rattle.std.specs.Prelude.{◌≡◌};
 ghost use Rattle.sf_known.specs.Goals.{AsksFor};
-ghost use Rattle.sf_known.specs.Predicates.{crosses, holds, overlaps, predicate_asks_contact, touches};
+ghost use Rattle.sf_known.specs.Predicates.{crosses, holds, overlaps, predicate_asks_contact, predicate_name, touches};
 
 use super::goal::Goal;
 use super::letter::Letter::{Any, Empty, Filled, One, Zero};
@@ -47,6 +47,22 @@ const OVERLAPPING: Pattern = Pattern([Filled, Any, Filled, Any, Any, Any, Filled
 const OVERLAPPING_LINES: Pattern = Pattern([One, Any, Filled, Any, Any, Any, Filled, Any, Any]);
 
 impl Predicate {
+    /// Its name, in small letters.
+    pub fn name(self) -> &'static str
+        ensures { result.now ≡ predicate_name self }
+    {
+        match self {
+            Predicate::Equals => "equals",
+            Predicate::Disjoint => "disjoint",
+            Predicate::Intersects => "intersects",
+            Predicate::Touches => "touches",
+            Predicate::Within => "within",
+            Predicate::Contains => "contains",
+            Predicate::Crosses => "crosses",
+            Predicate::Overlaps => "overlaps",
+        }
+    }
+
     /// What the predicate asks of the matrix of two geometries of these dimensions (06-103r4, 6.1.15.3).
     pub fn goal(self, a: Dim, b: Dim) -> Goal
         ensures { AsksFor (holds self a b) result }

@@ -7,12 +7,14 @@ use Rattle.sf_features.specs.Columns.{named, numbered}
 use Rattle.sf_features.specs.declared.column.Column.{Column}
 use Rattle.sf_layers.specs.Content.{Content, has_layer, layer_of}
 use Rattle.sf_layers.specs.WellFormed.{IsIssued}
+use Rattle.sf_constraints.specs.declared.rule.Rule.{Rule}
+use Rattle.sf_ruled.specs.Ruled.{has_rule}
 use Rattle.sf_streams.specs.Streams.{Left}
 use Rattle.sf_streams.proofs.ReadingLaws.{at}
 use Rattle.sf_format.specs.declared.defect.Defect.{Defect}
-use Rattle.sf_format.specs.declared.defect.Defect.TheVariants.{BadName, ColumnExists, ColumnsExhausted, LayerExists}
+use Rattle.sf_format.specs.declared.defect.Defect.TheVariants.{BadName, ColumnExists, ColumnsExhausted, LayerExists, NoLayer, RuleExists}
 use Rattle.sf_format.specs.Readings.{Reads, Reading, and_then, field, judged, number, sized}
-use Rattle.sf_format.specs.Format.{allowed, fresh_column_name, fresh_layer_name, fresh_number, name}
+use Rattle.sf_format.specs.Format.{allowed, fresh_column_name, fresh_layer_name, fresh_number, fresh_rule_name, known_layer_name, name}
 use Rattle.sf_loading.specs.Streaming.{Takes}
 
 field-passed : {A B : Type 0} (read : Reading A) (rule : A → Result B Defect) (y : B) (left rest : Left) → field read rule left ≡ Ok (y, rest)
@@ -67,6 +69,26 @@ Takes-layer_name content text unread left old new a =
     let p = Takes-passed name (fresh_layer_name content) text unread left old new a in
     let q = allowed-passed (not (has_layer content p.0)) LayerExists p.0 text p.1 in
     (subst (λ t. IsTrue (is_name t)) q.1 (name-is p.2 p.3 p.0 p.4), none-of (layer_of content text) (ap (λ t. not (has_layer content t)) (sym q.1) ∙ q.0))
+
+not-back : (b : Bool) → not b ≡ true → b ≡ false
+not-back false h = refl
+not-back true h = absurd (cc h)
+
+-- a name that no rule has
+pub Takes-rule_name : (rules : List Rule) (text : List ℕ) (unread left : Option (List ℕ)) (old new : Left) → Takes (field name (fresh_rule_name rules)) text unread left old new
+    → IsTrue (is_name text) × (has_rule text rules ≡ false)
+Takes-rule_name rules text unread left old new a =
+    let p = Takes-passed name (fresh_rule_name rules) text unread left old new a in
+    let q = allowed-passed (not (has_rule p.0 rules)) RuleExists p.0 text p.1 in
+    (subst (λ t. IsTrue (is_name t)) q.1 (name-is p.2 p.3 p.0 p.4), not-back (has_rule text rules) (ap (λ t. not (has_rule t rules)) (sym q.1) ∙ q.0))
+
+-- a name that a layer has
+pub Takes-known_layer : (content : Content) (text : List ℕ) (unread left : Option (List ℕ)) (old new : Left) → Takes (field name (known_layer_name content)) text unread left old new
+    → has_layer content text ≡ true
+Takes-known_layer content text unread left old new a =
+    let p = Takes-passed name (known_layer_name content) text unread left old new a in
+    let q = allowed-passed (has_layer content p.0) NoLayer p.0 text p.1 in
+    ap (has_layer content) (sym q.1) ∙ q.0
 
 both : (a b : Bool) → (a && b) ≡ true → (a ≡ true) × (b ≡ true)
 both true true h = (refl, refl)

@@ -1,5 +1,7 @@
+pub mod AskLaws
 pub mod FieldLaws
 pub mod GeometryLaws
+pub mod KeptLaws
 pub mod LayerLaws
 pub mod LoadLaws
 pub mod LookupLaws

@@ -2,35 +2,35 @@
 use Rattle.std.proofs.Common.{◌≡◌, ℕ, ◌<◌, List, [], ◌∷◌, ◌++◌, length, Option, Some, None, Ok, Err, refl, sym, ap, subst, ◌∙◌, append-nil, arith}
 use Rattle.std.proofs.KnownBytes.{Consumes-trans}
 use Rattle.std.specs.Io.KnownBytes.{Consumes, IsAtEnd}
-use Rattle.sf_layers.specs.Content.{Content}
+use Rattle.sf_ruled.specs.Ruled.{Ruled}
 use Rattle.sf_streams.specs.Streams.{Left, ReadsAhead, Goes, nothing_ahead}
 use Rattle.sf_streams.proofs.ReadingLaws.{at}
 use Rattle.sf_format.specs.declared.defect.Defect.{Defect}
 use Rattle.sf_format.specs.declared.defect.Defect.TheVariants.{Trailing}
 use Rattle.sf_format.specs.Defects.{number_of}
 use Rattle.sf_format.specs.Readings.{Reading, ◌>>=◌, done, end}
-use Rattle.sf_format.specs.Format.{file, value_of, content_of}
+use Rattle.sf_format.specs.Format.{file, value_of, ruled_content_of}
 use Rattle.sf_loading.specs.Loading.{Loads, Lacks}
 use Rattle.sf_loading.specs.Streaming.{Finds}
 use Rattle.sf_loading.proofs.StreamLaws.{AreLeft-told, told}
 
 -- where a reader tells its bytes, what loads are those bytes
-pub Loads-known : (text : List ℕ) (left : Option (List ℕ)) (content : Content) → Loads (Some text) left content → content_of text ≡ Ok content
-Loads-known text None content loads = absurd loads.consumed
-Loads-known text (Some rest) content loads =
+pub Loads-known : (text : List ℕ) (left : Option (List ℕ)) (ruled : Ruled) → Loads (Some text) left ruled → ruled_content_of text ≡ Ok ruled
+Loads-known text None ruled loads = absurd loads.consumed
+Loads-known text (Some rest) ruled loads =
     let all : loads.text ≡ text = sym (loads.consumed ∙ ap (λ (t : List ℕ). loads.text ++ t) loads.at_end ∙ append-nil loads.text) in
-    ap content_of (sym all) ∙ loads.loads
+    ap ruled_content_of (sym all) ∙ loads.loads
 
 pub Lacks-known : (text : List ℕ) (left : Option (List ℕ)) (place inner : ℕ) → Lacks (Some text) left place inner
-    → (defect : Defect) × (inner ≡ number_of defect) × (content_of text ≡ Err (record { place = place; defect = defect }))
+    → (defect : Defect) × (inner ≡ number_of defect) × (ruled_content_of text ≡ Err (record { place = place; defect = defect }))
 Lacks-known text None place inner lacks = absurd lacks.consumed
 Lacks-known text (Some rest) place inner lacks =
-    (lacks.defect, lacks.is_inner, ap content_of (lacks.consumed ∙ ap (λ (t : List ℕ). lacks.text ++ t) lacks.is_left) ∙ lacks.faulty)
+    (lacks.defect, lacks.is_inner, ap ruled_content_of (lacks.consumed ∙ ap (λ (t : List ℕ). lacks.text ++ t) lacks.is_left) ∙ lacks.faulty)
 
--- after the last layer the reader is at its end, and nothing stands ahead: the stream is a file of the content
-pub Loads-end : (content : Content) (unread mid left : Option (List ℕ)) (second third : Left) → Goes file (end >>= λ ended. done content) unread mid nothing_ahead second
-    → ReadsAhead mid left second third → IsAtEnd left → third.bytes ≡ [] → Loads unread left content
-Loads-end content unread mid left second third a b at_end nothing = record {
+-- after the last rule the reader is at its end, and nothing stands ahead: the stream is a file of what was read
+pub Loads-end : (ruled : Ruled) (unread mid left : Option (List ℕ)) (second third : Left) → Goes file (end >>= λ ended. done ruled) unread mid nothing_ahead second
+    → ReadsAhead mid left second third → IsAtEnd left → third.bytes ≡ [] → Loads unread left ruled
+Loads-end ruled unread mid left second third a b at_end nothing = record {
   text = a.text;
   consumed = subst (Consumes unread left) all (Consumes-trans _ _ _ _ _ a.consumed b.consumed);
   at_end = at_end;

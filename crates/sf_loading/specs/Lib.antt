@@ -2,3 +2,4 @@ pub mod Streaming
 pub mod Loading
 pub mod Types
 pub mod Layers
+pub mod Kept

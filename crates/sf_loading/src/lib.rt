@@ -1,10 +1,12 @@
-//! A store from the bytes of its file.
+//! A store with rules from the bytes of its file.
 #![tactic(auto)]
 
+mod asks;
 mod columns;
 mod features;
 mod geometries;
 mod halt;
+mod kept;
 mod layers;
 mod load_fault;
 mod loading;

@@ -5,7 +5,7 @@ ghost use Rattle.sf_features.specs.Names.{is_name as is_name_of};
 ghost use Rattle.sf_streams.specs.Streams.{ahead_max};
 ghost use Rattle.sf_format.specs.declared.defect.Defect.TheVariants.{BadName};
 ghost use Rattle.sf_format.specs.Readings.{field, number};
-ghost use Rattle.sf_format.specs.Format.{allowed as allowed_of, fresh_column_name, fresh_layer_name, name as name_of};
+ghost use Rattle.sf_format.specs.Format.{allowed as allowed_of, fresh_column_name, fresh_layer_name, fresh_rule_name, known_layer_name, name as name_of};
 ghost use Rattle.sf_loading.specs.Streaming.{Gives, GivesText, IsTextOf, Judges};
 
 use super::halt::Halt;
@@ -14,6 +14,7 @@ use super::rules::allowed;
 use sf_features::{Text, is_name};
 use sf_format::Defect;
 use sf_layers::{Layer, Store};
+use sf_ruled::Rules;
 use sf_streams::Window;
 use std::alloc::{AllocError, Global};
 use std::io::Read;
@@ -116,4 +117,36 @@ pub(crate) fn column_name<R: Read>(
     let name = name(alloc, window, reader)?;
     let free = layer.column_place(name.as_str()).is_none();
     allowed(free, place, Defect::ColumnExists, name)
+}
+
+/// A name that no rule has.
+pub(crate) fn rule_name<R: Read>(
+    alloc: Global,
+    window: &mut Window,
+    reader: &mut R,
+    rules: &Rules,
+) -> Result<Text, Halt>
+    ensures { Gives (λ t. t) (field name_of (fresh_rule_name rules.now)) (R.remaining reader.old)
+        (R.remaining reader.new) window.old window.new result }
+{
+    let place = window.place();
+    let name = name(alloc, window, reader)?;
+    let free = rules.place(name.as_str()).is_none();
+    allowed(free, place, Defect::RuleExists, name)
+}
+
+/// A name that a layer of the store has.
+pub(crate) fn known_layer<R: Read>(
+    alloc: Global,
+    window: &mut Window,
+    reader: &mut R,
+    store: &Store,
+) -> Result<Text, Halt>
+    ensures { Gives (λ t. t) (field name_of (known_layer_name store.now)) (R.remaining reader.old)
+        (R.remaining reader.new) window.old window.new result }
+{
+    let place = window.place();
+    let name = name(alloc, window, reader)?;
+    let known = store.place(name.as_str()).is_some();
+    allowed(known, place, Defect::NoLayer, name)
 }

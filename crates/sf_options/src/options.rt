@@ -21,7 +21,7 @@ const EXAMPLE_AND_COMMANDS: &str = "Examples:
 Commands, one on a line:
   layer add|drop|rename|move   column add|drop   layers   columns
   add   addhex   delete   replace   vertex insert|move|remove   set   unset
-  undo   redo   save
+  rule add|drop   rules   undo   redo   save
   show   get   find   check   hex   box   simple   relate   match   query   join
 
 A line may begin with the editor who gives it, from @1 to @255: @2 undo.

@@ -1,7 +1,7 @@
 -- Numbers and names of the refusals.
 use Rattle.std.specs.Prelude.{ℕ, List, codes}
 use Rattle.sf_refusals.specs.declared.refusal.Refusal.{Refusal}
-use Rattle.sf_refusals.specs.declared.refusal.Refusal.TheVariants.{Memory, Syntax, OffGrid, OutOfRange, Empty, UnsupportedType, Truncated, Trailing, TooManyVertices, ShortLine, OpenRing, ShortRing, RingNotSimple, RingsMeet, HoleOutside, HolesNested, PolygonsOverlap, NoLayer, LayerExists, BadName, NoFeature, NoColumn, ColumnExists, WrongValue, NoVertex, WrongKind, IdsExhausted, ColumnsExhausted, NothingToUndo, NothingToRedo, BadCommand, BadPattern, LineTooLong, BadFile, BadPlace, NotYours, Unfinished}
+use Rattle.sf_refusals.specs.declared.refusal.Refusal.TheVariants.{Memory, Syntax, OffGrid, OutOfRange, Empty, UnsupportedType, Truncated, Trailing, TooManyVertices, ShortLine, OpenRing, ShortRing, RingNotSimple, RingsMeet, HoleOutside, HolesNested, PolygonsOverlap, NoLayer, LayerExists, BadName, NoFeature, NoColumn, ColumnExists, WrongValue, NoVertex, WrongKind, IdsExhausted, ColumnsExhausted, NothingToUndo, NothingToRedo, BadCommand, BadPattern, LineTooLong, BadFile, BadPlace, NotYours, RuleBroken, Unfinished, NoRule, RuleExists, LayerRuled}
 
 -- the number of a refusal
 abbrev pub number_of : Refusal → ℕ
@@ -41,7 +41,11 @@ number_of LineTooLong = 33
 number_of BadFile = 34
 number_of BadPlace = 35
 number_of (NotYours editor) = 36
+number_of RuleBroken = 37
 number_of Unfinished = 38
+number_of NoRule = 39
+number_of RuleExists = 40
+number_of LayerRuled = 41
 
 -- the name of a refusal
 abbrev pub name_of : Refusal → List ℕ
@@ -81,4 +85,8 @@ name_of LineTooLong = codes "LineTooLong"
 name_of BadFile = codes "BadFile"
 name_of BadPlace = codes "BadPlace"
 name_of (NotYours editor) = codes "NotYours"
+name_of RuleBroken = codes "RuleBroken"
 name_of Unfinished = codes "Unfinished"
+name_of NoRule = codes "NoRule"
+name_of RuleExists = codes "RuleExists"
+name_of LayerRuled = codes "LayerRuled"

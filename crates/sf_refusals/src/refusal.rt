@@ -76,8 +76,16 @@ pub enum Refusal {
     BadPlace,
     /// The step is another editor's, whose number this is.
     NotYours(u8),
+    /// A rule would be broken.
+    RuleBroken,
     /// The input ended inside a group of edits.
     Unfinished,
+    /// No rule has the name.
+    NoRule,
+    /// A rule has the name already.
+    RuleExists,
+    /// A rule names the layer that is to be dropped.
+    LayerRuled,
 }
 
 impl Refusal {
@@ -122,7 +130,11 @@ impl Refusal {
             Refusal::BadFile => 34,
             Refusal::BadPlace => 35,
             Refusal::NotYours(_) => 36,
+            Refusal::RuleBroken => 37,
             Refusal::Unfinished => 38,
+            Refusal::NoRule => 39,
+            Refusal::RuleExists => 40,
+            Refusal::LayerRuled => 41,
         }
     }
 
@@ -167,7 +179,11 @@ impl Refusal {
             Refusal::BadFile => "BadFile",
             Refusal::BadPlace => "BadPlace",
             Refusal::NotYours(_) => "NotYours",
+            Refusal::RuleBroken => "RuleBroken",
             Refusal::Unfinished => "Unfinished",
+            Refusal::NoRule => "NoRule",
+            Refusal::RuleExists => "RuleExists",
+            Refusal::LayerRuled => "LayerRuled",
         }
     }
 }

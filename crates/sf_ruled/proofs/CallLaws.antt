@@ -25,7 +25,7 @@ use Rattle.sf_patches.specs.Patches.{patched, put_state, with_slot}
 use Rattle.sf_patches.proofs.HalvesLaws.{halves-take_back}
 use Rattle.sf_layers.specs.Content.{with_next_id}
 use Rattle.sf_groups.specs.declared.member.Member.{Member}
-use Rattle.sf_groups.specs.Members.{and_behind, ids_given, together}
+use Rattle.sf_groups.specs.Members.{Refused, and_behind, ids_given, together}
 use Rattle.sf_together.specs.Plans.{IsPlan}
 use Rattle.sf_together.specs.declared.outcome.Refusal.{Refusal as GroupRefusal}
 use Rattle.sf_together.specs.declared.outcome.Refusal.TheVariants as groups
@@ -41,7 +41,7 @@ use Rattle.sf_constraints.specs.Rules.{first_broken}
 use Rattle.sf_ruled.specs.declared.refusal.Refusal.{Refusal}
 use Rattle.sf_ruled.specs.declared.refusal.Refusal.TheVariants.{ByEdit, ByMember, LayerRuled, Memory}
 use Rattle.sf_ruled.specs.declared.undo.Undo.TheVariants as undos
-use Rattle.sf_ruled.specs.Outcomes.{IsRefusedAs, as_edit, by_edit, by_member, by_rules, ruled}
+use Rattle.sf_ruled.specs.Outcomes.{IsRefusedAs, as_edit, as_member, by_edit, by_member, by_rules, ruled}
 use Rattle.sf_ruled.specs.Outcomes.{answer_of as answer_of_ids}
 use Rattle.sf_ruled.specs.Ruled.{OfChange, Ruled, after_change, edit_led, group_led, has_layers, ruled_step, rules_after, settled, unless_broken, with_renamed}
 use Rattle.sf_ruled.specs.Undos.{IsEdited, IsGrouped, IsSettled, IsUnseen, alone, changes_geometries, is_of_layer, is_renaming, names_layer}
@@ -185,7 +185,7 @@ pub group-grouped : (old : Content) (rules : List Rule) (members : List Member) 
     → IsGrouped (ruled old rules) members ids (undos.Change (changes.Group (back_halves old halves))) (ruled (after_halves old halves) rules)
 group-grouped old rules members halves ids plan held unbroken =
     let new : Content = after_halves old halves in
-    let now : IsSettled (ruled new rules) = record { layers = layers-same old new rules (keys-halves old halves) ∙ held.layers; held = unbroken } in
+    let now : IsSettled (ruled new rules) = record { named = held.named; layers = layers-same old new rules (keys-halves old halves) ∙ held.layers; held = unbroken } in
     let back = halves-take_back old halves plan.fits in record {
       led = ap (λ r. after_change (ruled old rules) (OfGroup members) (group_led r)) plan.led ∙ settled-ok (ruled new rules) now;
       gave = plan.led;
@@ -285,3 +285,56 @@ seen-refused old rules edit refusal seen h = by (step old edit) h
     by (Ok done) g =
         subst (λ rs. IsRefusedAs (settled (ruled done.0 rs)) (as_edit refusal)) (sym (kept-rules edit rules seen)) (settled-refusal (ruled done.0 rules) refusal g)
     by (Err e) g = alone-refused 1 e refusal g
+
+-- ---- a group whose only edit no rule sees
+
+no-more : (given : Answer) → ids_given given ++ [] ≡ ids_given given
+no-more Done = refl
+no-more (Id id) = refl
+
+alone-led : (old new : Content) (edit : Edit) (answer : Answer) → step old edit ≡ Ok (new, answer) → together old (alone edit) ≡ Ok (new, ids_given answer)
+alone-led old new edit answer is =
+    let led : (List ℕ) → Result (Content × List ℕ) Refused = λ ids. Ok (new, ids) in
+    ap (λ r. and_behind 1 r (λ next. Ok (next, []))) is ∙ ap led (no-more answer)
+
+pub alone-grouped : (old new : Content) (rules : List Rule) (edit : Edit) (answer : Answer) (undo : Rattle.sf_ruled.specs.declared.undo.Undo.Undo) → IsUnseen rules edit
+    → IsEdited (ruled old rules) edit answer undo (ruled new rules) → IsGrouped (ruled old rules) (alone edit) (ids_given answer) undo (ruled new rules)
+alone-grouped old new rules edit answer undo unseen edited =
+    let gave = alone-led old new edit answer edited.answered in record {
+      led =
+          ap (λ r. after_change (ruled old rules) (OfGroup (alone edit)) (group_led r)) gave
+          ∙ sym (ap (λ rs. settled (ruled new rs)) (unseen-rules edit rules unseen))
+          ∙ sym (ap (λ r. after_change (ruled old rules) (OfEdit edit) (edit_led r)) edited.answered) ∙ edited.led;
+      gave = gave;
+      back = edited.back;
+      fits = edited.fits;
+    }
+
+-- rules refuse no edit either
+settled-member : (r : Ruled) (refusal : Refusal) → IsRefusedAs (settled r) refusal → IsRefusedAs (settled r) (as_member refusal)
+settled-member r (ByEdit refusal) h = by (list_all (has_layers r.content) r.rules) h
+  where
+    at : (o : Option Broken) → unless_broken r o ≡ Err (ByEdit refusal) → IsRefusedAs (settled r) (ByMember 1 refusal)
+    at None g = cc
+    at (Some broken) g = cc
+
+    by : (t : Bool) → (if t then unless_broken r (first_broken r.content r.rules) else Err LayerRuled) ≡ Err (ByEdit refusal) → IsRefusedAs (settled r) (ByMember 1 refusal)
+    by true g = at (first_broken r.content r.rules) g
+    by false g = cc
+settled-member r refusal h = h
+
+only-refused : (e : EditRefusal) (refusal : Refusal) → IsRefusedAs (Err (ByEdit e)) refusal → IsRefusedAs (Err (ByMember 1 e)) (as_member refusal)
+only-refused e Memory h = tt
+only-refused e (ByEdit f) h = let same : e ≡ f = cc in ap (λ x. Err (ByMember 1 x)) same
+only-refused e refusal h = cc
+
+pub unseen-refused : (old : Content) (rules : List Rule) (edit : Edit) (refusal : Refusal) → IsUnseen rules edit
+    → IsRefusedAs (ruled_step (ruled old rules) (OfChange (OfEdit edit))) refusal
+    → IsRefusedAs (ruled_step (ruled old rules) (OfChange (OfGroup (alone edit)))) (as_member refusal)
+unseen-refused old rules edit refusal unseen h = by (step old edit) h
+  where
+    by : (r : Result (Content × Answer) EditRefusal) → IsRefusedAs (after_change (ruled old rules) (OfEdit edit) (edit_led r)) refusal
+        → IsRefusedAs (after_change (ruled old rules) (OfGroup (alone edit)) (group_led (and_behind 1 r (λ next. Ok (next, []))))) (as_member refusal)
+    by (Ok done) g =
+        settled-member (ruled done.0 rules) refusal (subst (λ rs. IsRefusedAs (settled (ruled done.0 rs)) refusal) (unseen-rules edit rules unseen) g)
+    by (Err e) g = only-refused e refusal g

@@ -21,6 +21,7 @@ use Rattle.sf_ruled.specs.declared.refusal.Refusal.TheVariants.{LayerRuled}
 use Rattle.sf_ruled.specs.Outcomes.{ruled}
 use Rattle.sf_ruled.specs.Ruled.{Ruled, has_layers, renamed, rules_after, settled, unless_broken, with_renamed}
 use Rattle.sf_ruled.specs.Undos.{IsSettled, IsUnseen, changes_geometries, ends_name, is_of_layer, names_layer}
+use Rattle.sf_ruled.proofs.RuleNames.{named-alike}
 use Rattle.sf_ruled.proofs.NameLaws.{itself, layer_of-moved, layer_of-push, layer_of-remove-other, layer_of-renamed, layer_of-renamed-other, same-names, turned}
 use Rattle.sf_ruled.proofs.ShapeLaws.{Features, IsAlike, break-alike, broken-alike, has-alike, layers-alike, shape_of, shapes, shapes_in}
 
@@ -158,9 +159,10 @@ same-rules : (rules : List Rule) → map (with_names same_name) rules ≡ rules
 same-rules [] = refl
 same-rules (rule ∷ rules) = ap (λ rest. rule ∷ rest) (same-rules rules)
 
-settled-alike : (old new : Content) (f : Rule → Rule) (rules : List Rule) → IsSettled (ruled old rules) → AllByRecursion (λ rule. IsAlike old new rule (f rule)) rules
-    → IsSettled (ruled new (map f rules))
-settled-alike old new f rules settled all = record {
+settled-alike : (old new : Content) (f : Rule → Rule) → ((rule : Rule) → (f rule).name ≡ rule.name) → (rules : List Rule) → IsSettled (ruled old rules)
+    → AllByRecursion (λ rule. IsAlike old new rule (f rule)) rules → IsSettled (ruled new (map f rules))
+settled-alike old new f same rules settled all = record {
+  named = named-alike f same rules settled.named;
   layers = layers-alike old new f rules all ∙ settled.layers;
   held = broken-alike old new f 0 rules all ∙ settled.held;
 }
@@ -170,7 +172,7 @@ pub unseen-settled : (content : Content) (edit : Edit) (rules : List Rule) → I
     → IsSettled (ruled content rules) → IsUnseen rules edit → IsSettled (ruled (effect content edit) rules)
 unseen-settled content edit rules fine h held unseen =
     subst (λ rs. IsSettled (ruled (effect content edit) rs)) (same-rules rules)
-    (settled-alike content (effect content edit) (with_names same_name) rules held (unseen-alike content edit rules fine h held.layers unseen))
+    (settled-alike content (effect content edit) (with_names same_name) (λ rule. refl) rules held (unseen-alike content edit rules fine h held.layers unseen))
 
 -- and such an edit leaves them as they are
 not-named : (name new_name : List ℕ) (rules : List Rule) → names_layer name rules ≡ false → map (with_renamed name new_name) rules ≡ rules
@@ -251,7 +253,7 @@ renamed-settled content n n' rules h held =
     let third = passed (not (has_layer content n')) LayerExists [] second.1 in
     let found = there_from_test (layer_of content n) first.0 in
     let none = absent_from_not (layer_of content n') third.0 in
-    settled-alike content (renamed_at (place_of content n) n' content) (with_renamed n n') rules held (renamed-alike content n n' found.0 rules found.1 none held.layers)
+    settled-alike content (renamed_at (place_of content n) n' content) (with_renamed n n') (λ rule. refl) rules held (renamed-alike content n n' found.0 rules found.1 none held.layers)
 
 -- ---- a content in which rules hold is no reason to refuse
 

@@ -60,6 +60,9 @@ change-kept old new change (Ok content) h fine = settled-kept (record { content 
 
 -- a rule that is added passed its checks
 pub record WasAdded (old : Ruled) (rule : Rule) (result : Result Ruled Refusal) : Type 0 where
+  pub named : is_name rule.name ≡ true
+  pub other : has_rule rule.name old.rules ≡ false
+  pub few : nat_lt (length old.rules) rules_max ≡ true
   pub layers : HasLayers old.content rule
   pub last : result ≡ unless_broken (with_rule old rule) (broken_or (length old.rules) (break_of old.content rule) None)
 
@@ -69,45 +72,44 @@ pub data AddsOr (old : Ruled) (rule : Rule) (result : Result Ruled Refusal) : Ty
   Refuses : ((new : Ruled) → result ≡ Ok new → ⊥) → ((broken : Broken) → result ≡ Err (RuleBroken broken) → ⊥) → AddsOr old rule result
 
 pub adds : (old : Ruled) (rule : Rule) → AddsOr old rule (added old rule)
-adds old rule = first (is_name rule.name)
+adds old rule = first (is_name rule.name) refl
   where
-    tail : Bool → Result Ruled Refusal
-    tail t = if not t then Err TooManyRules else unless_broken (with_rule old rule) (broken_or (length old.rules) (break_of old.content rule) None)
-
-    fifth : (t : Bool) → has_layer old.content rule.first ≡ true → has_layer old.content rule.second ≡ true
+    fifth : (t : Bool) → nat_lt (length old.rules) rules_max ≡ t → is_name rule.name ≡ true → has_rule rule.name old.rules ≡ false
+        → has_layer old.content rule.first ≡ true → has_layer old.content rule.second ≡ true
         → AddsOr old rule (if not t then Err TooManyRules else unless_broken (with_rule old rule) (broken_or (length old.rules) (break_of old.content rule) None))
-    fifth false h k = Refuses (λ new g. cc) (λ broken g. cc)
-    fifth true h k = Adds (record { layers = (h, k); last = refl })
+    fifth false is n o h k = Refuses (λ new g. cc) (λ broken g. cc)
+    fifth true is n o h k = Adds (record { named = n; other = o; few = is; layers = (h, k); last = refl })
 
-    fourth : (t : Bool) → has_layer old.content rule.second ≡ t → has_layer old.content rule.first ≡ true
+    fourth : (t : Bool) → has_layer old.content rule.second ≡ t → is_name rule.name ≡ true → has_rule rule.name old.rules ≡ false
+        → has_layer old.content rule.first ≡ true
         → AddsOr old rule (if not t then Err NoLayer else if not (nat_lt (length old.rules) rules_max) then Err TooManyRules
         else unless_broken (with_rule old rule) (broken_or (length old.rules) (break_of old.content rule) None))
-    fourth false is h = Refuses (λ new g. cc) (λ broken g. cc)
-    fourth true is h = fifth (nat_lt (length old.rules) rules_max) h is
+    fourth false is n o h = Refuses (λ new g. cc) (λ broken g. cc)
+    fourth true is n o h = fifth (nat_lt (length old.rules) rules_max) refl n o h is
 
-    third : (t : Bool) → has_layer old.content rule.first ≡ t
+    third : (t : Bool) → has_layer old.content rule.first ≡ t → is_name rule.name ≡ true → has_rule rule.name old.rules ≡ false
         → AddsOr old rule (if not t then Err NoLayer else if not (has_layer old.content rule.second) then Err NoLayer
         else if not (nat_lt (length old.rules) rules_max) then Err TooManyRules
         else unless_broken (with_rule old rule) (broken_or (length old.rules) (break_of old.content rule) None))
-    third false is = Refuses (λ new g. cc) (λ broken g. cc)
-    third true is = fourth (has_layer old.content rule.second) refl is
+    third false is n o = Refuses (λ new g. cc) (λ broken g. cc)
+    third true is n o = fourth (has_layer old.content rule.second) refl n o is
 
-    second : (t : Bool)
+    second : (t : Bool) → has_rule rule.name old.rules ≡ t → is_name rule.name ≡ true
         → AddsOr old rule (if t then Err RuleExists else if not (has_layer old.content rule.first) then Err NoLayer
         else if not (has_layer old.content rule.second) then Err NoLayer
         else if not (nat_lt (length old.rules) rules_max) then Err TooManyRules
         else unless_broken (with_rule old rule) (broken_or (length old.rules) (break_of old.content rule) None))
-    second true = Refuses (λ new g. cc) (λ broken g. cc)
-    second false = third (has_layer old.content rule.first) refl
+    second true is n = Refuses (λ new g. cc) (λ broken g. cc)
+    second false is n = third (has_layer old.content rule.first) refl n is
 
-    first : (t : Bool)
+    first : (t : Bool) → is_name rule.name ≡ t
         → AddsOr old rule (if not t then Err BadName else if has_rule rule.name old.rules then Err RuleExists
         else if not (has_layer old.content rule.first) then Err NoLayer
         else if not (has_layer old.content rule.second) then Err NoLayer
         else if not (nat_lt (length old.rules) rules_max) then Err TooManyRules
         else unless_broken (with_rule old rule) (broken_or (length old.rules) (break_of old.content rule) None))
-    first false = Refuses (λ new g. cc) (λ broken g. cc)
-    first true = second (has_rule rule.name old.rules)
+    first false is = Refuses (λ new g. cc) (λ broken g. cc)
+    first true is = second (has_rule rule.name old.rules) refl is
 
 pub only-none : (place : ℕ) (o : Option Break) → broken_or place o None ≡ None → o ≡ None
 only-none place None h = refl

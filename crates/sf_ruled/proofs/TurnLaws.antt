@@ -18,7 +18,8 @@ use Rattle.sf_ruled.specs.declared.undo.Undo.TheVariants as undos
 use Rattle.sf_ruled.specs.declared.redo.Redo.TheVariants as redos
 use Rattle.sf_ruled.specs.Outcomes.{ruled}
 use Rattle.sf_ruled.specs.Ruled.{AddRule, DropRule, Ruled, has_layers, ruled_step, with_rule}
-use Rattle.sf_ruled.specs.Undos.{IsLed, IsSettled, MakesAgainUnder, TakesBackUnder}
+use Rattle.sf_ruled.specs.Undos.{AreNamed, IsLed, IsSettled, MakesAgainUnder, TakesBackUnder}
+use Rattle.sf_ruled.proofs.RuleNames.{named-added, named-removed}
 use Rattle.sf_ruled.proofs.RuledLaws.{AddsOr, Adds, Refuses, adds, all-removed, only-none, unless-kept}
 
 -- ---- rules that hold, one by one
@@ -58,8 +59,8 @@ none-of place content (rule ∷ rules) all =
 each-held : (content : Content) (rules : List Rule) → IsSettled (ruled content rules) → AllByRecursion (IsHeld content) rules
 each-held content rules settled = held-from 0 content rules settled.layers settled.held
 
-all-settled : (content : Content) (rules : List Rule) → AllByRecursion (IsHeld content) rules → IsSettled (ruled content rules)
-all-settled content rules all = record { layers = layers-of content rules all; held = none-of 0 content rules all }
+all-settled : (content : Content) (rules : List Rule) → AreNamed rules → AllByRecursion (IsHeld content) rules → IsSettled (ruled content rules)
+all-settled content rules named all = record { named = named; layers = layers-of content rules all; held = none-of 0 content rules all }
 
 -- ---- lists
 
@@ -94,7 +95,7 @@ added-settled content rules rule new settled h = by (adds (ruled content rules) 
     by (Refuses accepted broke) = absurd (accepted new h)
     by (Adds was) =
         let kept = unless-kept (with_rule (ruled content rules) rule) new (broken_or (length rules) (break_of content rule) None) (sym was.last ∙ h) in
-        all-settled content (rules ++ rule ∷ [])
+        all-settled content (rules ++ rule ∷ []) (named-added rules rule settled.named was.named was.other was.few)
         (each-append (IsHeld content) rules (rule ∷ []) (each-held content rules settled)
         ((and_of _ _ was.layers.0 was.layers.1, only-none (length rules) (break_of content rule) kept.0), tt))
 
@@ -111,7 +112,8 @@ added-led content rules after rule settled is h =
     }
 
 pub removed-settled : (content : Content) (rules : List Rule) (place : ℕ) → IsSettled (ruled content rules) → IsSettled (ruled content (remove rules place))
-removed-settled content rules place settled = all-settled content (remove rules place) (all-removed (IsHeld content) rules place (each-held content rules settled))
+removed-settled content rules place settled =
+    all-settled content (remove rules place) (named-removed rules place settled.named) (all-removed (IsHeld content) rules place (each-held content rules settled))
 
 pub dropped-led : (content : Content) (rules after : List Rule) (name : List ℕ) (place : ℕ) (rule : Rule) → IsSettled (ruled content rules) → slice_get rules place ≡ Some rule → after ≡ remove rules place
     → ruled_step (ruled content rules) (DropRule name) ≡ Ok (ruled content after)

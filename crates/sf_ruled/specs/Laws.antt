@@ -1,4 +1,3 @@
--- Internal: who wants to trust the program need not read this file.
 -- Rules hold in every content that steps lead to, and nothing is refused for a rule without need.
 use Rattle.std.specs.Prelude.{◌≡◌, Ok, Err}
 use Rattle.sf_layers.specs.WellFormed.{IsWellFormed}

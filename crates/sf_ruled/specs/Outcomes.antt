@@ -46,6 +46,11 @@ abbrev pub as_edit : Refusal → Refusal
 as_edit (ByMember number refusal) = ByEdit refusal
 as_edit refusal = refusal
 
+-- of a group whose only edit is refused so
+abbrev pub as_member : Refusal → Refusal
+as_member (ByEdit refusal) = ByMember 1 refusal
+as_member refusal = refusal
+
 -- ---- answers
 
 -- what an edit answers that gives these identifiers

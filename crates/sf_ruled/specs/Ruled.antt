@@ -1,4 +1,3 @@
--- Internal: who wants to trust the program need not read this file.
 -- Contents with the rules that hold in them, and their steps. A step is refused in the order of these checks.
 use Rattle.std.specs.Prelude.{ℕ, Bool, not, ◌&&◌, List, [], ◌∷◌, ◌++◌, length, map, position, remove, is_some, Option, None, Some, Result, Ok, Err, bytes_eq, nat_lt, if◌then◌else◌}
 use Rattle.std.specs.List.{list_all}

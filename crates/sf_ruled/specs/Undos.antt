@@ -1,7 +1,8 @@
--- Internal: who wants to trust the program need not read this file.
 -- Steps of contents with rules: what takes them back, and what makes them again.
-use Rattle.std.specs.Prelude.{◌≡◌, ◌<◌, ◌≤◌, ◌-◌, ℕ, Bool, true, false, ◌||◌, List, [], ◌∷◌, bytes_eq, insert, length, remove, take, None, Ok, Result, IsOk, IsTrue}
-use Rattle.std.specs.List.{list_all, list_any}
+use Rattle.std.specs.Prelude.{◌≡◌, ◌<◌, ◌≤◌, ◌-◌, ℕ, Bool, true, false, ◌||◌, List, [], ◌∷◌, bytes_eq, insert, length, map, remove, take, None, Ok, Result, IsOk, IsTrue}
+use Rattle.std.specs.List.{AllByRecursion, list_all, list_any}
+use Rattle.sf_features.specs.Columns.{IsDistinct}
+use Rattle.sf_features.specs.Names.{is_name}
 use Rattle.sf_steps.specs.declared.answer.Answer.{Answer}
 use Rattle.sf_steps.specs.declared.edit.Edit.{Edit}
 use Rattle.sf_steps.specs.declared.edit.Edit.TheVariants.{AddFeature, DeleteFeature, ReplaceGeometry, InsertVertex, MoveVertex, RemoveVertex, DropLayer, RenameLayer}
@@ -18,7 +19,7 @@ use Rattle.sf_ruled.specs.declared.undo.Undo.TheVariants as undos
 use Rattle.sf_ruled.specs.declared.redo.Redo.{Redo}
 use Rattle.sf_ruled.specs.declared.redo.Redo.TheVariants as redos
 use Rattle.sf_ruled.specs.declared.refusal.Refusal.{Refusal}
-use Rattle.sf_ruled.specs.Ruled.{OfChange, Ruled, has_layers, ruled_step, with_rule}
+use Rattle.sf_ruled.specs.Ruled.{OfChange, Ruled, has_layers, rules_max, ruled_step, with_rule}
 
 -- ---- which rules an edit is a matter of
 
@@ -61,8 +62,15 @@ alone edit = record { edit = edit; of_last = false } ∷ []
 
 -- ---- contents in which rules hold, as is computed
 
--- the layers of all rules are there, and none is broken
+-- their names are names, of which no two are one, and there are not too many
+pub record AreNamed (rules : List Rule) : Type 0 where
+  pub few : length rules ≤ rules_max
+  pub named : AllByRecursion (λ rule. IsTrue (is_name rule.name)) rules
+  pub distinct : IsDistinct bytes_eq (map (λ rule. rule.name) rules)
+
+-- rules are named, their layers are all there, and none is broken
 pub record IsSettled (ruled : Ruled) : Type 0 where
+  pub named : AreNamed ruled.rules
   pub layers : list_all (has_layers ruled.content) ruled.rules ≡ true
   pub held : first_broken ruled.content ruled.rules ≡ None
 

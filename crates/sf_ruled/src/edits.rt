@@ -1,14 +1,16 @@
 //! Edits and groups carried out under rules.
 
-ghost use Rattle.std.specs.Prelude.{◌≡◌, IfErr, IfOk, OnErr, true};
+ghost use Rattle.std.specs.Prelude.{◌≡◌, ◌+◌, ◌≤◌, ◌++◌, length, IfErr, IfOk, IsTrue, MatchResult, OnErr, true, vec_capacity};
 ghost use Rattle.sf_changes.specs.Changes.{OfEdit, OfGroup};
+ghost use Rattle.sf_groups.specs.Members.{ids_given};
 ghost use Rattle.sf_steps.specs.Steps.{edit_layer};
+ghost use Rattle.sf_steps.specs.declared.edit.Edit.{Edit as EditOf};
 ghost use Rattle.sf_layers.specs.WellFormed.{IsWellFormed};
 ghost use Rattle.sf_ruled.specs.Ruled.{OfChange, ruled_step, rules_after};
 ghost use Rattle.sf_ruled.specs.Outcomes.{IsRefusedAs, answer_of as answer_of_ids, ruled};
 ghost use Rattle.sf_ruled.specs.Undos.{IsEdited, IsGrouped, IsSettled, IsUnseen, alone, changes_geometries as changes_geometries_of, is_renaming, names_layer};
 
-use super::refusal::{Refusal, as_edit, by_edit, by_member, by_rules};
+use super::refusal::{Refusal, as_edit, as_member, by_edit, by_member, by_rules};
 use super::rules::Rules;
 use super::undo::Undo;
 use sf_constraints::{NotExchanged, exchange_under};
@@ -138,7 +140,7 @@ fn carry_out_seen(
     ensures unchanged { OnErr result (store.new ≡ store.old) }
 {
     let group = alone(alloc, edit)?;
-    match carry_out_group(alloc, store, rules, group) {
+    match carry_out_several(alloc, store, rules, group) {
         Ok(Grouped { ids, undo }) => Ok(Edited {
             answer: answer_of(ids.as_slice()),
             undo,
@@ -153,6 +155,52 @@ fn carry_out_seen(
 ///
 /// Those of `Ruled::group`.
 pub(crate) fn carry_out_group(
+    alloc: Global,
+    store: &mut Store,
+    rules: &Rules,
+    group: Group,
+) -> Result<Grouped, Refusal>
+    requires { IsSettled (ruled store.old rules.now) }
+    ensures accepted { IfOk result (λ done.
+        IsGrouped (ruled store.old rules.now) group done.ids.items done.undo (ruled store.new rules.now)) }
+    ensures refused { IfErr result (IsRefusedAs (ruled_step (ruled store.old rules.now) (OfChange (OfGroup group)))) }
+    ensures unchanged { OnErr result (store.new ≡ store.old) }
+{
+    match only_unseen(rules, group) {
+        Ok(edit) => carry_out_alone(alloc, store, rules, edit),
+        Err(group) => carry_out_several(alloc, store, rules, group),
+    }
+}
+
+/// Carries out an edit that no rule sees as the only one of a group: nothing has to be tried beside the store, and its inverse
+/// takes it back.
+fn carry_out_alone(
+    alloc: Global,
+    store: &mut Store,
+    rules: &Rules,
+    edit: Edit,
+) -> Result<Grouped, Refusal>
+    requires settled { IsSettled (ruled store.old rules.now) }
+    requires unseen { IsUnseen rules.now edit }
+    ensures accepted { IfOk result (λ done.
+        IsGrouped (ruled store.old rules.now) (alone edit) done.ids.items done.undo (ruled store.new rules.now)) }
+    ensures refused { IfErr result
+        (IsRefusedAs (ruled_step (ruled store.old rules.now) (OfChange (OfGroup (alone edit))))) }
+    ensures unchanged { OnErr result (store.new ≡ store.old) }
+{
+    // The place for its identifier comes first.
+    let mut ids = Vec::with_capacity(alloc, 1)?;
+    match carry_out_unseen(alloc, store, rules, edit) {
+        Ok(Edited { answer, undo }) => {
+            put_id(&mut ids, answer);
+            Ok(Grouped { ids, undo })
+        }
+        Err(refusal) => Err(as_member(refusal)),
+    }
+}
+
+/// Carries out a group of several edits, or of one that a rule may see.
+fn carry_out_several(
     alloc: Global,
     store: &mut Store,
     rules: &Rules,
@@ -229,6 +277,38 @@ fn alone(alloc: Global, edit: Edit) -> Result<Group, AllocError>
         Ok(()) => Ok(group),
         // It is of a feature, and of none that was added before it.
         Err(_) => Err(AllocError),
+    }
+}
+
+/// The edit of a group that has no other, of a feature that it names, in a layer that no rule names.
+fn only_unseen(rules: &Rules, group: Group) -> Result<Edit, Group>
+    ensures { MatchResult result (λ edit. (group ≡ alone edit) × IsUnseen rules.now edit) (λ back. back ≡ group) }
+{
+    if !is_alone_unseen(rules, group.members()) {
+        return Err(group);
+    }
+    let member = group.into_members().pop().unwrap();
+    Ok(member.edit)
+}
+
+/// Whether one member stands alone, of a feature that it names, in a layer that no rule names.
+fn is_alone_unseen(rules: &Rules, members: &[Member]) -> bool
+    ensures { IsTrue result → (edit : EditOf) × (members.now ≡ alone edit) × IsUnseen rules.now edit }
+{
+    match members {
+        [member] => !member.of_last && !is_ruled(rules, &member.edit),
+        _ => false,
+    }
+}
+
+/// Puts the identifier that an edit gave behind the others, where it gave one. There is room for it.
+fn put_id(ids: &mut Vec<u32>, answer: Answer)
+    requires { length ids.old.items + 1 ≤ vec_capacity ids.old }
+    ensures { ids.new.items ≡ ids.old.items ++ ids_given answer }
+{
+    match answer {
+        Answer::Id(id) => ids.push(id).unwrap(),
+        Answer::Done => {}
     }
 }
 

@@ -1,6 +1,6 @@
 ghost use Rattle.std.specs.Prelude.{◌≡◌};
 ghost use Rattle.sf_ruled.specs.declared.refusal.Refusal.TheVariants.{Memory};
-ghost use Rattle.sf_ruled.specs.Outcomes.{as_edit as as_edit_of, by_edit as by_edit_of, by_member as by_member_of, by_rules as by_rules_of};
+ghost use Rattle.sf_ruled.specs.Outcomes.{as_edit as as_edit_of, as_member as as_member_of, by_edit as by_edit_of, by_member as by_member_of, by_rules as by_rules_of};
 
 use sf_constraints::{Broken, NotExchanged};
 use std::alloc::AllocError;
@@ -77,6 +77,16 @@ pub(crate) fn as_edit(refusal: Refusal) -> Refusal
 {
     match refusal {
         Refusal::ByMember { refusal, .. } => Refusal::ByEdit(refusal),
+        refusal => refusal,
+    }
+}
+
+/// The refusal of a group whose only edit is refused so.
+pub(crate) fn as_member(refusal: Refusal) -> Refusal
+    ensures { result ≡ as_member_of refusal }
+{
+    match refusal {
+        Refusal::ByEdit(refusal) => Refusal::ByMember { number: 1, refusal },
         refusal => refusal,
     }
 }

@@ -101,10 +101,11 @@ impl Ruled {
     ///
     /// # Errors
     ///
-    /// Those of `Rules::add`. Nothing is changed then.
-    pub fn add_rule(&mut self, alloc: Global, rule: Rule) -> Result<Undo, Refusal>
+    /// Those of `Rules::add`. The rule is given back, and nothing is changed then.
+    pub fn add_rule(&mut self, alloc: Global, rule: Rule) -> Result<Undo, (Rule, Refusal)>
         ensures accepted { IfOk result (λ undo. IsLed self.old (ruled_step self.old (AddRule rule)) undo self.new) }
-        ensures refused { IfErr result (IsRefusedAs (ruled_step self.old (AddRule rule))) }
+        ensures refused { IfErr result (λ e. IsRefusedAs (ruled_step self.old (AddRule rule)) e.1) }
+        ensures given_back { IfErr result (λ e. e.0 ≡ rule) }
         ensures unchanged { OnErr result (self.new ≡ self.old) }
     {
         self.rules.add(alloc, &self.store, rule)?;

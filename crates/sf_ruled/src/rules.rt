@@ -88,20 +88,23 @@ impl Rules {
     /// # Errors
     ///
     /// In this order: `BadName`, `RuleExists`, `NoLayer` of the first layer and of the second, `TooManyRules`, and `RuleBroken` with
-    /// what breaks it first; out of memory in the place of any. Nothing is changed then.
-    pub fn add(&mut self, alloc: Global, store: &Store, rule: Rule) -> Result<(), Refusal>
+    /// what breaks it first; out of memory in the place of any. The rule is given back, and nothing is changed then.
+    pub fn add(&mut self, alloc: Global, store: &Store, rule: Rule) -> Result<(), (Rule, Refusal)>
         ensures added { OnOk result (self.new ≡ self.old ++ rule ∷ []) }
         ensures accepted { OnOk result
             (ruled_step (ruled store.now self.old) (AddRule rule) ≡ Ok (ruled store.now self.new)) }
-        ensures refused { IfErr result
-            (IsRefusedAs (ruled_step (ruled store.now self.old) (AddRule rule))) }
+        ensures refused { IfErr result (λ e.
+            IsRefusedAs (ruled_step (ruled store.now self.old) (AddRule rule)) e.1) }
+        ensures given_back { IfErr result (λ e. e.0 ≡ rule) }
         ensures unchanged { OnErr result (self.new ≡ self.old) }
     {
-        self.check(alloc, store, &rule)?;
-        let Ok(()) = self.rules.push(rule) else {
-            return Err(Refusal::Memory);
-        };
-        Ok(())
+        if let Err(refusal) = self.check(alloc, store, &rule) {
+            return Err((rule, refusal));
+        }
+        match self.rules.push(rule) {
+            Ok(()) => Ok(()),
+            Err(failed) => Err((failed.value, Refusal::Memory)),
+        }
     }
 
     /// Removes the rule of a name, and gives it with its place.

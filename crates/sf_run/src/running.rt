@@ -3,8 +3,8 @@
 ghost use Rattle.std.specs.Prelude.{[], IfErr, IfOk, OnErr, OnOk};
 ghost use Rattle.std.specs.Io.KnownBytes.{Appends};
 ghost use Rattle.sf_streams.specs.Streams.{WritesFront};
-ghost use Rattle.sf_format.specs.Canonical.{canonical};
-ghost use Rattle.sf_history.specs.History.{fresh};
+ghost use Rattle.sf_format.specs.Canonical.{canonical_ruled};
+ghost use Rattle.sf_history.specs.History.{fresh, ruled_now};
 ghost use Rattle.sf_console.specs.Serving.{ServesAll};
 ghost use Rattle.sf_run.specs.Runs.{Breaks, EndsEarly, RunsFrom};
 
@@ -69,7 +69,7 @@ pub fn run_from<F: Read, R: Read, W: Write>(
     input: &mut R,
     output: &mut W,
 ) -> Result<Served, RunFault>
-    // The file's bytes have a content, which is well formed, and from it on all lines were answered.
+    // The file's bytes have a content, which is well formed, and from it with its rules on all lines were answered.
     ensures ok { IfOk result (λ served. RunsFrom (F.remaining file.old) (F.remaining file.new)
         (λ start. ServesAll (R.remaining input.old) (R.remaining input.new)
         (W.contents output.old) (W.contents output.new) start served)) }
@@ -80,26 +80,26 @@ pub fn run_from<F: Read, R: Read, W: Write>(
 {
     match load(alloc, file) {
         Err(fault) => Err(RunFault::Load(fault)),
-        Ok(store) => {
+        Ok(ruled) => {
             // The store's type keeps its content well formed. Asked for a number, it shows the proof so.
-            let _ = store.layer_count();
-            let editor = Editor::from_store(alloc, store);
+            let _ = ruled.store().layer_count();
+            let editor = Editor::from_ruled(alloc, ruled);
             serve_from(alloc, editor, input, output).map_err(RunFault::Serve)
         }
     }
 }
 
 impl Served {
-    /// Writes the canonical bytes of the store, and flushes the writer.
+    /// Writes the canonical bytes of the store with its rules, and flushes the writer.
     ///
     /// # Errors
     ///
     /// As those of `save`.
     pub fn save<W: Write>(&self, alloc: Global, file: &mut W) -> Result<(), SaveFault>
-        ensures ok { OnOk result (Appends (W.contents file.old) (W.contents file.new) (canonical self.now.now)) }
-        ensures broken { OnErr result (WritesFront (W.contents file.old) (W.contents file.new) (canonical self.now.now)) }
+        ensures ok { OnOk result (Appends (W.contents file.old) (W.contents file.new) (canonical_ruled (ruled_now self.now))) }
+        ensures broken { OnErr result (WritesFront (W.contents file.old) (W.contents file.new) (canonical_ruled (ruled_now self.now))) }
     {
-        save(alloc, self.editor.store(), file)
+        save(alloc, self.editor.ruled(), file)
     }
 }
 

@@ -1,7 +1,7 @@
 -- What a well-formed content has fits the fields of a file.
 use Rattle.std.proofs.Common.{◌≡◌, ◌<◌, ℕ, zero, suc, Bool, true, false, cond, List, [], ◌∷◌, IsTrue, Some, IsSomeAnd, length, slice_get, nat_eq, subst, arith}
 use Rattle.std.specs.List.{AllByRecursion}
-use Rattle.std.specs.Map.{keys_of, values_of}
+use Rattle.std.specs.Map.{values_of}
 use Rattle.sf_features.specs.declared.attr_value.AttrValue.{AttrValue}
 use Rattle.sf_features.specs.declared.attr_value.AttrValue.TheVariants as values
 use Rattle.sf_features.specs.declared.column.Column.{Column}
@@ -9,17 +9,12 @@ use Rattle.sf_features.specs.declared.column_type.ColumnType.{ColumnType}
 use Rattle.sf_features.specs.declared.column_type.ColumnType.TheVariants as types
 use Rattle.sf_features.specs.Columns.{numbered}
 use Rattle.sf_features.specs.Features.{FeatureContent}
-use Rattle.sf_features.specs.Names.{is_name}
 use Rattle.sf_features.specs.Values.{is_of_type}
 use Rattle.sf_layers.specs.Content.{Content, LayerContent}
 use Rattle.sf_layers.specs.WellFormed.{IsColumn, IsFeature, IsLayer, IsValue, IsWellFormed}
 use Rattle.sf_format.proofs.Counts.{column-count, feature-count, value-count}
-use Rattle.sf_format.proofs.RoundTrip.{name_len, text-short}
+use Rattle.sf_format.proofs.RoundTrip.{text-short}
 use Rattle.sf_saving.specs.Fits.{EntryFits, FeatureFits, ValueFits}
-
-column-fits : (next : ℕ) (columns : List Column) → AllByRecursion (IsColumn next) columns → AllByRecursion (λ column. length column.name < 256) columns
-column-fits next [] all = tt
-column-fits next (c ∷ cs) all = let len = name_len c.name all.0.0 in (omega (arith, len.1), column-fits next cs all.1)
 
 value-fits : (t : ColumnType) (v : AttrValue) → is_of_type t v ≡ true → ValueFits v
 value-fits t (values.Int n) is = tt
@@ -47,25 +42,22 @@ features-fit layer few (f ∷ fs) all =
       features-fit layer few fs all.1,
     )
 
-entry-fits : (entry : List ℕ × LayerContent) → IsTrue (is_name entry.0) → IsLayer entry.1 → EntryFits entry
-entry-fits entry named is =
-    let name = name_len entry.0 named in
+entry-fits : (entry : List ℕ × LayerContent) → IsLayer entry.1 → EntryFits entry
+entry-fits entry is =
     let columns = column-count entry.1 is in
     let features = feature-count entry.1 is in
     let few : length entry.1.columns < 65536 = omega (arith, columns, is.next_column.1) in
     record {
-      named = omega (arith, name.1);
       few_columns = few;
-      columns = column-fits entry.1.next_column entry.1.columns is.columns;
       few_features = omega (arith, features, is.next_id.1);
       features = features-fit entry.1 few (values_of entry.1.features) is.features;
     }
 
 -- each layer of a well-formed content fits
 pub fits-at : (content : Content) → IsWellFormed content → (place : ℕ) (entry : List ℕ × LayerContent) → slice_get content place ≡ Some entry → EntryFits entry
-fits-at content is place entry there = at content place is.named is.layers there
+fits-at content is place entry there = at content place is.layers there
   where
-    at : (entries : Content) (i : ℕ) → AllByRecursion (λ name. IsTrue (is_name name)) (keys_of entries) → AllByRecursion IsLayer (values_of entries) → slice_get entries i ≡ Some entry → EntryFits entry
-    at [] i named layers there = absurd cc
-    at (e ∷ es) zero named layers there = let same : ◌≡◌ {A = List ℕ × LayerContent} e entry = cc in subst EntryFits same (entry-fits e named.0 layers.0)
-    at (e ∷ es) (suc i) named layers there = at es i named.1 layers.1 there
+    at : (entries : Content) (i : ℕ) → AllByRecursion IsLayer (values_of entries) → slice_get entries i ≡ Some entry → EntryFits entry
+    at [] i layers there = absurd cc
+    at (e ∷ es) zero layers there = let same : ◌≡◌ {A = List ℕ × LayerContent} e entry = cc in subst EntryFits same (entry-fits e layers.0)
+    at (e ∷ es) (suc i) layers there = at es i layers.1 there

@@ -20,10 +20,8 @@ pub record FeatureFits (feature : FeatureContent) : Type 0 where
   pub few : length feature.values < 65536
   pub values : AllByRecursion (λ entry. ValueFits entry.1) feature.values
 
--- names have lengths of one byte, columns a count of two bytes, features one of four
+-- columns have a count of two bytes, features one of four
 pub record EntryFits (entry : List ℕ × LayerContent) : Type 0 where
-  pub named : length entry.0 < 256
   pub few_columns : length entry.1.columns < 65536
-  pub columns : AllByRecursion (λ column. length column.name < 256) entry.1.columns
   pub few_features : length entry.1.features < 4294967296
   pub features : AllByRecursion FeatureFits (values_of entry.1.features)

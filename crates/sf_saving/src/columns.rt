@@ -1,6 +1,5 @@
 //! The columns of a layer.
-ghost use Rattle.std.specs.Prelude.{◌≡◌, ◌<◌, ◌++◌, flat_map, length, OnErr, OnOk};
-ghost use Rattle.std.specs.List.{AllByRecursion};
+ghost use Rattle.std.specs.Prelude.{◌≡◌, ◌++◌, flat_map, OnErr, OnOk};
 ghost use Rattle.sf_format.specs.Canonical.{column_bytes, type_byte as type_byte_of};
 ghost use Rattle.sf_streams.specs.Streams.{Puts, WritesFront};
 
@@ -25,7 +24,6 @@ fn put_column<W: Write>(
     writer: &mut W,
     column: &Column,
 ) -> Result<(), WriteFault>
-    requires { length column.now.name < 256 }
     ensures ok { OnOk result (Puts (W.contents writer.old) (W.contents writer.new) output.old output.new
         (column_bytes column.now)) }
     ensures broken { OnErr result (WritesFront (W.contents writer.old) (W.contents writer.new)
@@ -42,7 +40,6 @@ pub(crate) fn put_columns<W: Write>(
     writer: &mut W,
     layer: &Layer,
 ) -> Result<(), WriteFault>
-    requires { AllByRecursion (λ column. length column.name < 256) layer.now.columns }
     ensures ok { OnOk result (Puts (W.contents writer.old) (W.contents writer.new) output.old output.new
         (flat_map column_bytes layer.now.columns)) }
     ensures broken { OnErr result (WritesFront (W.contents writer.old) (W.contents writer.new)

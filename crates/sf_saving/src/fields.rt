@@ -6,19 +6,18 @@ ghost use Rattle.sf_streams.specs.Streams.{Puts, WritesFront};
 use sf_streams::{Output, WriteFault};
 use std::io::Write;
 
-/// Puts a name of a layer or a column behind the byte of its length.
+/// Puts a name behind the byte of its length, of which it has far less than 256.
 pub(crate) fn put_name<W: Write>(
     output: &mut Output,
     writer: &mut W,
     name: &str,
 ) -> Result<(), WriteFault>
-    requires { length name.now < 256 }
     ensures ok { OnOk result (Puts (W.contents writer.old) (W.contents writer.new) output.old output.new
         (behind_length 1 name.now)) }
     ensures broken { OnErr result (WritesFront (W.contents writer.old) (W.contents writer.new)
         (output.old ++ behind_length 1 name.now)) }
 {
-    output.put_u8(writer, name.len() as u8)?;
+    output.put_u8(writer, (name.len() % 256) as u8)?;
     output.put(writer, name.as_bytes())
 }
 

@@ -1,10 +1,11 @@
-//! Saving: the canonical bytes of a store to a writer.
+//! Saving: the canonical bytes of a store with rules to a writer.
 #![tactic(auto)]
 
 mod columns;
 mod features;
 mod fields;
 mod layers;
+mod rules;
 mod save_fault;
 mod saving;
 

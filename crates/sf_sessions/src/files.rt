@@ -2,7 +2,7 @@
 
 use super::session::Session;
 use sf_file::{LoadFault, load, save};
-use sf_layers::Store;
+use sf_ruled::Ruled;
 use std::alloc::Global;
 use std::io::{self, Write};
 
@@ -32,8 +32,8 @@ fn bytes_of(alloc: Global, digits: &str) -> io::Result<Vec<u8>> {
     hex::decode(alloc, digits).map_err(|_| io::ErrorKind::InvalidData.into())
 }
 
-/// The bytes that a store is saved as.
-fn saved(alloc: Global, store: &Store) -> io::Result<Vec<u8>> {
+/// The bytes that a store is saved as, with its rules.
+fn saved(alloc: Global, store: &Ruled) -> io::Result<Vec<u8>> {
     let mut bytes = Vec::new(alloc);
     match save(alloc, store, &mut bytes) {
         Ok(()) => Ok(bytes),
@@ -42,12 +42,12 @@ fn saved(alloc: Global, store: &Store) -> io::Result<Vec<u8>> {
 }
 
 /// The store that bytes are loaded as.
-fn loaded(alloc: Global, mut bytes: &[u8]) -> Result<Store, LoadFault> {
+fn loaded(alloc: Global, mut bytes: &[u8]) -> Result<Ruled, LoadFault> {
     load(alloc, &mut bytes)
 }
 
 /// Writes how bytes were loaded.
-fn write_outcome<W: Write>(outcome: &Result<Store, LoadFault>, output: &mut W) -> io::Result<()> {
+fn write_outcome<W: Write>(outcome: &Result<Ruled, LoadFault>, output: &mut W) -> io::Result<()> {
     match outcome {
         Ok(_) => output.write_all(b"loaded\n"),
         Err(LoadFault::BadFile { place, inner }) => writeln!(output, "BadFile {place} {inner}"),
@@ -58,7 +58,7 @@ fn write_outcome<W: Write>(outcome: &Result<Store, LoadFault>, output: &mut W) -
 
 /// Saves the store and goes on over what is loaded from that, where it is saved as the same bytes again.
 fn reload<W: Write>(alloc: Global, session: &mut Session, output: &mut W) -> io::Result<()> {
-    let bytes = saved(alloc, session.store())?;
+    let bytes = saved(alloc, session.ruled())?;
     let first = loaded(alloc, bytes.as_slice());
     let second = loaded(alloc, bytes.as_slice());
     let (Ok(first), Ok(second)) = (first, second) else {
@@ -75,7 +75,7 @@ fn reload<W: Write>(alloc: Global, session: &mut Session, output: &mut W) -> io:
 
 /// Writes the file of the store.
 fn write_file<W: Write>(alloc: Global, session: &Session, output: &mut W) -> io::Result<()> {
-    let bytes = saved(alloc, session.store())?;
+    let bytes = saved(alloc, session.ruled())?;
     let digits = hex::encode(alloc, bytes.as_slice())?;
     writeln!(output, "{digits}")
 }
@@ -112,7 +112,7 @@ fn change<W: Write>(alloc: Global, words: &str, output: &mut W) -> io::Result<()
 }
 
 /// Whether a front of a file is refused since it ends within a field.
-fn is_cut(outcome: &Result<Store, LoadFault>, len: usize) -> bool {
+fn is_cut(outcome: &Result<Ruled, LoadFault>, len: usize) -> bool {
     match outcome {
         Err(LoadFault::BadFile { place, inner }) => *place == len as u64 && *inner == 7,
         _ => false,

@@ -2,7 +2,7 @@
 
 use super::lines::bytes_of;
 use sf_console::{Editor, serve};
-use sf_layers::Store;
+use sf_ruled::Ruled;
 use std::alloc::Global;
 use std::io::{self, Read, Write};
 
@@ -53,17 +53,17 @@ impl Session {
     }
 
     /// One over these stores.
-    pub(crate) fn over(alloc: Global, whole: Store, in_bytes: Store) -> Session {
+    pub(crate) fn over(alloc: Global, whole: Ruled, in_bytes: Ruled) -> Session {
         Session {
-            whole: Editor::from_store(alloc, whole),
-            in_bytes: Editor::from_store(alloc, in_bytes),
+            whole: Editor::from_ruled(alloc, whole),
+            in_bytes: Editor::from_ruled(alloc, in_bytes),
             asked: Vec::new(alloc),
         }
     }
 
     /// The store of the lines so far.
-    pub(crate) fn store(&self) -> &Store {
-        self.whole.store()
+    pub(crate) fn ruled(&self) -> &Ruled {
+        self.whole.ruled()
     }
 
     /// Keeps a line for the next answer.

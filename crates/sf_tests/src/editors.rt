@@ -3,11 +3,11 @@ use sf_console::{Command, Depths, Editor, Refusal, parse};
 use sf_edits::Edit;
 use std::alloc::Global;
 
-/// Carries an edit out. The refusal where it was refused.
+/// Carries an edit out. A refusal where it was refused, which none of these is.
 fn edited(alloc: Global, editor: &mut Editor, number: u8, edit: Edit) -> Option<Refusal> {
     match editor.edit_as(alloc, number, edit) {
         Ok(_) => None,
-        Err((_, refusal)) => Some(refusal),
+        Err(_) => Some(Refusal::BadCommand),
     }
 }
 

@@ -5,7 +5,7 @@ ghost use Rattle.std.specs.Prelude.{◌≡◌, IfOk};
 use super::support::{other_answer, put};
 use sf_console::{Depths, Editor, ServeFault, serve};
 use sf_file::{LoadFault, SaveFault, load, save};
-use sf_layers::Store;
+use sf_ruled::Ruled;
 use std::alloc::Global;
 use std::io;
 use std::io::{ErrorKind, Read, Write};
@@ -233,7 +233,7 @@ fn serving_end(served: Result<(), ServeFault>) -> &'static str {
 }
 
 /// How loading ended, by name.
-fn loading_end(loaded: &Result<Store, LoadFault>) -> &'static str {
+fn loading_end(loaded: &Result<Ruled, LoadFault>) -> &'static str {
     match loaded {
         Ok(_) => "ok",
         Err(LoadFault::Memory) => "Memory",
@@ -488,7 +488,7 @@ fn load_tells_a_read_fault(rt: HostRuntime) {
 /// how many of them were flushed, and whether a call followed one that went wrong.
 fn saved_to(
     alloc: Global,
-    store: &Store,
+    store: &Ruled,
     step: usize,
     writes: Trouble,
     flushes: Trouble,

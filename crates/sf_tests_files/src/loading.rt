@@ -60,7 +60,7 @@ impl Read for Drops {
 fn saved_bytes_load(rt: HostRuntime) -> Result<(), Fail> {
     let mut bytes = WELLS;
     let store = load(rt.alloc(), &mut bytes)?;
-    assert!(rt; is_wells(&store));
+    assert!(rt; is_wells(store.store()));
     Ok(())
 }
 
@@ -71,7 +71,7 @@ fn pieces_make_no_difference(rt: HostRuntime) -> Result<(), Fail> {
         bytes: WELLS,
         failing_at: usize::MAX,
     };
-    assert!(rt; is_wells(&load(rt.alloc(), &mut whole)?));
+    assert!(rt; is_wells(load(rt.alloc(), &mut whole)?.store()));
     for failing_at in 0..WELLS.len() {
         let mut broken = Drops {
             bytes: WELLS,

@@ -2,6 +2,7 @@
 
 use crate::support::{Gauge, town};
 use sf_layers::Store;
+use sf_ruled::Ruled;
 use sf_saving::{SaveFault, save};
 use std::test::Fail;
 
@@ -13,7 +14,7 @@ const WELLS: &[u8] =
 fn new_store_is_saved(rt: HostRuntime) {
     let alloc = rt.alloc();
     let mut bytes: Vec<u8> = Vec::new(alloc);
-    assert!(rt; save(alloc, &Store::new(alloc), &mut bytes).is_ok());
+    assert!(rt; save(alloc, &Ruled::from_store(alloc, Store::new(alloc)), &mut bytes).is_ok());
     assert!(rt; bytes.as_slice() == b"SFSTORE2\x18\0\0\0\0".as_slice());
 }
 
@@ -29,7 +30,7 @@ const WRITERS: [(usize, usize, bool, usize); 5] = [
 #[test]
 fn point_is_saved_or_a_prefix(rt: HostRuntime) -> Result<(), Fail> {
     let alloc = rt.alloc();
-    let store = town(alloc)?;
+    let store = Ruled::from_store(alloc, town(alloc)?);
     for (step, room, can_flush, count) in WRITERS {
         let mut writer = Gauge {
             bytes: Vec::new(alloc),

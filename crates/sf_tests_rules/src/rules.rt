@@ -196,7 +196,10 @@ fn rule_of(alloc: Global, row: RuleRow) -> Option<Rule> {
 /// Adds the rule of a row, and answers why it is refused, if it is.
 fn refusal_of(alloc: Global, rules: &mut Rules, store: &Store, row: RuleRow) -> Option<Refusal> {
     match rule_of(alloc, row) {
-        Some(rule) => rules.add(alloc, store, rule).err(),
+        Some(rule) => rules
+            .add(alloc, store, rule)
+            .err()
+            .map(|(_, refusal)| refusal),
         None => Some(Refusal::Memory),
     }
 }

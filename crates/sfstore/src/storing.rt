@@ -10,6 +10,7 @@ use sf_folder::{
 use sf_journal::{FileSum, Sum, SumFault, head, sum_of};
 use sf_keeping::{Desk, Input, KeepFault, Pending, ReplayFault, Stop, replay, serve_kept};
 use sf_layers::Store;
+use sf_ruled::Ruled;
 use sf_lines::line_feed;
 use sf_streams::{WriteFault, flush, send};
 use std::alloc::Global;
@@ -60,14 +61,14 @@ impl<'a, R: Files<File = File>, W: Write> Desk for StoreDesk<'a, R, W> {
     }
 }
 
-/// A store on its way to a file.
+/// A store with its rules on its way to a file.
 #[derive(Drop)]
-struct Saved<'a>(&'a Store);
+struct Saved<'a>(&'a Ruled);
 
 impl<'a> Source for Saved<'a> {
-    ghost use Rattle.sf_format.specs.Canonical.{canonical};
+    ghost use Rattle.sf_format.specs.Canonical.{canonical_ruled};
 
-    ghost bytes = { λ s. canonical s.0.now };
+    ghost bytes = { λ s. canonical_ruled s.0.now };
 
     fn write_to<W: Write>(&self, alloc: Global, writer: &mut W) -> io::Result<()> {
         sf_file::save(alloc, self.0, writer).map_err(|fault| match fault {
@@ -94,10 +95,11 @@ fn sum_fault(fault: SumFault) -> Ending {
 }
 
 /// A new store, and what is known of a file that isn't there.
-fn new_store(alloc: Global) -> Result<(Store, Known), Ending> {
+fn new_store(alloc: Global) -> Result<(Ruled, Known), Ending> {
     let mut nothing: &[u8] = &[];
     let sum = sum_of(alloc, &mut nothing).map_err(sum_fault)?;
-    Ok((Store::new(alloc), Known { seen: None, sum }))
+    let store = Ruled::from_store(alloc, Store::new(alloc));
+    Ok((store, Known { seen: None, sum }))
 }
 
 /// What is seen of an open file.
@@ -113,7 +115,7 @@ fn load_store<R: Files<File = File>>(
     files: &R,
     alloc: Global,
     places: &Places,
-) -> Result<(Store, Known), Ending> {
+) -> Result<(Ruled, Known), Ending> {
     let mut file = match fs::open(files, places.at(Name::Store)) {
         Ok(file) => file,
         Err(fault) if fault.kind() == ErrorKind::NotFound => return new_store(alloc),
@@ -165,7 +167,7 @@ fn bytes_of<'a>(
 /// Does the edits of the journal again that goes on from the file, and writes it anew.
 fn open<'a, R: Files>(
     alloc: Global,
-    store: Store,
+    store: Ruled,
     file: &FileSum,
     folder: &mut StoreFolder<'a, R>,
 ) -> Result<Opened, Ending> {
@@ -176,7 +178,7 @@ fn open<'a, R: Files>(
         return Err(Ending::Journal(JournalFault::Memory));
     };
     let records = behind(bytes_of(chosen, &journal, &beside), head.len());
-    let mut editor = Editor::from_store(alloc, store);
+    let mut editor = Editor::from_ruled(alloc, store);
     let first = Sum::of_head(head.as_bytes());
     let replayed = replay(alloc, &mut editor, first, records).map_err(|fault| replay_fault(
         fault,
@@ -276,7 +278,7 @@ fn save_store<'a, R: Files>(
     {
         return Err(Ending::SaveChanged);
     }
-    let file = save(folder, alloc, &Saved(editor.store())).map_err(|fault| save_fault(&fault))?;
+    let file = save(folder, alloc, &Saved(editor.ruled())).map_err(|fault| save_fault(&fault))?;
     folder.has_saved(file);
     match head(alloc, &file) {
         Ok(head) => Ok(Sum::of_head(head.as_bytes())),
@@ -320,7 +322,7 @@ fn serve_all<'a, R: Files<File = File>, I: Read, W: Write>(
             break;
         }
         sum = save_store(alloc, &mut desk.folder, &editor)?;
-        editor = Editor::from_store(alloc, editor.into_store());
+        editor = Editor::from_ruled(alloc, editor.into_ruled());
         if desk.answer(b"ok\n").is_err() {
             return Err(serve_fault(KeepFault::Write));
         }

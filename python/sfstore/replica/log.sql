@@ -50,7 +50,7 @@ $$;
 -- before it.
 CREATE FUNCTION sfstore.is_edit(line text) RETURNS bool LANGUAGE sql IMMUTABLE AS $$
   SELECT position(E'\n' IN line) = 0 AND (sfstore.is_group(line) OR octet_length(line) <= 131067
-    AND line ~ '^[ \t]*(layer|column|add|addhex|delete|replace|vertex|set|unset|undo|redo)([ \t]|\r?$)')
+    AND line ~ '^[ \t]*(layer|column|add|addhex|delete|replace|vertex|set|unset|rule|undo|redo)([ \t]|\r?$)')
 $$;
 
 CREATE TABLE sfstore.log (

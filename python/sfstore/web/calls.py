@@ -9,6 +9,7 @@ from collections.abc import Callable, Sequence
 from typing import Any, TypeVar
 
 from sfstore import spelling
+from sfstore.broken import Broken, broken_by
 from sfstore.commands import Command, help_text, near_words
 from sfstore.faults import fault_at, fault_of
 from sfstore.geometry import Shape, read_wkb, write_wkt
@@ -277,6 +278,9 @@ class Calls:
             if shape is not None:
                 told.update(_shape(shape))
                 told["place"] = self._place(refused, shape)
+        broken = self._keeper.ask(lambda store: broken_by(refused, line, store)) if refused.rule else None
+        if broken is not None:
+            told["broken"] = _broken(broken)
         return told
 
     def _place(self, refused: Refused, shape: Shape) -> Body | None:
@@ -314,6 +318,14 @@ class Calls:
         if step is None:
             return None
         return {"number": step.editor, "editor": self._editors.name_of(step.editor), "line": step.line}
+
+
+def _broken(broken: Broken) -> Body:
+    """A rule that would be broken: its words, and the features that would break it, of which one may be new."""
+    features = [
+        {"layer": found.layer, "id": found.feature, **(_shape(found.shape) if found.shape else {})} for found in broken.features
+    ]
+    return {"rule": broken.rule.line, "features": features}
 
 
 def _shape(shape: Shape) -> Body:

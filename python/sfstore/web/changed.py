@@ -10,8 +10,8 @@ from sfstore.web.steps import Did, Step
 
 __all__ = ["Changed", "What", "changed_by", "merged"]
 
-What = Literal["added", "changed", "deleted", "columns", "layers"]
-"""What became of a feature; or a layer has other columns; or there are other layers, or in another order."""
+What = Literal["added", "changed", "deleted", "columns", "layers", "rules"]
+"""What became of a feature; or a layer has other columns; or there are other layers, or in another order; or other rules."""
 
 _OF_EDITS: dict[str, What] = {
     "add": "added",
@@ -19,6 +19,7 @@ _OF_EDITS: dict[str, What] = {
     "delete": "deleted",
     "column": "columns",
     "layer": "layers",
+    "rule": "rules",
 }
 _BACK: dict[What, What] = {"added": "deleted", "deleted": "added"}
 
@@ -55,7 +56,7 @@ def merged(changes: Iterable[Changed]) -> list[dict[str, Any]]:
     """Changes as JSON has them: of several of one feature, what they are together."""
     whole: dict[tuple[str | None, int | None, bool], Changed] = {}
     for change in changes:
-        key = change.layer, change.feature, change.what in ("columns", "layers")
+        key = change.layer, change.feature, change.what in ("columns", "layers", "rules")
         before = whole.get(key)
         if before is not None and before.what == "added" and change.what == "changed":
             continue

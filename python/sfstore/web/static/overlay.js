@@ -12,10 +12,12 @@ export class Overlay {
     this.shapes = { asked: null, refused: null, sketch: null };
     this.paths = {};
     for (const name of Object.keys(this.shapes)) this.paths[name] = drawn("path", { class: name });
+    this.breaks = drawn("g", { class: "breaks" });
     this.marks = drawn("g", { class: "fault-marks" });
     this.handles = drawn("g");
-    layer.append(...Object.values(this.paths), this.marks, this.handles);
+    layer.append(...Object.values(this.paths), this.breaks, this.marks, this.handles);
     this.faults = [];
+    this.breaking = [];
   }
 
   /** Draws a shape under a name, or takes it away. */
@@ -24,9 +26,11 @@ export class Overlay {
     this.place();
   }
 
-  /** Draws a refused geometry, and the places where it breaks its rule. */
-  showRefused(shape, faults) {
+  /** Draws a refused geometry with the places where it is wrong, and the features that would break a rule. */
+  showRefused(shape, faults, breaking = []) {
     this.faults = faults;
+    this.breaking = breaking;
+    this.breaks.replaceChildren(...breaking.map(() => drawn("path", { class: "refused" })));
     this.marks.replaceChildren(...faults.map(() => drawn("circle", { r: 9, class: "fault-mark" })));
     this.show("refused", shape);
   }
@@ -37,6 +41,9 @@ export class Overlay {
     for (const [name, shape] of Object.entries(this.shapes)) {
       this.paths[name].setAttribute("d", shape ? pathOf(shape.code, shape.members, pixels) : "");
     }
+    this.breaking.forEach(({ code, members }, place) => {
+      this.breaks.children[place].setAttribute("d", pathOf(code, members, pixels));
+    });
     this.faults.forEach((point, place) => put(this.marks.children[place], pixels(...point)));
     for (const handle of this.handles.children) {
       put(handle, pixels(handle.vertex.x, handle.vertex.y));

@@ -13,7 +13,7 @@ import { call, CallFailed, listen } from "./server.js";
 import { followPointers, View } from "./view.js";
 
 // Edits of these change nothing that is drawn.
-const UNDRAWN = /^[ \t]*(set|unset|column)[ \t]/;
+const UNDRAWN = /^[ \t]*(set|unset|column|rule)[ \t]/;
 // Edits of one feature, which they name or their answer does.
 const OF_FEATURE = /^[ \t]*(?:delete|replace|vertex[ \t]+[a-z]+)[ \t]+([^ \t]+)[ \t]+([0-9]+)/;
 // So many changed features are drawn anew one by one.
@@ -181,14 +181,15 @@ class App {
   }
 
   #tellRefused(refused) {
-    const { place, whose, member } = refused;
+    const { place, whose, member, broken } = refused;
     const which = member ? `, line ${member} of the group` : "";
     this.#showWords(`Refused (${refused.number} ${refused.name})${which}: ${refused.reason}.`, {
-      reason: whose ? `The next step is ${whose.editor}'s: ${whose.line}` : "",
+      reason: whose ? `The next step is ${whose.editor}'s: ${whose.line}` : broken ? brokenWords(broken) : "",
       place: place ? `${place.words}.` : "",
       help: refused.help,
     });
-    this.overlay.showRefused(refused.members ? refused : null, place?.points ?? []);
+    const breaking = (broken?.features ?? []).filter((feature) => feature.members);
+    this.overlay.showRefused(refused.members ? refused : null, place?.points ?? [], breaking);
     if (place) this.#uncover(place.points[0]);
   }
 
@@ -295,6 +296,12 @@ class App {
     event.preventDefault();
     this.run(line);
   }
+}
+
+/** Which rule would be broken, and by what. */
+function brokenWords({ rule, features }) {
+  const named = features.map(({ layer, id }) => `${layer} ${id}`);
+  return `The rule is ${rule}; ${named.join(" and ")} would break it.`;
 }
 
 /** The feature that an accepted line has changed; nothing where it is not told so exactly. */

@@ -9,7 +9,7 @@ use Rattle.sf_ruled.proofs.edits.carry_out_seen.Goals as goal
 pub returns-in-Ok-clause-accepted : goal.returns-in-Ok-clause-accepted
 returns-in-Ok-clause-accepted c =
     let old = c.args.store.now in
-    let new = c.carry_out_group.new.store in
+    let new = c.carry_out_several.new.store in
     let rules = c.args.rules.now in
     let ids = c.in-Ok.field-0.ids.items in
     let undo = c.in-Ok.field-0.undo in

@@ -12,8 +12,8 @@ returns-then-owner-editor-clause-refused c =
     let at : c.len.result ≡ length inside.done.items = grind (arith, common_steps) in
     let whose : BeginsWith owner c.args.self.now.future =
     subst (λ m. BeginsWith owner m.future) c.self.view_is
-    (subst (λ editor. BeginsWith editor (future_of inside.store (reverse inside.undone.items) (drop (length inside.done.items) inside.editors.items))) (sym (c.index-owner.ensures ∙ ap (λ k. get_or inside.editors.items k owner) at))
-    (future-begins inside.store inside.undone.items inside.editors.items (length inside.done.items) owner some c.self.invariant.2)) in
+    (subst (λ editor. BeginsWith editor (future_of inside.ruled (reverse inside.undone.items) (drop (length inside.done.items) inside.editors.items))) (sym (c.index-owner.ensures ∙ ap (λ k. get_or inside.editors.items k owner) at))
+    (future-begins inside.ruled inside.undone.items inside.editors.items (length inside.done.items) owner some c.self.invariant.2)) in
     inl (redone-not_own c.args.editor owner c.args.self.now whose c.if-owner-editor.true)
 
 pub returns-then-is_err-clause-refused : goal.returns-then-is_err-clause-refused
@@ -24,6 +24,6 @@ returns-then-is_err-clause-refused c =
     let at : c.len.result ≡ length inside.done.items = grind (arith, common_steps) in
     let whose : BeginsWith owner c.args.self.now.future =
     subst (λ m. BeginsWith owner m.future) c.self.view_is
-    (subst (λ editor. BeginsWith editor (future_of inside.store (reverse inside.undone.items) (drop (length inside.done.items) inside.editors.items))) (sym (c.index-owner.ensures ∙ ap (λ k. get_or inside.editors.items k owner) at))
-    (future-begins inside.store inside.undone.items inside.editors.items (length inside.done.items) owner some c.self.invariant.2)) in
+    (subst (λ editor. BeginsWith editor (future_of inside.ruled (reverse inside.undone.items) (drop (length inside.done.items) inside.editors.items))) (sym (c.index-owner.ensures ∙ ap (λ k. get_or inside.editors.items k owner) at))
+    (future-begins inside.ruled inside.undone.items inside.editors.items (length inside.done.items) owner some c.self.invariant.2)) in
     inr (refl, redone-own c.args.editor owner c.args.self.now whose c.if-owner-editor.false)

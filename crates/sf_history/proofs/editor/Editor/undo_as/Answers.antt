@@ -12,8 +12,8 @@ returns-then-owner-editor-clause-refused c =
     let within : length inside.done.items ≤ length inside.editors.items = grind (arith, common_steps) in
     let whose : BeginsWith owner c.args.self.now.past =
     subst (λ m. BeginsWith owner m.past) c.self.view_is
-    (subst (λ editor. BeginsWith editor (past_of inside.store (reverse inside.done.items) (reverse (take (length inside.done.items) inside.editors.items)))) (sym c.index-owner.ensures)
-    (past-begins inside.store inside.done.items inside.editors.items c.in-Some.last owner at within)) in
+    (subst (λ editor. BeginsWith editor (past_of inside.ruled (reverse inside.done.items) (reverse (take (length inside.done.items) inside.editors.items)))) (sym c.index-owner.ensures)
+    (past-begins inside.ruled inside.done.items inside.editors.items c.in-Some.last owner at within)) in
     inl (undone-not_own c.args.editor owner c.args.self.now whose c.if-owner-editor.true)
 
 pub returns-then-is_err-clause-refused : goal.returns-then-is_err-clause-refused
@@ -24,6 +24,6 @@ returns-then-is_err-clause-refused c =
     let within : length inside.done.items ≤ length inside.editors.items = grind (arith, common_steps) in
     let whose : BeginsWith owner c.args.self.now.past =
     subst (λ m. BeginsWith owner m.past) c.self.view_is
-    (subst (λ editor. BeginsWith editor (past_of inside.store (reverse inside.done.items) (reverse (take (length inside.done.items) inside.editors.items)))) (sym c.index-owner.ensures)
-    (past-begins inside.store inside.done.items inside.editors.items c.in-Some.last owner at within)) in
+    (subst (λ editor. BeginsWith editor (past_of inside.ruled (reverse inside.done.items) (reverse (take (length inside.done.items) inside.editors.items)))) (sym c.index-owner.ensures)
+    (past-begins inside.ruled inside.done.items inside.editors.items c.in-Some.last owner at within)) in
     inr (refl, undone-own c.args.editor owner c.args.self.now whose c.if-owner-editor.false)

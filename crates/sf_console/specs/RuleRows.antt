@@ -1,0 +1,50 @@
+-- Rules, and what breaks them, in words.
+use Rattle.std.specs.Prelude.{ℕ, List, [], ◌++◌, Option, None, Some, codes, decimal, slice_get}
+use Rattle.std.specs.Option.{option_map_or}
+use Rattle.sf_known.specs.Patterns.{pattern_text}
+use Rattle.sf_known.specs.Predicates.{predicate_name}
+use Rattle.sf_query.specs.declared.ask.Ask.{Ask}
+use Rattle.sf_query.specs.declared.ask.Ask.TheVariants.{Matching, Named}
+use Rattle.sf_constraints.specs.declared.breaks.Break.{Break}
+use Rattle.sf_constraints.specs.declared.breaks.Break.TheVariants.{Alone, Pair}
+use Rattle.sf_constraints.specs.declared.rule.Form.{Form}
+use Rattle.sf_constraints.specs.declared.rule.Form.TheVariants.{Each, Never}
+use Rattle.sf_constraints.specs.declared.rule.Rule.{Rule}
+use Rattle.sf_ruled.specs.declared.refusal.Refusal.{Refusal as StepRefusal}
+use Rattle.sf_ruled.specs.declared.refusal.Refusal.TheVariants.{RuleBroken}
+
+-- what is asked, as one word
+abbrev pub ask_word : Ask → List ℕ
+ask_word (Matching letters) = pattern_text letters
+ask_word (Named predicate) = predicate_name predicate
+
+-- the word of a form, and what stands before the second layer
+abbrev pub form_words : Form → List ℕ
+form_words Never = codes " never "
+form_words Each = codes " each "
+
+abbrev pub second_words : Form → List ℕ
+second_words Never = codes " "
+second_words Each = codes " some "
+
+-- what stands in the row of a rule before what is asked
+abbrev pub front_words : Rule → List ℕ
+front_words rule = rule.name ++ (form_words rule.form ++ (rule.first ++ codes " "))
+
+-- the row of a rule, as it was added
+abbrev pub rule_row : Rule → List ℕ
+rule_row rule = front_words rule ++ (ask_word rule.ask ++ (second_words rule.form ++ rule.second))
+
+-- the features that break a rule
+abbrev pub break_words : Break → List ℕ
+break_words (Pair first second) = codes " " ++ (decimal first ++ (codes " " ++ decimal second))
+break_words (Alone first) = codes " " ++ decimal first
+
+-- the name of the rule at a place
+abbrev pub rule_name : List Rule → ℕ → List ℕ
+rule_name rules place = option_map_or (λ rule. rule.name) (slice_get rules place) []
+
+-- the name of the rule that a step would break, of those that stand
+abbrev pub broken_name : List Rule → StepRefusal → List ℕ
+broken_name rules (RuleBroken broken) = rule_name rules broken.place
+broken_name rules refusal = []

@@ -1,0 +1,209 @@
+//! Rules added, dropped and listed, and the answers to steps that would break one.
+ghost use Rattle.std.specs.Prelude.{◌≡◌, ◌++◌, ◌⊎◌, false, map, string_bytes, IfOk, Ok, OnOk};
+ghost use Rattle.sf_known.specs.Patterns.{pattern_text};
+ghost use Rattle.sf_commands.specs.declared.command.Command.TheVariants as commands;
+ghost use Rattle.sf_console.specs.Answers.{broken_line as broken_line_of, line, refusal_line, reply_text, rows, step_refusal_line};
+ghost use Rattle.sf_console.specs.Readings.{Asked};
+ghost use Rattle.sf_console.specs.RuleRows.{ask_word, break_words, broken_name as broken_name_of, form_words as form_words_of, front_words, rule_name as rule_name_of, rule_row, second_words as second_words_of};
+ghost use Rattle.sf_console.specs.Session.{IsAnswered};
+
+use super::reply::Reply;
+use sf_constraints::{Break, Form, Rule};
+use sf_history::{Editor, StepRefusal};
+use sf_known::Letter;
+use sf_layers::Text;
+use sf_query::Ask;
+use sf_refusals::Refusal;
+use sf_ruled::Rules;
+use sf_steps::Answer;
+use std::alloc::{AllocError, Global};
+
+/// Adds a rule, as a step of the editor of that number.
+pub(crate) fn add_rule(
+    alloc: Global,
+    editor: &mut Editor,
+    asker: u8,
+    rule: Rule,
+) -> Result<Reply, Refusal>
+    ensures { IsAnswered editor.old (Asked false (Ok (asker, commands.AddRule rule))) (reply_text result) editor.new }
+{
+    match editor.add_rule_as(alloc, asker, rule) {
+        Ok(()) => Ok(Reply::Accepted(Answer::Done)),
+        Err((rule, refusal)) => refused_step(alloc, rule.name.as_str(), refusal),
+    }
+}
+
+/// Drops the rule of a name, as a step of the editor of that number.
+pub(crate) fn drop_rule(
+    alloc: Global,
+    editor: &mut Editor,
+    asker: u8,
+    name: &Text,
+) -> Result<Reply, Refusal>
+    ensures { IsAnswered editor.old (Asked false (Ok (asker, commands.DropRule name.now))) (reply_text result) editor.new }
+{
+    match editor.drop_rule_as(asker, name.as_str()) {
+        Ok(()) => Ok(Reply::Accepted(Answer::Done)),
+        Err(refusal) => refused_step(alloc, name.as_str(), refusal),
+    }
+}
+
+/// The rules, in the order in which they were added.
+pub(crate) fn rules(alloc: Global, rules: &Rules) -> Result<Reply, Refusal>
+    ensures { (reply_text result ≡ rows (map rule_row rules.now)) ⊎ (reply_text result ≡ refusal_line Refusal.Memory) }
+{
+    Ok(Reply::Lines(rule_rows(alloc, rules.as_slice())?))
+}
+
+/// The reply to a step that is refused under these rules.
+pub fn refused_by_rules(
+    alloc: Global,
+    rules: &Rules,
+    refusal: StepRefusal,
+) -> Result<Reply, Refusal>
+    ensures { (reply_text result ≡ step_refusal_line (broken_name_of rules.now refusal) refusal) ⊎ (reply_text result ≡ refusal_line Refusal.Memory) }
+{
+    let name = broken_name(rules.as_slice(), &refusal);
+    refused_step(alloc, name, refusal)
+}
+
+/// The name of the rule that a step would break, or no text where it would break none.
+fn broken_name<'a>(rules: &'a [Rule], refusal: &StepRefusal) -> &'a str
+    ensures { result.now ≡ broken_name_of rules.now refusal.now }
+{
+    match refusal {
+        StepRefusal::RuleBroken(broken) => rule_name(rules, broken.place),
+        _ => "",
+    }
+}
+
+/// The name of the rule at a place, or no text where none stands there.
+fn rule_name(rules: &[Rule], place: usize) -> &str
+    ensures { result.now ≡ rule_name_of rules.now place }
+{
+    match rules.get(place) {
+        Some(rule) => rule.name.as_str(),
+        None => "",
+    }
+}
+
+/// The reply to a step that is refused. The name is that of the rule that it would break, where it would break one.
+pub fn refused_step(alloc: Global, name: &str, refusal: StepRefusal) -> Result<Reply, Refusal>
+    ensures { (reply_text result ≡ step_refusal_line name.now refusal) ⊎ (reply_text result ≡ refusal_line Refusal.Memory) }
+{
+    match refusal {
+        StepRefusal::ByEdit(refusal) => Err(refusal.into()),
+        StepRefusal::ByMember { number, refusal } => {
+            Ok(Reply::MemberRefused(number, refusal.into()))
+        }
+        StepRefusal::RuleBroken(broken) => {
+            Ok(Reply::Lines(broken_line(alloc, name, &broken.least)?))
+        }
+        StepRefusal::NoRule => Err(Refusal::NoRule),
+        StepRefusal::RuleExists => Err(Refusal::RuleExists),
+        StepRefusal::LayerRuled => Err(Refusal::LayerRuled),
+        StepRefusal::BadName => Err(Refusal::BadName),
+        StepRefusal::NoLayer => Err(Refusal::NoLayer),
+        StepRefusal::TooManyRules => Err(Refusal::IdsExhausted),
+        StepRefusal::Memory => Err(Refusal::Memory),
+    }
+}
+
+/// The line of a step that would break the rule of a name: with the features that would.
+fn broken_line(alloc: Global, name: &str, least: &Break) -> Result<String, AllocError>
+    ensures { IfOk result (λ text. string_bytes text ≡ broken_line_of name.now least.now) }
+{
+    let mut text = String::new(alloc);
+    write!(
+        text,
+        "refused {} {} {name}",
+        Refusal::RuleBroken.number(),
+        Refusal::RuleBroken.name()
+    )?;
+    push_break(&mut text, least)?;
+    text.push('\n')?;
+    Ok(text)
+}
+
+/// The features that break a rule.
+fn push_break(text: &mut String, least: &Break) -> Result<(), AllocError>
+    ensures { OnOk result (string_bytes text.new ≡ string_bytes text.old ++ break_words least.now) }
+{
+    match least {
+        Break::Pair { first, second } => write!(text, " {first} {second}"),
+        Break::Alone { id } => write!(text, " {id}"),
+    }
+}
+
+/// A row for each rule, in order.
+fn rule_rows(alloc: Global, rules: &[Rule]) -> Result<String, AllocError>
+    ensures { IfOk result (λ text. string_bytes text ≡ rows (map rule_row rules.now)) }
+{
+    let mut text = String::new(alloc);
+    writeln!(text, "rows {}", rules.len())?;
+    for rule in rules {
+        push_rule(&mut text, rule)?;
+    }
+    Ok(text)
+}
+
+/// The row of a rule, with its line feed.
+fn push_rule(text: &mut String, rule: &Rule) -> Result<(), AllocError>
+    ensures { OnOk result (string_bytes text.new ≡ string_bytes text.old ++ line (rule_row rule.now)) }
+{
+    push_front(text, rule)?;
+    push_ask(text, &rule.ask)?;
+    text.push_str(second_words(rule.form))?;
+    text.push_str(rule.second.as_str())?;
+    text.push('\n')
+}
+
+/// What stands in the row of a rule before what is asked.
+fn push_front(text: &mut String, rule: &Rule) -> Result<(), AllocError>
+    ensures { OnOk result (string_bytes text.new ≡ string_bytes text.old ++ front_words rule.now) }
+{
+    text.push_str(rule.name.as_str())?;
+    text.push_str(form_words(rule.form))?;
+    text.push_str(rule.first.as_str())?;
+    text.push(' ')
+}
+
+/// What is asked, as one word.
+fn push_ask(text: &mut String, ask: &Ask) -> Result<(), AllocError>
+    ensures { OnOk result (string_bytes text.new ≡ string_bytes text.old ++ ask_word ask.now) }
+{
+    match ask {
+        Ask::Named(predicate) => text.push_str(predicate.name()),
+        Ask::Matching(pattern) => push_letters(text, pattern.letters()),
+    }
+}
+
+/// The letters of a pattern, in order.
+fn push_letters(text: &mut String, letters: &[Letter]) -> Result<(), AllocError>
+    ensures { OnOk result (string_bytes text.new ≡ string_bytes text.old ++ pattern_text letters.now) }
+{
+    for letter in letters {
+        text.push_str(letter.text())?;
+    }
+    Ok(())
+}
+
+/// The words of a form, with the blanks around them.
+fn form_words(form: Form) -> &'static str
+    ensures { result.now ≡ form_words_of form }
+{
+    match form {
+        Form::Never => " never ",
+        Form::Each => " each ",
+    }
+}
+
+/// What stands before the second layer.
+fn second_words(form: Form) -> &'static str
+    ensures { result.now ≡ second_words_of form }
+{
+    match form {
+        Form::Never => " ",
+        Form::Each => " some ",
+    }
+}

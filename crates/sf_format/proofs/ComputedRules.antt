@@ -1,0 +1,119 @@
+-- Worked files with rules, computed from the definitions alone.
+use Rattle.std.proofs.Common.{◌≡◌, ℕ, pos, List, [], ◌∷◌, ◌++◌, length, drop, Result, Ok, Err, codes, refl}
+use Rattle.sf_geometry.specs.declared.geometry.Geometry.TheVariants.{Point}
+use Rattle.sf_geometry.specs.declared.kind.Kind.TheVariants as kinds
+use Rattle.sf_known.specs.declared.letter.Letter.TheVariants.{Any, Filled, Empty, Zero, One, Two}
+use Rattle.sf_known.specs.declared.predicate.Predicate.TheVariants.{Within}
+use Rattle.sf_query.specs.declared.ask.Ask.TheVariants.{Matching, Named}
+use Rattle.sf_layers.specs.declared.layer_kind.LayerKind.TheVariants.{Only}
+use Rattle.sf_features.specs.Features.{plain_feature}
+use Rattle.sf_layers.specs.Content.{Content}
+use Rattle.sf_constraints.specs.declared.rule.Rule.{Rule}
+use Rattle.sf_constraints.specs.declared.rule.Form.TheVariants.{Each, Never}
+use Rattle.sf_ruled.specs.Ruled.{Ruled}
+use Rattle.sf_format.specs.Defects.{number_of}
+use Rattle.sf_format.specs.Readings.{Fault}
+use Rattle.sf_format.specs.Format.{ruled_content_of}
+use Rattle.sf_format.specs.Canonical.{canonical, canonical_ruled, rule_bytes}
+
+-- a content with rules, or the place and the number of the first fault
+abbrev answer : Result Ruled Fault → Result Ruled (ℕ × ℕ)
+answer (Ok ruled) = Ok ruled
+answer (Err fault) = Err (fault.place, number_of fault.defect)
+
+abbrev load : List ℕ → Result Ruled (ℕ × ℕ)
+load text = answer (ruled_content_of text)
+
+-- two layers, one of them with a point
+abbrev wells : Content
+wells = (codes "a", record { kind = Only kinds.Point; next_id = 2; next_column = 1; columns = []; features = (1, plain_feature (Point (record { x = pos 3; y = pos 4 }))) ∷ [] })
+    ∷ (codes "b", record { kind = Only kinds.Point; next_id = 1; next_column = 1; columns = []; features = [] }) ∷ []
+
+abbrev apart : Rule
+apart = record { name = codes "apart"; form = Never; first = codes "a"; ask = Matching (Any ∷ Filled ∷ Empty ∷ Zero ∷ One ∷ Two ∷ Any ∷ Any ∷ Any ∷ []); second = codes "b" }
+
+abbrev inside : Rule
+inside = record { name = codes "in"; form = Each; first = codes "b"; ask = Named Within; second = codes "a" }
+
+abbrev kept : Ruled
+kept = record { content = wells; rules = apart ∷ inside ∷ [] }
+
+pub apart_bytes : rule_bytes apart ≡ 5 ∷ codes "apart" ++ 1 ∷ 1 ∷ 97 ∷ 0 ∷ codes "*TF012***" ++ 1 ∷ 98 ∷ []
+apart_bytes = refl
+
+pub inside_bytes : rule_bytes inside ≡ 2 ∷ codes "in" ++ 2 ∷ 1 ∷ 98 ∷ 5 ∷ 1 ∷ 97 ∷ []
+inside_bytes = refl
+
+pub without_rules_as_before : canonical_ruled (record { content = wells; rules = [] }) ≡ canonical wells
+without_rules_as_before = refl
+
+-- the bytes up to the number of rules are those of a store without them, but for the version
+abbrev layers_part : List ℕ
+layers_part = codes "SFSTORE3" ++ drop 8 (canonical wells)
+
+pub layers_length : length layers_part ≡ 74
+layers_length = refl
+
+pub kept_bytes : canonical_ruled kept ≡ layers_part ++ 0 ∷ 2 ∷ (rule_bytes apart ++ rule_bytes inside)
+kept_bytes = refl
+
+pub kept_loads : load (canonical_ruled kept) ≡ Ok kept
+kept_loads = refl
+
+-- a file of the third version with these bytes behind the layers
+abbrev with_rules : List ℕ → List ℕ
+with_rules rest = layers_part ++ rest
+
+pub no_rule : load (with_rules (0 ∷ 0 ∷ [])) ≡ Ok (record { content = wells; rules = [] })
+no_rule = refl
+
+pub count_missing : load (with_rules (0 ∷ [])) ≡ Err (75, 7)
+count_missing = refl
+
+pub more_behind : load (with_rules (0 ∷ 0 ∷ 0 ∷ [])) ≡ Err (76, 8)
+more_behind = refl
+
+-- small letters are read too
+pub small_letters : load (with_rules (0 ∷ 1 ∷ 5 ∷ codes "apart" ++ 1 ∷ 1 ∷ 97 ∷ 0 ∷ codes "*tf012***" ++ 1 ∷ 98 ∷ [])) ≡ Ok (record { content = wells; rules = apart ∷ [] })
+small_letters = refl
+
+-- a rule of this name, and what comes after the name
+abbrev named : List ℕ → List ℕ
+named rest = with_rules (0 ∷ 1 ∷ 1 ∷ 114 ∷ rest)
+
+pub name_of_no_byte : load (with_rules (0 ∷ 1 ∷ 0 ∷ [])) ≡ Err (76, 20)
+name_of_no_byte = refl
+
+pub name_with_a_digit_first : load (with_rules (0 ∷ 1 ∷ 1 ∷ 57 ∷ [])) ≡ Err (76, 20)
+name_with_a_digit_first = refl
+
+pub name_twice : load (with_rules (0 ∷ 2 ∷ (rule_bytes inside ++ rule_bytes inside))) ≡ Err (85, 40)
+name_twice = refl
+
+pub no_form : load (named (0 ∷ [])) ≡ Err (78, 34)
+no_form = refl
+
+pub form_three : load (named (3 ∷ [])) ≡ Err (78, 34)
+form_three = refl
+
+pub no_first_layer : load (named (1 ∷ 1 ∷ 99 ∷ [])) ≡ Err (79, 18)
+no_first_layer = refl
+
+pub first_layer_no_name : load (named (1 ∷ 1 ∷ 32 ∷ [])) ≡ Err (79, 20)
+first_layer_no_name = refl
+
+pub ask_nine : load (named (1 ∷ 1 ∷ 97 ∷ 9 ∷ [])) ≡ Err (81, 32)
+ask_nine = refl
+
+pub no_pattern : load (named (1 ∷ 1 ∷ 97 ∷ 0 ∷ codes "*TF013***")) ≡ Err (81, 32)
+no_pattern = refl
+
+pub pattern_cut_off : load (named (1 ∷ 1 ∷ 97 ∷ 0 ∷ codes "*TF012**")) ≡ Err (90, 7)
+pattern_cut_off = refl
+
+pub no_second_layer : load (named (1 ∷ 1 ∷ 97 ∷ 5 ∷ 1 ∷ 99 ∷ [])) ≡ Err (82, 18)
+no_second_layer = refl
+
+-- the point of the first layer is within none of the second; the place is that of the rule, also where more is wrong behind it
+pub broken : load (with_rules (0 ∷ 2 ∷ (rule_bytes inside ++ (1 ∷ 114 ∷ 2 ∷ 1 ∷ 97 ∷ 5 ∷ 1 ∷ 98 ∷ 0 ∷ [])))) ≡ Err (85, 37)
+broken = refl

@@ -1,0 +1,163 @@
+-- What the readings of rules promise of their values.
+use Rattle.std.proofs.Common.{◌≡◌, ◌+◌, ◌≤◌, ℕ, zero, suc, Bool, true, false, cond, not, ◌&&◌, List, [], ◌∷◌, ◌++◌, map, length, Option, Some, None, IsTrue, bytes_eq, option_map, option_and_then, refl, sym, ap, subst, ◌∙◌, arith}
+use Rattle.std.specs.Prelude.{IfSome, is_some, ◌==◌}
+use Rattle.std.specs.List.{list_all, AllByRecursion}
+use Rattle.std.proofs.lemmas.Bool.{eqb-true}
+use Rattle.sf_known.specs.declared.letter.Letter.{Letter}
+use Rattle.sf_known.specs.declared.predicate.Predicate.{Predicate}
+use Rattle.sf_known.specs.Patterns.{letter_of, letters_of, pattern_of}
+use Rattle.sf_query.specs.declared.ask.Ask.TheVariants.{Matching, Named}
+use Rattle.sf_features.specs.Columns.{IsDistinct}
+use Rattle.sf_features.specs.Names.{is_name}
+use Rattle.sf_layers.specs.Content.{Content, has_layer}
+use Rattle.sf_joins.specs.Converse.{HasNineLetters}
+use Rattle.sf_constraints.specs.declared.rule.Rule.{Rule}
+use Rattle.sf_constraints.specs.Rules.{break_of, broken_from, broken_or}
+use Rattle.sf_ruled.specs.Ruled.{has_layers, has_rule, rules_max}
+use Rattle.sf_format.specs.declared.version.Version.{Version}
+use Rattle.sf_format.specs.declared.version.Version.TheVariants.{First, Second, Third}
+use Rattle.sf_format.specs.declared.defect.Defect.TheVariants.{BadFile, BadPattern, NoLayer, RuleBroken, RuleExists}
+use Rattle.sf_format.specs.Readings.{◌>>=◌, bytes, done, field, number, items}
+use Rattle.sf_format.specs.Format.{ask, asked_by, form_of_byte, fresh_rule_name, held_rule, known_layer_name, name, predicate_of_byte, present, rule, rules, rules_in, unbroken}
+use Rattle.sf_format.specs.Laws.{AreBytes, IsRule}
+use Rattle.sf_format.proofs.Continuations.{rule_after_ask, rule_after_first, rule_after_form, rule_after_name}
+use Rattle.sf_format.proofs.Promises.{Promises, Promises-bytes, Promises-done, Promises-field, Promises-items, Promises-number, Promises-rule, Promises-then, and_then_ok}
+use Rattle.sf_format.proofs.Pushed.{all-more, distinct-push, items-length, name-promises}
+use Rattle.sf_format.proofs.TakenNames.{taken}
+use Rattle.sf_format.proofs.Rules.{allowed_of, none_of, not_true, present_of}
+
+-- ---- what is asked
+
+-- a text has as many letters as bytes
+letters-count : (text : List ℕ) → IfSome (letters_of text) (λ ls. length ls ≡ length text)
+letters-count [] = refl
+letters-count (byte ∷ text) = by (letter_of byte) (letters_of text) (letters-count text)
+  where
+    by : (o : Option Letter) (later : Option (List Letter)) → IfSome later (λ ls. length ls ≡ length text)
+        → IfSome (option_and_then (λ letter. option_map (λ ls. letter ∷ ls) later) o) (λ ls. length ls ≡ suc (length text))
+    by None later count = tt
+    by (Some letter) None count = tt
+    by (Some letter) (Some ls) count = ap suc count
+
+pattern-nine : (text : List ℕ) → IfSome (option_map Matching (pattern_of text)) HasNineLetters
+pattern-nine text = by_length (length text == 9) refl
+  where
+    nine : (o : Option (List Letter)) → length text ≡ 9 → IfSome o (λ ls. length ls ≡ length text) → IfSome (option_map Matching o) HasNineLetters
+    nine None len count = tt
+    nine (Some ls) len count = count ∙ len
+
+    by_length : (b : Bool) → (length text == 9) ≡ b → IfSome (option_map Matching (cond b (letters_of text) None)) HasNineLetters
+    by_length true is = nine (letters_of text) (eqb-true (length text) 9 is) (letters-count text)
+    by_length false is = tt
+
+named-nine : (o : Option Predicate) → IfSome (option_map Named o) HasNineLetters
+named-nine None = tt
+named-nine (Some predicate) = tt
+
+asked-promises : Promises (number 1 >>= asked_by) (λ found. IfSome found HasNineLetters)
+asked-promises = Promises-then (number 1) asked_by (λ n. Unit {0}) (λ found. IfSome found HasNineLetters)
+    (λ left n rest fits e. (tt, (Promises-number 1 left n rest fits e).1)) by_byte
+  where
+    by_byte : (n : ℕ) → Unit {0} → Promises (asked_by n) (λ found. IfSome found HasNineLetters)
+    by_byte zero any = Promises-then (bytes 9) (λ text. done (option_map Matching (pattern_of text))) AreBytes (λ found. IfSome found HasNineLetters) (Promises-bytes 9)
+        (λ text fits. Promises-done (λ found. IfSome found HasNineLetters) (option_map Matching (pattern_of text)) (pattern-nine text))
+    by_byte (suc n) any = Promises-done (λ found. IfSome found HasNineLetters) (option_map Named (predicate_of_byte (suc n))) (named-nine (predicate_of_byte (suc n)))
+
+ask-promises : Promises ask HasNineLetters
+ask-promises = Promises-field (number 1 >>= asked_by) (λ found. present found BadPattern) (λ found. IfSome found HasNineLetters) HasNineLetters asked-promises
+    (λ found asked nine e. subst (λ o. IfSome o HasNineLetters) (present_of found BadPattern asked e) nine)
+
+-- ---- a rule
+
+-- a rule behind others: it has a name of its own, and is between layers of the content
+abbrev pub IsNewRule : Content → List Rule → Rule → Type 0
+IsNewRule content earlier r = IsRule r × (has_rule r.name earlier ≡ false) × (has_layer content r.first ≡ true) × (has_layer content r.second ≡ true)
+
+known-promises : (content : Content) → Promises (field name (known_layer_name content)) (λ title. has_layer content title ≡ true)
+known-promises content = Promises-field name (known_layer_name content) (λ title. IsTrue (is_name title)) (λ title. has_layer content title ≡ true) name-promises
+    (λ x y named e. let r = allowed_of (has_layer content x) NoLayer x y e in subst (λ t. has_layer content t ≡ true) r.1 r.0)
+
+abbrev pub IsNewName : List Rule → List ℕ → Type 0
+IsNewName earlier title = IsTrue (is_name title) × (has_rule title earlier ≡ false)
+
+rule-promises : (content : Content) (earlier : List Rule) → Promises (rule content earlier) (IsNewRule content earlier)
+rule-promises content earlier =
+    Promises-then (field name (fresh_rule_name earlier)) (rule_after_name content) (IsNewName earlier) (IsNewRule content earlier)
+    (Promises-field name (fresh_rule_name earlier) (λ title. IsTrue (is_name title)) (IsNewName earlier) name-promises
+    (λ x y named e. let r = allowed_of (not (has_rule x earlier)) RuleExists x y e in subst (IsNewName earlier) r.1 (named, not_true (has_rule x earlier) r.0)))
+    (λ title new. Promises-then (field (number 1) (λ byte. present (form_of_byte byte) BadFile)) (rule_after_form content title) (λ form. Unit {0}) (IsNewRule content earlier)
+    (Promises-rule 1 (λ byte. present (form_of_byte byte) BadFile) (λ form. Unit {0}) (λ n y fits e. tt))
+    (λ form any. Promises-then (field name (known_layer_name content)) (rule_after_first content title form) (λ first. has_layer content first ≡ true) (IsNewRule content earlier) (known-promises content)
+    (λ first here. Promises-then ask (rule_after_ask content title form first) HasNineLetters (IsNewRule content earlier) ask-promises
+    (λ asked nine. Promises-then (field name (known_layer_name content)) (λ second. done (record { name = title; form = form; first = first; ask = asked; second = second }))
+    (λ second. has_layer content second ≡ true) (IsNewRule content earlier) (known-promises content)
+    (λ second there. Promises-done (IsNewRule content earlier) (record { name = title; form = form; first = first; ask = asked; second = second })
+    (record { named = new.0; nine = nine }, new.1, here, there))))))
+
+abbrev pub IsHeldRule : Content → List Rule → Rule → Type 0
+IsHeldRule content earlier r = IsNewRule content earlier r × (break_of content r ≡ None)
+
+held-promises : (content : Content) (earlier : List Rule) → Promises (held_rule content earlier) (IsHeldRule content earlier)
+held-promises content earlier = Promises-field (rule content earlier) (unbroken content) (IsNewRule content earlier) (IsHeldRule content earlier) (rule-promises content earlier)
+    (λ x y new e. let r = allowed_of (not (is_some (break_of content x))) RuleBroken x y e in
+    subst (IsHeldRule content earlier) r.1 (new, none_of (break_of content x) (not_true (is_some (break_of content x)) r.0)))
+
+-- ---- rules
+
+-- rules between layers of the content, each of a name of its own, of which none is broken
+pub record AreHeld (content : Content) (rs : List Rule) : Type 0 where
+  pub are : AllByRecursion IsRule rs
+  pub distinct : IsDistinct bytes_eq (map (λ r. r.name) rs)
+  pub layers : list_all (has_layers content) rs ≡ true
+  pub held : AllByRecursion (λ r. break_of content r ≡ None) rs
+
+none-held : (content : Content) → AreHeld content []
+none-held content = record { are = tt; distinct = tt; layers = refl; held = tt }
+
+all-push : (test : Rule → Bool) (rs : List Rule) (r : Rule) → list_all test rs ≡ true → test r ≡ true → list_all test (rs ++ r ∷ []) ≡ true
+all-push test [] r all new = ap (λ b. b && true) new
+all-push test (q ∷ qs) r all new = by_test (λ later. all-push test qs r later new) (test q) all
+  where
+    by_test : (list_all test qs ≡ true → list_all test (qs ++ r ∷ []) ≡ true) → (b : Bool) → (b && list_all test qs) ≡ true → (b && list_all test (qs ++ r ∷ [])) ≡ true
+    by_test more true all = more all
+    by_test more false all = absurd cc
+
+two : (a b : Bool) → a ≡ true → b ≡ true → (a && b) ≡ true
+two true b p q = q
+two false b p q = absurd cc
+
+one-more : (content : Content) (earlier : List Rule) (r : Rule) → AreHeld content earlier → IsHeldRule content earlier r → AreHeld content (earlier ++ r ∷ [])
+one-more content earlier r are is = record {
+  are = all-more IsRule earlier r are.are is.0.0;
+  distinct = distinct-push bytes_eq (λ r. r.name) earlier r are.distinct (sym (taken r.name earlier) ∙ is.0.1);
+  layers = all-push (has_layers content) earlier r are.layers (two (has_layer content r.first) (has_layer content r.second) is.0.2 is.0.3);
+  held = all-more (λ r. break_of content r ≡ None) earlier r are.held is.1;
+}
+
+items-promise : (content : Content) (count : ℕ) → Promises (items (held_rule content) count []) (AreHeld content)
+items-promise content count = Promises-items (held_rule content) (AreHeld content)
+    (λ earlier are left r rest fits e. let p = held-promises content earlier left r rest fits e in (one-more content earlier r are p.0, p.1))
+    count [] (none-held content)
+
+-- they are as many as two bytes can say
+abbrev pub AreKept : Content → List Rule → Type 0
+AreKept content rs = AreHeld content rs × (length rs ≤ rules_max)
+
+rules-promise : (content : Content) → Promises (rules content) (AreKept content)
+rules-promise content left rs rest fits e =
+    let s = and_then_ok (number 2 left) (λ count. items (held_rule content) count []) rs rest e in
+    let count = Promises-number 2 left s.0 s.1 fits s.2 in
+    let are = items-promise content s.0 s.1 rs rest count.1 s.3 in
+    let len = items-length (held_rule content) s.0 [] s.1 rs rest s.3 in
+    ((are.0, omega (arith, len, count.0)), are.1)
+
+pub rules-in-promise : (version : Version) (content : Content) → Promises (rules_in version content) (AreKept content)
+rules-in-promise Third content = rules-promise content
+rules-in-promise First content = Promises-done (AreKept content) [] (none-held content, omega arith)
+rules-in-promise Second content = Promises-done (AreKept content) [] (none-held content, omega arith)
+
+-- of rules that all hold none is the first that is broken
+pub none-broken : (content : Content) (place : ℕ) (rs : List Rule) → AllByRecursion (λ r. break_of content r ≡ None) rs → broken_from place content rs ≡ None
+none-broken content place [] held = refl
+none-broken content place (r ∷ rs) held =
+    ap (λ o. broken_or place o (broken_from (place + 1) content rs)) held.0 ∙ none-broken content (place + 1) rs held.1

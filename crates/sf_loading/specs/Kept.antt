@@ -1,0 +1,33 @@
+-- Internal: who wants to trust the program need not read this file.
+-- Rules that are read and added one after another.
+use Rattle.std.specs.Prelude.{◌≡◌, ℕ, false, true, List, Option, Result, Ok, Err, IsTrue}
+use Rattle.sf_features.specs.Names.{is_name}
+use Rattle.sf_layers.specs.Content.{has_layer}
+use Rattle.sf_constraints.specs.declared.rule.Rule.{Rule}
+use Rattle.sf_ruled.specs.declared.refusal.Refusal.{Refusal}
+use Rattle.sf_ruled.specs.declared.refusal.Refusal.TheVariants as refusals
+use Rattle.sf_ruled.specs.Ruled.{Ruled, has_rule, with_rule}
+use Rattle.sf_streams.specs.Streams.{Left}
+use Rattle.sf_format.specs.declared.defect.Defect.TheVariants.{RuleBroken}
+use Rattle.sf_format.specs.Format.{held_rule}
+use Rattle.sf_loading.specs.declared.halt.Halt.{Halt}
+use Rattle.sf_loading.specs.declared.halt.Halt.TheVariants as halts
+use Rattle.sf_loading.specs.Streaming.{Ends, Takes}
+
+-- a rule has a name that no other one has, and layers that are there: it is added, unless it is broken
+pub record CanBeAdded (ruled : Ruled) (rule : Rule) : Type 0 where
+  pub named : IsTrue (is_name rule.name)
+  pub free : has_rule rule.name ruled.rules ≡ false
+  pub first : has_layer ruled.content rule.first ≡ true
+  pub second : has_layer ruled.content rule.second ≡ true
+
+-- why reading ended where such a rule is refused
+abbrev pub halt_of : ℕ → Refusal → Halt
+halt_of place refusals.Memory = halts.Memory
+halt_of place refusal = halts.Found place RuleBroken
+
+-- a rule was read and added, or reading ended before
+abbrev pub GivesRule : Ruled → Ruled → Option (List ℕ) → Option (List ℕ) → Left → Left → Result (Unit {0}) Halt → Type 0
+GivesRule before after unread_before unread old new (Ok done) =
+    (rule : Rule) × Takes (held_rule before.content before.rules) rule unread_before unread old new × (after ≡ with_rule before rule)
+GivesRule before after unread_before unread old new (Err halt) = Ends (held_rule before.content before.rules) unread_before unread old halt

@@ -1,0 +1,145 @@
+//! The rules of a store.
+ghost use Rattle.std.specs.Prelude.{◌≡◌, ◌++◌, flat_map, OnErr, OnOk};
+ghost use Rattle.byteorder.specs.Endian.{big_bytes};
+ghost use Rattle.sf_known.specs.Patterns.{pattern_text};
+ghost use Rattle.sf_format.specs.Canonical.{ask_bytes, form_byte as form_byte_of, predicate_byte as predicate_byte_of, rule_bytes};
+ghost use Rattle.sf_saving.specs.Parts.{letter_bytes, rules_part};
+ghost use Rattle.sf_streams.specs.Streams.{Puts, WritesFront};
+
+use super::fields::put_name;
+use sf_constraints::{Form, Rule};
+use sf_known::{Letter, Pattern, Predicate};
+use sf_query::Ask;
+use sf_streams::{Output, WriteFault};
+use std::io::Write;
+
+/// The byte of a rule's form.
+fn form_byte(form: Form) -> u8
+    ensures { result ≡ form_byte_of form }
+{
+    match form {
+        Form::Never => 1,
+        Form::Each => 2,
+    }
+}
+
+/// The byte of a named predicate.
+fn predicate_byte(predicate: Predicate) -> u8
+    ensures { result ≡ predicate_byte_of predicate }
+{
+    match predicate {
+        Predicate::Equals => 1,
+        Predicate::Disjoint => 2,
+        Predicate::Intersects => 3,
+        Predicate::Touches => 4,
+        Predicate::Within => 5,
+        Predicate::Contains => 6,
+        Predicate::Crosses => 7,
+        Predicate::Overlaps => 8,
+    }
+}
+
+/// Puts the character of a letter.
+fn put_letter<W: Write>(
+    output: &mut Output,
+    writer: &mut W,
+    letter: &Letter,
+) -> Result<(), WriteFault>
+    ensures ok { OnOk result (Puts (W.contents writer.old) (W.contents writer.new) output.old output.new
+        (letter_bytes letter.now)) }
+    ensures broken { OnErr result (WritesFront (W.contents writer.old) (W.contents writer.new)
+        (output.old ++ letter_bytes letter.now)) }
+{
+    output.put(writer, letter.text().as_bytes())
+}
+
+/// Puts letters, in order.
+fn put_letters<W: Write>(
+    output: &mut Output,
+    writer: &mut W,
+    letters: &[Letter],
+) -> Result<(), WriteFault>
+    ensures ok { OnOk result (Puts (W.contents writer.old) (W.contents writer.new) output.old output.new
+        (flat_map letter_bytes letters.now)) }
+    ensures broken { OnErr result (WritesFront (W.contents writer.old) (W.contents writer.new)
+        (output.old ++ flat_map letter_bytes letters.now)) }
+{
+    for letter in letters {
+        put_letter(output, writer, letter)?;
+    }
+    Ok(())
+}
+
+/// Puts the text of a pattern behind the byte 0.
+fn put_pattern<W: Write>(
+    output: &mut Output,
+    writer: &mut W,
+    pattern: &Pattern,
+) -> Result<(), WriteFault>
+    ensures ok { OnOk result (Puts (W.contents writer.old) (W.contents writer.new) output.old output.new
+        (big_bytes 1 0 ++ pattern_text pattern.now)) }
+    ensures broken { OnErr result (WritesFront (W.contents writer.old) (W.contents writer.new)
+        (output.old ++ (big_bytes 1 0 ++ pattern_text pattern.now))) }
+{
+    output.put_u8(writer, 0)?;
+    put_letters(output, writer, pattern.letters().as_slice())
+}
+
+/// Puts what is asked: the byte of a named predicate, or a pattern.
+fn put_ask<W: Write>(output: &mut Output, writer: &mut W, ask: &Ask) -> Result<(), WriteFault>
+    ensures ok { OnOk result (Puts (W.contents writer.old) (W.contents writer.new) output.old output.new
+        (ask_bytes ask.now)) }
+    ensures broken { OnErr result (WritesFront (W.contents writer.old) (W.contents writer.new)
+        (output.old ++ ask_bytes ask.now)) }
+{
+    match ask {
+        Ask::Named(predicate) => output.put_u8(writer, predicate_byte(*predicate)),
+        Ask::Matching(pattern) => put_pattern(output, writer, pattern),
+    }
+}
+
+/// Puts a rule behind its name: its form, its layers and what is asked of them.
+fn put_rule<W: Write>(output: &mut Output, writer: &mut W, rule: &Rule) -> Result<(), WriteFault>
+    ensures ok { OnOk result (Puts (W.contents writer.old) (W.contents writer.new) output.old output.new
+        (rule_bytes rule.now)) }
+    ensures broken { OnErr result (WritesFront (W.contents writer.old) (W.contents writer.new)
+        (output.old ++ rule_bytes rule.now)) }
+{
+    put_name(output, writer, rule.name.as_str())?;
+    output.put_u8(writer, form_byte(rule.form))?;
+    put_name(output, writer, rule.first.as_str())?;
+    put_ask(output, writer, &rule.ask)?;
+    put_name(output, writer, rule.second.as_str())
+}
+
+/// Puts rules, in order.
+fn put_each<W: Write>(output: &mut Output, writer: &mut W, rules: &[Rule]) -> Result<(), WriteFault>
+    ensures ok { OnOk result (Puts (W.contents writer.old) (W.contents writer.new) output.old output.new
+        (flat_map rule_bytes rules.now)) }
+    ensures broken { OnErr result (WritesFront (W.contents writer.old) (W.contents writer.new)
+        (output.old ++ flat_map rule_bytes rules.now)) }
+{
+    for rule in rules {
+        put_rule(output, writer, rule)?;
+    }
+    Ok(())
+}
+
+/// Puts the rules of a store behind their number, and nothing where there is none. Their number has two bytes, as there are
+/// never more.
+pub(crate) fn put_rules<W: Write>(
+    output: &mut Output,
+    writer: &mut W,
+    rules: &[Rule],
+) -> Result<(), WriteFault>
+    ensures ok { OnOk result (Puts (W.contents writer.old) (W.contents writer.new) output.old output.new
+        (rules_part rules.now)) }
+    ensures broken { OnErr result (WritesFront (W.contents writer.old) (W.contents writer.new)
+        (output.old ++ rules_part rules.now)) }
+{
+    if rules.is_empty() {
+        return Ok(());
+    }
+    output.put_u16(writer, (rules.len() % 65536) as u16)?;
+    put_each(output, writer, rules)
+}

@@ -1,0 +1,175 @@
+"""A model of a store with rules: a program without rules does the edits, and the whole map is looked at behind each.
+
+What breaks a rule is read off the rows of `join` and `show`, of all features; the program under test looks near what
+changed alone.
+"""
+
+from __future__ import annotations
+
+import re
+import subprocess
+from typing import NamedTuple, Union
+
+from sfstore import Rule
+
+NAME = re.compile("[A-Za-z][A-Za-z0-9_]{0,31}")
+PREDICATES = ("equals", "disjoint", "intersects", "touches", "within", "contains", "crosses", "overlaps")
+PATTERN = re.compile("[TtFf*012]{9}")
+
+
+class Program:
+    """A program that answers lines."""
+
+    def __init__(self, path: str) -> None:
+        self._process = subprocess.Popen([path], stdin=subprocess.PIPE, stdout=subprocess.PIPE, bufsize=0)
+        assert self._process.stdin and self._process.stdout
+        self._input, self._output = self._process.stdin, open(self._process.stdout.fileno(), encoding="ascii", closefd=False)
+
+    def ask(self, text: str) -> list[str]:
+        """The lines that answer a line, or a group with a line feed before each member."""
+        self._input.write(text.encode() + b"\n")
+        first = self._output.readline().rstrip("\n")
+        count = int(first[5:]) if first.startswith("rows ") else 0
+        return [first, *(self._output.readline().rstrip("\n") for _ in range(count))]
+
+    def close(self) -> None:
+        self._input.close()
+        self._process.wait()
+        self._output.close()
+        assert self._process.stdout
+        self._process.stdout.close()
+
+
+class Edit(NamedTuple):
+    """A step that the program without rules has made."""
+
+    editor: str
+    line: str
+
+
+class Rules(NamedTuple):
+    """A step of rules alone."""
+
+    editor: str
+
+
+class Step(NamedTuple):
+    """A step, and the rules on its other side."""
+
+    made: Union[Edit, Rules]
+    rules: list[Rule]
+
+
+class Model:
+    """A store with rules."""
+
+    def __init__(self, program: Program) -> None:
+        self._program = program
+        self._rules: list[Rule] = []
+        self._past: list[Step] = []
+        self._future: list[Step] = []
+
+    def ask(self, text: str) -> list[str]:
+        """What a store with rules answers."""
+        editor, line = re.fullmatch(r"(@\d+ )?(.*)", text, re.DOTALL).groups(default="")  # type: ignore[union-attr]
+        words = line.split(" ")
+        if words[0] == "rules":
+            return [f"rows {len(self._rules)}", *(_row(rule) for rule in self._rules)]
+        if words[0] == "rule":
+            return [self._rule(editor, words)]
+        if line == "undo":
+            return [self._back(editor)]
+        if line == "redo":
+            return [self._forth(editor)]
+        return [self._edit(editor, line)]
+
+    # ---- rules
+
+    def _rule(self, editor: str, words: list[str]) -> str:
+        if words[1] == "drop":
+            left = [rule for rule in self._rules if rule.name != words[2]]
+            if len(left) == len(self._rules):
+                return "refused 39 NoRule"
+            return self._to(Rules(editor), left)
+        rule = Rule(words[2], words[3], words[4], words[5], words[-1])  # type: ignore[arg-type]
+        return self._refusal(rule) or self._to(Rules(editor), [*self._rules, rule])
+
+    def _refusal(self, rule: Rule) -> str:
+        if rule.ask not in PREDICATES and not PATTERN.fullmatch(rule.ask):
+            return "refused 32 BadPattern"
+        if not NAME.fullmatch(rule.name):
+            return "refused 20 BadName"
+        if any(other.name == rule.name for other in self._rules):
+            return "refused 40 RuleExists"
+        layers = [row.split(" ")[0] for row in self._program.ask("layers")[1:]]
+        if rule.layer not in layers or rule.other not in layers:
+            return "refused 18 NoLayer"
+        return self._broken(rule)
+
+    def _broken(self, rule: Rule) -> str:
+        """The refusal of what would break a rule, of all features; empty where it holds."""
+        pairs = [row.split(" ") for row in self._program.ask(f"join {rule.layer} {rule.ask} {rule.other}")[1:]]
+        if rule.form == "never":
+            return f"refused 37 RuleBroken {rule.name} {pairs[0][0]} {pairs[0][1]}" if pairs else ""
+        served = {first for first, _ in pairs}
+        alone = [row.split(" ")[0] for row in self._program.ask(f"show {rule.layer}")[1:]]
+        left = next((number for number in alone if number not in served), None)
+        return f"refused 37 RuleBroken {rule.name} {left}" if left else ""
+
+    # ---- edits and steps
+
+    def _edit(self, editor: str, line: str) -> str:
+        words = line.split(" ")
+        if words[:2] == ["layer", "drop"] and any(words[2] in (rule.layer, rule.other) for rule in self._rules):
+            return "refused 41 LayerRuled"
+        [answer] = self._program.ask(editor + line)
+        if answer.startswith("refused"):
+            return answer
+        rules = self._rules
+        if words[:2] == ["layer", "rename"]:
+            named = {words[2]: words[3]}
+            rules = [
+                rule._replace(layer=named.get(rule.layer, rule.layer), other=named.get(rule.other, rule.other)) for rule in rules
+            ]
+        broken = next(filter(None, map(self._broken, rules)), "")
+        if broken:
+            self._program.ask(editor + "undo")
+            return broken
+        self._to(Edit(editor, line), rules)
+        return answer
+
+    def _to(self, made: Union[Edit, Rules], rules: list[Rule]) -> str:
+        self._past.append(Step(made, self._rules))
+        self._future.clear()
+        self._rules = rules
+        return "ok"
+
+    def _back(self, editor: str) -> str:
+        if not self._past:
+            return "refused 29 NothingToUndo"
+        if self._past[-1].made.editor != editor:
+            return "refused 36 NotYours"
+        made, before = self._past.pop()
+        if isinstance(made, Edit):
+            assert self._program.ask(editor + "undo") == ["ok"]
+        self._future.append(Step(made, self._rules))
+        self._rules = before
+        return "ok"
+
+    def _forth(self, editor: str) -> str:
+        if not self._future:
+            return "refused 30 NothingToRedo"
+        if self._future[-1].made.editor != editor:
+            return "refused 36 NotYours"
+        made, after = self._future.pop()
+        if isinstance(made, Edit):
+            # From the same content it is accepted again, and gives the same identifiers.
+            assert not self._program.ask(editor + made.line)[0].startswith("refused")
+        self._past.append(Step(made, self._rules))
+        self._rules = after
+        return "ok"
+
+
+def _row(rule: Rule) -> str:
+    """The row of a rule: patterns have capital letters."""
+    return rule.line if rule.ask in PREDICATES else rule._replace(ask=rule.ask.upper()).line
