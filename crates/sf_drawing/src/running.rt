@@ -4,8 +4,8 @@ ghost use Rattle.std.specs.Prelude.{IfErr, OnOk};
 ghost use Rattle.std.specs.Io.KnownBytes.{Appends};
 ghost use Rattle.sf_drawing.specs.Drawings.{Breaks, Draws, DrawsFrom, EndsEarly, IsMissing};
 
-use sf_file::{LoadFault, load};
 use sf_layers::Store;
+use sf_loading::{LoadFault, load};
 use sf_picture::{Choice, DrawFault, View, draw};
 use std::alloc::Global;
 use std::io::{Read, Write};

@@ -9,7 +9,8 @@ ghost use Rattle.sf_console.specs.Serving.{ServesAll};
 ghost use Rattle.sf_run.specs.Runs.{Breaks, EndsEarly, RunsFrom};
 
 use sf_console::{Editor, ServeFault, serve};
-use sf_file::{LoadFault, SaveFault, load, save};
+use sf_loading::{LoadFault, load};
+use sf_saving::{SaveFault, save};
 use std::alloc::Global;
 use std::io::{Read, Write};
 use std::marker::Model;

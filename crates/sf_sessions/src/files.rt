@@ -1,8 +1,9 @@
 //! Files of stores, between the lines of a session and by themselves.
 
 use super::session::Session;
-use sf_file::{LoadFault, load, save};
+use sf_loading::{LoadFault, load};
 use sf_ruled::Ruled;
+use sf_saving::save;
 use std::alloc::Global;
 use std::io::{self, Write};
 

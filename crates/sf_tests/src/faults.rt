@@ -4,8 +4,9 @@ ghost use Rattle.std.specs.Prelude.{◌≡◌, IfOk};
 
 use super::support::{other_answer, put};
 use sf_console::{Depths, Editor, ServeFault, serve};
-use sf_file::{LoadFault, SaveFault, load, save};
+use sf_loading::{LoadFault, load};
 use sf_ruled::Ruled;
+use sf_saving::{SaveFault, save};
 use std::alloc::Global;
 use std::io;
 use std::io::{ErrorKind, Read, Write};

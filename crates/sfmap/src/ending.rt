@@ -1,6 +1,6 @@
 //! How a run ends before its time: its status, and its last words.
 use sf_drawing::RunFault;
-use sf_file::LoadFault;
+use sf_loading::LoadFault;
 use sf_picture::{AskedFault, DrawFault};
 use std::{fmt, io};
 

@@ -1,9 +1,10 @@
 //! How a run ends before its time: its status, and its last words.
 use sf_console::ServeFault;
-use sf_file::{LoadFault, SaveFault};
 use sf_keeping::KeepFault;
+use sf_loading::LoadFault;
 use sf_options::OptionsFault;
 use sf_run::RunFault;
+use sf_saving::SaveFault;
 use std::fmt;
 
 /// Why a run ended before its time.

@@ -7,10 +7,10 @@ mod ending;
 mod storing;
 
 use ending::Ending;
-use sf_file::SaveFault;
 use sf_folder::WholeFile;
 use sf_options::{Options, OptionsFault, options};
 use sf_run::{Served, run_from};
+use sf_saving::SaveFault;
 use std::fs::File;
 use std::process::ExitCode;
 use std::rt::{Env, Files};

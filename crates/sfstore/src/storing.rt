@@ -2,7 +2,6 @@
 
 use super::ending::{Ending, JournalFault};
 use sf_console::Editor;
-use sf_file::{SaveFault, load};
 use sf_folder::{
     Chosen, Folder, Known, Lock, Name, Places, Seen, Source, StoreFolder, choose, renew, save,
     take_lock,
@@ -10,8 +9,10 @@ use sf_folder::{
 use sf_journal::{FileSum, Sum, SumFault, head, sum_of};
 use sf_keeping::{Desk, Input, KeepFault, Pending, ReplayFault, Stop, replay, serve_kept};
 use sf_layers::Store;
-use sf_ruled::Ruled;
 use sf_lines::line_feed;
+use sf_loading::{LoadFault, load};
+use sf_ruled::Ruled;
+use sf_saving::{SaveFault, save};
 use sf_streams::{WriteFault, flush, send};
 use std::alloc::Global;
 use std::fs::{File, Files, OpenFile};
@@ -71,7 +72,7 @@ impl<'a> Source for Saved<'a> {
     ghost bytes = { λ s. canonical_ruled s.0.now };
 
     fn write_to<W: Write>(&self, alloc: Global, writer: &mut W) -> io::Result<()> {
-        sf_file::save(alloc, self.0, writer).map_err(|fault| match fault {
+        save(alloc, self.0, writer).map_err(|fault| match fault {
             SaveFault::Memory => io::Error::from(ErrorKind::OutOfMemory),
             SaveFault::Write => io::Error::from(ErrorKind::WriteZero),
         })
@@ -90,7 +91,7 @@ struct Opened {
 fn sum_fault(fault: SumFault) -> Ending {
     match fault {
         SumFault::Memory => Ending::Journal(JournalFault::Memory),
-        SumFault::Read => Ending::Load(sf_file::LoadFault::Read),
+        SumFault::Read => Ending::Load(LoadFault::Read),
     }
 }
 
