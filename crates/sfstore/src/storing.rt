@@ -12,7 +12,7 @@ use sf_layers::Store;
 use sf_lines::line_feed;
 use sf_loading::{LoadFault, load};
 use sf_ruled::Ruled;
-use sf_saving::{SaveFault, save};
+use sf_saving::SaveFault;
 use sf_streams::{WriteFault, flush, send};
 use std::alloc::Global;
 use std::fs::{File, Files, OpenFile};
@@ -72,7 +72,7 @@ impl<'a> Source for Saved<'a> {
     ghost bytes = { λ s. canonical_ruled s.0.now };
 
     fn write_to<W: Write>(&self, alloc: Global, writer: &mut W) -> io::Result<()> {
-        save(alloc, self.0, writer).map_err(|fault| match fault {
+        sf_saving::save(alloc, self.0, writer).map_err(|fault| match fault {
             SaveFault::Memory => io::Error::from(ErrorKind::OutOfMemory),
             SaveFault::Write => io::Error::from(ErrorKind::WriteZero),
         })
