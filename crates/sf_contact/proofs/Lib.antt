@@ -2,3 +2,4 @@ pub mod LowestLaws
 pub mod AbsenceLaws
 pub mod PairLaws
 pub mod StartLaws
+pub mod DividedLaws

@@ -2,8 +2,10 @@
 #![tactic(auto)]
 
 mod contact;
+mod divided;
 mod edges;
 pub mod laws;
 mod starts;
 
 pub use contact::{FEW_POINTS, contact_between};
+pub use divided::{SIDED_POINTS, known_by_sides};

@@ -13,7 +13,7 @@ ghost use Rattle.sf_contact.specs.Few.{few_points};
 
 use super::given::Given;
 use super::order::MANY_POINTS;
-use sf_contact::{FEW_POINTS, contact_between};
+use sf_contact::{FEW_POINTS, contact_between, known_by_sides};
 use sf_geometry::Geometry;
 use sf_prepared::matrix_nearby;
 use sf_relate::{
@@ -34,6 +34,8 @@ pub(crate) enum Evidence {
     Edges,
     /// First points that lie in the other geometry.
     FirstPoints,
+    /// A line through an edge of one of two small areas, which has them on its two sides.
+    Sides,
     /// Edges of areas that cross.
     Crossing,
     /// Those edges of a large feature that are near a small given geometry.
@@ -50,6 +52,7 @@ impl Evidence {
             Evidence::Place => by_place(geometry, given.valid),
             Evidence::Edges => by_edges(geometry, given.valid),
             Evidence::FirstPoints => by_first_points(geometry, given.valid),
+            Evidence::Sides => known_by_sides(geometry, given.valid),
             Evidence::Crossing => known_by_crossing(alloc, geometry, given.valid),
             Evidence::Nearby => exactly(matrix_by_edges_nearby(alloc, geometry, given.valid)),
         }
@@ -57,8 +60,8 @@ impl Evidence {
 }
 
 /// What each kind of evidence shows of the matrix of a feature's geometry with the given one, one beside the other: prepared
-/// geometry, place, edges, first points, crossing, nearby.
-pub fn shown_by_each(alloc: Global, geometry: &Valid, given: &Valid) -> [Option<Known>; 6]
+/// geometry, place, edges, first points, sides, crossing, nearby.
+pub fn shown_by_each(alloc: Global, geometry: &Valid, given: &Valid) -> [Option<Known>; 7]
     ensures { AllByRecursion (λ shown. IfSome shown (λ known. Holds known (matrix_of geometry.now given.now))) result }
 {
     let given = Given::new(given).prepared(alloc);
@@ -67,6 +70,7 @@ pub fn shown_by_each(alloc: Global, geometry: &Valid, given: &Valid) -> [Option<
         Evidence::Place.shown(alloc, geometry, &given),
         Evidence::Edges.shown(alloc, geometry, &given),
         Evidence::FirstPoints.shown(alloc, geometry, &given),
+        Evidence::Sides.shown(alloc, geometry, &given),
         Evidence::Crossing.shown(alloc, geometry, &given),
         Evidence::Nearby.shown(alloc, geometry, &given),
     ]

@@ -19,6 +19,7 @@ use Rattle.sf_constraints.specs.Holds.{HasLayers, Holds, IsBrokenBy}
 use Rattle.sf_constraints.specs.Rules.{break_of, broken_or, first_broken}
 use Rattle.sf_ruled.specs.Ruled.{OfChange, AddRule, DropRule, Ruled, added, after_change, change_led, dropped, edit_led, group_led, has_layers, has_rule, place_of_rule, without_rule, rules_after, rules_max, settled, unless_broken, with_rule}
 use Rattle.sf_ruled.specs.Laws.{IsKept, IsRefusedRightly, RefusalsNameBreaks, RuledStepsKeepRules}
+use Rattle.sf_ruled.specs.Undos.{IsSettled}
 use Rattle.sf_joins.proofs.PairLaws.{each-append}
 use Rattle.sf_constraints.proofs.HoldsLaws.{broken-at, reported_rules_are_broken, rule-over-the-plane, rules_are_over_the_plane}
 
@@ -37,6 +38,10 @@ all-layers content (rule ∷ rules) h =
     let both = and_true (has_layers content rule) (list_all (has_layers content) rules) h in
     let layers = and_true (has_layer content rule.first) (has_layer content rule.second) both.0 in
     ((layers.0, layers.1), all-layers content rules both.1)
+
+-- rules of which it is computed that they hold, do so over the plane
+pub settled-kept : (ruled : Ruled) → IsWellFormed ruled.content → IsSettled ruled → IsKept ruled
+settled-kept ruled fine s = (rules_are_over_the_plane ruled.content ruled.rules fine (all-layers ruled.content ruled.rules s.layers)).0 s.held
 
 -- ---- accepted steps
 

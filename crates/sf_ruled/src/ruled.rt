@@ -1,7 +1,8 @@
 //! A store with the rules that hold in it.
 
-ghost use Rattle.std.specs.Prelude.{◌≡◌, [], IfErr, IfOk, IsOk, OnErr};
+ghost use Rattle.std.specs.Prelude.{◌≡◌, [], IfErr, IfOk, IsOk, OnErr, length};
 ghost use Rattle.sf_ruled.specs.Ruled.{AddRule, DropRule, OfChange, ruled_step};
+ghost use Rattle.sf_ruled.specs.Laws.{IsKept};
 ghost use Rattle.sf_ruled.specs.Outcomes.{IsRefusedAs, ruled};
 ghost use Rattle.sf_ruled.specs.Undos.{FitsRedoUnder, FitsUndoUnder, FreesOnlyUnder, IsEdited, IsGrouped, IsLed, MakesAgainUnder, TakesBackUnder, TakesNoMemoryUnder};
 ghost use Rattle.sf_changes.specs.Changes.{OfEdit, OfGroup};
@@ -60,6 +61,16 @@ impl Ruled {
         ensures { result.now ≡ self.now.rules }
     {
         &self.rules
+    }
+
+    /// How many rules there are. All of them hold.
+    pub fn rule_count(&self) -> usize
+        ensures count { result ≡ length self.now.rules }
+        ensures kept { IsKept self.now }
+    {
+        // The store's type keeps its content well formed. Asked for a number, it shows the proof so.
+        let _ = self.store.layer_count();
+        self.rules.as_slice().len()
     }
 
     /// The store, moved out of its rules.

@@ -1,5 +1,6 @@
 -- What a run does from the bytes of a file on, in the words of `Read` and `Write` for the bytes that they report.
 use Rattle.std.specs.Prelude.{◌≡◌, ℕ, List, Option}
+use Rattle.sf_ruled.specs.Laws.{IsKept}
 use Rattle.sf_ruled.specs.Ruled.{Ruled}
 use Rattle.sf_layers.specs.WellFormed.{IsWellFormed}
 use Rattle.sf_loading.specs.Loading.{FailsBy, Loads}
@@ -10,11 +11,13 @@ use Rattle.sf_console.specs.Serving.{BreaksOff, ServesWholeLines}
 use Rattle.sf_run.specs.declared.running.RunFault.{RunFault}
 use Rattle.sf_run.specs.declared.running.RunFault.TheVariants.{Load, Serve}
 
--- a file was loaded, whose content is well formed, and what was served began with it and its rules, with neither past nor future
+-- a file was loaded, whose content is well formed and whose rules hold over all points of the plane; and what was served began with
+-- it, with neither past nor future
 pub record RunsFrom (file_before file : Option (List ℕ)) (Serves : Machine → Type 0) : Type 0 where
   pub ruled : Ruled
   pub loaded : Loads file_before file ruled
   pub well_formed : IsWellFormed ruled.content
+  pub kept : IsKept ruled
   pub served : Serves (fresh_under ruled)
 
 -- serving ended by the fault: what was carried out and written before it

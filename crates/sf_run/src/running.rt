@@ -70,7 +70,7 @@ pub fn run_from<F: Read, R: Read, W: Write>(
     input: &mut R,
     output: &mut W,
 ) -> Result<Served, RunFault>
-    // The file's bytes have a content, which is well formed, and from it with its rules on all lines were answered.
+    // The file's bytes have a content, which is well formed, and rules that hold in it; from these on all lines were answered.
     ensures ok { IfOk result (λ served. RunsFrom (F.remaining file.old) (F.remaining file.new)
         (λ start. ServesAll (R.remaining input.old) (R.remaining input.new)
         (W.contents output.old) (W.contents output.new) start served)) }
@@ -82,8 +82,9 @@ pub fn run_from<F: Read, R: Read, W: Write>(
     match load(alloc, file) {
         Err(fault) => Err(RunFault::Load(fault)),
         Ok(ruled) => {
-            // The store's type keeps its content well formed. Asked for a number, it shows the proof so.
+            // The types keep the content well formed and its rules held. Asked for numbers, they show the proof so.
             let _ = ruled.store().layer_count();
+            let _ = ruled.rule_count();
             let editor = Editor::from_ruled(alloc, ruled);
             serve_from(alloc, editor, input, output).map_err(RunFault::Serve)
         }

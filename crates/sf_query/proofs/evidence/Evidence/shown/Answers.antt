@@ -19,6 +19,10 @@ pub returns-in-FirstPoints : goal.returns-in-FirstPoints
 returns-in-FirstPoints c =
     of-held c.by_first_points.result c.args.geometry.now c.given.inside.valid.now c.args.given.now c.given.view_is c.by_first_points.ensures.holds
 
+pub returns-in-Sides : goal.returns-in-Sides
+returns-in-Sides c =
+    of-held c.known_by_sides.result c.args.geometry.now c.given.inside.valid.now c.args.given.now c.given.view_is c.known_by_sides.ensures.holds
+
 pub returns-in-Crossing : goal.returns-in-Crossing
 returns-in-Crossing c =
     of-held c.known_by_crossing.result c.args.geometry.now c.given.inside.valid.now c.args.given.now c.given.view_is c.known_by_crossing.ensures

@@ -1,0 +1,111 @@
+//! Areas side by side: a line through an edge of one of them has them on its two sides.
+
+ghost use Rattle.std.specs.Prelude.{◌≡◌, ◌↔◌, IfSome, IsTrue, is_some};
+ghost use Rattle.sf_grid.specs.Edge.{edge_between};
+ghost use Rattle.sf_known.specs.Known.{Holds};
+ghost use Rattle.sf_relate.specs.Matrices.{matrix_of};
+ghost use Rattle.sf_contact.specs.Divided.{AreBeside, AreDivided, Parts, is_small_area, known_divided};
+
+use sf_geometry::{EdgeTest, Geometry};
+use sf_grid::edges::orientation;
+use sf_grid::{GridPoint, Turn};
+use sf_known::Known;
+use sf_plane::Dim;
+use sf_validity::Valid;
+
+/// How many points each of two areas has at most for a line between them to be looked for. Each edge of the one is tried with
+/// those of both, up to the first that lies on the wrong side.
+pub const SIDED_POINTS: usize = 64;
+
+/// What is known of two small areas that lie on the two sides of a line through an edge of one of them, as parcels do that
+/// share a border: their interiors have no point in common. None where there is no such line, and for other geometries.
+pub fn known_by_sides(a: &Valid, b: &Valid) -> Option<Known>
+    ensures holds { IfSome result (λ known. Holds known (matrix_of a.now b.now)) }
+    ensures beside { IsTrue (is_some result) ↔ AreBeside a.now b.now }
+{
+    if is_small_area(a) && is_small_area(b) && are_divided(a.geometry(), b.geometry()) {
+        Some(known_divided())
+    } else {
+        None
+    }
+}
+
+/// Whether a geometry is a polygon, or several, of few points.
+fn is_small_area(valid: &Valid) -> bool
+    ensures { result ≡ is_small_area valid.now }
+{
+    let geometry = valid.geometry();
+    matches!(geometry, Geometry::Polygon(_) | Geometry::MultiPolygon(_))
+        && geometry.point_count() <= SIDED_POINTS
+}
+
+/// Whether the line through an edge of one of two geometries has them on its two sides.
+fn are_divided(a: &Geometry, b: &Geometry) -> bool
+    ensures { IsTrue result ↔ AreDivided a.now b.now }
+{
+    let dividing = Dividing { a, b };
+    a.any_edge(&dividing) || b.any_edge(&dividing)
+}
+
+/// Searches for edges that have two geometries on the two sides of their lines.
+#[derive(Drop)]
+struct Dividing<'a> {
+    a: &'a Geometry,
+    b: &'a Geometry,
+}
+
+impl EdgeTest for Dividing<'_> {
+    ghost use Rattle.sf_contact.specs.Divided.{Divides};
+
+    ghost Passes = { λ s edge. Divides s.a.now s.b.now edge };
+
+    fn test(&self, from: GridPoint, to: GridPoint) -> bool {
+        parts(from, to, self.a, self.b) || parts(from, to, self.b, self.a)
+    }
+}
+
+/// Whether a line has no edge of the first geometry on its right, and none of the second on its left.
+fn parts(from: GridPoint, to: GridPoint, first: &Geometry, second: &Geometry) -> bool
+    ensures { IsTrue result ↔ Parts (edge_between from to) first.now second.now }
+{
+    let right = EndingOn {
+        from,
+        to,
+        side: Turn::Right,
+    };
+    let left = EndingOn {
+        from,
+        to,
+        side: Turn::Left,
+    };
+    !first.any_edge(&right) && !second.any_edge(&left)
+}
+
+/// Searches for edges that have an end on one side of the line through two points.
+#[derive(Drop)]
+struct EndingOn {
+    from: GridPoint,
+    to: GridPoint,
+    side: Turn,
+}
+
+impl EdgeTest for EndingOn {
+    ghost use Rattle.sf_grid.specs.Edge.{edge_between};
+    ghost use Rattle.sf_contact.specs.Divided.{EndsOn};
+
+    ghost Passes = { λ s edge. EndsOn s.side (edge_between s.from s.to) edge };
+
+    fn test(&self, from: GridPoint, to: GridPoint) -> bool {
+        orientation(self.from, self.to, from) == self.side
+            || orientation(self.from, self.to, to) == self.side
+    }
+}
+
+/// What is known of areas that are divided.
+fn known_divided() -> Known
+    ensures { result ≡ known_divided }
+{
+    let mut most = [Dim::Two; 9];
+    most[0] = Dim::Nothing;
+    Known::at_most(most)
+}
