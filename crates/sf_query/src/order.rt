@@ -1,9 +1,7 @@
 //! In which order evidence is asked for before a walk, and from which sizes on. All of it lies in this file.
 
 use super::ask::Ask;
-use super::evidence::Evidence::{
-    self, Boxes, Crossing, Edges, FirstPoints, Nearby, Place, Sides,
-};
+use super::evidence::Evidence::{self, Boxes, Crossing, Edges, FirstPoints, Nearby, Place, Sides};
 use sf_contact::FEW_POINTS;
 
 /// How many features there are at least for what is made of the given geometry to pay.
