@@ -44,7 +44,7 @@ use Rattle.sf_relate.proofs.EnvelopeLaws.{valid-closed}
 use Rattle.sf_relate.proofs.FoundLaws.{nothing-holds}
 use Rattle.sf_relate.proofs.SetLaws.{matrices_are_over_the_plane}
 use Rattle.sf_relate.proofs.SharedLaws.{filled}
-use Rattle.sf_contact.specs.Divided.{AreDivided, DividedAreasAreApart, Divides, EndsOn, Parts, is_area, is_small_area, known_divided, sided_points}
+use Rattle.sf_contact.specs.Divided.{AreDivided, DividedAreasAreApart, Divides, BeginsOn, Parts, is_area, is_small_area, known_divided, sided_points}
 
 -- ---- the line, an edge, and a point in the edge's columns
 abbrev crossed : Term → Term → Term → Term → Term → Term → Term → Term
@@ -397,6 +397,16 @@ none-each : (P Q : Line → Type 0) → ((e : Line) → ¬ (P e) → Q e) → (e
 none-each P Q f [] h = tt
 none-each P Q f (e ∷ es) h = (f e (λ t. h (inl t)), none-each P Q f es (λ t. h (inr t)))
 
+-- around a closed chain what each edge's beginning has, its end has too
+chain-ends : (Q : Coordinates → Type 0) (a b : Coordinates) (es : List Line) → IsChain a es b → Q b → AllByRecursion (λ (e : Line). Q e.a) es → AllByRecursion (λ (e : Line). Q e.a × Q e.b) es
+chain-ends Q a b [] chain last h = tt
+chain-ends Q a b (e ∷ []) chain last h = ((h.0, subst Q (sym chain.1) last), tt)
+chain-ends Q a b (e ∷ f ∷ es) chain last h = ((h.0, subst Q chain.1.0 h.1.0), chain-ends Q e.b b (f ∷ es) chain.1 last h.1)
+
+ring-ends : (Q : Coordinates → Type 0) (es : List Line) → IsClosedChain es → AllByRecursion (λ (e : Line). Q e.a) es → AllByRecursion (λ (e : Line). Q e.a × Q e.b) es
+ring-ends Q [] chain h = tt
+ring-ends Q (e ∷ es) chain h = chain-ends Q chain.0 chain.0 (e ∷ es) chain.1 (subst Q chain.1.0 h.0) h
+
 not-right : (u v z : Coordinates) → ¬ (turn_of u v z ≡ Right) → pos 0 ≤ℤ cross u v (grid_point z)
 not-right u v z h = by_lt_z (cross u v (grid_point z)) (pos 0) (λ l. absurd (h (ap turn_by (greater (cross u v (grid_point z)) l)))) (λ l. l)
   where
@@ -411,11 +421,15 @@ not-left u v z h = by_lt_z (pos 0) (cross u v (grid_point z)) (λ l. absurd (h (
 
 parts-clash : (line : Line) (a b : Geometry) (p : Point) → line.a ≢ line.b → IsValid a → IsValid b → is_area a ≡ true → is_area b ≡ true → Parts line a b → in_interior a p ≡ true → in_interior b p ≡ true → ⊥
 parts-clash line a b p n v w f g parts h k =
-    let first = area-odd (OnLeft line.a line.b) a p f (valid-closed a v)
-    (none-each (EndsOn Right line) (OnLeft line.a line.b) (λ e t. (not-right line.a line.b e.a (λ s. t (inl s)), not-right line.a line.b e.b (λ s. t (inr s)))) (edges_of a) parts.0) h in
-    let second = area-odd (OnRight line.a line.b) b p g (valid-closed b w)
-    (none-each (EndsOn Left line) (OnRight line.a line.b) (λ e t. (not-left line.a line.b e.a (λ s. t (inl s)), not-left line.a line.b e.b (λ s. t (inr s)))) (edges_of b) parts.1) k in
-    elim (one-even line.a line.b p (edges_of_list first.ring) (edges_of_list second.ring) n (ring-chain first.ring first.closed) (ring-chain second.ring second.closed) first.each second.each) [
+    let left = λ (z : Coordinates). pos 0 ≤ℤ cross line.a line.b (grid_point z) in
+    let right = λ (z : Coordinates). cross line.a line.b (grid_point z) ≤ℤ pos 0 in
+    let first = area-odd (λ e. left e.a) a p f (valid-closed a v) (none-each (BeginsOn Right line) (λ e. left e.a) (λ e t. not-right line.a line.b e.a t) (edges_of a) parts.0) h in
+    let second = area-odd (λ e. right e.a) b p g (valid-closed b w) (none-each (BeginsOn Left line) (λ e. right e.a) (λ e t. not-left line.a line.b e.a t) (edges_of b) parts.1) k in
+    let es = edges_of_list first.ring in
+    let fs = edges_of_list second.ring in
+    let around = ring-chain first.ring first.closed in
+    let about = ring-chain second.ring second.closed in
+    elim (one-even line.a line.b p es fs n around about (ring-ends left es around first.each) (ring-ends right fs about second.each)) [
       | inl even ↦ both_ways _ even first.odd
       | inr even ↦ both_ways _ even second.odd
     ]
@@ -446,7 +460,10 @@ has-line P (e ∷ es) n (inr h) = has-line P es n.1 h
 
 dividing : (a b : Geometry) → is_area a ≡ true → is_area b ≡ true → AreDivided a b → HasLine (Divides a b)
 dividing a b f g (inl h) = has-line (Divides a b) (edges_of a) (ends-differ a f) h
-dividing a b f g (inr h) = has-line (Divides a b) (edges_of b) (ends-differ b g) h
+dividing a b f g (inr h) = turned_line (has-line (Divides b a) (edges_of b) (ends-differ b g) h)
+  where
+    turned_line : HasLine (Divides b a) → HasLine (Divides a b)
+    turned_line d = record { line = d.line; differ = d.differ; passes = elim d.passes [ inl parts ↦ inr parts | inr parts ↦ inl parts ] }
 
 pub divided_areas_are_apart : DividedAreasAreApart
 divided_areas_are_apart a b v w f g divided =

@@ -29,13 +29,13 @@ is_area _ = false
 abbrev pub is_small_area : Geometry → Bool
 is_small_area geometry = is_area geometry && nat_le (point_count geometry) sided_points
 
--- an end of the edge lies on this side of the line
-abbrev pub EndsOn : Turn → Edge → Edge → Type 0
-EndsOn side line e = (turn_of line.a line.b e.a ≡ side) ⊎ (turn_of line.a line.b e.b ≡ side)
+-- the edge begins on this side of the line; each corner of a ring begins an edge
+abbrev pub BeginsOn : Turn → Edge → Edge → Type 0
+BeginsOn side line e = turn_of line.a line.b e.a ≡ side
 
--- no edge of the first geometry ends on the line's right, and none of the second on its left
+-- no edge of the first geometry begins on the line's right, and none of the second on its left
 abbrev pub Parts : Edge → Geometry → Geometry → Type 0
-Parts line a b = ¬ (HasEdge (EndsOn Right line) (edges_of a)) × ¬ (HasEdge (EndsOn Left line) (edges_of b))
+Parts line a b = ¬ (HasEdge (BeginsOn Right line) (edges_of a)) × ¬ (HasEdge (BeginsOn Left line) (edges_of b))
 
 -- the line through the edge has the geometries on its two sides
 abbrev pub Divides : Geometry → Geometry → Edge → Type 0
@@ -43,7 +43,7 @@ Divides a b line = Parts line a b ⊎ Parts line b a
 
 -- so does that through an edge of one of them
 abbrev pub AreDivided : Geometry → Geometry → Type 0
-AreDivided a b = HasEdge (Divides a b) (edges_of a) ⊎ HasEdge (Divides a b) (edges_of b)
+AreDivided a b = HasEdge (Divides a b) (edges_of a) ⊎ HasEdge (Divides b a) (edges_of b)
 
 -- two small areas are divided
 abbrev pub AreBeside : Geometry → Geometry → Type 0

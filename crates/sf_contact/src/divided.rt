@@ -43,61 +43,60 @@ fn is_small_area(valid: &Valid) -> bool
 fn are_divided(a: &Geometry, b: &Geometry) -> bool
     ensures { IsTrue result ↔ AreDivided a.now b.now }
 {
-    let dividing = Dividing { a, b };
-    a.any_edge(&dividing) || b.any_edge(&dividing)
+    a.any_edge(&Dividing { own: a, other: b }) || b.any_edge(&Dividing { own: b, other: a })
 }
 
-/// Searches for edges that have two geometries on the two sides of their lines.
+/// Searches for edges of a geometry of its own that have it and another one on the two sides of their lines.
 #[derive(Drop)]
 struct Dividing<'a> {
-    a: &'a Geometry,
-    b: &'a Geometry,
+    own: &'a Geometry,
+    other: &'a Geometry,
 }
 
 impl EdgeTest for Dividing<'_> {
     ghost use Rattle.sf_contact.specs.Divided.{Divides};
 
-    ghost Passes = { λ s edge. Divides s.a.now s.b.now edge };
+    ghost Passes = { λ s edge. Divides s.own.now s.other.now edge };
 
     fn test(&self, from: GridPoint, to: GridPoint) -> bool {
-        parts(from, to, self.a, self.b) || parts(from, to, self.b, self.a)
+        parts(from, to, self.own, self.other) || parts(from, to, self.other, self.own)
     }
 }
 
-/// Whether a line has no edge of the first geometry on its right, and none of the second on its left.
+/// Whether no edge of the first geometry begins on the right of a line, and none of the second on its left. The second is looked at
+/// first: where the line is one of the first's, it is the second that most often lies on both sides.
 fn parts(from: GridPoint, to: GridPoint, first: &Geometry, second: &Geometry) -> bool
     ensures { IsTrue result ↔ Parts (edge_between from to) first.now second.now }
 {
-    let right = EndingOn {
+    let right = BeginningOn {
         from,
         to,
         side: Turn::Right,
     };
-    let left = EndingOn {
+    let left = BeginningOn {
         from,
         to,
         side: Turn::Left,
     };
-    !first.any_edge(&right) && !second.any_edge(&left)
+    !second.any_edge(&left) && !first.any_edge(&right)
 }
 
-/// Searches for edges that have an end on one side of the line through two points.
+/// Searches for edges that begin on one side of the line through two points.
 #[derive(Drop)]
-struct EndingOn {
+struct BeginningOn {
     from: GridPoint,
     to: GridPoint,
     side: Turn,
 }
 
-impl EdgeTest for EndingOn {
+impl EdgeTest for BeginningOn {
     ghost use Rattle.sf_grid.specs.Edge.{edge_between};
-    ghost use Rattle.sf_contact.specs.Divided.{EndsOn};
+    ghost use Rattle.sf_contact.specs.Divided.{BeginsOn};
 
-    ghost Passes = { λ s edge. EndsOn s.side (edge_between s.from s.to) edge };
+    ghost Passes = { λ s edge. BeginsOn s.side (edge_between s.from s.to) edge };
 
-    fn test(&self, from: GridPoint, to: GridPoint) -> bool {
+    fn test(&self, from: GridPoint, _to: GridPoint) -> bool {
         orientation(self.from, self.to, from) == self.side
-            || orientation(self.from, self.to, to) == self.side
     }
 }
 
