@@ -371,6 +371,14 @@ class Speeds(unittest.TestCase):
             with self.subTest(name):
                 self.check(Claim(rings(), [*lines, "layers"], needed, b"a polygon"))
 
+    def test_parcels_side_by_side_are_told_without_a_walk(self) -> None:
+        """Refuses walks over parcels that share a border, where a line between them tells that no interiors meet."""
+        slanted = [((10 * x + 3 * y, 10 * y), (10 * x + 3 * y + 10, 10 * y), (10 * x + 3 * y + 13, 10 * y + 10), (10 * x + 3 * y + 3, 10 * y + 10))
+                   for x in range(80) for y in range(80)]
+        known = [f"add a {text('POLYGON', closed(list(each)))}" for each in slanted]
+        asked = [f"rule add {name} never a T******** a" for name in ("r", "s", "t")]
+        self.check(Claim(["layer add a polygon", *known], asked, 5, b"ok", 2.5))
+
     def test_a_large_geometry_is_prepared(self) -> None:
         """Refuses walks over all edges of a town for each square on its border, where those nearby tell."""
         for kind in ("polygon", "multipolygon"):
