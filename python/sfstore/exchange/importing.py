@@ -19,7 +19,9 @@ from sfstore.exchange.publishing import check_target, publish
 from sfstore.exchange.reading import LayerImport, Taking, new_name
 from sfstore.exchange.reports import FEATURE_FORMATS, Report
 from sfstore.exchange.suggesting import suggestion
+from sfstore.exchange.telling import Telling
 from sfstore.sidecar import Crs, Sidecar
+from sfstore.storefile import FileLayer
 
 __all__ = ["Wishes", "bring_in", "main", "parser"]
 
@@ -110,9 +112,10 @@ def bring_in(wishes: Wishes) -> tuple[Report, Crs | None]:
     if grid is None:
         raise ogr.ExchangeError("the grid is missing: say --grid OX OY STEP, or ask with --suggest")
     crs, layers = _of_one_crs(_chosen_layers(opened.data, wishes.layers, left), report)
-    contents, origins = _read_layers(wishes, layers, grid, left, report)
-    found = Sidecar(grid.words, crs, origins)
-    publish(wishes.target, contents, found, wishes.program, wishes.overwrite)
+    contents, readings = _read_layers(wishes, layers, grid, left, report)
+    found = Sidecar(grid.words, crs, [reading.origin() for reading in readings])
+    rulings = publish(wishes.target, contents, found, wishes.program, wishes.overwrite, left.rules)
+    Telling(os.path.basename(wishes.source), contents, readings, grid, report).tell(rulings)
     return report, crs
 
 
@@ -122,11 +125,11 @@ def _read_layers(
     grid: Grid,
     left: wayback.WayBack,
     report: Report,
-) -> tuple[list[Any], list[Any]]:
-    """The layers as the store is to have them, and what they were."""
+) -> tuple[list[FileLayer], list[LayerImport]]:
+    """The layers as the store is to have them, and what has read them."""
     taking = Taking(wishes.program, wishes.rounds, wishes.drops_zm, wishes.as_text)
     names: set[str] = set()
-    contents, origins = [], []
+    contents, readings = [], []
     for source, layer in layers:
         told = left.layer(layer.GetName())
         name = new_name(told.store_name if told else layer.GetName(), names)
@@ -134,10 +137,10 @@ def _read_layers(
             report.note(layer.GetName(), f"the layer has the name {name}")
         reading = LayerImport(source, layer, name, grid, taking, told, report)
         contents.append(reading.read())
-        origins.append(reading.origin())
+        readings.append(reading)
         if told is not None:
             wayback.take_counters(contents[-1], told)
-    return contents, origins
+    return contents, readings
 
 
 def _of_one_crs(
