@@ -153,9 +153,9 @@ class DoNotHold(RuledCase):
         self.addCleanup(setattr, ruling, "BREAKS_MAX", most)
         status, out, _ = bring_in(self.source, self.store, *GRID)
         self.assertEqual(status, 1)
-        self.assertIn(f"  40 the rule is left out that this breaks, {APART.line}: 1 (with 2, 3, 4, 5, 6, 7, 8, 9 and 81 more of parcels), ", out)
+        self.assertIn(f"  40 the rule is left out that this breaks, {APART.line}: 1 (with 2, 3, 4, 5, 6, 7, 8, 9 of parcels and 81 more), ", out)
         self.assertIn(" and 32 more\n", out)
-        self.assertIn(f"  there may be more: {APART.line}: 40 features that break it are named, of at most ", out)
+        self.assertIn(f"  there may be more: {APART.line}: 40 features that break it are named, and the others were not searched", out)
 
     def test_rules_that_no_store_takes(self):
         rules = [APART, APART, Rule("lost", "each", "wells", "within", "houses"), PLACED]

@@ -15,7 +15,7 @@ from sfstore.faults import fault_at
 from sfstore.geometry import NotTaken, Shape, read_wkb, write_wkb, write_wkt
 from sfstore.refusals import words_of
 from sfstore.sidecar import ColumnOrigin, LayerOrigin
-from sfstore.store import Refused, Store, Value
+from sfstore.store import Kind, Refused, Store, Value
 from sfstore.storefile import INT, TEXT, FileColumn, FileFeature, FileLayer
 
 __all__ = ["LayerImport", "Taking", "new_name"]
@@ -51,6 +51,8 @@ class Taking(NamedTuple):
     """Whether Z and M are dropped."""
     as_text: bool
     """Whether columns of other types become texts."""
+    keeps_identifiers: bool = True
+    """Whether features have the source's identifiers in the store. Else the store gives its own."""
 
 
 class _Column(NamedTuple):
@@ -85,6 +87,7 @@ class LayerImport:
         taking: Taking,
         left: LeftLayer | None,
         report: Report,
+        kind: Kind = "any",
     ) -> None:
         self._source = source
         self._layer = layer
@@ -94,6 +97,7 @@ class LayerImport:
         self._taking = taking
         self._left = left
         self._report = report
+        self._taken_kind: Kind = kind
         self._rounding = Rounding() if taking.rounds else None
         self._flattened = 0
         self._origins: list[ColumnOrigin] = []
@@ -109,7 +113,7 @@ class LayerImport:
         """The layer as the store is to have it. `ogr.ExchangeError` where the source breaks off."""
         self._odd = self._odd_values()
         with Store(self._taking.program) as scratch:
-            scratch.add_layer("c")
+            scratch.add_layer("c", self._taken_kind)
             for batch in self._batches():
                 self._judge(scratch, batch)
         self._number_features()
@@ -297,6 +301,8 @@ class LayerImport:
 
     def _number_features(self) -> None:
         """Has identifiers that a store can have, and the features in their order."""
+        if not self._taking.keeps_identifiers:
+            return
         identifiers = self._identifiers
         least, most = min(identifiers, default=1), max(identifiers, default=1)
         if len(set(identifiers)) < len(identifiers) or least < 0 or most > _LAST_ID:

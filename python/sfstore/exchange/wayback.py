@@ -16,9 +16,10 @@ from sfstore.exchange.grid import Grid
 from sfstore.language import NAME, PATTERN, PREDICATES
 from sfstore.results import Rule
 from sfstore.rows import rule_of
+from sfstore.sidecar import LayerOrigin
 from sfstore.storefile import FileLayer
 
-__all__ = ["ITEM", "LeftLayer", "WayBack", "left", "read", "take_counters"]
+__all__ = ["ITEM", "LeftLayer", "WayBack", "left", "left_of", "read", "take_counters"]
 
 ITEM = "SFSTORE"
 """The name of the item of metadata."""
@@ -80,6 +81,12 @@ def left(parts: Iterable[Part], grid: tuple[str, str, str], rules: Sequence[Rule
     if rules:
         content["rules"] = [rule.line for rule in rules]
     return json.dumps(content)
+
+
+def left_of(origin: LayerOrigin) -> LeftLayer:
+    """A layer's names in the store, as a side-car has them."""
+    names = {column.source_name: column.name for column in origin.columns}
+    return LeftLayer(origin.source_name, origin.name, 1, 1, {}, names)
 
 
 def read(text: str) -> WayBack:
