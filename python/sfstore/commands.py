@@ -16,7 +16,7 @@ OWN = [
     Command("picture FILE", "draws the store as SVG, and opens it in a browser", "picture town.svg"),
     Command(
         "import SOURCE",
-        "brings a map into this store, if it has no layers; options as of sfstore-import",
+        "brings a map into this store, if it has no layers, or into its layers by --add; options as of sfstore-import",
         "import town.gpkg --grid 500000 5600000 0.01",
     ),
     Command(

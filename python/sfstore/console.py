@@ -340,19 +340,20 @@ class Console:
                 webbrowser.open(Path(target).resolve().as_uri())
 
     def _import(self, words: list[str]) -> None:
-        """Brings a map into this store where it has no layers, or into the file that is named."""
+        """Brings a map into this store where it has no layers or it is to be added, or into the file that is named."""
         with contextlib.suppress(SystemExit):
             asked = importing.parser().parse_intermixed_args(words)
             words = [*words, f"--program={self._program}"]
             if asked.suggest or asked.file is not None:
                 importing.main(words)
                 return
-            if self._store.layers():
-                print("This store has layers: name another file behind the source, and open that.")
+            if self._store.layers() and not asked.add:
+                print("This store has layers: --add adds to these; or name another file behind the source, and open that.")
                 return
-            self._store.close()
+            # What is added stands in the journal, on top of the edits there.
+            self._store.close(save=not asked.add)
             try:
-                importing.main([*words, self._path, "--overwrite"])
+                importing.main([*words, self._path, *([] if asked.add else ["--overwrite"])])
             finally:
                 self._store = self._opened()
 

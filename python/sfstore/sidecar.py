@@ -176,10 +176,25 @@ def _sidecar(content: dict[str, Any]) -> Sidecar:
     x, y, step = map(str, content["grid"])
     crs = content["crs"]
     layers = list(map(_layer, content["layers"]))
-    known = None if crs is None else Crs(**crs)
+    known = None if crs is None else Crs(**_texts(crs))
     return Sidecar((x, y, step), known, layers, list(map(str, content["digests"])))
 
 
 def _layer(content: dict[str, Any]) -> LayerOrigin:
-    columns = [ColumnOrigin(**column) for column in content.pop("columns")]
-    return LayerOrigin(columns=columns, **content)
+    columns = list(map(_column, content.pop("columns")))
+    return LayerOrigin(columns=columns, **_texts(content))
+
+
+def _column(content: dict[str, Any]) -> ColumnOrigin:
+    width = content.pop("width")
+    if not isinstance(width, int):
+        raise TypeError(f"{width!r} is no width")
+    return ColumnOrigin(width=width, **_texts(content))
+
+
+def _texts(content: dict[str, Any]) -> dict[str, str]:
+    """Fields that are texts. `TypeError` where one is none: whoever reads the side-car takes them as such."""
+    for name, value in content.items():
+        if not isinstance(value, str):
+            raise TypeError(f"{name} is no text: {value!r}")
+    return content

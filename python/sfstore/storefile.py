@@ -1,4 +1,4 @@
-"""The file of a store, as docs/use/FORMAT.md of the project has it: read, and written as version 2.
+"""The file of a store, as docs/use/FORMAT.md of the project has it: read, and written as version 2, which has no rules.
 
 What is written here is for the program to load: it decides whether it is a file of a store.
 """
@@ -9,7 +9,9 @@ import struct
 from dataclasses import dataclass, field
 from typing import BinaryIO, NamedTuple, Union
 
+from sfstore.language import PREDICATES
 from sfstore.refusals import BAD_FIELDS
+from sfstore.results import RULE_BROKEN, Rule, RuleForm
 
 __all__ = [
     "INT",
@@ -20,6 +22,7 @@ __all__ = [
     "fault_words",
     "field_at",
     "read",
+    "read_with_rules",
     "write",
 ]
 
@@ -27,7 +30,8 @@ INT, TEXT = 1, 2
 """The types of columns in a file."""
 
 _MAGIC = b"SFSTORE2\x18"
-_MAGIC_1 = b"SFSTORE1"
+_VERSIONS = {b"SFSTORE1": 1, b"SFSTORE2": 2, b"SFSTORE3": 3}
+_FORMS: dict[int, RuleForm] = {1: "never", 2: "each"}
 
 
 class FileColumn(NamedTuple):
@@ -93,6 +97,12 @@ def read(data: bytes) -> list[FileLayer]:
     return _Reader(data).layers()
 
 
+def read_with_rules(data: bytes) -> tuple[list[FileLayer], list[Rule]]:
+    """The layers and the rules of a file that the program loads. `ValueError` or `struct.error` for others."""
+    reader = _Reader(data)
+    return reader.layers(), reader.rules
+
+
 def field_at(data: bytes, place: int) -> str:
     """The name of the field that begins at a place, such as ``name of a layer``.
 
@@ -118,7 +128,8 @@ def fault_words(path: str, last: str) -> str:
         return plain.get(last, last)
     place, number = map(int, words[3:])
     with open(path, "rb") as file:
-        name = field_at(file.read(), place)
+        # A rule that does not hold is wrong as a whole, and begins with its name.
+        name = "rule" if number == RULE_BROKEN else field_at(file.read(), place)
     return f"place {place}, {name}: {BAD_FIELDS.get(number, 'it is wrong')} ({number})"
 
 
@@ -134,18 +145,20 @@ class _Reader:
         self._at = 0
         self._wanted = wanted
         self.last = ""
+        self.rules: list[Rule] = []
 
     def layers(self) -> list[FileLayer]:
         self._begin("first eight bytes")
-        if self._data[:8] == _MAGIC_1:
-            self._at = 8
-        elif self._data[:8] == _MAGIC[:8]:
-            self._at = 8
+        version = _VERSIONS.get(self._data[:8])
+        if version is None:
+            raise ValueError("no file of a store")
+        self._at = 8
+        if version > 1:
             self._begin("byte of the grid")
             self._at = 9
-        else:
-            raise ValueError("no file of a store")
         layers = [self._layer() for _ in range(self._number("I", "number of layers"))]
+        if version > 2:
+            self.rules = [self._rule() for _ in range(self._number("H", "number of rules"))]
         self._begin("end")
         return layers
 
@@ -182,6 +195,23 @@ class _Reader:
             else:
                 values[column] = self._text("H", "text of a value")
         return FileFeature(number, geometry, values)
+
+    def _rule(self) -> Rule:
+        name = self._text("B", "name of a rule")
+        form = _FORMS.get(self._number("B", "form of a rule"))
+        if form is None:
+            raise ValueError("the form of a rule is none")
+        layer = self._text("B", "layer of a rule")
+        return Rule(name, form, layer, self._ask(), self._text("B", "layer of a rule"))
+
+    def _ask(self) -> str:
+        """What a rule asks: the number of a predicate, or 0 and a pattern."""
+        number = self._number("B", "what a rule asks")
+        if number == 0:
+            return self._bytes(9, "what a rule asks").decode("ascii")
+        if number > len(PREDICATES):
+            raise ValueError("a rule asks what is no predicate")
+        return PREDICATES[number - 1]
 
     def _begin(self, name: str) -> None:
         self.last = name

@@ -22,7 +22,7 @@ from qgis.core import (
     QgsVectorLayerUtils,
 )
 from qgis.PyQt.QtCore import NULL, QVariant
-from qgis.PyQt.QtWidgets import QApplication
+from qgis.PyQt.QtWidgets import QApplication, QPushButton
 from qgis_support import CROSSED, SQUARE, Plugin, QgisCase, Session
 
 from sfstore.web.client import CallFailed
@@ -385,6 +385,98 @@ class AnyKind(QgisCase):
         self.assert_alike()
 
 
+class Ruled(QgisCase):
+    """Rules between features, which an edit would break."""
+
+    APART = "a rule would be broken, apart (never parcels T******** parcels), by"
+
+    def setUp(self):
+        super().setUp()
+        self.bens(self.ben(), "rule add apart never parcels T******** parcels")
+
+    def shown(self):
+        """What the bar shows of a refusal: its text, and the buttons behind it."""
+        self.turn()
+        [item] = self.window.messages.items()
+        return item.text(), item.findChildren(QPushButton)
+
+    def test_the_rule_and_the_features_are_named_and_shown(self):
+        parcels, wells = self.layer(), self.layer("wells")
+        wells.selectAll()
+        parcels.selectByIds([self.fid(1), self.fid(2)])
+        parcels.startEditing()
+        self.draw(self.feature(10).geometry().asWkt())
+        self.assertFalse(parcels.commitChanges())
+        text, [button] = self.shown()
+        self.assertIn(f"parcels: Refused (37 RuleBroken): {self.APART} parcels 10 and parcels 201 (new). ", text)
+        # The feature that is there, and the one that was drawn.
+        self.assertEqual(len(self.plugin.teller._markers), 2)
+        button.click()
+        self.assertEqual([feature["id"] for feature in parcels.selectedFeatures()], [10])
+        self.assertEqual(wells.selectedFeatureCount(), 0)
+        extent, box = self.window.canvas.extent(), self.feature(10).geometry().boundingBox()
+        self.assertTrue(extent.contains(box), extent.asWktPolygon())
+        self.assertLess(extent.width(), 20 * box.width())
+        parcels.rollBack()
+
+    def test_the_map_goes_there_in_its_own_reference_system(self):
+        system = QgsCoordinateReferenceSystem("EPSG:3857")
+        self.window.canvas.setDestinationCrs(system)
+        parcels = self.layer()
+        parcels.startEditing()
+        self.draw(self.feature(10).geometry().asWkt())
+        self.assertFalse(parcels.commitChanges())
+        self.shown()[1][0].click()
+        change = QgsCoordinateTransform(parcels.crs(), system, QgsProject.instance())
+        box = change.transformBoundingBox(self.feature(10).geometry().boundingBox())
+        self.assertTrue(self.window.canvas.extent().contains(box))
+        parcels.rollBack()
+
+    def test_of_several_edits_no_line_is_at_fault(self):
+        parcels = self.layer()
+        parcels.startEditing()
+        self.draw(self.feature(10).geometry().asWkt(), number=9001, owner="O'New")
+        self.set(1, "owner", "Changed")
+        self.assertFalse(parcels.commitChanges())
+        text, [button] = self.shown()
+        self.assertIn(f"parcels: Refused (37 RuleBroken): {self.APART} parcels 10 and parcels 201 (new). ", text)
+        self.assertEqual(len(parcels.editBuffer().addedFeatures()), 1)
+        self.assertNotIn("Changed", self.stored()[1])
+        # The feature may be gone when its button is pressed.
+        self.bens(self.ben(), "delete parcels 10")
+        button.click()
+        self.assertEqual(parcels.selectedFeatureCount(), 0)
+        self.assertTrue(parcels.commitChanges(), parcels.commitErrors())
+        self.assertEqual(len(self.plugin.teller._markers), 0)
+        self.settle()
+        self.assert_alike()
+
+    def test_features_of_two_layers(self):
+        self.bens(self.ben(), "delete wells 3", "rule add placed each wells within some parcels")
+        wells = self.layer("wells")
+        wells.startEditing()
+        self.draw("POINT(500300 5600210)", wells)
+        self.assertFalse(wells.commitChanges())
+        text, buttons = self.shown()
+        self.assertIn("a rule would be broken, placed (each wells within some parcels), by wells 5 (new). ", text)
+        # What was drawn is shown in red, and there is nothing else to see.
+        self.assertEqual((buttons, len(self.plugin.teller._markers)), ([], 1))
+        wells.rollBack()
+
+    def test_a_rule_of_what_is_there_alone(self):
+        self.bens(self.ben(), "delete wells 3", "rule add placed each wells within some parcels")
+        parcels, wells = self.layer(), self.layer("wells")
+        [within] = [each["id"] for each in parcels.getFeatures() if each.geometry().contains(self.feature(1, wells).geometry())]
+        parcels.startEditing()
+        parcels.deleteFeature(self.fid(within))
+        self.assertFalse(parcels.commitChanges())
+        text, [button] = self.shown()
+        self.assertIn("placed (each wells within some parcels), by wells 1. ", text)
+        button.click()
+        self.assertEqual([feature["id"] for feature in wells.selectedFeatures()], [1])
+        parcels.rollBack()
+
+
 class AtOnce(QgisCase):
     """Each edit is sent as it is made."""
 
@@ -449,6 +541,17 @@ class AtOnce(QgisCase):
         self.turn()
         self.assertIn("still going", self.stored()[10])
         self.assertEqual(len(self.plugin.teller._markers), 0)
+
+    def test_one_that_breaks_a_rule_is_taken_back_and_told(self):
+        self.bens(self.ben(), "rule add apart never parcels T******** parcels")
+        parcels = self.layer()
+        parcels.startEditing()
+        self.draw(self.feature(10).geometry().asWkt(), number=9001)
+        self.turn()
+        said = " ".join(self.said())
+        self.assertIn("a rule would be broken, apart (never parcels T******** parcels), by parcels 10 and parcels 201 (new). ", said)
+        self.assertFalse(parcels.isModified())
+        self.assertEqual(len(self.stored()), 200)
 
     def test_what_somebody_has_changed_a_moment_before_is_not_overwritten(self):
         ben, parcels = self.ben(), self.layer()

@@ -458,6 +458,11 @@ class Sessions(ConsoleCase):
         terminal.line(f"import {town} {grid}", "wells: 1 features read, 1 taken")
         terminal.line("add wells POINT (0 0)", "ok 4")
         terminal.line(f"import {town} {grid}", "This store has layers")
+        terminal.line(f"import {town} --add", "1 step is in the journal of ")
+        terminal.line("show wells", "5")
+        terminal.line("undo", "ok")
+        terminal.line("undo", "ok")
+        terminal.line("redo", "ok")
         back = self.folder / "back.gpkg"
         terminal.line(f"export {back}", "Save them now?")
         terminal.line("n", "Nothing is written")

@@ -285,8 +285,9 @@ class Reports(ExchangeCase):
         publish = importing.publish
 
         def published(*words):
-            publish(*words)
+            rulings = publish(*words)
             notes.write_text("mine")
+            return rulings
 
         with mock.patch.object(importing, "publish", published):
             status, _, err = bring_in(self.source, self.store, *GRID, "--report", notes)

@@ -231,7 +231,7 @@ class StoreFiles(TestCase):
     def test_version_1_is_read(self):
         self.assertEqual(storefile.read(b"SFSTORE1" + self.data[9:]), storefile.read(self.data))
         with self.assertRaises(ValueError):
-            storefile.read(b"SFSTORE3" + self.data[9:])
+            storefile.read(b"SFSTORE4" + self.data[8:])
 
     def test_fields_have_names(self):
         for place, name in (

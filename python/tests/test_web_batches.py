@@ -105,6 +105,25 @@ class Whole(BatchCase):
                 self.assertEqual(self.shown(), before)
                 self.assertEqual(self.serving.call("/map")["layers"], window)
 
+    def test_a_group_that_breaks_a_rule_is_refused_with_the_rule_and_no_line(self):
+        self.ann.answer("rule add few never w equals w")
+        self.done(self.ann, "add w POINT (1 1)")
+        before = self.shown("w")
+        for lines in (["add w POINT (2 2)", "add w POINT (1 1)"], ["add w POINT (1 1)", "add w POINT (2 2)", "delete w last"]):
+            status, answer = self.batch(self.ann, *lines)
+            refused = answer["refused"]
+            self.assertEqual((status, refused["number"], refused.get("line"), refused.get("place")), (200, 37, None, None))
+            there, new = refused["broken"]["features"]
+            self.assertEqual((refused["broken"]["rule"], there["id"], there["members"]), ("few never w equals w", 1, [[[1, 1]]]))
+            self.assertNotIn("members", new)
+            self.assertEqual(self.shown("w"), before)
+
+    def test_a_line_of_a_batch_that_breaks_a_rule_is_named(self):
+        self.ann.answer("rule add few never w equals w")
+        status, answer = self.batch(self.ann, "column add w n int", "add w POINT (1 1)", "add w POINT (1 1)")
+        self.assertEqual((status, answer["refused"]["number"], answer["refused"]["line"]), (200, 37, 2))
+        self.assertEqual((self.shown("w"), self.ann.line("columns w")["rows"]), ([], []))
+
     def test_a_refused_geometry_is_told_with_its_place_and_leaves_no_trace(self):
         self.ann.answer("set p 1 owner 'x'")
         self.ann.answer("undo")

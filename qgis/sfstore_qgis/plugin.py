@@ -19,7 +19,7 @@ from .editing import Editing, commit, prepare
 from .history import History
 from .saving import Saving
 from .session import LayerRefused, Refusal, Session
-from .told import Teller, words_of
+from .told import Breaking, Teller, words_of
 from .writing import NotSent
 
 __all__ = ["Plugin"]
@@ -35,7 +35,7 @@ class Plugin:
 
     def __init__(self, iface: Any) -> None:
         self._iface = iface
-        self.teller = Teller(iface)
+        self.teller = Teller(iface, self.select)
         self.editings: dict[str, Editing] = {}
         self._sessions: set[str] = set()
         # The store that was opened last, which may have no layer yet.
@@ -344,6 +344,14 @@ class Plugin:
             # It is asked again when it is sent.
             pass
         return True
+
+    def select(self, session: Session, features: Iterable[Breaking]) -> None:
+        """Selects features of a store in its layers, and nothing else of these."""
+        wanted = set(features)
+        for editing in self._of(session):
+            numbers = editing.provider.mirror.fids
+            layer = editing.provider.source.layer
+            editing.layer.selectByIds([numbers[number] for name, number in wanted if name == layer and number in numbers])
 
     # The store's history.
 

@@ -16,13 +16,14 @@ from dataclasses import dataclass
 
 from sfstore import files, journal, sidecar
 from sfstore.exchange import ogr, outcome
-from sfstore.exchange.formats import FORMATS, Part, format_of, parts_of
+from sfstore.exchange.formats import FORMATS, Part, format_of, parts_of, rules_kept
 from sfstore.exchange.grid import Grid
 from sfstore.exchange.placing import Place, check_free, placed
 from sfstore.exchange.writing import write_data, write_database
+from sfstore.results import Rule
 from sfstore.sidecar import Sidecar
 from sfstore.storefile import FileLayer, fault_words
-from sfstore.storefile import read as read_store
+from sfstore.storefile import read_with_rules as read_store
 
 __all__ = ["Wishes", "give_back", "main"]
 
@@ -60,7 +61,7 @@ def give_back(wishes: Wishes, say: Say) -> None:
         raise ogr.ExchangeError(
             f"{wishes.store} has {edits} edits in its journal that are not saved: save them first"
         )
-    layers, found = _loaded(wishes)
+    layers, rules, found = _loaded(wishes)
     wanted = FORMATS[wishes.format]
     for name in wishes.layers:
         if name not in (names := [layer.name for layer in layers]):
@@ -68,9 +69,11 @@ def give_back(wishes: Wishes, say: Say) -> None:
     parts, told, losses = parts_of(layers, found, wishes.layers, wanted)
     for line in told:
         say(line)
-    for loss in losses + wanted.losses(parts):
+    kept = rules_kept(rules, parts, wanted)
+    losses += wanted.losses(parts) + [f"the rule {rule.line}" for rule in rules if rule not in kept]
+    for loss in losses:
         say(f"{wishes.format} does not keep {loss}")
-    _write(wishes, parts, found, say)
+    _write(wishes, parts, found, kept, say)
     if wishes.grid is not None:
         _keep_grid(wishes, found)
 
@@ -83,7 +86,7 @@ def _keep_grid(wishes: Wishes, found: Sidecar) -> None:
         raise ogr.ExchangeError(f"the map is written, but not its grid beside the store: {error}") from None
 
 
-def _write(wishes: Wishes, parts: list[Part], found: Sidecar, say: Say) -> None:
+def _write(wishes: Wishes, parts: list[Part], found: Sidecar, rules: list[Rule], say: Say) -> None:
     """Writes the map as its format has it."""
     wanted = FORMATS[wishes.format]
     if wishes.format == "PostgreSQL":
@@ -94,12 +97,12 @@ def _write(wishes: Wishes, parts: list[Part], found: Sidecar, say: Say) -> None:
                 f"{wishes.format} has one layer a file, and the store {len(parts)}: "
                 "name a folder, or one with --layer"
             )
-        _write_file(wishes, parts, found, say)
+        _write_file(wishes, parts, found, rules, say)
     else:
         _write_folder(wishes, parts, found, say)
 
 
-def _write_file(wishes: Wishes, parts: list[Part], found: Sidecar, say: Say) -> None:
+def _write_file(wishes: Wishes, parts: list[Part], found: Sidecar, rules: list[Rule], say: Say) -> None:
     """Writes one file, or the set that makes one, which takes its place when it is finished."""
     folder, name = os.path.split(os.path.abspath(wishes.target))
     wanted = FORMATS[wishes.format]
@@ -111,7 +114,7 @@ def _write_file(wishes: Wishes, parts: list[Part], found: Sidecar, say: Say) -> 
     place = Place(folder, names, None, wishes.overwrite, _mode(wishes))
     _check_strangers(place, wishes.format)
     with placed(place, say) as new:
-        write_data(os.path.join(new, place.leading), wishes.format, parts, found)
+        write_data(os.path.join(new, place.leading), wishes.format, parts, found, rules)
         _check_strangers(place, wishes.format)
 
 
@@ -154,8 +157,8 @@ def _mode(wishes: Wishes) -> int:
     return os.stat(wishes.store).st_mode & 0o777
 
 
-def _loaded(wishes: Wishes) -> tuple[list[FileLayer], Sidecar]:
-    """The layers of a file that the program loads, with its side-car.
+def _loaded(wishes: Wishes) -> tuple[list[FileLayer], list[Rule], Sidecar]:
+    """The layers and rules of a file that the program loads, with its side-car.
 
     `ogr.ExchangeError` with the place of its fault, or where it is written meanwhile.
     """
@@ -173,7 +176,7 @@ def _loaded(wishes: Wishes) -> tuple[list[FileLayer], Sidecar]:
     found = _sidecar(wishes)
     if not before == hashlib.sha256(data).hexdigest() == files.digest(path):
         raise ogr.ExchangeError(f"{path} is being written by another program: try again")
-    return read_store(data), found
+    return *read_store(data), found
 
 
 def _sidecar(wishes: Wishes) -> Sidecar:

@@ -7,10 +7,14 @@ from dataclasses import dataclass
 from typing import NamedTuple
 
 from sfstore.exchange.ogr import printable
+from sfstore.results import Rule
 from sfstore.sidecar import ColumnOrigin, LayerOrigin, Sidecar
 from sfstore.storefile import FileColumn, FileLayer
 
-__all__ = ["FORMATS", "Format", "Part", "column_origin", "format_of", "parts_of"]
+__all__ = ["FORMATS", "RULES_MAX", "Format", "Part", "column_origin", "format_of", "parts_of", "rules_kept"]
+
+RULES_MAX = 1_000
+"""How many rules a map has at most: each costs its import a `join`, whoever has written it."""
 
 _NO_ORIGIN = LayerOrigin("", "", "", "", [])
 
@@ -55,6 +59,8 @@ class Format:
     """The names that no column has."""
     own_columns: tuple[str, str] | None = None
     """The columns of identifiers and geometries, where the source names none."""
+    rules_max: int = 0
+    """How many rules of a store it has a place for."""
 
     @property
     def ending(self) -> str:
@@ -227,6 +233,13 @@ def _shapefile_losses(parts: list[Part]) -> list[str]:
     return losses
 
 
+def rules_kept(rules: list[Rule], parts: Iterable[Part], written: Format) -> list[Rule]:
+    """The rules that a format keeps: those between layers that are written, as many as it has a place for."""
+    names = {part.layer.name for part in parts}
+    kept = [rule for rule in rules if {rule.layer, rule.other} <= names]
+    return kept[: written.rules_max]
+
+
 def _no_losses(parts: Iterable[Part]) -> list[str]:
     return []
 
@@ -240,6 +253,7 @@ FORMATS = {
         is_folded=True,
         reserved_layers=("gpkg_", "sqlite_", "rtree_"),
         own_columns=("fid", "geom"),
+        rules_max=RULES_MAX,
     ),
     "PostgreSQL": Format(
         (),

@@ -9,19 +9,27 @@ from __future__ import annotations
 import argparse
 import os
 import sys
-from dataclasses import dataclass
+from dataclasses import dataclass, replace
+from functools import partial
 from typing import Any, NamedTuple
 
 from sfstore import sidecar
 from sfstore.exchange import ogr, outcome, wayback
+from sfstore.exchange.adding import Broken, add
 from sfstore.exchange.grid import Grid
 from sfstore.exchange.publishing import check_target, publish
 from sfstore.exchange.reading import LayerImport, Taking, new_name
 from sfstore.exchange.reports import FEATURE_FORMATS, Report
 from sfstore.exchange.suggesting import suggestion
+from sfstore.exchange.telling import Brought, BroughtFeature, Telling
+from sfstore.language import COLUMN_TYPES
+from sfstore.refusals import words_of
+from sfstore.results import Column, Refused
 from sfstore.sidecar import Crs, Sidecar
+from sfstore.store import Store
+from sfstore.storefile import FileLayer
 
-__all__ = ["Wishes", "bring_in", "main", "parser"]
+__all__ = ["Result", "Wishes", "add_in", "bring_in", "main", "parser"]
 
 
 @dataclass(frozen=True)
@@ -46,6 +54,18 @@ class Wishes:
     program: str = "sfstore"
     any_format: bool = False
     """Whether the source may be of any format that OGR opens."""
+
+
+class Result(NamedTuple):
+    """What became of an import."""
+
+    report: Report
+    crs: Crs | None
+    """The reference system of the source."""
+    said: str = ""
+    """What is to be said beside the report."""
+    fault: str = ""
+    """Why nothing was written, though all was read; empty where it was written."""
 
 
 class _SourceLayer(NamedTuple):
@@ -95,25 +115,44 @@ def _chosen_layers(
     return sorted(layers, key=lambda layer: order.get(layer.name, len(order)))
 
 
-def bring_in(wishes: Wishes) -> tuple[Report, Crs | None]:
-    """Makes a store's file of a source, and gives the report and the reference system.
+def bring_in(wishes: Wishes) -> Result:
+    """Makes a store's file of a source.
 
     `ogr.ExchangeError`, `journal.JournalError` or `OSError` where nothing was written.
     """
     check_target(wishes.target, wishes.overwrite)
     report = Report()
-    opened = ogr.open_source(wishes.source, wishes.any_format)
-    for name, reason in opened.left_out:
-        report.problem(name, None, "does not open", reason)
-    left = _way_back(opened.data[0], report)
+    sources = _opened(wishes, report)
+    left = _way_back(sources[0], report)
     grid = wishes.grid or left.grid
     if grid is None:
         raise ogr.ExchangeError("the grid is missing: say --grid OX OY STEP, or ask with --suggest")
-    crs, layers = _of_one_crs(_chosen_layers(opened.data, wishes.layers, left), report)
-    contents, origins = _read_layers(wishes, layers, grid, left, report)
-    found = Sidecar(grid.words, crs, origins)
-    publish(wishes.target, contents, found, wishes.program, wishes.overwrite)
-    return report, crs
+    crs, layers = _of_one_crs(_chosen_layers(sources, wishes.layers, left), report)
+    contents, readings = _read_layers(wishes, layers, grid, left, report)
+    found = Sidecar(grid.words, crs, [reading.origin() for reading in readings])
+    rulings = publish(wishes.target, contents, found, wishes.program, wishes.overwrite, left.rules)
+    brought = {
+        content.name: Brought(reading.source_name, partial(_features, content, reading))
+        for content, reading in zip(contents, readings)
+    }
+    Telling(os.path.basename(wishes.source), brought, grid, report).tell(rulings)
+    return Result(report, crs)
+
+
+def _opened(wishes: Wishes, report: Report) -> list[Any]:
+    """The sources that open. Others are reported."""
+    opened = ogr.open_source(wishes.source, wishes.any_format)
+    for name, reason in opened.left_out:
+        report.problem(name, None, "does not open", reason)
+    return opened.data
+
+
+def _features(content: FileLayer, reading: LayerImport) -> dict[int, BroughtFeature]:
+    """The features of a layer by their identifiers in the store."""
+    return {
+        feature.id: BroughtFeature(reading.source_identifier(feature.id), feature.geometry)
+        for feature in content.features
+    }
 
 
 def _read_layers(
@@ -122,11 +161,11 @@ def _read_layers(
     grid: Grid,
     left: wayback.WayBack,
     report: Report,
-) -> tuple[list[Any], list[Any]]:
-    """The layers as the store is to have them, and what they were."""
+) -> tuple[list[FileLayer], list[LayerImport]]:
+    """The layers as the store is to have them, and what has read them."""
     taking = Taking(wishes.program, wishes.rounds, wishes.drops_zm, wishes.as_text)
     names: set[str] = set()
-    contents, origins = [], []
+    contents, readings = [], []
     for source, layer in layers:
         told = left.layer(layer.GetName())
         name = new_name(told.store_name if told else layer.GetName(), names)
@@ -134,17 +173,142 @@ def _read_layers(
             report.note(layer.GetName(), f"the layer has the name {name}")
         reading = LayerImport(source, layer, name, grid, taking, told, report)
         contents.append(reading.read())
-        origins.append(reading.origin())
+        readings.append(reading)
         if told is not None:
             wayback.take_counters(contents[-1], told)
-    return contents, origins
+    return contents, readings
+
+
+def add_in(wishes: Wishes) -> Result:
+    """Adds a source to the store of a file that is there, as one step of its history where a group has room for it.
+
+    `ogr.ExchangeError`, `journal.JournalError`, `sidecar.SidecarError` or `OSError` where nothing was added.
+    """
+    path = os.path.realpath(wishes.target)
+    if not os.path.isfile(path):
+        raise ogr.ExchangeError(f"{wishes.target} is no store that is there: leave out --add")
+    report = Report()
+    sources = _opened(wishes, report)
+    # It is held from here on, so that its layers stay as they are.
+    store = Store(path, journal=True, program=wishes.program)
+    try:
+        return _added(wishes, store, path, sources, report)
+    finally:
+        store.close(save=False)
+
+
+def _added(wishes: Wishes, store: Store, path: str, sources: list[Any], report: Report) -> Result:
+    """Adds sources to a store."""
+    known = _known(path, wishes.grid)
+    grid = Grid(*known.grid)
+    left = _way_back(sources[0], report)
+    crs, layers = _of_one_crs(_chosen_layers(sources, wishes.layers, left), report, known.crs)
+    if left.rules:
+        report.note(os.path.basename(wishes.source), f"{len(left.rules)} rules of it are left aside")
+    contents, readings = _read_into(wishes, store, layers, known, left, report)
+    added = add(store, path, wishes.program, contents)
+    names = {content.name: reading.source_name for content, reading in zip(contents, readings)}
+    if added.refused is not None:
+        report.taken.clear()
+        brought = {
+            content.name: Brought(names[content.name], partial(_numbered, content, added.identifiers))
+            for content in contents
+        }
+        telling = Telling(os.path.basename(wishes.source), brought, grid, report)
+        for rule, layer, breaks in added.broken:
+            telling.tell_broken(rule, layer, breaks, f"breaks the rule {rule.line}")
+        return Result(report, crs, fault=_fault(added.refused, added.broken))
+    for layer, identifiers in added.identifiers.items():
+        report.note(names[layer], f"they are {identifiers[0]} to {identifiers[-1]} of {layer}")
+    return Result(report, crs, _steps(wishes.target, added.steps))
+
+
+def _known(path: str, grid: Grid | None) -> Sidecar:
+    """The side-car of a store, or where it has none one of a grid. `sidecar.SidecarError` for both, and for neither."""
+    if grid is None:
+        found = sidecar.read(path)
+        try:
+            Grid(*found.grid)
+        except ValueError as error:
+            raise sidecar.SidecarError(f"{sidecar.path_of(path)} has no grid: {error}") from None
+        return found
+    sidecar.settle(path)
+    if os.path.lexists(sidecar.path_of(path)):
+        raise sidecar.SidecarError(f"{sidecar.path_of(path)} has the grid already: leave out --grid")
+    return Sidecar(grid.words, None, [])
+
+
+def _read_into(
+    wishes: Wishes,
+    store: Store,
+    layers: list[_SourceLayer],
+    known: Sidecar,
+    left: wayback.WayBack,
+    report: Report,
+) -> tuple[list[FileLayer], list[LayerImport]]:
+    """Those layers of a source that a store has, with their features that it takes. The others are reported."""
+    taking = Taking(wishes.program, wishes.rounds, wishes.drops_zm, wishes.as_text, keeps_identifiers=False)
+    kinds = {layer.name: layer.kind for layer in store.layers()}
+    origins = {origin.source_name: wayback.left_of(origin) for origin in known.layers}
+    names: set[str] = set()
+    contents, readings = [], []
+    for source, layer in layers:
+        told = left.layer(layer.GetName()) or origins.get(layer.GetName())
+        name = new_name(told.store_name if told else layer.GetName(), names)
+        if name not in kinds:
+            detail = f"{name}: its {layer.GetFeatureCount()} features are left out"
+            report.problem(layer.GetName(), None, "the store has no such layer", detail)
+            continue
+        reading = LayerImport(source, layer, name, Grid(*known.grid), taking, told, report, kinds[name])
+        contents.append(_fitted(reading.read(), store.columns(name), reading.source_name, report))
+        readings.append(reading)
+    return contents, readings
+
+
+def _fitted(content: FileLayer, columns: list[Column], source_name: str, report: Report) -> FileLayer:
+    """A layer with those of its columns that the store has. The others are reported."""
+    types = {column.name: column.type for column in columns}
+    kept = [column for column in content.columns if types.get(column.name) == COLUMN_TYPES[column.type - 1]]
+    for column in content.columns:
+        if column not in kept:
+            detail = f"{column.name} {COLUMN_TYPES[column.type - 1]}: its values are left out"
+            report.problem(source_name, None, "the store's layer has no such column", detail)
+    return replace(content, columns=kept)
+
+
+def _numbered(content: FileLayer, identifiers: dict[str, list[int]]) -> dict[int, BroughtFeature]:
+    """The features of a layer by identifiers in the order of the source."""
+    numbers = identifiers.get(content.name, [])
+    return {number: BroughtFeature(feature.id, feature.geometry) for number, feature in zip(numbers, content.features)}
+
+
+def _fault(refused: Refused, broken: list[Broken]) -> str:
+    """Why nothing was added, in words."""
+    lines = dict.fromkeys(each.rule.line for each in broken)
+    why = f": {'; '.join(lines)}" if lines else ""
+    return f"nothing was added. Refused {refused.number} {refused.name}, {words_of(refused.number).reason}{why}"
+
+
+def _steps(target: str, steps: int) -> str:
+    """What is said of the steps that were made."""
+    if steps == 0:
+        return "nothing was added\n"
+    many = "1 step is" if steps == 1 else f"{steps} steps are"
+    return f"{many} in the journal of {target}, and not saved yet: `undo` takes {'it' if steps == 1 else 'each'} back\n"
+
+
+def _is_same(crs: Crs | None, other: Crs | None) -> bool:
+    """Whether two reference systems are one: by their codes where both have one, else by all that is known."""
+    if crs is not None and other is not None and crs.code and other.code:
+        return (crs.authority, crs.code) == (other.authority, other.code)
+    return crs == other
 
 
 def _of_one_crs(
-    layers: list[_SourceLayer], report: Report
+    layers: list[_SourceLayer], report: Report, wanted: Crs | None = None
 ) -> tuple[Crs | None, list[_SourceLayer]]:
-    """The reference system of the first layer, and the layers that have it. Others are told."""
-    crs: Crs | None = None
+    """A reference system, that of the first layer where none is wanted, and the layers that have it. Others are told."""
+    crs = wanted
     taken: list[_SourceLayer] = []
     for found in layers:
         layer = found.layer
@@ -153,9 +317,9 @@ def _of_one_crs(
             report.problem(found.name, None, "a layer without geometries", detail)
             continue
         its_crs = ogr.crs_of(layer)
-        if not taken:
+        if not taken and wanted is None:
             crs = its_crs
-        if its_crs != crs:
+        if its_crs != crs and (wanted is None or not _is_same(its_crs, wanted)):
             detail = f"{its_crs or 'none'} in place of {crs or 'none'}: the layer is left out"
             report.problem(found.name, None, "another reference system", detail)
             continue
@@ -167,7 +331,7 @@ def parser() -> argparse.ArgumentParser:
     """The words of the command."""
     wanted = argparse.ArgumentParser(
         prog="sfstore-import",
-        usage="%(prog)s SOURCE FILE --grid OX OY STEP, or %(prog)s --suggest SOURCE",
+        usage="%(prog)s SOURCE FILE --grid OX OY STEP, %(prog)s SOURCE FILE --add, or %(prog)s --suggest SOURCE",
         description="Makes the store's FILE of SOURCE: a GeoPackage, GeoJSON, FlatGeobuf, Shapefile, or PG:dbname=..",
         epilog="Status 0: all was taken; 1: written, but something was left out; 2: wrong words; "
         f"{outcome.EPILOG} More: man sfstore-import, docs/use/EXCHANGE.md",
@@ -185,6 +349,7 @@ def parser() -> argparse.ArgumentParser:
         "--layer", action="append", default=[], metavar="NAME", help="a layer of the source; repeated, in drawing order"
     )
     wanted.add_argument("--any-format", action="store_true", help="read whatever OGR opens")
+    wanted.add_argument("--add", action="store_true", help="add to the store of FILE, as one step of its history")
     wanted.add_argument("--report", metavar="FILE", help="write all that did not fit as text")
     wanted.add_argument("--faulty", metavar="FILE", help="write what did not fit, .geojson or .gpkg")
     wanted.add_argument("--overwrite", action="store_true", help="replace files, reports too")
@@ -251,17 +416,21 @@ def _bring_in(asked: argparse.Namespace, grid: Grid | None) -> int:
         asked.program,
         asked.any_format,
     )
-    report, crs = bring_in(wishes)
+    report, crs, said, fault = add_in(wishes) if asked.add else bring_in(wishes)
     try:
-        print(report.summary(), end="", flush=True)
+        print(report.summary() + said, end="", flush=True)
         if asked.report:
             report.write_text(asked.report, asked.overwrite)
         if asked.faulty:
             report.write_features(asked.faulty, crs, asked.overwrite)
     except (ogr.ExchangeError, OSError, KeyboardInterrupt) as error:
         what = "interrupted" if isinstance(error, KeyboardInterrupt) else error
-        print(f"sfstore-import: the store's file is written, but: {what}", file=sys.stderr)
-        return 1
+        done = "all is in the journal" if asked.add else "the store's file is written"
+        print(f"sfstore-import: {fault or done}, but: {what}", file=sys.stderr)
+        return 3 if fault else 1
+    if fault:
+        print(f"sfstore-import: {fault}", file=sys.stderr)
+        return 3
     return 1 if report.problems else 0
 
 

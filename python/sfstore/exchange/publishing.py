@@ -20,11 +20,15 @@ from __future__ import annotations
 import contextlib
 import os
 import subprocess  # nosec B404: the store's own program is started, without a shell.
+from collections.abc import Sequence
 
 from sfstore import files, journal, sidecar
 from sfstore.exchange.ogr import ExchangeError
 from sfstore.exchange.placing import room_beside, uninterrupted
+from sfstore.exchange.ruling import Ruling, ruled
+from sfstore.results import ProgramEnded, Rule
 from sfstore.sidecar import Sidecar
+from sfstore.store import Store
 from sfstore.storefile import FileLayer
 from sfstore.storefile import write as write_store
 
@@ -46,9 +50,14 @@ def check_target(target: str, overwrite: bool) -> None:
 
 
 def publish(
-    target: str, layers: list[FileLayer], found: Sidecar, program: str, overwrite: bool
-) -> None:
-    """Has the program make a store's file, with the side-car beside it.
+    target: str,
+    layers: list[FileLayer],
+    found: Sidecar,
+    program: str,
+    overwrite: bool,
+    rules: Sequence[Rule] = (),
+) -> list[Ruling]:
+    """Has the program make a store's file, with the side-car beside it, and gives what became of rules.
 
     Where it raises, the old file stands with its old side-car.
     """
@@ -56,7 +65,8 @@ def publish(
     with journal.locked(path), room_beside(path) as room:
         check_target(target, overwrite)
         sidecar.settle(path)
-        made, beside = _made(room, layers, program, target), os.path.join(room, "side-car")
+        made, rulings = _made(room, layers, rules, program, target)
+        beside = os.path.join(room, "side-car")
         if os.path.exists(path):
             os.chmod(made, os.stat(path).st_mode & 0o777)
         # The side-car is made as that of a file in the room, which is of the same bytes.
@@ -64,13 +74,27 @@ def publish(
         os.chmod(sidecar.path_of(beside), os.stat(made).st_mode & 0o777)
         with uninterrupted():
             _put(path, made, sidecar.path_of(beside))
+    return rulings
 
 
-def _made(room: str, layers: list[FileLayer], program: str, target: str) -> str:
-    """The file that the program makes of layers, on the disk."""
+def _made(
+    room: str, layers: list[FileLayer], rules: Sequence[Rule], program: str, target: str
+) -> tuple[str, list[Ruling]]:
+    """The file that the program makes of layers and of those rules that hold, on the disk."""
     draft, made = os.path.join(room, "draft"), os.path.join(room, "made")
     with open(draft, "wb") as file:
         write_store(file, layers)
+    if rules:
+        rulings = _ruled(draft, made, layers, rules, program, target)
+    else:
+        rulings = []
+        _saved(draft, made, program, target)
+    files.sync(made)
+    return made, rulings
+
+
+def _saved(draft: str, made: str, program: str, target: str) -> None:
+    """Has the program load one file, and save another one. `ExchangeError` where it does not."""
     ended = subprocess.run(  # nosec B603: a list of words, of which two are paths.
         [program, f"--load={draft}", f"--save={made}"],
         stdin=subprocess.DEVNULL,
@@ -79,8 +103,18 @@ def _made(room: str, layers: list[FileLayer], program: str, target: str) -> str:
     if ended.returncode:
         last = ended.stdout.decode("utf-8", "replace").strip()
         raise ExchangeError(f"{target} could not be made: {last}")
-    files.sync(made)
-    return made
+
+
+def _ruled(
+    draft: str, made: str, layers: list[FileLayer], rules: Sequence[Rule], program: str, target: str
+) -> list[Ruling]:
+    """As `_saved`, with those rules added in between that hold."""
+    features = {layer.name: [feature.id for feature in layer.features] for layer in layers}
+    try:
+        with Store(program, load=draft, save=made) as store:
+            return [ruled(store, rule, features.get(rule.layer, [])) for rule in rules]
+    except ProgramEnded as ended:
+        raise ExchangeError(f"{target} could not be made: {ended.last_line}") from None
 
 
 def _put(path: str, made: str, side_car: str) -> None:

@@ -4,7 +4,7 @@ from __future__ import annotations
 
 import re
 import unicodedata
-from collections.abc import Iterator
+from collections.abc import Iterable, Iterator
 from typing import Any, NamedTuple
 
 from sfstore.exchange import ogr
@@ -15,7 +15,7 @@ from sfstore.faults import fault_at
 from sfstore.geometry import NotTaken, Shape, read_wkb, write_wkb, write_wkt
 from sfstore.refusals import words_of
 from sfstore.sidecar import ColumnOrigin, LayerOrigin
-from sfstore.store import Refused, Store, Value
+from sfstore.store import Kind, Refused, Store, Value
 from sfstore.storefile import INT, TEXT, FileColumn, FileFeature, FileLayer
 
 __all__ = ["LayerImport", "Taking", "new_name"]
@@ -51,6 +51,8 @@ class Taking(NamedTuple):
     """Whether Z and M are dropped."""
     as_text: bool
     """Whether columns of other types become texts."""
+    keeps_identifiers: bool = True
+    """Whether features have the source's identifiers in the store. Else the store gives its own."""
 
 
 class _Column(NamedTuple):
@@ -85,6 +87,7 @@ class LayerImport:
         taking: Taking,
         left: LeftLayer | None,
         report: Report,
+        kind: Kind = "any",
     ) -> None:
         self._source = source
         self._layer = layer
@@ -94,6 +97,7 @@ class LayerImport:
         self._taking = taking
         self._left = left
         self._report = report
+        self._taken_kind: Kind = kind
         self._rounding = Rounding() if taking.rounds else None
         self._flattened = 0
         self._origins: list[ColumnOrigin] = []
@@ -102,12 +106,14 @@ class LayerImport:
         self._identifiers: list[int] = []
         self._features: list[FileFeature] = []
         self._kinds: set[int] = set()
+        # The source's identifiers by the store's, where they are not the same.
+        self._renumbered: dict[int, int] = {}
 
     def read(self) -> FileLayer:
         """The layer as the store is to have it. `ogr.ExchangeError` where the source breaks off."""
         self._odd = self._odd_values()
         with Store(self._taking.program) as scratch:
-            scratch.add_layer("c")
+            scratch.add_layer("c", self._taken_kind)
             for batch in self._batches():
                 self._judge(scratch, batch)
         self._number_features()
@@ -120,6 +126,15 @@ class LayerImport:
         layer = FileLayer(self._name, self._kind(), next_id, len(columns) + 1, columns)
         layer.features = self._features
         return layer
+
+    @property
+    def source_name(self) -> str:
+        """The layer's name in the source."""
+        return self._source_name
+
+    def source_identifier(self, identifier: int) -> int:
+        """The identifier in the source of a feature that was taken, by the one in the store."""
+        return self._renumbered.get(identifier, identifier)
 
     def origin(self) -> LayerOrigin:
         """What the side-car keeps of the layer."""
@@ -286,17 +301,23 @@ class LayerImport:
 
     def _number_features(self) -> None:
         """Has identifiers that a store can have, and the features in their order."""
+        if not self._taking.keeps_identifiers:
+            return
         identifiers = self._identifiers
         least, most = min(identifiers, default=1), max(identifiers, default=1)
         if len(set(identifiers)) < len(identifiers) or least < 0 or most > _LAST_ID:
             self._note("the features are numbered anew from 1, in the source's order")
-            self._features = [
-                feature._replace(id=number) for number, feature in enumerate(self._features, 1)
-            ]
+            self._renumber(range(1, len(self._features) + 1))
         elif least == 0 and most < _LAST_ID:
             self._note("identifiers begin with 0 in the source: each is greater by 1")
-            self._features = [feature._replace(id=feature.id + 1) for feature in self._features]
+            self._renumber(feature.id + 1 for feature in self._features)
         self._features.sort(key=lambda feature: feature.id)
+
+    def _renumber(self, numbers: Iterable[int]) -> None:
+        """Gives each feature that was taken another identifier."""
+        renumbered = [feature._replace(id=number) for number, feature in zip(numbers, self._features)]
+        self._renumbered = {new.id: old.id for new, old in zip(renumbered, self._features)}
+        self._features = renumbered
 
     def _kind(self) -> int:
         """The declared kind where all features have it, else that any is taken."""

@@ -1,4 +1,4 @@
-"""What an export leaves in a GeoPackage for the way back: grid, drawing order, names and counters.
+"""What an export leaves in a GeoPackage for the way back: grid, drawing order, names, counters and rules.
 
 It is metadata of a file that anyone may have written, so nothing of it is taken unseen.
 """
@@ -7,20 +7,25 @@ from __future__ import annotations
 
 import json
 import re
-from collections.abc import Iterable
+from collections.abc import Iterable, Sequence
 from dataclasses import dataclass, field
 from typing import Any
 
-from sfstore.exchange.formats import Part
+from sfstore.exchange.formats import RULES_MAX, Part
 from sfstore.exchange.grid import Grid
+from sfstore.language import NAME, PATTERN, PREDICATES
+from sfstore.results import Rule
+from sfstore.rows import rule_of
+from sfstore.sidecar import LayerOrigin
 from sfstore.storefile import FileLayer
 
-__all__ = ["ITEM", "LeftLayer", "WayBack", "left", "read", "take_counters"]
+__all__ = ["ITEM", "LeftLayer", "WayBack", "left", "left_of", "read", "take_counters"]
 
 ITEM = "SFSTORE"
 """The name of the item of metadata."""
 
-_NAME = re.compile(r"[A-Za-z][A-Za-z0-9_]{0,31}", re.ASCII)
+_ASK = f"(?:{PATTERN.pattern}|{'|'.join(PREDICATES)})"
+_RULE = re.compile("{0} (?:never {0} {1} {0}|each {0} {1} some {0})".format(NAME.pattern, _ASK))
 _IDENTIFIERS = range(1, 2**32)
 _COLUMNS = range(1, 2**16)
 
@@ -49,6 +54,7 @@ class WayBack:
 
     grid: Grid | None = None
     layers: list[LeftLayer] = field(default_factory=list)
+    rules: list[Rule] = field(default_factory=list)
 
     def layer(self, name: str) -> LeftLayer | None:
         """What is left of the layer of a name in the file."""
@@ -58,8 +64,8 @@ class WayBack:
         return None
 
 
-def left(parts: Iterable[Part], grid: tuple[str, str, str]) -> str:
-    """The metadata of layers."""
+def left(parts: Iterable[Part], grid: tuple[str, str, str], rules: Sequence[Rule]) -> str:
+    """The metadata of layers, and of rules between them."""
     layers = [
         {
             "name": part.name,
@@ -71,7 +77,16 @@ def left(parts: Iterable[Part], grid: tuple[str, str, str]) -> str:
         }
         for part in parts
     ]
-    return json.dumps({"grid": grid, "layers": layers})
+    content: dict[str, Any] = {"grid": grid, "layers": layers}
+    if rules:
+        content["rules"] = [rule.line for rule in rules]
+    return json.dumps(content)
+
+
+def left_of(origin: LayerOrigin) -> LeftLayer:
+    """A layer's names in the store, as a side-car has them."""
+    names = {column.source_name: column.name for column in origin.columns}
+    return LeftLayer(origin.source_name, origin.name, 1, 1, {}, names)
 
 
 def read(text: str) -> WayBack:
@@ -79,9 +94,9 @@ def read(text: str) -> WayBack:
     try:
         content = json.loads(text)
         grid = content.get("grid")
-        return WayBack(
-            None if grid is None else _grid(grid), [_layer(item) for item in content["layers"]]
-        )
+        layers = [_layer(item) for item in content["layers"]]
+        # Files of former versions have no rules.
+        return WayBack(None if grid is None else _grid(grid), layers, _rules(content.get("rules", [])))
     except (AttributeError, KeyError, TypeError, RecursionError) as error:
         raise ValueError(f"{type(error).__name__}: {error}") from None
 
@@ -109,6 +124,20 @@ def _layer(item: Any) -> LeftLayer:
     return found
 
 
+def _rules(lines: Any) -> list[Rule]:
+    if not isinstance(lines, list):
+        raise ValueError("the rules are no list")
+    if len(lines) > RULES_MAX:
+        raise ValueError(f"{len(lines)} rules, where at most {RULES_MAX} are left")
+    return [_rule(_text(line)) for line in lines]
+
+
+def _rule(line: str) -> Rule:
+    if not _RULE.fullmatch(line):
+        raise ValueError(f"{line[:_LONGEST_WORD]!r} is no rule")
+    return rule_of(line)
+
+
 def _text(word: Any) -> str:
     if not isinstance(word, str):
         raise ValueError(f"{word!r} is no text")
@@ -117,7 +146,7 @@ def _text(word: Any) -> str:
 
 def _name(word: Any, otherwise: Any = None) -> str:
     """A name of the store. A layer of a former version's file has that of the file, whatever it is."""
-    if word is not otherwise and not _NAME.fullmatch(_text(word)):
+    if word is not otherwise and not NAME.fullmatch(_text(word)):
         raise ValueError(f"{word!r} is no name of the store")
     return _text(word)
 

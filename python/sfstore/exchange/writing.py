@@ -3,12 +3,14 @@
 from __future__ import annotations
 
 import contextlib
+from collections.abc import Sequence
 from typing import Any
 
 from sfstore.exchange import ogr, wayback
 from sfstore.exchange.formats import Part, column_origin
 from sfstore.exchange.grid import Grid
 from sfstore.geometry import KINDS, read_wkb, write_wkb
+from sfstore.results import Rule
 from sfstore.sidecar import Sidecar
 from sfstore.storefile import INT, FileColumn, FileFeature
 
@@ -18,15 +20,15 @@ _INT_32 = range(-(2**31), 2**31)
 _SUBTYPES = {"Boolean": range(2), "Int16": range(-(2**15), 2**15)}
 
 
-def write_data(path: str, name: str, parts: list[Part], found: Sidecar) -> None:
-    """Writes layers to a new file of a format. `ogr.ExchangeError` where OGR can't."""
+def write_data(path: str, name: str, parts: list[Part], found: Sidecar, rules: Sequence[Rule] = ()) -> None:
+    """Writes layers, and the rules that a format keeps, to a new file of it. `ogr.ExchangeError` where OGR can't."""
     try:
         data = ogr.driver(name).CreateDataSource(path)
         try:
             for part in parts:
                 _LayerExport(data, name, part, found).write()
             if name == "GPKG":
-                data.SetMetadataItem(wayback.ITEM, wayback.left(parts, found.grid))
+                data.SetMetadataItem(wayback.ITEM, wayback.left(parts, found.grid, rules))
         finally:
             # The file is finished and closed here, whoever still has a name for it.
             data.Destroy()

@@ -13,6 +13,7 @@ from sfstore.broken import Broken, broken_by
 from sfstore.commands import Command, help_text, near_words
 from sfstore.faults import fault_at, fault_of
 from sfstore.geometry import Shape, read_wkb, write_wkt
+from sfstore.groups import text_of
 from sfstore.language import GRID_MAX, GRID_MIN, QUESTIONS
 from sfstore.lines import geometry_refused
 from sfstore.refusals import words_of
@@ -212,6 +213,11 @@ class Calls:
         except LineRefused as refused:
             line = batch.lines[refused.at]
             return {"refused": {**self._refusal(refused.refused, line), "line": refused.at}}
+        except Refused as refused:
+            if not refused.rule:
+                raise
+            # Of a group no line is at fault: a rule is looked at behind the last one.
+            return {"refused": self._refusal(refused, text_of(batch.lines))}
 
     def _changing(self, editor: int, change: Callable[[], _T]) -> _T:
         """What a change of an editor gives, whose name is kept before it is carried out."""

@@ -1,0 +1,260 @@
+"""Tests of maps that are added to a store which is there, with rules and without."""
+
+from __future__ import annotations
+
+import json
+import unittest
+from unittest import mock
+
+from support import PROGRAM
+
+from test_exchange import GRID, HAS_GDAL, ExchangeCase, Source, bring_in  # isort: skip
+from test_exchange_rules import APART, OVERLAPPING, PARCELS, PLACED, in_map  # isort: skip
+from sfstore import Rule, Store
+from sfstore.exchange import adding, ruling
+
+if HAS_GDAL:
+    from osgeo import ogr
+
+FAR = "POLYGON ((100 0, 109 0, 109 9, 100 9, 100 0))"
+CLEAR = Rule("clear", "never", "wells", "within", "zones")
+
+
+class AddingCase(ExchangeCase):
+    def setUp(self):
+        super().setUp()
+        columns = [("number", ogr.OFTInteger64), ("Besitzer", ogr.OFTString)]
+        source = Source(self.source)
+        source.layer("Flurstücke", {7: (in_map(PARCELS[0]), {"number": 1}), 9: (in_map(PARCELS[1]), {})}, ogr.wkbPolygon, columns)
+        source.layer("wells", {1: (in_map("POINT (5 5)"), {})}, ogr.wkbPoint)
+        source.layer("zones", {}, ogr.wkbPolygon)
+        source.close()
+        self.assertEqual(bring_in(self.source, self.store, *GRID)[0], 0)
+        self.more = self.folder / "more.gpkg"
+
+    def ruled(self, *rules):
+        """Gives the store rules, and saves it."""
+        with Store(self.store, journal=True, program=PROGRAM) as store:
+            for name, *rest in rules:
+                store.add_rule(name, *(word.replace("parcels", "Flurstucke") for word in rest))
+
+    def brought(self, crs=25832, **layers):
+        """A map of layers, of which each feature has an identifier and a text, or these and values."""
+        source = Source(self.more)
+        for name, features in layers.items():
+            columns = [("number", ogr.OFTInteger64), ("Besitzer", ogr.OFTString)] if name == "Flurstücke" else []
+            numbered = {number: (in_map(wkt), dict(*values)) for number, wkt, *values in features}
+            source.layer(name, numbered, columns=columns, crs=crs)
+        source.close()
+
+    def add(self, *words):
+        return bring_in(self.more, self.store, "--add", *words)
+
+    def opened(self):
+        """What the next session finds: edits in the journal, and all rows."""
+        store = Store(self.store, journal=True, program=PROGRAM)
+        try:
+            return store.recovered.edits, {layer.name: store.run(f"show {layer.name}") for layer in store.layers()}
+        finally:
+            store.close(save=False)
+
+
+class Added(AddingCase):
+    def test_a_map_is_one_step(self):
+        self.ruled(APART, PLACED)
+        before = self.opened()[1]
+        values = {"number": 5, "Besitzer": "O'Hara"}
+        # A well comes before its parcel: rules are looked at behind the last feature.
+        self.brought(wells=[(1, "POINT (105 5)")], Flurstücke=[(2, FAR, values)])
+        status, out, err = self.add()
+        self.assertEqual((status, err), (0, ""))
+        self.assertIn("wells: 1 features read, 1 taken\n  they are 2 to 2 of wells\n", out)
+        self.assertIn("  they are 10 to 10 of Flurstucke\n", out)
+        self.assertTrue(out.endswith(f"1 step is in the journal of {self.store}, and not saved yet: `undo` takes it back\n"))
+        edits, rows = self.opened()
+        self.assertEqual(edits, 1)
+        self.assertEqual(rows["Flurstucke"][-1], f"10 {FAR} number=5 Besitzer='O''Hara'")
+        self.assertEqual(rows["wells"][-1], "2 POINT (105 5)")
+        with Store(self.store, journal=True, program=PROGRAM) as store:
+            store.undo()
+        self.assertEqual(self.opened(), (0, before))
+
+    def test_edits_that_were_not_saved_stay_below(self):
+        with Store(self.store, journal=True, program=PROGRAM) as store:
+            store.add("wells", "POINT (1 1)")
+            store.close(save=False)
+        self.brought(wells=[(1, "POINT (2 2)")])
+        self.assertEqual(self.add()[0], 0)
+        self.assertEqual(self.opened()[0], 2)
+
+    def test_a_store_without_a_side_car_has_the_grid_that_is_said(self):
+        self.store.with_suffix(".sfs.json").unlink()
+        self.brought(wells=[(1, "POINT (2 2)")])
+        self.assertEqual(self.add()[0], 3)
+        self.assertEqual(self.add(*GRID)[0], 0)
+        self.assertEqual(self.opened()[1]["wells"][-1], "2 POINT (2 2)")
+
+    def test_a_map_of_more_than_a_group_is_several_steps(self):
+        self.ruled(APART)
+        before = self.opened()[1]
+        shapes = [FAR.replace("10", f"{place}0") for place in range(2, 7)]
+        self.brought(Flurstücke=[(number, wkt, {"number": number}) for number, wkt in enumerate(shapes, 1)])
+        with mock.patch.object(adding, "GROUP_MAX", 5):
+            status, out, _ = self.add()
+        self.assertEqual(status, 0)
+        self.assertTrue(out.endswith(f"3 steps are in the journal of {self.store}, and not saved yet: `undo` takes each back\n"))
+        self.assertIn("  they are 10 to 14 of Flurstucke\n", out)
+        with Store(self.store, journal=True, program=PROGRAM) as store:
+            self.assertEqual(store.recovered.edits, 3)
+            for _ in range(3):
+                store.undo()
+        self.assertEqual(self.opened(), (0, before))
+
+    def test_what_does_not_fit_is_reported(self):
+        source = Source(self.more)
+        columns = [("number", ogr.OFTString), ("depth", ogr.OFTInteger64), ("Besitzer", ogr.OFTString)]
+        crossed = in_map("POLYGON ((0 0, 3 3, 3 0, 0 2, 0 0))")
+        features = {4: (in_map(FAR), {"number": "x", "depth": 3, "Besitzer": "y"}), 5: (crossed, {}), 6: (in_map("POINT (1 1)"), {})}
+        source.layer("Flurstücke", features, columns=columns)
+        source.layer("houses", {1: (in_map(FAR), {})})
+        source.layer("wells", {1: (in_map("POINT (3 3)"), {})}, crs=4326)
+        source.close()
+        status, out, err = self.add()
+        self.assertEqual((status, err), (1, ""))
+        self.assertIn("Flurstücke: 3 features read, 1 taken\n", out)
+        self.assertIn("  1 refused 13 RingNotSimple, a ring meets itself: 5 (", out)
+        self.assertIn("  1 refused 26 WrongKind, the layer takes no geometry of that kind: 6\n", out)
+        for column in ("number text", "depth int"):
+            self.assertIn(f"the store's layer has no such column: {column}: its values are left out", out)
+        self.assertIn("houses: 0 features read, 0 taken\n  the store has no such layer: houses: its 1 features are left out\n", out)
+        self.assertIn("wells: 0 features read, 0 taken\n  another reference system: EPSG:4326 in place of EPSG:25832", out)
+        self.assertEqual(self.opened()[1]["Flurstucke"][-1], f"10 {FAR} Besitzer='y'")
+
+    def test_nothing_to_add(self):
+        self.brought(wells=[])
+        status, out, _ = self.add()
+        self.assertEqual((status, out.splitlines()[-1]), (0, "nothing was added"))
+        self.assertEqual(self.opened()[0], 0)
+
+
+class RefusedByRules(AddingCase):
+    def refused(self, *words):
+        """Adds a map that is refused: nothing is changed."""
+        before = self.store.read_bytes(), self.opened()
+        status, out, err = self.add(*words)
+        self.assertEqual(status, 3, out + err)
+        self.assertEqual((self.store.read_bytes(), self.opened()), before)
+        return out, err
+
+    def test_features_of_the_map_are_named(self):
+        self.ruled(APART, PLACED)
+        wells = [(30, "POINT (105 5)"), (31, "POINT (300 300)")]
+        self.brought(Flurstücke=[(5, FAR), (8, OVERLAPPING), (21, FAR)], wells=wells)
+        report, faulty = self.folder / "report", self.folder / "faulty.geojson"
+        out, err = self.refused("--report", report, "--faulty", faulty)
+        rules = [rule.line.replace("parcels", "Flurstucke") for rule in (APART, PLACED)]
+        self.assertEqual(
+            err, f"sfstore-import: nothing was added. Refused 37 RuleBroken, a rule would be broken: {rules[0]}; {rules[1]}\n"
+        )
+        named = "5 (with 21 of Flurstücke), 8 (with 9 of Flurstucke in the store), 21 (with 5 of Flurstücke)"
+        self.assertIn(f"Flurstücke: 3 features read, 0 taken\n  3 breaks the rule {rules[0]}: {named}\n", out)
+        self.assertIn(f"wells: 2 features read, 0 taken\n  1 breaks the rule {rules[1]}: 31\n", out)
+        self.assertIn(f"wells\t31\tbreaks the rule {rules[1]}\t\n", report.read_text())
+        shown = [each["properties"]["identifier"] for each in json.loads(faulty.read_text())["features"]]
+        self.assertEqual(shown, [5, 8, 21, 31])
+
+    def test_a_feature_of_the_second_layer(self):
+        self.ruled(CLEAR)
+        self.brought(zones=[(4, PARCELS[0]), (5, FAR)])
+        out, _ = self.refused()
+        self.assertIn(f"  1 breaks the rule {CLEAR.line}: 4 (with 1 of wells in the store)\n", out)
+
+    def test_identifiers_that_no_store_has(self):
+        self.ruled(APART)
+        self.brought(Flurstücke=[(0, FAR), (2**40, FAR)])
+        out, _ = self.refused()
+        self.assertIn(f": 0 (with {2**40} of Flurstücke), {2**40} (with 0 of Flurstücke)\n", out)
+
+    def test_of_many_features_some_are_named(self):
+        self.ruled(APART)
+        self.brought(Flurstücke=[(number, FAR) for number in range(1, 30)])
+        with mock.patch.object(ruling, "BREAKS_MAX", 20):
+            out, _ = self.refused()
+        self.assertIn("  20 breaks the rule ", out)
+        self.assertIn("  there may be more: ", out)
+
+    def test_of_several_steps_none_stays(self):
+        self.ruled(APART)
+        shapes = [FAR.replace("10", f"{place}0") for place in range(2, 7)]
+        self.brought(Flurstücke=[(number, wkt) for number, wkt in enumerate([*shapes, OVERLAPPING], 1)])
+        before = self.opened()[1]
+        with mock.patch.object(adding, "GROUP_MAX", 2):
+            status, out, err = self.add()
+        self.assertEqual((status, self.opened()[1]), (3, before))
+        self.assertIn("nothing was added. Refused 37 RuleBroken", err)
+        self.assertIn(": 6 (with 9 of Flurstucke in the store)\n", out)
+
+    def test_rules_that_came_with_the_map_are_left_aside(self):
+        self.brought(wells=[(1, "POINT (2 2)")])
+        source = ogr.Open(str(self.more), 1)
+        source.SetMetadataItem("SFSTORE", json.dumps({"layers": [], "rules": ["a never wells equals wells"]}))
+        source = None
+        status, out, _ = self.add()
+        self.assertEqual(status, 0)
+        self.assertIn("  1 rules of it are left aside\n", out)
+        with Store(self.store, journal=True, program=PROGRAM) as store:
+            self.assertEqual(store.rules(), [])
+
+
+class NotAdded(AddingCase):
+    def test_what_is_in_the_way(self):
+        self.brought(wells=[(1, "POINT (2 2)")])
+        status, _, err = bring_in(self.more, self.folder / "none.sfs", "--add")
+        self.assertEqual((status, (self.folder / "none.sfs").exists()), (3, False))
+        self.assertIn("is no store that is there: leave out --add", err)
+        status, _, err = self.add(*GRID)
+        self.assertEqual(status, 3)
+        self.assertIn("has the grid already: leave out --grid", err)
+        with Store(self.store, journal=True, program=PROGRAM):
+            status, _, err = self.add()
+        self.assertEqual(status, 3)
+        self.assertIn("another session", err)
+        with Store(PROGRAM, load=self.store, save=self.store) as store:
+            store.add("wells", "POINT (8 8)")
+        status, _, err = self.add()
+        self.assertEqual(status, 3)
+        self.assertIn("belongs to another file", err)
+
+    def test_a_side_car_that_is_none(self):
+        self.brought(wells=[(1, "POINT (2 2)")])
+        path = self.store.with_suffix(".sfs.json")
+        good = json.loads(path.read_text())
+        layer = good["layers"][0]
+        column = layer["columns"][0]
+        wrong = [{"grid": ["a", "b", "c"]}, {"grid": ["0", "0", "0"]}, {"crs": 5}, {"crs": {**good["crs"], "code": 5}}, {"layers": 5}]
+        wrong += [{"layers": [each]} for each in (5, {**layer, "name": 5}, {**layer, "source_name": None}, {**layer, "columns": 5}, {**layer, "more": ""})]
+        wrong += [{"layers": [{**layer, "columns": [{**column, **each}]}]} for each in ({"name": 5}, {"source_name": []}, {"width": "5"}, {"width": None})]
+        for changed in wrong:
+            path.write_text(json.dumps({**good, **changed}))
+            status, _, err = self.add()
+            self.assertEqual(status, 3, (changed, err))
+            self.assertRegex(err, "is no side-car of a store|has no grid")
+        self.assertEqual(self.opened()[0], 0)
+
+    def test_an_interrupt_says_what_may_be_there(self):
+        self.brought(wells=[(1, "POINT (2 2)")])
+        with mock.patch.object(adding, "_carried_out", side_effect=KeyboardInterrupt):
+            status, _, err = self.add()
+        self.assertEqual(status, 3)
+        self.assertIn("it was interrupted. Steps of it, of 1, may be in the journal: `undo` takes each back", err)
+        self.assertEqual(self.opened()[0], 0)
+
+    def test_an_interrupt_while_it_is_read(self):
+        self.brought(wells=[(1, "POINT (2 2)")])
+        with mock.patch.object(adding, "_groups", side_effect=KeyboardInterrupt):
+            status, _, err = self.add()
+        self.assertEqual((status, err), (3, "sfstore-import: interrupted; nothing was written\n"))
+
+
+if __name__ == "__main__":
+    unittest.main()

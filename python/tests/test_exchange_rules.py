@@ -1,0 +1,262 @@
+"""Tests of maps with rules: out and in again, with rules that do not hold, and with what no export leaves."""
+
+from __future__ import annotations
+
+import json
+import struct
+import unittest
+
+from support import PROGRAM, TestCase
+
+from test_exchange import GRID, ExchangeCase, Source, bring_in, give_back  # isort: skip
+from sfstore import Refused, Rule, Store, storefile
+from sfstore.exchange import ruling, wayback
+from sfstore.exchange.formats import RULES_MAX
+from sfstore.results import RULE_BROKEN
+
+# Three parcels in a row, of which the third overlaps the second; a well in the first one, and one outside.
+PARCELS = ["POLYGON ((0 0, 9 0, 9 9, 0 9, 0 0))", "POLYGON ((9 0, 18 0, 18 9, 9 9, 9 0))"]
+OVERLAPPING = "POLYGON ((12 0, 24 0, 24 9, 12 9, 12 0))"
+APART = Rule("apart", "never", "parcels", "T********", "parcels")
+PLACED = Rule("placed", "each", "wells", "within", "parcels")
+RULES = [APART, PLACED, Rule("alone", "never", "wells", "equals", "wells")]
+
+
+def in_map(wkt):
+    """A text on the grid as one of the map, of which the origin is 500000 5600000 and a step is 0.01."""
+    kind, points = wkt.split(" ", 1)
+    moved = ["{!r} {!r}".format(500000 + int(x) / 100, 5600000 + int(y) / 100) for x, y in map(str.split, points.strip("()").split(", "))]
+    brackets = len(points) - len(points.lstrip("("))
+    return f"{kind} {'(' * brackets}{', '.join(moved)}{')' * brackets}"
+
+
+class RuledCase(ExchangeCase):
+    def made(self, rules=RULES):
+        """A store of two parcels and a well, with rules, that was imported."""
+        self.points({1: (in_map("POINT (5 5)"), {})})
+        self.assertEqual(bring_in(self.source, self.store, *GRID)[0], 0)
+        with Store(PROGRAM, load=self.store, save=self.store) as store:
+            store.add_layer("parcels", "polygon")
+            for wkt in PARCELS:
+                store.add("parcels", wkt)
+            for rule in rules:
+                store.add_rule(*rule)
+        self.store.with_suffix(".sfs.json").unlink()
+        self.source.unlink()
+
+    def rules(self, path=None):
+        with Store(PROGRAM, load=path or self.store) as store:
+            return store.rules()
+
+
+class OutAndIn(RuledCase):
+    def test_a_geopackage_keeps_the_rules(self):
+        self.made()
+        given = give_back(self.store, self.target, *GRID, "--crs", "EPSG:25832")
+        self.assertEqual(given, (0, "", ""))
+        again = self.folder / "again.sfs"
+        status, out, err = bring_in(self.target, again)
+        self.assertEqual((status, err), (0, ""))
+        self.assertIn("parcels: 2 features read, 2 taken\n  the rule apart never parcels T******** parcels was added\n", out)
+        self.assertEqual(again.read_bytes(), self.store.read_bytes())
+        self.assertEqual(self.rules(again), RULES)
+
+    def test_other_formats_say_that_they_do_not(self):
+        self.made()
+        for target, words in ((self.folder / "map", ["--format", "GeoJSON"]), (self.folder / "wells.fgb", ["--layer", "wells"])):
+            status, _, err = give_back(self.store, target, *words, *([] if self.store.with_suffix(".sfs.json").exists() else GRID))
+            self.assertEqual(status, 0, err)
+            for rule in RULES:
+                self.assertIn(f" does not keep the rule {rule.line}\n", err)
+
+    def test_a_rule_of_a_layer_that_stays_behind_is_not_kept(self):
+        self.made()
+        status, _, err = give_back(self.store, self.target, *GRID, "--layer", "parcels")
+        self.assertEqual(status, 0)
+        self.assertEqual(err, "".join(f"GPKG does not keep the rule {rule.line}\n" for rule in RULES[1:]))
+        again = self.folder / "again.sfs"
+        self.assertEqual(bring_in(self.target, again)[0], 0)
+        self.assertEqual(self.rules(again), [APART])
+
+    def test_a_layer_that_is_left_in_the_map_takes_its_rules_with_it(self):
+        self.made()
+        give_back(self.store, self.target, *GRID)
+        again = self.folder / "again.sfs"
+        status, out, _ = bring_in(self.target, again, "--layer", "wells")
+        self.assertEqual(status, 1)
+        self.assertIn("back.gpkg: 0 features read, 0 taken\n  a rule is left out: apart never parcels T******** parcels: 18 NoLayer, ", out)
+        self.assertEqual(self.rules(again), [RULES[2]])
+
+    def test_a_map_without_rules_has_none_in_its_metadata(self):
+        self.made([])
+        self.assertEqual(give_back(self.store, self.target, *GRID)[0], 0)
+        self.assertNotIn(b'"rules"', self.target.read_bytes())
+
+    def test_more_rules_than_a_map_has(self):
+        rules = [Rule(f"r{number}", "never", "wells", "equals", "wells") for number in range(RULES_MAX + 2)]
+        self.made(rules)
+        status, _, err = give_back(self.store, self.target, *GRID)
+        self.assertEqual((status, err), (0, "".join(f"GPKG does not keep the rule {rule.line}\n" for rule in rules[-2:])))
+        again = self.folder / "again.sfs"
+        self.assertEqual(bring_in(self.target, again)[0], 0)
+        self.assertEqual(self.rules(again), rules[:-2])
+
+
+class DoNotHold(RuledCase):
+    """Maps that another program has changed since they were exported."""
+
+    def changed(self, features, rules, identifiers=None):
+        """A map of parcels and wells that says rules."""
+        source = Source(self.source)
+        for name in ("parcels", "wells"):
+            numbered = dict(zip(identifiers or range(1, 99), features[name]))
+            source.layer(name, {number: (in_map(wkt), {}) for number, wkt in numbered.items()})
+        source.data.SetMetadataItem(wayback.ITEM, json.dumps({"layers": [], "rules": [rule.line for rule in rules]}))
+        source.close()
+
+    BROKEN = {"parcels": [*PARCELS, OVERLAPPING], "wells": ["POINT (5 5)", "POINT (9 9)", "POINT (50 50)"]}
+
+    def test_what_breaks_a_rule_is_told(self):
+        self.changed(self.BROKEN, RULES, [10, 20, 30])
+        report, faulty = self.folder / "report", self.folder / "faulty.geojson"
+        status, out, err = bring_in(self.source, self.store, *GRID, "--report", report, "--faulty", faulty)
+        self.assertEqual((status, err), (1, ""))
+        parcels = f"  2 the rule is left out that this breaks, {APART.line}: 20 (with 30 of parcels), 30 (with 20 of parcels)\n"
+        wells = f"  2 the rule is left out that this breaks, {PLACED.line}: 20, 30\n  the rule {RULES[2].line} was added\n"
+        self.assertIn(f"parcels: 3 features read, 3 taken\n{parcels}", out)
+        self.assertIn(f"wells: 3 features read, 3 taken\n{wells}", out)
+        self.assertEqual(self.rules(), [RULES[2]])
+        with Store(PROGRAM, load=self.store) as store:
+            self.assertEqual([feature.id for feature in store.show("parcels")], [10, 20, 30])
+        self.assertIn(f"parcels\t20\tthe rule is left out that this breaks, {APART.line}\twith 30 of parcels\n", report.read_text())
+        shown = json.loads(faulty.read_text())["features"]
+        self.assertEqual([each["properties"]["identifier"] for each in shown], [20, 30, 20, 30])
+        self.assertEqual(shown[0]["geometry"]["coordinates"][0][0], [500000.09, 5600000])
+        self.assertEqual(shown[2]["geometry"]["coordinates"], [500000.09, 5600000.09])
+
+    def test_identifiers_are_those_of_the_source(self):
+        for identifiers, added in (([0, 1, 2], 1), ([2**33, 2**33 + 1, 2**33 + 2], None)):
+            self.changed(self.BROKEN, [APART], identifiers)
+            status, out, _ = bring_in(self.source, self.store, *GRID, "--overwrite")
+            self.assertEqual(status, 1)
+            first, second = identifiers[1:]
+            self.assertIn(f"{first} (with {second} of parcels), {second} (with {first} of parcels)\n", out)
+            with Store(PROGRAM, load=self.store) as store:
+                wanted = [1, 2, 3] if added is None else [number + added for number in identifiers]
+                self.assertEqual([feature.id for feature in store.show("parcels")], wanted)
+            self.source.unlink()
+
+    def test_of_many_features_some_are_named(self):
+        # Each of these lies upon all others.
+        self.changed({"parcels": [PARCELS[0]] * 90, "wells": []}, [APART])
+        most, ruling.BREAKS_MAX = ruling.BREAKS_MAX, 40
+        self.addCleanup(setattr, ruling, "BREAKS_MAX", most)
+        status, out, _ = bring_in(self.source, self.store, *GRID)
+        self.assertEqual(status, 1)
+        self.assertIn(f"  40 the rule is left out that this breaks, {APART.line}: 1 (with 2, 3, 4, 5, 6, 7, 8, 9 of parcels and 81 more), ", out)
+        self.assertIn(" and 32 more\n", out)
+        self.assertIn(f"  there may be more: {APART.line}: 40 features that break it are named, and the others were not searched", out)
+
+    def test_rules_that_no_store_takes(self):
+        rules = [APART, APART, Rule("lost", "each", "wells", "within", "houses"), PLACED]
+        self.changed({"parcels": PARCELS, "wells": ["POINT (5 5)"]}, rules)
+        status, out, _ = bring_in(self.source, self.store, *GRID)
+        self.assertEqual(status, 1)
+        self.assertIn(f"a rule is left out: {APART.line}: 40 RuleExists, a rule has this name already\n", out)
+        self.assertIn(f"a rule is left out: {rules[2].line}: 18 NoLayer, no layer has that name\n", out)
+        self.assertEqual(self.rules(), [APART, PLACED])
+
+    def test_nothing_that_is_no_rule_is_taken(self):
+        good = APART.line
+        wrong = [5, {}, "apart", None, [5], [None], [[good]], [""], ["apart"], [good + "\n"], [good + "\nundo"], [good + "\r"], [f" {good}"]]
+        wrong += [[good.replace("never", "always")], [good.replace("never", "each")], [PLACED.line.replace("some ", "")]]
+        wrong += [[good.replace("parcels", "par cels")]]
+        wrong += [[good.replace("T********", word)] for word in ("T*******", "X********", "near", "T" * 99_999)]
+        wrong += [[good.replace("apart", name)] for name in ("", "9", "a" * 33, "ä", "a\x00b", "@2", "\ud800")]
+        wrong += [[good] * (RULES_MAX + 1)]
+        for rules in wrong:
+            if self.source.exists():
+                self.source.unlink()
+            source = Source(self.source)
+            source.layer("parcels", {1: (in_map(PARCELS[0]), {})})
+            source.data.SetMetadataItem(wayback.ITEM, json.dumps({"layers": [], "rules": rules}))
+            source.close()
+            status, out, err = bring_in(self.source, self.store, *GRID, "--overwrite")
+            self.assertEqual((status, err), (1, ""), str(rules)[:200])
+            self.assertIn("left aside: metadata SFSTORE that no export leaves: ", out)
+            self.assertLess(len(out), 2_000)
+            self.assertEqual(self.rules(), [])
+
+
+class Files(TestCase):
+    """Files of version 3, as `storefile` reads them."""
+
+    RULES = [*RULES, *(Rule(f"p{at}", "never", "wells", ask, "parcels") for at, ask in enumerate(["crosses", "overlaps", "FF*FF0***"]))]
+
+    def setUp(self):
+        super().setUp()
+        self.path = self.folder / "file.sfs"
+        with Store(PROGRAM, save=self.path) as store:
+            store.add_layer("wells", "point")
+            store.add_layer("parcels", "polygon")
+            for rule in self.RULES:
+                store.add_rule(*rule)
+        self.data = self.path.read_bytes()
+
+    def test_rules_are_read(self):
+        layers, rules = storefile.read_with_rules(self.data)
+        self.assertEqual(([layer.name for layer in layers], rules), (["wells", "parcels"], self.RULES))
+        self.assertEqual(storefile.read(self.data), layers)
+        with Store(PROGRAM, load=self.path) as store:
+            self.assertEqual(store.rules(), rules)
+
+    def test_each_cut_has_a_field(self):
+        for cut in range(len(self.data)):
+            with self.assertRaises((ValueError, struct.error)):
+                storefile.read_with_rules(self.data[:cut])
+            self.assertTrue(storefile.field_at(self.data[:cut], cut))
+
+    def test_what_is_wrong_is_a_value_error(self):
+        name = self.data.index(b"\x05apart")
+        self.assertEqual(storefile.field_at(self.data, name), "name of a rule")
+        self.assertEqual(storefile.field_at(self.data, name + 6), "form of a rule")
+        self.assertEqual(storefile.field_at(self.data, name + 7), "layer of a rule")
+        self.assertEqual(storefile.field_at(self.data, name + 15), "what a rule asks")
+        for place, byte in ((name + 6, 3), (name + 15, 9)):
+            wrong = self.data[:place] + bytes([byte]) + self.data[place + 1 :]
+            with self.assertRaises(ValueError):
+                storefile.read_with_rules(wrong)
+
+
+class Looked(TestCase):
+    def test_a_converse_ask_lists_the_same_pairs(self):
+        shapes = ["POINT (1 1)", "LINESTRING (0 0, 3 3)", "LINESTRING (0 3, 3 0)", PARCELS[0], OVERLAPPING, "POLYGON ((2 2, 4 2, 4 4, 2 4, 2 2))"]
+        asks = ["equals", "disjoint", "intersects", "touches", "within", "contains", "crosses", "overlaps", "T*F**F***", "FF*FF0***", "*0*1*2***"]
+        with Store(PROGRAM) as store:
+            store.add_layer("a")
+            for shape in shapes:
+                store.add("a", shape)
+            for ask in asks:
+                pairs = {(second, first) for first, second in store.join("a", ask, "a")}
+                self.assertEqual(set(store.join("a", ruling.converse(ask), "a")), pairs, ask)
+
+    def test_what_is_found_is_what_keeps_the_rule_from_being_added(self):
+        with Store(PROGRAM) as store:
+            for name in ("parcels", "wells"):
+                store.add_layer(name)
+            for wkt in [*PARCELS, OVERLAPPING]:
+                store.add("parcels", wkt)
+            store.add("wells", "POINT (5 5)")
+            for rule in [APART, PLACED, Rule("a", "never", "wells", "within", "parcels"), Rule("b", "each", "parcels", "contains", "wells")]:
+                ids = [feature.id for feature in store.show(rule.layer)]
+                found = ruling.breaks_of(store, rule, ids)
+                try:
+                    store.add_rule(*rule)
+                except Refused as refused:
+                    self.assertEqual((refused.number, refused.ids[0]), (RULE_BROKEN, found.found[0].feature), rule)
+                else:
+                    self.assertEqual(found.found, [], rule)
+
+
+if __name__ == "__main__":
+    unittest.main()
