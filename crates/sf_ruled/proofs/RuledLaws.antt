@@ -40,8 +40,8 @@ all-layers content (rule ∷ rules) h =
     ((layers.0, layers.1), all-layers content rules both.1)
 
 -- rules of which it is computed that they hold, do so over the plane
-pub settled-kept : (ruled : Ruled) → IsWellFormed ruled.content → IsSettled ruled → IsKept ruled
-settled-kept ruled fine s = (rules_are_over_the_plane ruled.content ruled.rules fine (all-layers ruled.content ruled.rules s.layers)).0 s.held
+pub is_settled-kept : (ruled : Ruled) → IsWellFormed ruled.content → IsSettled ruled → IsKept ruled
+is_settled-kept ruled fine s = (rules_are_over_the_plane ruled.content ruled.rules fine (all-layers ruled.content ruled.rules s.layers)).0 s.held
 
 -- ---- accepted steps
 
