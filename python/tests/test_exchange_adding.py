@@ -194,6 +194,16 @@ class RefusedByRules(AddingCase):
         self.assertIn("nothing was added. Refused 37 RuleBroken", err)
         self.assertIn(": 6 (with 9 of Flurstucke in the store)\n", out)
 
+    def test_a_step_that_does_not_keep_a_rule_by_itself(self):
+        self.ruled(PLACED)
+        self.brought(wells=[(1, "POINT (105 5)")], Flurstücke=[(2, FAR)])
+        with mock.patch.object(adding, "GROUP_MAX", 1):
+            _, err = self.refused()
+            self.assertIn("a rule would be broken: placed, by a step of the map that is not all of it, or by features ", err)
+            # The layers in another order.
+            self.assertEqual(self.add("--layer", "Flurstücke", "--layer", "wells")[0], 0)
+        self.assertEqual(self.opened()[0], 2)
+
     def test_rules_that_came_with_the_map_are_left_aside(self):
         self.brought(wells=[(1, "POINT (2 2)")])
         source = ogr.Open(str(self.more), 1)

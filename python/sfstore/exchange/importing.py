@@ -284,9 +284,12 @@ def _numbered(content: FileLayer, identifiers: dict[str, list[int]]) -> dict[int
 
 def _fault(refused: Refused, broken: list[Broken]) -> str:
     """Why nothing was added, in words."""
-    lines = dict.fromkeys(each.rule.line for each in broken)
-    why = f": {'; '.join(lines)}" if lines else ""
-    return f"nothing was added. Refused {refused.number} {refused.name}, {words_of(refused.number).reason}{why}"
+    why = "; ".join(dict.fromkeys(each.rule.line for each in broken))
+    if refused.rule and not broken:
+        # As a whole the map keeps it, or memory ran out for the search.
+        why = f"{refused.rule}, by a step of the map that is not all of it, or by features that could not be listed"
+    reason = words_of(refused.number).reason
+    return f"nothing was added. Refused {refused.number} {refused.name}, {reason}{f': {why}' if why else ''}"
 
 
 def _steps(target: str, steps: int) -> str:
