@@ -143,14 +143,14 @@ class DoNotHold(RuledCase):
         report, faulty = self.folder / "report", self.folder / "faulty.geojson"
         status, out, err = bring_in(self.source, self.store, *GRID, "--report", report, "--faulty", faulty)
         self.assertEqual((status, err), (1, ""))
-        parcels = f"  2 the rule is left out that this breaks, {APART.line}: 20 (with 30 of parcels), 30 (with 20 of parcels)\n"
-        wells = f"  2 the rule is left out that this breaks, {PLACED.line}: 20, 30\n  the rule {RULES[2].line} was added\n"
+        parcels = f"  2 breaks the rule {APART.line}, which is left out: 20 (with 30 of parcels), 30 (with 20 of parcels)\n"
+        wells = f"  2 breaks the rule {PLACED.line}, which is left out: 20, 30\n  the rule {RULES[2].line} was added\n"
         self.assertIn(f"parcels: 3 features read, 3 taken\n{parcels}", out)
         self.assertIn(f"wells: 3 features read, 3 taken\n{wells}", out)
         self.assertEqual(self.rules(), [RULES[2]])
         with Store(PROGRAM, load=self.store) as store:
             self.assertEqual([feature.id for feature in store.show("parcels")], [10, 20, 30])
-        self.assertIn(f"parcels\t20\tthe rule is left out that this breaks, {APART.line}\twith 30 of parcels\n", report.read_text())
+        self.assertIn(f"parcels\t20\tbreaks the rule {APART.line}, which is left out\twith 30 of parcels\n", report.read_text())
         shown = json.loads(faulty.read_text())["features"]
         self.assertEqual([each["properties"]["identifier"] for each in shown], [20, 30, 20, 30])
         self.assertEqual(shown[0]["geometry"]["coordinates"][0][0], [500000.09, 5600000])
@@ -175,7 +175,7 @@ class DoNotHold(RuledCase):
         self.addCleanup(setattr, ruling, "BREAKS_MAX", most)
         status, out, _ = bring_in(self.source, self.store, *GRID)
         self.assertEqual(status, 1)
-        self.assertIn(f"  40 the rule is left out that this breaks, {APART.line}: 1 (with 2, 3, 4, 5, 6, 7, 8, 9 of parcels and 81 more), ", out)
+        self.assertIn(f"  40 breaks the rule {APART.line}, which is left out: 1 (with 2, 3, 4, 5, 6, 7, 8, 9 of parcels and 81 more), ", out)
         self.assertIn(" and 32 more\n", out)
         self.assertIn(f"  there may be more: {APART.line}: 40 features that break it are named, and the others were not searched", out)
 
@@ -185,7 +185,7 @@ class DoNotHold(RuledCase):
         rules.write_text(f"{APART.line}\r\n\n  \nrule add {PLACED.line}")
         status, out, _ = bring_in(self.source, self.store, *GRID, "--rules", rules)
         self.assertEqual((status, self.rules()), (1, [RULES[2], APART]))
-        self.assertIn(f"  1 the rule is left out that this breaks, {PLACED.line}: 2\n", out)
+        self.assertIn(f"  1 breaks the rule {PLACED.line}, which is left out: 2\n", out)
 
     def test_a_file_that_has_no_rules(self):
         self.changed({"parcels": PARCELS, "wells": []}, [])
