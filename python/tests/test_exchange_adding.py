@@ -8,7 +8,7 @@ from unittest import mock
 
 from support import PROGRAM
 
-from test_exchange import GRID, HAS_GDAL, ExchangeCase, Source, bring_in  # isort: skip
+from test_exchange import GRID, HAS_GDAL, ExchangeCase, Source, bring_in, give_back  # isort: skip
 from test_exchange_rules import APART, OVERLAPPING, PARCELS, PLACED, in_map  # isort: skip
 from sfstore import Rule, Store
 from sfstore.exchange import adding, ruling
@@ -78,6 +78,16 @@ class Added(AddingCase):
         with Store(self.store, journal=True, program=PROGRAM) as store:
             store.undo()
         self.assertEqual(self.opened(), (0, before))
+
+    def test_it_is_exported_once_it_is_saved(self):
+        self.brought(wells=[(1, "POINT (2 2)")])
+        self.assertEqual(self.add()[0], 0)
+        self.assertIn("1 edits in its journal that are not saved", give_back(self.store, self.target)[2])
+        Store(self.store, journal=True, program=PROGRAM).close()
+        self.assertEqual(give_back(self.store, self.target), (0, "", ""))
+        again = self.folder / "again.sfs"
+        self.assertEqual(bring_in(self.target, again)[0], 0)
+        self.assertEqual(again.read_bytes(), self.store.read_bytes())
 
     def test_edits_that_were_not_saved_stay_below(self):
         with Store(self.store, journal=True, program=PROGRAM) as store:
@@ -194,6 +204,16 @@ class RefusedByRules(AddingCase):
         self.assertIn("nothing was added. Refused 37 RuleBroken", err)
         self.assertIn(": 6 (with 9 of Flurstucke in the store)\n", out)
 
+    def test_a_step_that_does_not_keep_a_rule_by_itself(self):
+        self.ruled(PLACED)
+        self.brought(wells=[(1, "POINT (105 5)")], Flurstücke=[(2, FAR)])
+        with mock.patch.object(adding, "GROUP_MAX", 1):
+            _, err = self.refused()
+            self.assertIn("a rule would be broken: placed, by a step of the map that is not all of it, or by features ", err)
+            # The layers in another order.
+            self.assertEqual(self.add("--layer", "Flurstücke", "--layer", "wells")[0], 0)
+        self.assertEqual(self.opened()[0], 2)
+
     def test_rules_that_came_with_the_map_are_left_aside(self):
         self.brought(wells=[(1, "POINT (2 2)")])
         source = ogr.Open(str(self.more), 1)
@@ -248,6 +268,23 @@ class NotAdded(AddingCase):
         self.assertEqual(status, 3)
         self.assertIn("it was interrupted. Steps of it, of 1, may be in the journal: `undo` takes each back", err)
         self.assertEqual(self.opened()[0], 0)
+
+    def test_an_interrupt_between_two_steps_leaves_the_first_one(self):
+        self.brought(wells=[(1, "POINT (2 2)"), (2, "POINT (3 3)")])
+        carried_out, sent = adding._carried_out, []
+
+        def interrupted(store, pieces):
+            if sent:
+                raise KeyboardInterrupt
+            sent.append(pieces)
+            return carried_out(store, pieces)
+
+        with mock.patch.object(adding, "GROUP_MAX", 1), mock.patch.object(adding, "_carried_out", interrupted):
+            status, _, err = self.add()
+        self.assertEqual(status, 3)
+        self.assertIn("it was interrupted. Steps of it, of 2, may be in the journal", err)
+        edits, rows = self.opened()
+        self.assertEqual((edits, rows["wells"]), (1, ["1 POINT (5 5)", "2 POINT (2 2)"]))
 
     def test_an_interrupt_while_it_is_read(self):
         self.brought(wells=[(1, "POINT (2 2)")])

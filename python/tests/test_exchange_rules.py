@@ -69,6 +69,28 @@ class OutAndIn(RuledCase):
             for rule in RULES:
                 self.assertIn(f" does not keep the rule {rule.line}\n", err)
 
+    def test_a_file_of_rules_goes_with_each_other_format(self):
+        self.made()
+        rules, again = self.folder / "rules.txt", self.folder / "again.sfs"
+        status, _, err = give_back(self.store, self.folder / "map", "--format", "GeoJSON", *GRID, "--crs", "EPSG:25832", "--rules", rules)
+        self.assertEqual((status, "rule" in err), (0, False), err)
+        self.assertEqual(rules.read_text(), "".join(f"rule add {rule.line}\n" for rule in RULES))
+        status, out, err = bring_in(self.folder / "map", again, *GRID, "--layer", "wells", "--layer", "parcels", "--rules", rules)
+        self.assertEqual((status, err), (0, ""), out)
+        self.assertEqual(self.rules(again), RULES)
+
+    def test_a_file_of_rules_replaces_nothing_unasked(self):
+        self.made()
+        rules = self.folder / "rules.txt"
+        rules.write_text("mine")
+        status, _, err = give_back(self.store, self.target, *GRID, "--rules", rules)
+        self.assertEqual((status, self.target.exists(), rules.read_text()), (3, False, "mine"))
+        self.assertIn("is there already", err)
+        self.assertEqual(give_back(self.store, self.target, *GRID, "--rules", rules, "--overwrite")[0], 0)
+        self.assertEqual(len(rules.read_text().splitlines()), 3)
+        for same in (self.store, f"{self.store}.json", self.target):
+            self.assertEqual(give_back(self.store, self.target, "--rules", same, "--overwrite")[0], 2)
+
     def test_a_rule_of_a_layer_that_stays_behind_is_not_kept(self):
         self.made()
         status, _, err = give_back(self.store, self.target, *GRID, "--layer", "parcels")
@@ -121,14 +143,14 @@ class DoNotHold(RuledCase):
         report, faulty = self.folder / "report", self.folder / "faulty.geojson"
         status, out, err = bring_in(self.source, self.store, *GRID, "--report", report, "--faulty", faulty)
         self.assertEqual((status, err), (1, ""))
-        parcels = f"  2 the rule is left out that this breaks, {APART.line}: 20 (with 30 of parcels), 30 (with 20 of parcels)\n"
-        wells = f"  2 the rule is left out that this breaks, {PLACED.line}: 20, 30\n  the rule {RULES[2].line} was added\n"
+        parcels = f"  2 breaks the rule {APART.line}, which is left out: 20 (with 30 of parcels), 30 (with 20 of parcels)\n"
+        wells = f"  2 breaks the rule {PLACED.line}, which is left out: 20, 30\n  the rule {RULES[2].line} was added\n"
         self.assertIn(f"parcels: 3 features read, 3 taken\n{parcels}", out)
         self.assertIn(f"wells: 3 features read, 3 taken\n{wells}", out)
         self.assertEqual(self.rules(), [RULES[2]])
         with Store(PROGRAM, load=self.store) as store:
             self.assertEqual([feature.id for feature in store.show("parcels")], [10, 20, 30])
-        self.assertIn(f"parcels\t20\tthe rule is left out that this breaks, {APART.line}\twith 30 of parcels\n", report.read_text())
+        self.assertIn(f"parcels\t20\tbreaks the rule {APART.line}, which is left out\twith 30 of parcels\n", report.read_text())
         shown = json.loads(faulty.read_text())["features"]
         self.assertEqual([each["properties"]["identifier"] for each in shown], [20, 30, 20, 30])
         self.assertEqual(shown[0]["geometry"]["coordinates"][0][0], [500000.09, 5600000])
@@ -153,9 +175,35 @@ class DoNotHold(RuledCase):
         self.addCleanup(setattr, ruling, "BREAKS_MAX", most)
         status, out, _ = bring_in(self.source, self.store, *GRID)
         self.assertEqual(status, 1)
-        self.assertIn(f"  40 the rule is left out that this breaks, {APART.line}: 1 (with 2, 3, 4, 5, 6, 7, 8, 9 of parcels and 81 more), ", out)
+        self.assertIn(f"  40 breaks the rule {APART.line}, which is left out: 1 (with 2, 3, 4, 5, 6, 7, 8, 9 of parcels and 81 more), ", out)
         self.assertIn(" and 32 more\n", out)
         self.assertIn(f"  there may be more: {APART.line}: 40 features that break it are named, and the others were not searched", out)
+
+    def test_rules_that_are_written_by_hand(self):
+        self.changed({"parcels": PARCELS, "wells": ["POINT (5 5)", "POINT (50 50)"]}, [RULES[2]])
+        rules = self.folder / "rules.txt"
+        rules.write_text(f"{APART.line}\r\n\n  \nrule add {PLACED.line}")
+        status, out, _ = bring_in(self.source, self.store, *GRID, "--rules", rules)
+        self.assertEqual((status, self.rules()), (1, [RULES[2], APART]))
+        self.assertIn(f"  1 breaks the rule {PLACED.line}, which is left out: 2\n", out)
+
+    def test_a_file_that_has_no_rules(self):
+        self.changed({"parcels": PARCELS, "wells": []}, [])
+        path = self.folder / "rules.txt"
+        good = f"{APART.line}\n".encode()
+        wrong = [b"x", b"\0", b"\xff" * 9, good + b"undo", good.replace(b"never", b"always"), b"rule add rule add " + good, b" " + good]
+        for data in wrong:
+            path.write_bytes(data)
+            status, _, err = bring_in(self.source, self.store, *GRID, "--rules", path)
+            self.assertEqual((status, self.store.exists()), (3, False), data)
+            self.assertRegex(err, "rules.txt, line [12]: ")
+        for data in (good * (RULES_MAX + 1), b"x" * 2**20):
+            path.write_bytes(data)
+            self.assertIn("has more than 1000 rules", bring_in(self.source, self.store, *GRID, "--rules", path)[2])
+        for words in (["--rules", self.folder], ["--rules", self.folder / "none"]):
+            self.assertEqual(bring_in(self.source, self.store, *GRID, *words)[0], 3)
+        for words in (["--rules", self.source], ["--rules", self.store], ["--rules", path, "--add"]):
+            self.assertEqual(bring_in(self.source, self.store, *words)[0], 2)
 
     def test_rules_that_no_store_takes(self):
         rules = [APART, APART, Rule("lost", "each", "wells", "within", "houses"), PLACED]

@@ -15,7 +15,7 @@ from collections.abc import Callable
 from dataclasses import dataclass
 
 from sfstore import files, journal, sidecar
-from sfstore.exchange import ogr, outcome
+from sfstore.exchange import ogr, outcome, rulesfile
 from sfstore.exchange.formats import FORMATS, Part, format_of, parts_of, rules_kept
 from sfstore.exchange.grid import Grid
 from sfstore.exchange.placing import Place, check_free, placed
@@ -48,6 +48,8 @@ class Wishes:
     """The grid of a store without a side-car, which gets one."""
     crs: str | None = None
     """The name of its reference system."""
+    rules: str | None = None
+    """The file that all rules are written to."""
 
 
 def give_back(wishes: Wishes, say: Say) -> None:
@@ -61,6 +63,8 @@ def give_back(wishes: Wishes, say: Say) -> None:
         raise ogr.ExchangeError(
             f"{wishes.store} has {edits} edits in its journal that are not saved: save them first"
         )
+    if wishes.rules is not None:
+        rulesfile.check(wishes.rules, wishes.overwrite)
     layers, rules, found = _loaded(wishes)
     wanted = FORMATS[wishes.format]
     for name in wishes.layers:
@@ -70,12 +74,24 @@ def give_back(wishes: Wishes, say: Say) -> None:
     for line in told:
         say(line)
     kept = rules_kept(rules, parts, wanted)
-    losses += wanted.losses(parts) + [f"the rule {rule.line}" for rule in rules if rule not in kept]
+    losses += wanted.losses(parts)
+    if wishes.rules is None:
+        losses += [f"the rule {rule.line}" for rule in rules if rule not in kept]
     for loss in losses:
         say(f"{wishes.format} does not keep {loss}")
     _write(wishes, parts, found, kept, say)
     if wishes.grid is not None:
         _keep_grid(wishes, found)
+    if wishes.rules is not None:
+        _write_rules(wishes, wishes.rules, rules, say)
+
+
+def _write_rules(wishes: Wishes, path: str, rules: list[Rule], say: Say) -> None:
+    """Writes all rules to a file beside the map."""
+    try:
+        rulesfile.write(path, rules, wishes.overwrite, _mode(wishes), say)
+    except (ogr.ExchangeError, OSError) as error:
+        raise ogr.ExchangeError(f"the map is written, but not its rules: {error}") from None
 
 
 def _keep_grid(wishes: Wishes, found: Sidecar) -> None:
@@ -218,6 +234,7 @@ def _parser() -> argparse.ArgumentParser:
         "--grid", nargs=3, metavar=("OX", "OY", "STEP"), help="the grid of a store that was not imported"
     )
     parser.add_argument("--crs", help="its reference system, such as EPSG:25832")
+    parser.add_argument("--rules", metavar="RULES", help="write the rules to this file, for --rules of sfstore-import")
     parser.add_argument("--overwrite", action="store_true", help="replace files of the names that are written")
     parser.add_argument("--program", default="sfstore", help="the program sfstore")
     return parser
@@ -235,6 +252,8 @@ def main(words: list[str] | None = None) -> int:
     store = os.path.realpath(asked.file)
     if os.path.realpath(asked.target) in (store, sidecar.path_of(store)):
         parser.error("the target is the store's own file")
+    if asked.rules and os.path.realpath(asked.rules) in (store, sidecar.path_of(store), os.path.realpath(asked.target)):
+        parser.error("store, map and rules are different files")
     try:
         grid = Grid(*asked.grid) if asked.grid else None
     except ValueError as error:
@@ -248,6 +267,7 @@ def main(words: list[str] | None = None) -> int:
         asked.program,
         grid,
         asked.crs,
+        asked.rules,
     )
 
     def work() -> int:

@@ -14,7 +14,7 @@ from functools import partial
 from typing import Any, NamedTuple
 
 from sfstore import sidecar
-from sfstore.exchange import ogr, outcome, wayback
+from sfstore.exchange import ogr, outcome, rulesfile, wayback
 from sfstore.exchange.adding import Broken, add
 from sfstore.exchange.grid import Grid
 from sfstore.exchange.publishing import check_target, publish
@@ -54,6 +54,8 @@ class Wishes:
     program: str = "sfstore"
     any_format: bool = False
     """Whether the source may be of any format that OGR opens."""
+    rules: str | None = None
+    """A file of rules that a new store is to have."""
 
 
 class Result(NamedTuple):
@@ -121,6 +123,7 @@ def bring_in(wishes: Wishes) -> Result:
     `ogr.ExchangeError`, `journal.JournalError` or `OSError` where nothing was written.
     """
     check_target(wishes.target, wishes.overwrite)
+    rules = [] if wishes.rules is None else rulesfile.read(wishes.rules)
     report = Report()
     sources = _opened(wishes, report)
     left = _way_back(sources[0], report)
@@ -130,7 +133,7 @@ def bring_in(wishes: Wishes) -> Result:
     crs, layers = _of_one_crs(_chosen_layers(sources, wishes.layers, left), report)
     contents, readings = _read_layers(wishes, layers, grid, left, report)
     found = Sidecar(grid.words, crs, [reading.origin() for reading in readings])
-    rulings = publish(wishes.target, contents, found, wishes.program, wishes.overwrite, left.rules)
+    rulings = publish(wishes.target, contents, found, wishes.program, wishes.overwrite, left.rules + rules)
     brought = {
         content.name: Brought(reading.source_name, partial(_features, content, reading))
         for content, reading in zip(contents, readings)
@@ -284,9 +287,12 @@ def _numbered(content: FileLayer, identifiers: dict[str, list[int]]) -> dict[int
 
 def _fault(refused: Refused, broken: list[Broken]) -> str:
     """Why nothing was added, in words."""
-    lines = dict.fromkeys(each.rule.line for each in broken)
-    why = f": {'; '.join(lines)}" if lines else ""
-    return f"nothing was added. Refused {refused.number} {refused.name}, {words_of(refused.number).reason}{why}"
+    why = "; ".join(dict.fromkeys(each.rule.line for each in broken))
+    if refused.rule and not broken:
+        # As a whole the map keeps it, or memory ran out for the search.
+        why = f"{refused.rule}, by a step of the map that is not all of it, or by features that could not be listed"
+    reason = words_of(refused.number).reason
+    return f"nothing was added. Refused {refused.number} {refused.name}, {reason}{f': {why}' if why else ''}"
 
 
 def _steps(target: str, steps: int) -> str:
@@ -350,6 +356,7 @@ def parser() -> argparse.ArgumentParser:
     )
     wanted.add_argument("--any-format", action="store_true", help="read whatever OGR opens")
     wanted.add_argument("--add", action="store_true", help="add to the store of FILE, as one step of its history")
+    wanted.add_argument("--rules", metavar="RULES", help="add the rules of this file to the new store")
     wanted.add_argument("--report", metavar="FILE", help="write all that did not fit as text")
     wanted.add_argument("--faulty", metavar="FILE", help="write what did not fit, .geojson or .gpkg")
     wanted.add_argument("--overwrite", action="store_true", help="replace files, reports too")
@@ -373,9 +380,9 @@ def _check_files(wanted: argparse.ArgumentParser, asked: argparse.Namespace) -> 
         wanted.error(f"{asked.faulty}: faulty features go to a {' or a '.join(FEATURE_FORMATS)}")
     store = os.path.realpath(asked.file)
     named = [os.path.realpath(asked.source), store, sidecar.path_of(store)]
-    named += [os.path.realpath(path) for path in (asked.report, asked.faulty) if path]
+    named += [os.path.realpath(path) for path in (asked.report, asked.faulty, asked.rules) if path]
     if len(set(named)) < len(named):
-        wanted.error("source, store, report and faulty features are different files")
+        wanted.error("source, store, rules, report and faulty features are different files")
 
 
 def main(words: list[str] | None = None) -> int:
@@ -387,6 +394,8 @@ def main(words: list[str] | None = None) -> int:
         return outcome.ended("sfstore-import", lambda: _suggest(asked))
     if asked.file is None:
         wanted.error("the store's file is missing")
+    if asked.rules and asked.add:
+        wanted.error("--rules goes with a new store, and not with --add")
     _check_files(wanted, asked)
     return outcome.ended("sfstore-import", lambda: _bring_in(asked, grid))
 
@@ -415,6 +424,7 @@ def _bring_in(asked: argparse.Namespace, grid: Grid | None) -> int:
         asked.overwrite,
         asked.program,
         asked.any_format,
+        asked.rules,
     )
     report, crs, said, fault = add_in(wishes) if asked.add else bring_in(wishes)
     try:

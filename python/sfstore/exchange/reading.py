@@ -4,7 +4,7 @@ from __future__ import annotations
 
 import re
 import unicodedata
-from collections.abc import Iterable, Iterator
+from collections.abc import Callable, Iterator
 from typing import Any, NamedTuple
 
 from sfstore.exchange import ogr
@@ -106,8 +106,7 @@ class LayerImport:
         self._identifiers: list[int] = []
         self._features: list[FileFeature] = []
         self._kinds: set[int] = set()
-        # The source's identifiers by the store's, where they are not the same.
-        self._renumbered: dict[int, int] = {}
+        self._source_of: Callable[[int], int] = lambda identifier: identifier
 
     def read(self) -> FileLayer:
         """The layer as the store is to have it. `ogr.ExchangeError` where the source breaks off."""
@@ -118,6 +117,9 @@ class LayerImport:
                 self._judge(scratch, batch)
         self._number_features()
         self._tell()
+        # It is held until all layers are written: what was needed to read it is not.
+        self._identifiers.clear()
+        self._odd.clear()
         columns = [
             FileColumn(number, column.type, column.name)
             for number, column in enumerate(self._columns, 1)
@@ -134,7 +136,7 @@ class LayerImport:
 
     def source_identifier(self, identifier: int) -> int:
         """The identifier in the source of a feature that was taken, by the one in the store."""
-        return self._renumbered.get(identifier, identifier)
+        return self._source_of(identifier)
 
     def origin(self) -> LayerOrigin:
         """What the side-car keeps of the layer."""
@@ -307,17 +309,16 @@ class LayerImport:
         least, most = min(identifiers, default=1), max(identifiers, default=1)
         if len(set(identifiers)) < len(identifiers) or least < 0 or most > _LAST_ID:
             self._note("the features are numbered anew from 1, in the source's order")
-            self._renumber(range(1, len(self._features) + 1))
+            sources = [feature.id for feature in self._features]
+            self._source_of = lambda identifier: sources[identifier - 1]
+            self._features = [
+                feature._replace(id=number) for number, feature in enumerate(self._features, 1)
+            ]
         elif least == 0 and most < _LAST_ID:
             self._note("identifiers begin with 0 in the source: each is greater by 1")
-            self._renumber(feature.id + 1 for feature in self._features)
+            self._source_of = lambda identifier: identifier - 1
+            self._features = [feature._replace(id=feature.id + 1) for feature in self._features]
         self._features.sort(key=lambda feature: feature.id)
-
-    def _renumber(self, numbers: Iterable[int]) -> None:
-        """Gives each feature that was taken another identifier."""
-        renumbered = [feature._replace(id=number) for number, feature in zip(numbers, self._features)]
-        self._renumbered = {new.id: old.id for new, old in zip(renumbered, self._features)}
-        self._features = renumbered
 
     def _kind(self) -> int:
         """The declared kind where all features have it, else that any is taken."""

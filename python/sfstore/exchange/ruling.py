@@ -2,14 +2,16 @@
 
 from __future__ import annotations
 
+import re
 from collections.abc import Iterable
 from typing import NamedTuple
 
 from sfstore.editor import Editor
-from sfstore.language import PREDICATES
+from sfstore.language import NAME, PATTERN, PREDICATES
 from sfstore.results import RULE_BROKEN, Refused, Rule
+from sfstore.rows import rule_of
 
-__all__ = ["BREAKS_MAX", "Break", "Breaks", "Ruling", "breaks_of", "converse", "ruled"]
+__all__ = ["BREAKS_MAX", "Break", "Breaks", "Ruling", "breaks_of", "converse", "rule_said", "ruled"]
 
 BREAKS_MAX = 1_000
 """How many features that break a rule are named at most."""
@@ -18,6 +20,10 @@ BREAKS_MAX = 1_000
 _READ_MAX = 5_000_000
 # How many others are named of a feature.
 _OTHERS = 8
+_ASK = f"(?:{PATTERN.pattern}|{'|'.join(PREDICATES)})"
+_RULE = re.compile("{0} (?:never {0} {1} {0}|each {0} {1} some {0})".format(NAME.pattern, _ASK))
+# How much of a text that says no rule is shown.
+_SHOWN = 200
 
 
 class Break(NamedTuple):
@@ -74,6 +80,13 @@ def breaks_of(store: Editor, rule: Rule, features: Iterable[int]) -> Breaks:
         if bool(others) == (rule.form == "never"):
             found.append(Break(feature, others[:_OTHERS], len(others)))
     return Breaks(found, True)
+
+
+def rule_said(line: str) -> Rule:
+    """The rule that a stranger's line says, as it stands behind `rule add`. `ValueError` where it says none."""
+    if not _RULE.fullmatch(line):
+        raise ValueError(f"{line[:_SHOWN]!r} is no rule")
+    return rule_of(line)
 
 
 def converse(ask: str) -> str:

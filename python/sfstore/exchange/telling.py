@@ -48,7 +48,7 @@ class Telling:
             if refused is None:
                 self._report.note(self._name(rule.layer), f"the rule {rule.line} was added")
             elif refused.number == RULE_BROKEN:
-                self.tell_broken(rule, rule.layer, breaks, f"the rule is left out that this breaks, {rule.line}")
+                self.tell_broken(rule, rule.layer, breaks, f"breaks the rule {rule.line}, which is left out")
             else:
                 self._tell_refused(rule, refused)
 

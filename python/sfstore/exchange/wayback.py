@@ -6,16 +6,15 @@ It is metadata of a file that anyone may have written, so nothing of it is taken
 from __future__ import annotations
 
 import json
-import re
 from collections.abc import Iterable, Sequence
 from dataclasses import dataclass, field
 from typing import Any
 
 from sfstore.exchange.formats import RULES_MAX, Part
 from sfstore.exchange.grid import Grid
-from sfstore.language import NAME, PATTERN, PREDICATES
+from sfstore.exchange.ruling import rule_said
+from sfstore.language import NAME
 from sfstore.results import Rule
-from sfstore.rows import rule_of
 from sfstore.sidecar import LayerOrigin
 from sfstore.storefile import FileLayer
 
@@ -24,8 +23,6 @@ __all__ = ["ITEM", "LeftLayer", "WayBack", "left", "left_of", "read", "take_coun
 ITEM = "SFSTORE"
 """The name of the item of metadata."""
 
-_ASK = f"(?:{PATTERN.pattern}|{'|'.join(PREDICATES)})"
-_RULE = re.compile("{0} (?:never {0} {1} {0}|each {0} {1} some {0})".format(NAME.pattern, _ASK))
 _IDENTIFIERS = range(1, 2**32)
 _COLUMNS = range(1, 2**16)
 
@@ -129,13 +126,7 @@ def _rules(lines: Any) -> list[Rule]:
         raise ValueError("the rules are no list")
     if len(lines) > RULES_MAX:
         raise ValueError(f"{len(lines)} rules, where at most {RULES_MAX} are left")
-    return [_rule(_text(line)) for line in lines]
-
-
-def _rule(line: str) -> Rule:
-    if not _RULE.fullmatch(line):
-        raise ValueError(f"{line[:_LONGEST_WORD]!r} is no rule")
-    return rule_of(line)
+    return [rule_said(_text(line)) for line in lines]
 
 
 def _text(word: Any) -> str:
