@@ -14,7 +14,14 @@ const WELLS: &[u8] =
 fn new_store_is_saved(rt: HostRuntime) {
     let alloc = rt.alloc();
     let mut bytes: Vec<u8> = Vec::new(alloc);
-    assert!(rt; save(alloc, &Ruled::from_store(alloc, Store::new(alloc)), &mut bytes).is_ok());
+    assert!(rt;
+        save(
+            alloc,
+            &Ruled::from_store(alloc, Store::new(alloc)),
+            &mut bytes
+        )
+        .is_ok()
+    );
     assert!(rt; bytes.as_slice() == b"SFSTORE2\x18\0\0\0\0".as_slice());
 }
 
