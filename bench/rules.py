@@ -69,7 +69,7 @@ def one_run(program: str, words: Sequence[str], lines: Sequence[str]) -> float:
         answers = sink.read().splitlines()
         if child.returncode != 0 or (answers and not answers[-1].startswith(b"ok")):
             raise RuntimeError(f"status {child.returncode}, last answer {answers[-1:]}")
-        return usage.ru_utime + usage.ru_stime
+        return float(usage.ru_utime + usage.ru_stime)
 
 
 def main() -> None:
