@@ -32,6 +32,7 @@ RUNS = 2
 # A processor's seconds for one run, where a claim does not hold.
 SECONDS = 300
 Places = Sequence[tuple[int, int]]
+APART = [(1_000 * x, 1_000 * y) for x in range(40) for y in range(40)]
 
 
 @dataclass(frozen=True)
@@ -236,6 +237,11 @@ RINGS = 200
 RING_EDGES = 512
 
 
+def rings_apart() -> list[str]:
+    """Lines that add rings of 24 edges round places that are far from one another."""
+    return ["layer add a polygon", *(f"add a {ring(24, x, y, (90, 80))}" for x, y in APART)]
+
+
 def rings() -> list[str]:
     """Rings beside one another, each of which crosses the border of a window."""
     return ["layer add a polygon", *(f"add a {ring(RING_EDGES, k * 1000, 0, (400, 400))}" for k in range(RINGS))]
@@ -378,6 +384,16 @@ class Speeds(unittest.TestCase):
         known = [f"add a {text('POLYGON', closed(list(each)))}" for each in slanted]
         asked = [f"rule add {name} never a T******** a" for name in ("r", "s", "t")]
         self.check(Claim(["layer add a polygon", *known], asked, 5, b"ok", 2.5))
+
+    def test_geometries_written_alike_are_known_without_a_walk(self) -> None:
+        """Refuses walks of rings with themselves, which a rule of a layer with itself asks for."""
+        asked = [f"rule add {name} never a T******** a" for name in ("r", "s", "t")]
+        self.check(Claim(rings_apart(), asked, 1, b"ok", 2.5))
+
+    def test_a_given_point_is_placed_without_a_walk(self) -> None:
+        """Refuses walks of rings with a point that is given: its place in each tells."""
+        asked = [f"query a contains POINT ({x} {y})" for x, y in APART] * 3
+        self.check(Claim(rings_apart(), [*asked, "layers"], 1, b"a polygon", 2.5))
 
     def test_a_large_geometry_is_prepared(self) -> None:
         """Refuses walks over all edges of a town for each square on its border, where those nearby tell."""

@@ -22,6 +22,7 @@ pub const SIDED_POINTS: usize = 64;
 pub fn known_by_sides(a: &Valid, b: &Valid) -> Option<Known>
     ensures holds { IfSome result (λ known. Holds known (matrix_of a.now b.now)) }
     ensures beside { IsTrue (is_some result) ↔ AreBeside a.now b.now }
+    ensures all { IfSome result (λ known. known ≡ known_divided) }
 {
     if is_small_area(a) && is_small_area(b) && are_divided(a.geometry(), b.geometry()) {
         Some(known_divided())

@@ -1,11 +1,12 @@
 -- What evidence shows is so of the matrix.
-use Rattle.std.proofs.Common.{◌≡◌, ◌∙◌, ap, not, Bool, false, List, Option, None, Some, IfSome, IsTrue, refl, sym, subst, option_map, true}
+use Rattle.std.proofs.Common.{◌≡◌, ◌∙◌, ap, not, Bool, false, List, [], ◌∷◌, Option, None, Some, IfSome, IsTrue, refl, sym, subst, option_map, true}
 use Rattle.std.specs.Bool.{then_some}
 use Rattle.std.proofs.lemmas.Bool.{both_ways}
 use Rattle.sf_grid.specs.Plane.{Coordinates, grid_point}
 use Rattle.sf_geometry.specs.declared.geometry.Geometry.{Geometry}
 use Rattle.sf_geometry.specs.declared.geometry.Geometry.TheVariants.{Point}
 use Rattle.sf_plane.specs.declared.dim.Dim.{Dim}
+use Rattle.sf_plane.specs.declared.dim.Dim.TheVariants.{Nothing, Two, Zero}
 use Rattle.sf_rules.specs.Validity.{IsValid}
 use Rattle.sf_known.specs.declared.known.Known.{Known}
 use Rattle.sf_known.specs.declared.matrix.Matrix.{Matrix}
@@ -13,6 +14,7 @@ use Rattle.sf_known.proofs.OrderLaws.{same-at-most}
 use Rattle.sf_known.specs.Known.{AreAtMost, Holds, exactly, nothing_known}
 use Rattle.sf_known.specs.Patterns.{has_contact}
 use Rattle.sf_relate.specs.declared.place.Place.{Place}
+use Rattle.sf_relate.specs.declared.place.Place.TheVariants.{Boundary, Exterior, Interior}
 use Rattle.sf_relate.specs.Matrices.{matrix_of}
 use Rattle.sf_relate.specs.Placed.{known_of_place}
 use Rattle.sf_relate.specs.Places.{IsPlaceOf}
@@ -23,6 +25,14 @@ use Rattle.sf_query.specs.declared.ask.Ask.TheVariants.{Named}
 use Rattle.sf_relate.proofs.SharedLaws.{contact_is_shared}
 use Rattle.sf_relate.proofs.PointLaws.{places_are_known}
 use Rattle.sf_relate.proofs.FoundLaws.{nothing-holds}
+use Rattle.sf_prepared.proofs.TransposedLaws.{matrices_are_transposed}
+use Rattle.sf_query.specs.Evidence.{known_transposed}
+
+-- nine entries that are at most others are so by columns too
+columns-at_most : (a b c d e f g h i j k l m n o p q r : Dim) → AreAtMost (a ∷ b ∷ c ∷ d ∷ e ∷ f ∷ g ∷ h ∷ i ∷ []) (j ∷ k ∷ l ∷ m ∷ n ∷ o ∷ p ∷ q ∷ r ∷ [])
+    → AreAtMost (a ∷ d ∷ g ∷ b ∷ e ∷ h ∷ c ∷ f ∷ i ∷ []) (j ∷ m ∷ p ∷ k ∷ n ∷ q ∷ l ∷ o ∷ r ∷ [])
+columns-at_most a b c d e f g h i j k l m n o p q r z =
+    (z.0, (z.1.1.1.0, (z.1.1.1.1.1.1.0, (z.1.0, (z.1.1.1.1.0, (z.1.1.1.1.1.1.1.0, (z.1.1.0, (z.1.1.1.1.1.0, (z.1.1.1.1.1.1.1.1.0, refl)))))))))
 
 -- the matrix itself
 pub exactly-holds : (entries m : List Dim) → entries ≡ m → Holds (exactly entries) m
@@ -61,6 +71,37 @@ of-held shown a g b e h = subst (λ (x : Geometry). IfSome shown (λ known. Hold
 pub place-holds : (a b : Geometry) (p : Coordinates) (place : Place) → a ≡ Point p → IsValid a → IsValid b → IsPlaceOf b (grid_point p) place → Holds (known_of_place place) (matrix_of a b)
 place-holds a b p place is v w at =
     subst (λ (g : Geometry). Holds (known_of_place place) (matrix_of g b)) (sym is) (places_are_known p b place (subst IsValid is v) w at)
+
+-- the same of the first column, by the place of a given Point
+no-share : (m : List Dim) → IsTrue false → IsTrue (has_contact m)
+no-share m h = absurd (both_ways false refl h)
+
+turned : (place : Place) (ii ib ie bi bb be ei eb ee : Dim) → Holds (known_of_place place) (ii ∷ ib ∷ ie ∷ bi ∷ bb ∷ be ∷ ei ∷ eb ∷ ee ∷ [])
+    → Holds (known_transposed (known_of_place place)) (ii ∷ bi ∷ ei ∷ ib ∷ bb ∷ eb ∷ ie ∷ be ∷ ee ∷ [])
+turned Interior ii ib ie bi bb be ei eb ee h =
+    record {
+      least = columns-at_most Zero Nothing Nothing Nothing Nothing Nothing Nothing Nothing Nothing ii ib ie bi bb be ei eb ee h.least;
+      most = columns-at_most ii ib ie bi bb be ei eb ee Zero Nothing Nothing Nothing Nothing Nothing Two Two Two h.most;
+      contact = no-share (ii ∷ bi ∷ ei ∷ ib ∷ bb ∷ eb ∷ ie ∷ be ∷ ee ∷ []);
+    }
+turned Boundary ii ib ie bi bb be ei eb ee h =
+    record {
+      least = columns-at_most Nothing Zero Nothing Nothing Nothing Nothing Nothing Nothing Nothing ii ib ie bi bb be ei eb ee h.least;
+      most = columns-at_most ii ib ie bi bb be ei eb ee Nothing Zero Nothing Nothing Nothing Nothing Two Two Two h.most;
+      contact = no-share (ii ∷ bi ∷ ei ∷ ib ∷ bb ∷ eb ∷ ie ∷ be ∷ ee ∷ []);
+    }
+turned Exterior ii ib ie bi bb be ei eb ee h =
+    record {
+      least = columns-at_most Nothing Nothing Zero Nothing Nothing Nothing Nothing Nothing Nothing ii ib ie bi bb be ei eb ee h.least;
+      most = columns-at_most ii ib ie bi bb be ei eb ee Nothing Nothing Zero Nothing Nothing Nothing Two Two Two h.most;
+      contact = no-share (ii ∷ bi ∷ ei ∷ ib ∷ bb ∷ eb ∷ ie ∷ be ∷ ee ∷ []);
+    }
+
+pub given-place-holds : (a b : Geometry) (p : Coordinates) (place : Place) → b ≡ Point p → IsValid a → IsValid b → IsPlaceOf a (grid_point p) place → Holds (known_transposed (known_of_place place)) (matrix_of a b)
+given-place-holds a b p place is v w at =
+    subst (λ (g : Geometry). Holds (known_transposed (known_of_place place)) (matrix_of a g)) (sym is)
+    (subst (Holds (known_transposed (known_of_place place))) (sym (matrices_are_transposed (Point p) a))
+    (turned place _ _ _ _ _ _ _ _ _ (places_are_known p a place (subst IsValid is w) v at)))
 
 -- whether two geometries have contact tells what is asked of it by name
 pub told-intersects : (told : Option Bool) (ask : Ask) (a g b : Geometry) → ask ≡ Named Intersects → g ≡ b → IfSome told (λ has. has ≡ has_contact (matrix_of a g)) → IfSome told (λ answer. answer ≡ is_asked ask a b)

@@ -10,6 +10,7 @@ ghost use Rattle.sf_known.specs.Known.{Holds, exactly, nothing_known};
 ghost use Rattle.sf_relate.specs.Contact.{has_first_point_in};
 ghost use Rattle.sf_relate.specs.Matrices.{matrix_of};
 ghost use Rattle.sf_contact.specs.Few.{few_points};
+ghost use Rattle.sf_query.specs.Evidence.{known_transposed};
 
 use super::given::Given;
 use super::order::MANY_POINTS;
@@ -17,8 +18,8 @@ use sf_contact::{FEW_POINTS, contact_between, known_by_sides};
 use sf_geometry::Geometry;
 use sf_prepared::matrix_nearby;
 use sf_relate::{
-    Known, Matrix, known_by_crossing, known_of_place, locate, matrix_apart, matrix_by_boxes,
-    shares_first_point,
+    Known, Matrix, known_by_crossing, known_of_place, locate, matrix_alike, matrix_apart,
+    matrix_by_boxes, shares_first_point,
 };
 use sf_validity::Valid;
 use std::alloc::Global;
@@ -26,9 +27,11 @@ use std::alloc::Global;
 /// A way to know something of a matrix. None of them is ever out of memory: then it shows nothing.
 #[derive(Clone, Copy, Debug, PartialEq, Eq)]
 pub(crate) enum Evidence {
+    /// Geometries that are written alike.
+    Alike,
     /// Boxes that share no point.
     Boxes,
-    /// The place of a Point in the given geometry.
+    /// The place of a Point in the given geometry, or of a given Point in the feature's.
     Place,
     /// Edges of a small geometry, one by one: whether they meet the other's.
     Edges,
@@ -48,6 +51,7 @@ impl Evidence {
         ensures { IfSome result (λ known. Holds known (matrix_of geometry.now given.now)) }
     {
         match self {
+            Evidence::Alike => exactly(matrix_alike(geometry, given.valid)),
             Evidence::Boxes => exactly(matrix_by_boxes(geometry, given.valid, given.extent)),
             Evidence::Place => by_place(geometry, given.valid),
             Evidence::Edges => by_edges(geometry, given.valid),
@@ -60,13 +64,14 @@ impl Evidence {
 }
 
 /// What each kind of evidence shows of the matrix of a feature's geometry with the given one, one beside the other: prepared
-/// geometry, place, edges, first points, sides, crossing, nearby.
-pub fn shown_by_each(alloc: Global, geometry: &Valid, given: &Valid) -> [Option<Known>; 7]
+/// geometry, alike, place, edges, first points, sides, crossing, nearby.
+pub fn shown_by_each(alloc: Global, geometry: &Valid, given: &Valid) -> [Option<Known>; 8]
     ensures { AllByRecursion (λ shown. IfSome shown (λ known. Holds known (matrix_of geometry.now given.now))) result }
 {
     let given = Given::new(given).prepared(alloc);
     [
         exactly(given.matrix_prepared(alloc, geometry)),
+        Evidence::Alike.shown(alloc, geometry, &given),
         Evidence::Place.shown(alloc, geometry, &given),
         Evidence::Edges.shown(alloc, geometry, &given),
         Evidence::FirstPoints.shown(alloc, geometry, &given),
@@ -89,15 +94,43 @@ fn matrix_by_edges_nearby(alloc: Global, geometry: &Valid, given: &Valid) -> Opt
     matrix_nearby(alloc, geometry, given)
 }
 
-/// A Point's place shows its first row.
+/// A Point's place shows its row, and that of a given Point its column.
 fn by_place(geometry: &Valid, given: &Valid) -> Option<Known>
     requires { IsValid given.now }
     ensures holds { IfSome result (λ known. Holds known (matrix_of geometry.now given.now)) }
     ensures answers { (p : Coordinates) → geometry.now ≡ Point p → is_some result ≡ true }
+    ensures given { (p : Coordinates) → given.now ≡ Point p → is_some result ≡ true }
 {
     match geometry.geometry() {
         Geometry::Point(point) => Some(known_of_place(locate(given, *point))),
+        _ => by_given_place(geometry, given),
+    }
+}
+
+/// The place of a given Point shows its column.
+fn by_given_place(geometry: &Valid, given: &Valid) -> Option<Known>
+    requires { IsValid geometry.now }
+    ensures holds { IfSome result (λ known. Holds known (matrix_of geometry.now given.now)) }
+    ensures answers { (p : Coordinates) → given.now ≡ Point p → is_some result ≡ true }
+{
+    match given.geometry() {
+        Geometry::Point(point) => Some(transposed(&known_of_place(locate(geometry, *point)))),
         _ => None,
+    }
+}
+
+/// What is known of the matrix of the two geometries the other way round.
+fn transposed(known: &Known) -> Known
+    ensures { result ≡ known_transposed known.now }
+{
+    let least = known.least;
+    let most = known.most;
+    let Matrix(least) = Matrix(least).transposed();
+    let Matrix(most) = Matrix(most).transposed();
+    Known {
+        least,
+        most,
+        contact: known.contact,
     }
 }
 

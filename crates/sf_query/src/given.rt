@@ -9,7 +9,7 @@ ghost use Rattle.sf_relate.specs.Matrices.{matrix_of};
 use super::ask::Ask;
 use super::order::MANY_FEATURES;
 use sf_contact::FEW_POINTS;
-use sf_geometry::Extent;
+use sf_geometry::{Extent, Geometry};
 use sf_prepared::Prepared;
 use sf_relate::Matrix;
 use sf_rtree::{RTree, SpatialIndex};
@@ -66,12 +66,15 @@ impl<'a> Given<'a> {
         }
     }
 
-    /// The same, prepared where so many features are asked about it. Of a small one its own edges show contact as soon.
+    /// The same, prepared where so many features are asked about it. Of a small one its own edges show contact as soon, and of a
+    /// Point its place shows more.
     pub(crate) fn prepared_for(self, alloc: Global, ask: &Ask, features: usize) -> Given<'a>
         ensures { result ≡ self.entry }
     {
-        let is_small = self.valid.geometry().point_count() <= FEW_POINTS;
-        if features < MANY_FEATURES || (is_small && ask.is_of_contact()) {
+        let geometry = self.valid.geometry();
+        let is_point = matches!(geometry, Geometry::Point(_));
+        let is_small = geometry.point_count() <= FEW_POINTS;
+        if features < MANY_FEATURES || is_point || (is_small && ask.is_of_contact()) {
             return self;
         }
         self.prepared(alloc)

@@ -1,7 +1,9 @@
 //! In which order evidence is asked for before a walk, and from which sizes on. All of it lies in this file.
 
 use super::ask::Ask;
-use super::evidence::Evidence::{self, Boxes, Crossing, Edges, FirstPoints, Nearby, Place, Sides};
+use super::evidence::Evidence::{
+    self, Alike, Boxes, Crossing, Edges, FirstPoints, Nearby, Place, Sides,
+};
 use sf_contact::FEW_POINTS;
 
 /// How many features there are at least for what is made of the given geometry to pay.
@@ -15,9 +17,10 @@ pub(crate) const MANY_POINTS: usize = 32;
 /// that cross come after, since they have to be searched in all of both.
 static OF_CONTACT: [Evidence; 5] = [Place, Edges, FirstPoints, Crossing, Nearby];
 
-/// Whatever else is asked, areas side by side have no interior in common, and edges that cross show most. Edges that meet show no
-/// more than that there is contact.
-static OF_MATRIX: [Evidence; 5] = [Sides, Crossing, Place, Edges, Nearby];
+/// Whatever else is asked, geometries written alike show all: under a rule of a layer with itself each feature is asked with
+/// itself. Areas side by side have no interior in common, and edges that cross show most. Edges that meet show no more than that
+/// there is contact.
+static OF_MATRIX: [Evidence; 6] = [Alike, Sides, Crossing, Place, Edges, Nearby];
 
 /// Where all entries of one feature are asked, and the given geometry has few points: edges nearby show all of them, whether or not
 /// boxes meet. For one feature nothing is prepared.

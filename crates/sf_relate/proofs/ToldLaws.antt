@@ -1,4 +1,4 @@
--- Matrices without a walk: of geometries that share no point, and of one in another one's interior.
+-- Matrices without a walk: of geometries that share no point, of one in another one's interior, and of one with itself.
 use Rattle.std.proofs.Common.{◌≡◌, ℕ, lit<, arith, refl, ap, sym, ◌∙◌, subst, ℤ, pos, ◌+ℤ◌, ◌-ℤ◌, ◌*ℤ◌, ◌<ℤ◌, ◌≤ℤ◌, Bool, true, false, ◌&&◌, ◌||◌, not, List, [], ◌∷◌, ◌++◌}
 use Rattle.std.specs.Prelude.{if◌then◌else◌}
 use Rattle.std.specs.List.{flat_map, list_any}
@@ -27,7 +27,7 @@ use Rattle.sf_rules.specs.Validity.{IsValid}
 use Rattle.sf_validity.specs.Beside.{box_of_extent}
 use Rattle.sf_relate.specs.Contact.{SharePoint, is_in}
 use Rattle.sf_relate.specs.Matrices.{IsMatrix, both, matrix_of}
-use Rattle.sf_relate.specs.Told.{ApartIsTold, IsToldBy, IsWithin, WithinIsTold, apart_entries, has_odd_end, inside_entries, is_odd_end}
+use Rattle.sf_relate.specs.Told.{AlikeIsTold, ApartIsTold, IsToldBy, IsWithin, WithinIsTold, alike_entries, apart_entries, has_odd_end, inside_entries, is_odd_end}
 use Rattle.sf_relate.proofs.EnvelopeLaws.{lies_in_box, valid-closed}
 use Rattle.sf_relate.proofs.SetLaws.{matrices_are_over_the_plane}
 
@@ -248,7 +248,44 @@ within_is_told a b v w h two =
     outside : (p : PlanePoint) → IsPoint p → in_boundary b p ≡ true → in_exterior a p ≡ true
     outside p i k = exterior-from a p (false_from_ne_true (is_in a p) (λ t. both_ways (in_boundary b p) (off_edge p i t) k))
 
+-- ---- one with itself
+pub alike_is_told : AlikeIsTold
+alike_is_told a v =
+    told-by a a (alike_entries a) (
+      same-dimension (in_interior a) (both (in_interior a) (in_interior a)) (kept (in_interior a) (in_interior a) (λ p i h. h)) (interior_dim a) (interior_has_dimension a v),
+      (
+        empty (in_interior a) (in_boundary a) (λ p i h k. both_ways (in_boundary a p) (interior_is_apart a p v i h) k),
+        (
+          empty (in_interior a) (in_exterior a) (λ p i h k. both_ways (in_exterior a p) (not-exterior a p (inner a p h)) k),
+          (
+            empty (in_boundary a) (in_interior a) (λ p i h k. both_ways (in_boundary a p) (interior_is_apart a p v i k) h),
+            (
+              same-dimension (in_boundary a) (both (in_boundary a) (in_boundary a)) (kept (in_boundary a) (in_boundary a) (λ p i h. h)) (boundary_dim a) (boundary_has_dimension a v),
+              (
+                empty (in_boundary a) (in_exterior a) (λ p i h k. both_ways (in_exterior a p) (not-exterior a p (edge a p h)) k),
+                (
+                  empty (in_exterior a) (in_interior a) (λ p i h k. both_ways (in_exterior a p) (not-exterior a p (inner a p k)) h),
+                  (
+                    empty (in_exterior a) (in_boundary a) (λ p i h k. both_ways (in_exterior a p) (not-exterior a p (edge a p k)) h),
+                    (outside-both a a v v, tt),
+                  ),
+                ),
+              ),
+            ),
+          ),
+        ),
+      ),
+    )
+
 -- ---- the entries as they are put down
+pub alike-entries : (a b f g : Geometry) (ia ba : Dim) → IsValid a → f ≡ g → f ≡ a → g ≡ b → ia ≡ interior_dim a → ba ≡ boundary_dim a →
+    ia ∷ Nothing ∷ Nothing ∷ Nothing ∷ ba ∷ Nothing ∷ Nothing ∷ Nothing ∷ Two ∷ [] ≡ matrix_of a b
+alike-entries a b f g ia ba v alike e h i k =
+    ap (λ x. x ∷ Nothing ∷ Nothing ∷ Nothing ∷ ba ∷ Nothing ∷ Nothing ∷ Nothing ∷ Two ∷ []) i
+    ∙ ap (λ x. interior_dim a ∷ Nothing ∷ Nothing ∷ Nothing ∷ x ∷ Nothing ∷ Nothing ∷ Nothing ∷ Two ∷ []) k
+    ∙ (alike_is_told a v).computed
+    ∙ ap (matrix_of a) (sym e ∙ alike ∙ h)
+
 pub apart-entries : (a b f g : Geometry) (ia ba ib bb : Dim) → IsValid a → IsValid b → ¬ (SharePoint a b) → f ≡ a → g ≡ b → ia ≡ interior_dim f → ba ≡ boundary_dim f → ib ≡ interior_dim g →
     bb ≡ boundary_dim g → Nothing ∷ Nothing ∷ ia ∷ Nothing ∷ Nothing ∷ ba ∷ ib ∷ bb ∷ Two ∷ [] ≡ matrix_of a b
 apart-entries a b f g ia ba ib bb v w none e h i j k l =

@@ -1,6 +1,6 @@
 -- Internal: who wants to trust the program need not read this file.
--- Matrices that the kinds and the ends of two geometries tell, where they share no point, or where the second one's interior
--- has the first whole.
+-- Matrices that the kinds and the ends of two geometries tell, where they share no point, where the second one's interior has
+-- the first whole, or where they are written alike.
 use Rattle.std.specs.Prelude.{◌≡◌, Bool, List, [], ◌∷◌, IsTrue, count_by}
 use Rattle.std.specs.List.{list_any}
 use Rattle.sf_grid.specs.Plane.{Coordinates, IsPoint, Point as PlanePoint, grid_point}
@@ -30,6 +30,13 @@ inside_entries a b =
     ∷ boundary_dim a ∷ Nothing ∷ Nothing
     ∷ interior_dim b ∷ boundary_dim b ∷ Two ∷ []
 
+-- both are the same
+abbrev pub alike_entries : Geometry → List Dim
+alike_entries a =
+    interior_dim a ∷ Nothing ∷ Nothing
+    ∷ Nothing ∷ boundary_dim a ∷ Nothing
+    ∷ Nothing ∷ Nothing ∷ Two ∷ []
+
 -- the entries are those of the matrix, over the plane and as computed
 pub record IsToldBy (a b : Geometry) (entries : List Dim) : Type 0 where
   pub plane : IsMatrix a b entries
@@ -47,6 +54,10 @@ pub record IsWithin (a b : Geometry) : Type 0 where
 -- so is the matrix told of valid ones of which the second is an area
 abbrev pub WithinIsTold : Type 0
 WithinIsTold = (a b : Geometry) → IsValid a → IsValid b → IsWithin a b → interior_dim b ≡ Two → IsToldBy a b (inside_entries a b)
+
+-- so is that of a valid one with itself
+abbrev pub AlikeIsTold : Type 0
+AlikeIsTold = (a : Geometry) → IsValid a → IsToldBy a a (alike_entries a)
 
 -- no point is in both
 abbrev pub ShareNone : Geometry → Geometry → Type 0

@@ -6,7 +6,7 @@ ghost use Rattle.sf_relate.specs.Contact.{ApartHasNoContact, ContactIsShared, Fi
 ghost use Rattle.sf_relate.specs.Matrices.{MatricesAreOverThePlane};
 ghost use Rattle.sf_relate.specs.Placed.{PlacesAreKnown};
 ghost use Rattle.sf_relate.specs.Places.{CountsTellPlaces};
-ghost use Rattle.sf_relate.specs.Told.{ApartIsTold, WithinIsTold};
+ghost use Rattle.sf_relate.specs.Told.{AlikeIsTold, ApartIsTold, WithinIsTold};
 
 /// The entries as they are computed are the matrix over the plane, and no others are, of all
 /// geometries.
@@ -64,6 +64,11 @@ pub fn apart_is_told()
 /// So has a valid geometry in the interior of an area that has room beside it.
 pub fn within_is_told()
     ensures { WithinIsTold }
+{}
+
+/// So has a valid geometry with itself.
+pub fn alike_is_told()
+    ensures { AlikeIsTold }
 {}
 
 /// Valid areas overlap of which edges cross at a point that no other edge of the two has.

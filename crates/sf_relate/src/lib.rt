@@ -1,6 +1,7 @@
 //! DE-9IM matrices of two geometries, patterns, and the named predicates.
 #![tactic(auto)]
 
+mod alike;
 mod areas;
 mod at_most;
 mod first_points;
@@ -28,5 +29,5 @@ pub use sf_known::{Aim, Goal, Known, Letter, Matrix, Pattern, Predicate, Refusal
 pub use sf_plane::Dim;
 pub use shape::{Shape, dimension};
 pub use sink::KnownSink;
-pub use told::{matrix_apart, matrix_by_boxes, matrix_within};
+pub use told::{matrix_alike, matrix_apart, matrix_by_boxes, matrix_within};
 pub use walking::{meets, meets_from, walked};

@@ -1,7 +1,7 @@
-//! Matrices that follow from kinds and ends, with no walk and no memory: of geometries that share no point, and of one
-//! in the interior of an area.
+//! Matrices that follow from kinds and ends, with no walk and no memory: of geometries that share no point, of one in the
+//! interior of an area, and of two that are written alike.
 
-ghost use Rattle.std.specs.Prelude.{◌≡◌, ◌∷◌, [], IfSome, IsTrue, MatchOption, if◌then◌else◌, is_some, not};
+ghost use Rattle.std.specs.Prelude.{◌≡◌, ◌↔◌, ◌∷◌, [], IfSome, IsTrue, MatchOption, if◌then◌else◌, is_some, not};
 ghost use Rattle.std.specs.List.{list_any};
 ghost use Rattle.sf_geometry.specs.declared.geometry.Geometry.TheVariants.{LineString};
 ghost use Rattle.sf_geometry.specs.Envelope.{envelope_of, extents_meet};
@@ -12,6 +12,7 @@ ghost use Rattle.sf_rules.specs.Validity.{IsValid};
 ghost use Rattle.sf_relate.specs.Matrices.{matrix_of};
 ghost use Rattle.sf_relate.specs.Told.{IsWithin, ShareNone, has_odd_end, is_odd_end};
 
+use super::alike::are_alike;
 use super::locating::is_end;
 use super::shape::dimension;
 use sf_geometry::{Extent, Geometry, Sequence, line_ends};
@@ -53,6 +54,20 @@ pub fn matrix_by_boxes(a: &Valid, b: &Valid, extent: Extent) -> Option<Matrix>
         return None;
     }
     Some(matrix_apart(a, b))
+}
+
+/// The matrix of two geometries that are written alike. None for all others, equal ones too.
+pub fn matrix_alike(a: &Valid, b: &Valid) -> Option<Matrix>
+    ensures told { IfSome result (λ matrix. matrix.0 ≡ matrix_of a.now b.now) }
+    ensures alike { IsTrue (is_some result) ↔ (a.now ≡ b.now) }
+{
+    if !are_alike(a.geometry(), b.geometry()) {
+        return None;
+    }
+    let (interior, boundary) = own_dims(a);
+    Some(Matrix([
+        interior, Nothing, Nothing, Nothing, boundary, Nothing, Nothing, Nothing, Two,
+    ]))
 }
 
 /// The dimensions of a valid geometry's interior and of its boundary.

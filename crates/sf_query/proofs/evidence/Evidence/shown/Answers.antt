@@ -2,10 +2,15 @@ use Rattle.sf_relate.specs.Matrices.{matrix_of}
 use Rattle.sf_query.proofs.EvidenceLaws.{matrix-known, of-held}
 use Rattle.sf_query.proofs.evidence.Evidence.shown.Goals as goal
 
+pub returns-in-Alike : goal.returns-in-Alike
+returns-in-Alike c =
+    of-held c.exactly.result c.args.geometry.now c.given.inside.valid.now c.args.given.now c.given.view_is
+    (matrix-known c.matrix_alike.result c.exactly.result (matrix_of c.args.geometry.now c.given.inside.valid.now) c.exactly.ensures c.matrix_alike.ensures.told)
+
 pub returns-in-Boxes : goal.returns-in-Boxes
 returns-in-Boxes c =
-    of-held c.exactly.result c.args.geometry.now c.given.inside.valid.now c.args.given.now c.given.view_is
-    (matrix-known c.matrix_by_boxes.result c.exactly.result (matrix_of c.args.geometry.now c.given.inside.valid.now) c.exactly.ensures c.matrix_by_boxes.ensures.told)
+    of-held c.exactly-in-Boxes.result c.args.geometry.now c.given.inside.valid.now c.args.given.now c.given.view_is
+    (matrix-known c.matrix_by_boxes.result c.exactly-in-Boxes.result (matrix_of c.args.geometry.now c.given.inside.valid.now) c.exactly-in-Boxes.ensures c.matrix_by_boxes.ensures.told)
 
 pub returns-in-Place : goal.returns-in-Place
 returns-in-Place c =
