@@ -70,7 +70,7 @@ SUBJECTS: list[tuple[str, list[str]]] = [
         "Texts, binary and files",
         ["sf_lines", "sf_streams", "sf_wkt", "sf_wkb", "sf_format", "sf_loading", "sf_saving"],
     ),
-    ("The session", ["sf_commands", "sf_console", "sf_run"]),
+    ("The session", ["sf_words", "sf_commands", "sf_console", "sf_run"]),
     ("The journal and the save", ["sf_journal", "sf_keeping", "sf_folder"]),
 ]
 

@@ -1,9 +1,6 @@
-pub mod WordLemmas
 pub mod AddLemmas
-pub mod IdLemmas
 pub mod IntLemmas
 pub mod QuoteLemmas
-pub mod PointLemmas
 pub mod VertexLemmas
 pub mod QueryLemmas
 pub mod LookupLemmas

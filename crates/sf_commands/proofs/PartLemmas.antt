@@ -11,8 +11,9 @@ use Rattle.std.proofs.lemmas.Str.{IsCharBoundary-after_ascii, IsCharBoundary-bef
 use Rattle.sf_refusals.specs.declared.refusal.Refusal.{Refusal}
 use Rattle.sf_commands.specs.declared.head.Head.{Head}
 use Rattle.sf_wkt.specs.Tokens.{is_blank}
-use Rattle.sf_commands.specs.Commands.{addressed, by_digits, by_first_word, id_of}
-use Rattle.sf_commands.specs.Words.{at_blank, onto_first as onto_first_word, skip_word, words}
+use Rattle.sf_words.specs.Naming.{id_of}
+use Rattle.sf_words.specs.Editors.{addressed, by_digits, by_first_word}
+use Rattle.sf_words.specs.Words.{at_blank, onto_first as onto_first_word, skip_word, words}
 use Rattle.sf_commands.specs.GroupTexts.{addressed_head, begins_as_head, count_of, group_by_head, group_by_parts, group_of, head_by_words, head_of, if_count, is_return, members_behind, members_in, members_max, members_of, onto_first, parts_of}
 
 -- ---- parts

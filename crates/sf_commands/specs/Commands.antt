@@ -35,39 +35,21 @@ use Rattle.sf_query.specs.declared.ask.Ask.TheVariants.{Matching, Named}
 use Rattle.sf_constraints.specs.declared.rule.Form.{Form}
 use Rattle.sf_constraints.specs.declared.rule.Form.TheVariants.{Never, Each}
 use Rattle.sf_steps.specs.declared.edit.Edit.TheVariants as edits
-use Rattle.sf_commands.specs.declared.verb.Verb.{Verb}
-use Rattle.sf_commands.specs.declared.verb.Verb.TheVariants as verbs
-use Rattle.sf_commands.specs.declared.verb.Action.{Action}
-use Rattle.sf_commands.specs.declared.verb.Action.TheVariants as actions
+use Rattle.sf_words.specs.declared.verb.Verb.{Verb}
+use Rattle.sf_words.specs.declared.verb.Verb.TheVariants as verbs
+use Rattle.sf_words.specs.declared.verb.Action.{Action}
+use Rattle.sf_words.specs.declared.verb.Action.TheVariants as actions
 use Rattle.sf_commands.specs.declared.command.Command.{Command}
 use Rattle.sf_commands.specs.declared.command.Command.TheVariants.{Edit, AddRule, DropRule, Undo, Redo, Layers, Columns, Rules, Show, Get, Find, Check, Hex, Simple, Extent, Relate, Match, Query, JoinMatching, JoinNamed}
-use Rattle.sf_commands.specs.declared.vertex_place.VertexPlace.{VertexPlace}
-use Rattle.sf_commands.specs.declared.naming.Naming.{Naming}
-use Rattle.sf_commands.specs.declared.naming.Naming.TheVariants.{ById, OrLast}
-use Rattle.sf_commands.specs.Words.{words, skip_blanks, skip_word, trimmed_end}
-use Rattle.sf_commands.specs.Values.{point_of, value_of}
-
--- the words of the verbs that ask, and change neither the store nor its history
-abbrev pub asking_verbs : List (List ℕ × Verb)
-asking_verbs = (codes "layers", verbs.Layers) ∷ (codes "columns", verbs.Columns) ∷ (codes "rules", verbs.Rules) ∷ (codes "show", verbs.Show)
-    ∷ (codes "get", verbs.Get) ∷ (codes "find", verbs.Find) ∷ (codes "check", verbs.Check) ∷ (codes "hex", verbs.Hex) ∷ (codes "box", verbs.Box) ∷ (codes "simple", verbs.Simple)
-    ∷ (codes "relate", verbs.Relate) ∷ (codes "match", verbs.Match) ∷ (codes "query", verbs.Query) ∷ (codes "join", verbs.Join) ∷ []
-
--- the asking verb that a word spells
-abbrev pub asking_verb_of : List ℕ → Option Verb
-asking_verb_of word = lookup (bytes_eq word) asking_verbs
-
--- the verb that a word spells
-abbrev pub verb_of : List ℕ → Option Verb
-verb_of word = lookup (bytes_eq word) ((codes "layer", verbs.Layer) ∷ (codes "column", verbs.Column)
-    ∷ (codes "add", verbs.Add) ∷ (codes "addhex", verbs.AddHex) ∷ (codes "delete", verbs.Delete) ∷ (codes "replace", verbs.Replace)
-    ∷ (codes "vertex", verbs.Vertex) ∷ (codes "set", verbs.Set) ∷ (codes "unset", verbs.Unset) ∷ (codes "rule", verbs.Rule) ∷ (codes "undo", verbs.Undo) ∷ (codes "redo", verbs.Redo)
-    ∷ asking_verbs)
-
--- what is done with a layer, a column, a vertex or a rule
-abbrev pub action_of : List ℕ → Option Action
-action_of word = lookup (bytes_eq word) ((codes "add", actions.Add) ∷ (codes "drop", actions.Drop) ∷ (codes "rename", actions.Rename)
-    ∷ (codes "move", actions.Move) ∷ (codes "insert", actions.Insert) ∷ (codes "remove", actions.Remove) ∷ [])
+use Rattle.sf_words.specs.declared.vertex_place.VertexPlace.{VertexPlace}
+use Rattle.sf_words.specs.declared.naming.Naming.{Naming}
+use Rattle.sf_words.specs.declared.naming.Naming.TheVariants.{ById, OrLast}
+use Rattle.sf_words.specs.Words.{words, skip_blanks, skip_word, trimmed_end}
+use Rattle.sf_words.specs.Editors.{addressed}
+use Rattle.sf_words.specs.Naming.{given, id_named, id_of, vertex_place}
+use Rattle.sf_words.specs.Verbs.{action_of, verb_of}
+use Rattle.sf_words.specs.Points.{point_of}
+use Rattle.sf_commands.specs.Values.{value_of}
 
 -- the kind of a layer that a word spells
 abbrev pub layer_kind_of : List ℕ → Option LayerKind
@@ -85,24 +67,6 @@ predicate_of word = lookup (bytes_eq word) ((codes "equals", predicates.Equals) 
     ∷ (codes "touches", predicates.Touches) ∷ (codes "crosses", predicates.Crosses) ∷ (codes "within", predicates.Within)
     ∷ (codes "contains", predicates.Contains) ∷ (codes "overlaps", predicates.Overlaps) ∷ (codes "intersects", predicates.Intersects) ∷ [])
 
--- whether a word stands for the feature that a layer was given last
-abbrev pub is_last : List ℕ → Bool
-is_last word = bytes_eq word (codes "last")
-
--- how many digits an identifier has at most
-abbrev pub id_digits_max : ℕ
-id_digits_max = 10
-
--- the identifier, place or index that one to ten digits spell, where it has 32 bits
-abbrev pub id_of : List ℕ → Option ℕ
-id_of word = let id = digits_value word in
-    if (nat_le (length word) id_digits_max && list_all is_ascii_digit word) && (nat_lt 0 (length word) && nat_lt id (2 ^ 32)) then Some id else None
-
--- the feature that a word names: by its identifier; or, where that may be, as the last one, whose identifier is not known yet
-abbrev pub id_named : Naming → List ℕ → Option ℕ
-id_named ById word = id_of word
-id_named OrLast word = if is_last word then Some 0 else id_of word
-
 -- what is made of each of a list, where something is made of all of them
 abbrev pub each : {X Y : Type 0} → (X → Option Y) → List X → Option (List Y)
 each make [] = Some []
@@ -115,11 +79,6 @@ ids_max = 1000
 -- the identifiers that words spell: one to 1,000 of them
 abbrev pub ids_of : List (List ℕ) → Option (List ℕ)
 ids_of words = if nat_lt 0 (length words) && nat_le (length words) ids_max then each id_of words else None
-
--- what is made of a word that could be read
-abbrev pub given : {X Y : Type 0} → Option X → (X → Result Y Refusal) → Result Y Refusal
-given None make = Err BadCommand
-given (Some x) make = make x
 
 -- what is made of what words name, or the refusal of them
 abbrev pub made : {X Y : Type 0} → Result X Refusal → (X → Result Y Refusal) → Result Y Refusal
@@ -195,12 +154,6 @@ column_command action arguments = Err BadCommand
 abbrev pub column_arguments : List (List ℕ) → Result Command Refusal
 column_arguments [] = Err BadCommand
 column_arguments (action ∷ arguments) = column_command (action_of action) arguments
-
--- the vertex that four words name
-abbrev pub vertex_place : Naming → List ℕ → List ℕ → List ℕ → List ℕ → Result VertexPlace Refusal
-vertex_place naming id part ring index =
-    given (id_named naming id) (λ id. given (id_of part) (λ part. given (id_of ring) (λ ring. given (id_of index) (λ index.
-    Ok (record { id = id; part = part; ring = ring; index = index })))))
 
 -- the words after `vertex insert`: a layer, the numbers of a vertex, x and y
 abbrev pub insert_vertex : Naming → List (List ℕ) → Result Command Refusal
@@ -456,34 +409,6 @@ by_verb None rest = Err BadCommand
 abbrev pub by_words : List (List ℕ) → List ℕ → Result Command Refusal
 by_words [] rest = Err BadCommand
 by_words (verb ∷ arguments) rest = by_verb (verb_of verb) rest
-
--- what stands behind the `@` at the front of a word, if one stands there
-abbrev pub behind_at : List ℕ → Option (List ℕ)
-behind_at [] = None
-behind_at (b ∷ bytes) = if nat_eq b 64 then Some bytes else None
-
--- how many digits the number of an editor has at most
-abbrev pub editor_digits_max : ℕ
-editor_digits_max = 3
-
--- the number of an editor that one to three digits spell: from 1 to 255
-abbrev pub editor_of : List ℕ → Option ℕ
-editor_of digits = let editor = digits_value digits in
-    if (nat_le (length digits) editor_digits_max && list_all is_ascii_digit digits) && (nat_lt 0 editor && nat_lt editor (2 ^ 8)) then Some editor else None
-
--- the editor whose digits stand behind an `@`, and the line behind them; editor 0 and the whole line where no `@` stands
-abbrev pub by_digits : Option (List ℕ) → List ℕ → List ℕ → Result (ℕ × List ℕ) Refusal
-by_digits None rest line = Ok (0, line)
-by_digits (Some digits) rest line = given (editor_of digits) (λ editor. Ok (editor, rest))
-
--- the editor of a line of these words, and the line behind the word that names it
-abbrev pub by_first_word : List (List ℕ) → List ℕ → Result (ℕ × List ℕ) Refusal
-by_first_word [] line = Err BadCommand
-by_first_word (word ∷ more) line = by_digits (behind_at word) (skip_word line) line
-
--- the editor of a line, and the line behind the word that names it
-abbrev pub addressed : List ℕ → Result (ℕ × List ℕ) Refusal
-addressed line = by_first_word (words line) line
 
 -- a command with the editor who gives it
 abbrev pub by_editor : ℕ → Result Command Refusal → Result (ℕ × Command) Refusal

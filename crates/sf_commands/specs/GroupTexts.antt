@@ -12,8 +12,9 @@ use Rattle.sf_groups.specs.Members.{may_follow}
 use Rattle.sf_commands.specs.declared.group_text.GroupRefusal.{GroupRefusal}
 use Rattle.sf_commands.specs.declared.group_text.GroupRefusal.TheVariants.{Member, Memory}
 use Rattle.sf_commands.specs.declared.head.Head.{Head}
-use Rattle.sf_commands.specs.Words.{words}
-use Rattle.sf_commands.specs.Commands.{addressed, id_of}
+use Rattle.sf_words.specs.Words.{words}
+use Rattle.sf_words.specs.Naming.{id_of}
+use Rattle.sf_words.specs.Editors.{addressed}
 use Rattle.sf_commands.specs.Members.{member_of}
 
 -- ---- the head

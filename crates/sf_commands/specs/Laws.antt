@@ -12,8 +12,9 @@ use Rattle.sf_steps.specs.Laws.{BringsGridPoints}
 use Rattle.sf_groups.specs.declared.member.Member.{Member}
 use Rattle.sf_commands.specs.declared.command.Command.{Command}
 use Rattle.sf_commands.specs.declared.command.Command.TheVariants as commands
-use Rattle.sf_commands.specs.Words.{skip_blanks, skip_word}
-use Rattle.sf_commands.specs.Commands.{addressed, command_of}
+use Rattle.sf_words.specs.Words.{skip_blanks, skip_word}
+use Rattle.sf_words.specs.Editors.{addressed}
+use Rattle.sf_commands.specs.Commands.{command_of}
 use Rattle.sf_commands.specs.GroupTexts.{members_of}
 
 -- the points that the edit of a line brings are on the grid

@@ -1,4 +1,4 @@
-pub mod Words
+pub use Rattle.sf_words.specs.Words
 pub mod Values
 pub mod Commands
 pub mod Laws

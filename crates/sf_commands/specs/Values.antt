@@ -12,18 +12,6 @@ use Rattle.sf_features.specs.declared.attr_value.AttrValue.{AttrValue}
 use Rattle.sf_features.specs.declared.attr_value.AttrValue.TheVariants.{Int, Text}
 use Rattle.sf_features.specs.Values.{fits_int}
 
--- the point of two numbers: the form of both comes first, then the fault of x before that of y
-abbrev pub point_by : Option (Result ℤ WktFault) → Option (Result ℤ WktFault) → Result Coordinates Refusal
-point_by None y = Err BadCommand
-point_by (Some x) None = Err BadCommand
-point_by (Some (Err fault)) (Some y) = Err (refusal_of fault)
-point_by (Some (Ok x)) (Some (Err fault)) = Err (refusal_of fault)
-point_by (Some (Ok x)) (Some (Ok y)) = Ok (record { x = x; y = y })
-
--- the point that two words spell
-abbrev pub point_of : List ℕ → List ℕ → Result Coordinates Refusal
-point_of x y = point_by (coordinate_of x) (coordinate_of y)
-
 -- the number that an optional sign and digits spell, where it has 64 bits
 abbrev pub int_of : List ℕ → Option AttrValue
 int_of text =

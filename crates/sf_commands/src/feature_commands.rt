@@ -2,16 +2,15 @@
 ghost use Rattle.std.specs.Prelude.{◌≡◌};
 ghost use Rattle.sf_commands.specs.Commands.{add_arguments as add_command_of, addhex_arguments as addhex_command_of, check_arguments as check_command_of, delete_arguments as delete_command_of, replace_arguments as replace_command_of, set_arguments as set_command_of, unset_arguments as unset_command_of, feature_arguments as feature_command_of, feature_named, of_layer, OrMemory};
 ghost use Rattle.sf_commands.specs.declared.command.Command.TheVariants.{Show, Hex, Simple, Extent};
-ghost use Rattle.sf_commands.specs.Words.{words as words_of, skip_blanks, skip_word};
+ghost use Rattle.sf_words.specs.Words.{words as words_of, skip_blanks, skip_word};
 
 use super::command::Command;
-use super::naming::Naming;
-use super::spelling::{bytes_of, id_named, text_of};
+use super::spelling::text_of;
 use super::value::value_of;
-use super::words::{Words, trimmed_end};
 use sf_layers::Text;
 use sf_refusals::Refusal;
 use sf_steps::Edit;
+use sf_words::{Naming, Words, bytes_of, id_named, trimmed_end};
 use std::alloc::Global;
 
 /// The text is the rest of the line from the second word after `add` on.

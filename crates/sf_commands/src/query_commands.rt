@@ -2,14 +2,14 @@
 ghost use Rattle.std.specs.Prelude.{◌≡◌};
 ghost use Rattle.sf_wkt.specs.Grammar.{read};
 ghost use Rattle.sf_commands.specs.Commands.{match_arguments as match_command_of, query_arguments as query_command_of, relate_arguments as relate_command_of, valid_of as valid_read, OrMemory};
-ghost use Rattle.sf_commands.specs.Words.{words as words_of, skip_blanks, skip_word};
+ghost use Rattle.sf_words.specs.Words.{words as words_of, skip_blanks, skip_word};
 
 use super::command::Command;
-use super::spelling::{id_of, predicate_of, text_of};
-use super::words::Words;
+use super::spelling::{predicate_of, text_of};
 use sf_refusals::Refusal;
 use sf_relate::Pattern;
 use sf_validity::{Valid, validate};
+use sf_words::{Words, id_of};
 use std::alloc::Global;
 
 /// The given geometry is the rest of the line from the third word after `relate` on.
