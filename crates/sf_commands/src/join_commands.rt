@@ -7,8 +7,8 @@ ghost use Rattle.sf_words.specs.Words.{words as words_of};
 
 use super::command::Command;
 use super::spelling::{predicate_of, text_of};
+use sf_known::{Pattern, Predicate};
 use sf_refusals::Refusal;
-use sf_relate::{Pattern, Predicate};
 use sf_words::{Words, id_of};
 use std::alloc::Global;
 

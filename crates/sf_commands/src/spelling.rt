@@ -4,10 +4,10 @@ ghost use Rattle.sf_commands.specs.Commands.{layer_kind_of as layer_kind_named, 
 
 use sf_constraints::Form;
 use sf_geometry::Kind;
+use sf_known::{Pattern, Predicate};
 use sf_layers::{ColumnType, LayerKind, Text};
 use sf_query::Ask;
 use sf_refusals::Refusal;
-use sf_relate::{Pattern, Predicate};
 use std::alloc::{AllocError, Global};
 
 /// The kind of a layer that a word spells, in small letters.

@@ -1,5 +1,5 @@
 -- The editor whom the first word of a line names.
-use Rattle.std.proofs.Common.{◌≡◌, ◌≢◌, ℕ, ◌+◌, ◌-◌, ◌*◌, ◌^◌, ◌<◌, ◌≤◌, Bool, true, false, ◌&&◌, cond, nat_eq, nat_lt, nat_le, List, [], ◌∷◌, ◌++◌, drop, length, fold, Option, Some, None, MatchOption, Result, Ok, Err, IsErrAnd, if◌then◌else◌, refl, sym, ap, ◌∙◌, subst, arith, rules}
+use Rattle.std.proofs.Common.{◌≡◌, ◌≢◌, ℕ, ◌+◌, ◌-◌, ◌*◌, ◌^◌, ◌<◌, Bool, true, false, ◌&&◌, cond, nat_eq, nat_lt, nat_le, List, [], ◌∷◌, ◌++◌, drop, length, fold, Option, Some, None, MatchOption, Result, Ok, Err, if◌then◌else◌, refl, sym, ap, ◌∙◌, arith, rules}
 use denote.Ref.{Bor}
 use lib.Utf8
 use Rattle.std.specs.Char.{encode_utf8, is_ascii_digit}
@@ -9,7 +9,6 @@ use Rattle.std.specs.Str.Parse.{ParsesUnsigned}
 use Rattle.std.specs.Str.Pattern.{FindsCharPrefix, StripsPrefix}
 use Rattle.std.proofs.lemmas.Bool.{eqb-true}
 use Rattle.std.proofs.lemmas.Bool.Decides.{nat_tests}
-use Rattle.std.proofs.lemmas.Grind.{common_steps}
 use Rattle.std.proofs.lemmas.Str.Parse.{IsNumeralModel, numerals_by_fold, parse_digits}
 use Rattle.sf_wkt.specs.Tokens.{digits_value}
 use Rattle.sf_words.specs.Editors.{behind_at, editor_digits_max, editor_of}
