@@ -1,22 +1,12 @@
 -- Commands behind an editor's word.
-use Rattle.std.proofs.Common.{◌≡◌, ◌≢◌, ℕ, ◌+◌, ◌-◌, ◌*◌, ◌^◌, ◌<◌, ◌≤◌, Bool, true, false, ◌&&◌, cond, nat_eq, nat_lt, nat_le, List, [], ◌∷◌, ◌++◌, drop, length, fold, Option, Some, None, MatchOption, Result, Ok, Err, IsErrAnd, if◌then◌else◌, refl, sym, ap, ◌∙◌, subst, arith, rules}
-use denote.Ref.{Bor}
+use Rattle.std.proofs.Common.{◌≡◌, ℕ, ◌-◌, ◌≤◌, Bool, true, false, nat_lt, List, length, Result, Ok, Err, IsErrAnd, if◌then◌else◌, sym, ap, subst, arith}
 use lib.Utf8
-use Rattle.std.specs.Char.{encode_utf8, is_ascii_digit}
-use Rattle.std.specs.List.{list_all}
-use Rattle.std.specs.Result.{OkIff, result_ok}
-use Rattle.std.specs.Str.Parse.{ParsesUnsigned}
-use Rattle.std.specs.Str.Pattern.{FindsCharPrefix, StripsPrefix}
-use Rattle.std.proofs.lemmas.Bool.{eqb-true}
-use Rattle.std.proofs.lemmas.Bool.Decides.{nat_tests}
 use Rattle.std.proofs.lemmas.Grind.{common_steps}
-use Rattle.std.proofs.lemmas.Str.Parse.{IsNumeralModel, numerals_by_fold, parse_digits}
 use Rattle.sf_refusals.specs.declared.refusal.Refusal.{Refusal}
 use Rattle.sf_refusals.specs.declared.refusal.Refusal.TheVariants.{LineTooLong, Memory}
 use Rattle.sf_lines.specs.Lines.{line_max}
-use Rattle.sf_wkt.specs.Tokens.{digits_value}
 use Rattle.sf_commands.specs.declared.command.Command.{Command}
-use Rattle.sf_words.specs.Editors.{addressed, behind_at, editor_digits_max, editor_of}
+use Rattle.sf_words.specs.Editors.{addressed}
 use Rattle.sf_commands.specs.Commands.{addressed_takes_memory, by_editor, by_words, command_of, made, takes_memory, words_take_memory, OrMemory, OrMemoryIf}
 use Rattle.sf_words.specs.Words.{words, skip_word}
 

@@ -1,16 +1,9 @@
 pub mod AddLemmas
-pub mod IntLemmas
-pub mod QuoteLemmas
 pub mod VertexLemmas
 pub mod QueryLemmas
 pub mod LookupLemmas
-pub mod Computed
-pub mod ComputedQueries
 pub mod MemberLemmas
-pub mod ComputedMembers
-pub mod ComputedGroups
 pub mod LawProofs
-pub mod JudgedProofs
 pub mod AddressLemmas
 pub mod PartLemmas
 pub mod GroupLemmas

@@ -1,7 +1,5 @@
 -- The command of a line.
-use Rattle.std.specs.Prelude.{◌≡◌, ℕ, ◌^◌, Bool, true, false, ◌&&◌, List, [], ◌∷◌, length, Option, None, Some, Result, Ok, Err, nat_eq, nat_lt, nat_le, option_and_then, option_map, bytes_eq, codes, if◌then◌else◌}
-use Rattle.std.specs.Char.{is_ascii_digit}
-use Rattle.std.specs.List.{list_all}
+use Rattle.std.specs.Prelude.{◌≡◌, ℕ, Bool, true, false, ◌&&◌, List, [], ◌∷◌, length, Option, None, Some, Result, Ok, Err, nat_lt, nat_le, option_and_then, option_map, bytes_eq, codes, if◌then◌else◌}
 use Rattle.std.specs.Map.{lookup}
 use Rattle.std.specs.Option.{ok_or}
 use Rattle.hex.specs.declared.error.FromHexError.{FromHexError}
@@ -9,27 +7,20 @@ use Rattle.hex.specs.Hex.{decode_of}
 use Rattle.sf_refusals.specs.declared.refusal.Refusal.{Refusal}
 use Rattle.sf_refusals.specs.declared.refusal.Refusal.TheVariants.{Memory, Syntax, BadCommand, BadPattern, LineTooLong}
 use Rattle.sf_geometry.specs.declared.geometry.Geometry.{Geometry}
-use Rattle.sf_geometry.specs.declared.kind.Kind.TheVariants as kinds
 use Rattle.sf_rules.specs.declared.fault.Fault.{Fault}
 use Rattle.sf_rules.specs.Faults.{refusal_of as refusal_of_fault}
 use Rattle.sf_rules.specs.Verdicts.{first_fault}
 use Rattle.sf_known.specs.declared.predicate.Predicate.{Predicate}
-use Rattle.sf_known.specs.declared.predicate.Predicate.TheVariants as predicates
 use Rattle.sf_known.specs.declared.letter.Letter.{Letter}
 use Rattle.sf_known.specs.Patterns.{pattern_of}
 use Rattle.sf_lines.specs.Lines.{line_max}
 use Rattle.sf_wkt.specs.declared.fault.WktFault.{WktFault}
 use Rattle.sf_wkt.specs.Faults.{refusal_of}
-use Rattle.sf_wkt.specs.Tokens.{digits_value}
 use Rattle.sf_wkt.specs.Grammar.{read}
 use Rattle.sf_wkb.specs.declared.fault.WkbFault.{WkbFault}
 use Rattle.sf_wkb.specs.Faults.{refusal_of as refusal_of_bytes}
 use Rattle.sf_wkb.specs.Grammar.{read as read_bytes}
-use Rattle.sf_layers.specs.declared.layer_kind.LayerKind.{LayerKind}
-use Rattle.sf_layers.specs.declared.layer_kind.LayerKind.TheVariants.{Any, Only}
 use Rattle.sf_features.specs.declared.attr_value.AttrValue.{AttrValue}
-use Rattle.sf_features.specs.declared.column_type.ColumnType.{ColumnType}
-use Rattle.sf_features.specs.declared.column_type.ColumnType.TheVariants as types
 use Rattle.sf_query.specs.declared.ask.Ask.{Ask}
 use Rattle.sf_query.specs.declared.ask.Ask.TheVariants.{Matching, Named}
 use Rattle.sf_constraints.specs.declared.rule.Form.{Form}
@@ -41,31 +32,15 @@ use Rattle.sf_words.specs.declared.verb.Action.{Action}
 use Rattle.sf_words.specs.declared.verb.Action.TheVariants as actions
 use Rattle.sf_commands.specs.declared.command.Command.{Command}
 use Rattle.sf_commands.specs.declared.command.Command.TheVariants.{Edit, AddRule, DropRule, Undo, Redo, Layers, Columns, Rules, Show, Get, Find, Check, Hex, Simple, Extent, Relate, Match, Query, JoinMatching, JoinNamed}
-use Rattle.sf_words.specs.declared.vertex_place.VertexPlace.{VertexPlace}
 use Rattle.sf_words.specs.declared.naming.Naming.{Naming}
-use Rattle.sf_words.specs.declared.naming.Naming.TheVariants.{ById, OrLast}
+use Rattle.sf_words.specs.declared.naming.Naming.TheVariants.{ById}
 use Rattle.sf_words.specs.Words.{words, skip_blanks, skip_word, trimmed_end}
 use Rattle.sf_words.specs.Editors.{addressed}
 use Rattle.sf_words.specs.Naming.{given, id_named, id_of, vertex_place}
 use Rattle.sf_words.specs.Verbs.{action_of, verb_of}
 use Rattle.sf_words.specs.Points.{point_of}
-use Rattle.sf_commands.specs.Values.{value_of}
-
--- the kind of a layer that a word spells
-abbrev pub layer_kind_of : List ℕ → Option LayerKind
-layer_kind_of word = lookup (bytes_eq word) ((codes "any", Any) ∷ (codes "point", Only kinds.Point) ∷ (codes "linestring", Only kinds.LineString)
-    ∷ (codes "polygon", Only kinds.Polygon) ∷ (codes "multipoint", Only kinds.MultiPoint)
-    ∷ (codes "multilinestring", Only kinds.MultiLineString) ∷ (codes "multipolygon", Only kinds.MultiPolygon) ∷ [])
-
--- the type of a column that a word spells
-abbrev pub column_type_of : List ℕ → Option ColumnType
-column_type_of word = lookup (bytes_eq word) ((codes "int", types.Int) ∷ (codes "text", types.Text) ∷ [])
-
--- the predicate that a word spells
-abbrev pub predicate_of : List ℕ → Option Predicate
-predicate_of word = lookup (bytes_eq word) ((codes "equals", predicates.Equals) ∷ (codes "disjoint", predicates.Disjoint)
-    ∷ (codes "touches", predicates.Touches) ∷ (codes "crosses", predicates.Crosses) ∷ (codes "within", predicates.Within)
-    ∷ (codes "contains", predicates.Contains) ∷ (codes "overlaps", predicates.Overlaps) ∷ (codes "intersects", predicates.Intersects) ∷ [])
+use Rattle.sf_values.specs.Kinds.{column_type_of, layer_kind_of, predicate_of}
+use Rattle.sf_values.specs.Values.{value_of}
 
 -- what is made of each of a list, where something is made of all of them
 abbrev pub each : {X Y : Type 0} → (X → Option Y) → List X → Option (List Y)

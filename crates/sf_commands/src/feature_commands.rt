@@ -5,11 +5,10 @@ ghost use Rattle.sf_commands.specs.declared.command.Command.TheVariants.{Show, H
 ghost use Rattle.sf_words.specs.Words.{words as words_of, skip_blanks, skip_word};
 
 use super::command::Command;
-use super::spelling::text_of;
-use super::value::value_of;
-use sf_layers::Text;
+use sf_features::Text;
 use sf_refusals::Refusal;
 use sf_steps::Edit;
+use sf_values::{text_of, value_of};
 use sf_words::{Naming, Words, bytes_of, id_named, trimmed_end};
 use std::alloc::Global;
 

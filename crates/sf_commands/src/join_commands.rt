@@ -6,9 +6,9 @@ ghost use Rattle.sf_commands.specs.Commands.{beside_of as beside_spelled, join_a
 ghost use Rattle.sf_words.specs.Words.{words as words_of};
 
 use super::command::Command;
-use super::spelling::{predicate_of, text_of};
 use sf_known::{Pattern, Predicate};
 use sf_refusals::Refusal;
+use sf_values::{predicate_of, text_of};
 use sf_words::{Words, id_of};
 use std::alloc::Global;
 

@@ -5,9 +5,9 @@ ghost use Rattle.sf_commands.specs.declared.command.Command.TheVariants.{Layers}
 ghost use Rattle.sf_words.specs.Words.{words as words_of};
 
 use super::command::Command;
-use super::spelling::{layer_kind_of, text_of};
 use sf_refusals::Refusal;
 use sf_steps::Edit;
+use sf_values::{layer_kind_of, text_of};
 use sf_words::{Action, Words, action_of, id_of};
 use std::alloc::Global;
 

@@ -15,7 +15,6 @@ mod parsing;
 mod query_commands;
 mod rule_commands;
 mod spelling;
-mod value;
 mod vertex_commands;
 
 pub use command::Command;

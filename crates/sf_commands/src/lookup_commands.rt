@@ -5,10 +5,9 @@ ghost use Rattle.sf_commands.specs.Commands.{find_arguments as find_command_of, 
 ghost use Rattle.sf_words.specs.Words.{words as words_of, skip_blanks, skip_word};
 
 use super::command::Command;
-use super::spelling::text_of;
-use super::value::value_of;
-use sf_layers::AttrValue;
+use sf_features::AttrValue;
 use sf_refusals::Refusal;
+use sf_values::{text_of, value_of};
 use sf_words::{Identifiers, Words, id_of, trimmed_end};
 use std::alloc::Global;
 

@@ -5,10 +5,10 @@ ghost use Rattle.sf_commands.specs.Commands.{match_arguments as match_command_of
 ghost use Rattle.sf_words.specs.Words.{words as words_of, skip_blanks, skip_word};
 
 use super::command::Command;
-use super::spelling::{predicate_of, text_of};
 use sf_known::Pattern;
 use sf_refusals::Refusal;
 use sf_validity::{Valid, validate};
+use sf_values::{predicate_of, text_of};
 use sf_words::{Words, id_of};
 use std::alloc::Global;
 

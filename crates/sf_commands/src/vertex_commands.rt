@@ -4,9 +4,9 @@ ghost use Rattle.sf_commands.specs.Commands.{vertex_arguments as vertex_command_
 ghost use Rattle.sf_words.specs.Words.{words as words_of};
 
 use super::command::Command;
-use super::spelling::text_of;
 use sf_refusals::Refusal;
 use sf_steps::Edit;
+use sf_values::text_of;
 use sf_words::{Action, Naming, Words, action_of, place_of, point_of};
 use std::alloc::Global;
 

@@ -41,12 +41,13 @@ use Rattle.sf_words.specs.declared.verb.Action.{Action}
 use Rattle.sf_words.specs.declared.verb.Action.TheVariants as actions
 use Rattle.sf_words.specs.Words.{words, skip_blanks, skip_word, trimmed_end}
 use Rattle.sf_words.specs.Points.{point_by, point_of}
-use Rattle.sf_commands.specs.Values.{value_of}
+use Rattle.sf_values.specs.Values.{value_of}
 use Rattle.sf_words.specs.Verbs.{action_of, verb_of}
 use Rattle.sf_words.specs.Naming.{given, id_of, vertex_place}
 use Rattle.sf_words.specs.Editors.{addressed, behind_at, by_digits, by_first_word, editor_of}
-use Rattle.sf_commands.specs.Commands.{add_arguments, add_column, check_arguments, add_layer, add_rule, addhex_arguments, addressed_command, after_two_words, alone, ask_by, ask_of, by_editor, by_verb, by_words, bytes_command, column_arguments, column_command, column_type_of, delete_arguments, drop_column, drop_layer, drop_rule, faultless, feature_arguments, feature_command, feature_named, find_arguments, form_of, get_arguments, join_arguments, join_by, beside_of, hex_command, ids_of, insert_vertex, layer_arguments, layer_command, layer_kind_of, made, match_arguments, move_layer, move_vertex, of_layer, of_text, predicate_of, query_arguments, relate_arguments, remove_vertex, rename_layer, replace_arguments, rule_arguments, rule_asked, rule_command, second_of, set_arguments, sought_of, unset_arguments, valid_of, vertex_arguments, vertex_command, with_geometry, with_id}
-use Rattle.sf_commands.specs.Laws.{GivenGeometriesAreJudgedOverThePlane, HasFaultyGiven, HasJudgedGiven, HasValidGiven, SpellsValid, given_text}
+use Rattle.sf_values.specs.Kinds.{column_type_of, layer_kind_of, predicate_of}
+use Rattle.sf_commands.specs.Commands.{add_arguments, add_column, check_arguments, add_layer, add_rule, addhex_arguments, addressed_command, after_two_words, alone, ask_by, ask_of, by_editor, by_verb, by_words, bytes_command, column_arguments, column_command, delete_arguments, drop_column, drop_layer, drop_rule, faultless, feature_arguments, feature_command, feature_named, find_arguments, form_of, get_arguments, join_arguments, join_by, beside_of, hex_command, ids_of, insert_vertex, layer_arguments, layer_command, made, match_arguments, move_layer, move_vertex, of_layer, of_text, query_arguments, relate_arguments, remove_vertex, rename_layer, replace_arguments, rule_arguments, rule_asked, rule_command, second_of, set_arguments, sought_of, unset_arguments, valid_of, vertex_arguments, vertex_command, with_geometry, with_id}
+use Rattle.sf_command_laws.specs.Laws.{GivenGeometriesAreJudgedOverThePlane, HasFaultyGiven, HasJudgedGiven, HasValidGiven, SpellsValid, given_text}
 
 -- what is said of what was made of a text behind the verb
 abbrev Judged : List ℕ → Result Command Refusal → Type 0

@@ -1,8 +1,8 @@
 use Rattle.std.proofs.Common.{◌≡◌, ◌∙◌, None, Some, sym, rules, w64}
 use Rattle.std.specs.Result.{result_ok}
 use Rattle.std.proofs.lemmas.Int.{to_z-of_z}
-use Rattle.sf_commands.proofs.IntLemmas.{int_if-none, int_if-some, int_of-parsed}
-use Rattle.sf_commands.proofs.value.int_of.Goals as goal
+use Rattle.sf_values.proofs.IntLemmas.{int_if-none, int_if-some, int_of-parsed}
+use Rattle.sf_values.proofs.value.int_of.Goals as goal
 use mir.Val.{SFits}
 
 pub returns-in_err-number : goal.returns-in_err-number

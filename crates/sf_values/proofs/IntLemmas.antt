@@ -13,7 +13,7 @@ use Rattle.sf_wkt.specs.Tokens.{digits_value, signed}
 use Rattle.sf_features.specs.declared.attr_value.AttrValue.{AttrValue}
 use Rattle.sf_features.specs.declared.attr_value.AttrValue.TheVariants.{Int}
 use Rattle.sf_features.specs.Values.{fits_int}
-use Rattle.sf_commands.specs.Values.{int_of}
+use Rattle.sf_values.specs.Values.{int_of}
 
 own : IsNumeralModel (λ ds. list_all is_ascii_digit ds ≡ true) digits_value
 own = numerals_by_fold _ (search rules) (λ n digits. fold (λ n digit. 10 * n + (digit - 48)) n digits) (search rules)

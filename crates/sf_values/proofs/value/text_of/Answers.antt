@@ -1,8 +1,8 @@
 use Rattle.std.proofs.Common.{◌≡◌, ◌∙◌, ◌∷◌, ◌++◌, [], List, ℕ, Some, false, flat_map, string_bytes, ap, sym, rules}
 use Rattle.sf_features.specs.declared.attr_value.AttrValue.TheVariants.{Text}
-use Rattle.sf_commands.specs.Values.{quoted_byte, undoubled}
-use Rattle.sf_commands.proofs.QuoteLemmas.{quote-single, quote-last, quote-further-written, quote-further-read, quote-shorter}
-use Rattle.sf_commands.proofs.value.text_of.Goals as goal
+use Rattle.sf_values.specs.Values.{quoted_byte, undoubled}
+use Rattle.sf_values.proofs.QuoteLemmas.{quote-single, quote-last, quote-further-written, quote-further-read, quote-shorter}
+use Rattle.sf_values.proofs.value.text_of.Goals as goal
 
 pub returns-in_default-behind_quote : goal.returns-in_default-behind_quote
 returns-in_default-behind_quote c =

@@ -1,14 +1,14 @@
 //! Attribute values that texts spell.
 ghost use Rattle.std.specs.Prelude.{◌≡◌, ◌≢◌, ℕ, List, [], ◌∷◌, ◌++◌, IfOk, IsTrue, MatchOption};
 ghost use Rattle.std.specs.List.{list_all};
-ghost use Rattle.sf_commands.specs.Values.{begins_with_quote as begins_with_quote_of, int_of as int_spelled, is_plain, text_of as text_spelled, value_of as value_spelled};
+ghost use Rattle.sf_values.specs.Values.{begins_with_quote as begins_with_quote_of, int_of as int_spelled, is_plain, text_of as text_spelled, value_of as value_spelled};
 
-use sf_layers::{AttrValue, Text};
+use sf_features::{AttrValue, Text};
 use std::alloc::{AllocError, Global};
 
 /// The value that a text spells: digits behind an optional sign, in 64 bits; or a text in single quotes, each quote
 /// in it doubled. None where it spells no value.
-pub(crate) fn value_of(alloc: Global, text: &str) -> Result<Option<AttrValue>, AllocError>
+pub fn value_of(alloc: Global, text: &str) -> Result<Option<AttrValue>, AllocError>
     ensures { IfOk result (λ value. value ≡ value_spelled text.now) }
 {
     if begins_with_quote(text.as_bytes()) {

@@ -1,8 +1,8 @@
 use Rattle.std.proofs.Common.{◌≡◌, length, ◌++◌, flat_map, false, string_bytes}
 use denote.Text.{Utf8}
 use denote.Shadow.{shadow}
-use Rattle.sf_commands.specs.Values.{quoted_byte, undoubled}
-use Rattle.sf_commands.proofs.value.text_of.Given as goal
+use Rattle.sf_values.specs.Values.{quoted_byte, undoubled}
+use Rattle.sf_values.proofs.value.text_of.Given as goal
 
 -- what is read so far and what is left are the whole, and are read as the whole is
 abbrev pub invariant-loop-plain : goal.invariant-loop-plain

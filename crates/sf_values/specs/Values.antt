@@ -1,13 +1,8 @@
 -- Numbers, points and values that words spell.
-use Rattle.std.specs.Prelude.{ℕ, ◌-◌, ℤ, Bool, false, not, ◌&&◌, ◌==◌, List, [], ◌∷◌, ◌++◌, length, drop, take, flat_map, Option, None, Some, Result, Ok, Err, nat_lt, bytes_eq, if◌then◌else◌}
+use Rattle.std.specs.Prelude.{ℕ, ◌-◌, Bool, false, not, ◌&&◌, ◌==◌, List, [], ◌∷◌, ◌++◌, length, drop, take, flat_map, Option, None, Some, nat_lt, bytes_eq, if◌then◌else◌}
 use Rattle.std.specs.Char.{is_ascii_digit}
 use Rattle.std.specs.List.{list_all}
-use Rattle.sf_refusals.specs.declared.refusal.Refusal.{Refusal}
-use Rattle.sf_refusals.specs.declared.refusal.Refusal.TheVariants.{BadCommand}
-use Rattle.sf_grid.specs.Plane.{Coordinates}
-use Rattle.sf_wkt.specs.declared.fault.WktFault.{WktFault}
-use Rattle.sf_wkt.specs.Faults.{refusal_of}
-use Rattle.sf_wkt.specs.Tokens.{digits_value, signed, sign_len, is_negative, coordinate_of}
+use Rattle.sf_wkt.specs.Tokens.{digits_value, signed, sign_len, is_negative}
 use Rattle.sf_features.specs.declared.attr_value.AttrValue.{AttrValue}
 use Rattle.sf_features.specs.declared.attr_value.AttrValue.TheVariants.{Int, Text}
 use Rattle.sf_features.specs.Values.{fits_int}

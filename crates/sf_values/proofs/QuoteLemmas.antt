@@ -13,7 +13,7 @@ use Rattle.std.proofs.Math.Seq.{take-append_seam}
 use Rattle.std.proofs.lemmas.Slice.Eq.{bytes_eq-Decides}
 use Rattle.sf_features.specs.declared.attr_value.AttrValue.{AttrValue}
 use Rattle.sf_features.specs.declared.attr_value.AttrValue.TheVariants.{Text}
-use Rattle.sf_commands.specs.Values.{is_plain, quoted_byte, quoted, undoubled, text_of}
+use Rattle.sf_values.specs.Values.{is_plain, quoted_byte, quoted, undoubled, text_of}
 
 -- bytes without a quote are the same between quotes
 pub plain-quoted : (plain : List ℕ) → list_all is_plain plain ≡ true → flat_map quoted_byte plain ≡ plain
