@@ -1,4 +1,5 @@
-//! Commands about whole features and their geometries.
+//! Commands about whole features and their geometries. Names are copied first: a geometry has more to drop where memory
+//! runs out.
 ghost use Rattle.std.specs.Prelude.{◌≡◌};
 ghost use Rattle.sf_commands.specs.Commands.{add_arguments as add_command_of, addhex_arguments as addhex_command_of, check_arguments as check_command_of, delete_arguments as delete_command_of, replace_arguments as replace_command_of, set_arguments as set_command_of, unset_arguments as unset_command_of, feature_arguments as feature_command_of, feature_named, of_layer, OrMemory};
 ghost use Rattle.sf_commands.specs.declared.command.Command.TheVariants.{Show, Hex, Simple, Extent};
@@ -17,8 +18,9 @@ pub(crate) fn add_arguments(alloc: Global, mut words: Words<'_>) -> Result<Comma
     ensures { OrMemory (add_command_of (words_of words.entry) (skip_blanks (skip_word words.entry))) result }
 {
     let layer = words.next()?;
-    let geometry = sf_wkt::read(alloc, words.rest()?)?;
+    let text = words.rest()?;
     let layer = text_of(alloc, layer)?;
+    let geometry = sf_wkt::read(alloc, text)?;
     Ok(Command::Edit(Edit::AddFeature { layer, geometry }))
 }
 
@@ -27,8 +29,9 @@ pub(crate) fn check_arguments(alloc: Global, mut words: Words<'_>) -> Result<Com
     ensures { OrMemory (check_command_of (words_of words.entry) (skip_blanks (skip_word words.entry))) result }
 {
     let layer = words.next()?;
-    let geometry = sf_wkt::read(alloc, words.rest()?)?;
+    let text = words.rest()?;
     let layer = text_of(alloc, layer)?;
+    let geometry = sf_wkt::read(alloc, text)?;
     Ok(Command::Check(layer, geometry))
 }
 
@@ -39,9 +42,9 @@ pub(crate) fn addhex_arguments(alloc: Global, mut words: Words<'_>) -> Result<Co
     let layer = words.next()?;
     let text = words.next()?;
     words.finish()?;
+    let layer = text_of(alloc, layer)?;
     let bytes = bytes_of(alloc, text)?;
     let geometry = sf_wkb::read(alloc, &bytes)?;
-    let layer = text_of(alloc, layer)?;
     Ok(Command::Edit(Edit::AddFeature { layer, geometry }))
 }
 
@@ -69,8 +72,8 @@ pub(crate) fn replace_arguments(
     let id = words.next()?;
     let text = words.rest()?;
     let id = id_named(naming, id).ok_or(Refusal::BadCommand)?;
-    let geometry = sf_wkt::read(alloc, text)?;
     let layer = text_of(alloc, layer)?;
+    let geometry = sf_wkt::read(alloc, text)?;
     Ok(Command::Edit(Edit::ReplaceGeometry {
         layer,
         id,

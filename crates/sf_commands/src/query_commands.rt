@@ -20,8 +20,8 @@ pub(crate) fn relate_arguments(alloc: Global, mut words: Words<'_>) -> Result<Co
     let id = words.next()?;
     let text = words.rest()?;
     let id = id_of(id).ok_or(Refusal::BadCommand)?;
-    let given = valid_of(alloc, text)?;
     let layer = text_of(alloc, layer)?;
+    let given = valid_of(alloc, text)?;
     Ok(Command::Relate(layer, id, given))
 }
 
@@ -33,8 +33,8 @@ pub(crate) fn match_arguments(alloc: Global, mut words: Words<'_>) -> Result<Com
     let pattern = words.next()?;
     let text = words.rest()?;
     let pattern = Pattern::parse(pattern)?;
-    let given = valid_of(alloc, text)?;
     let layer = text_of(alloc, layer)?;
+    let given = valid_of(alloc, text)?;
     Ok(Command::Match(layer, pattern, given))
 }
 
@@ -46,8 +46,8 @@ pub(crate) fn query_arguments(alloc: Global, mut words: Words<'_>) -> Result<Com
     let predicate = words.next()?;
     let text = words.rest()?;
     let predicate = predicate_of(predicate).ok_or(Refusal::BadCommand)?;
-    let given = valid_of(alloc, text)?;
     let layer = text_of(alloc, layer)?;
+    let given = valid_of(alloc, text)?;
     Ok(Command::Query(layer, predicate, given))
 }
 
