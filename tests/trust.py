@@ -202,6 +202,13 @@ def cited(text: str, source: Source, file: str) -> Iterator[Name]:
             yield Name(file, word)
 
 
+def at_home(name: Name, files: dict[str, Source]) -> Name:
+    """A definition that a file passes on, in the file that has it."""
+    while name.file in files and name.name not in files[name.file].definitions and name.name in files[name.file].brought:
+        name = files[name.file].brought[name.name]
+    return name
+
+
 def closure(files: dict[str, Source]) -> set[Name]:
     """All that the headline's contracts cite, and what that cites."""
     left: list[Name] = []
@@ -215,7 +222,7 @@ def closure(files: dict[str, Source]) -> set[Name]:
         left += cited(trait_text(path, trait), Source({}, brought_in(text)), path)
     found: set[Name] = set()
     while left:
-        name = left.pop()
+        name = at_home(left.pop(), files)
         if name in found:
             continue
         found.add(name)

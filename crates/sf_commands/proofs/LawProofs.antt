@@ -44,7 +44,8 @@ use Rattle.sf_words.specs.Editors.{addressed}
 use Rattle.sf_values.specs.Kinds.{column_type_of, layer_kind_of, predicate_of}
 use Rattle.sf_commands.specs.Commands.{add_arguments, add_column, check_arguments, add_layer, add_rule, addhex_arguments, addressed_command, after_two_words, alone, ask_of, by_editor, by_verb, by_words, bytes_command, column_arguments, column_command, command_of, delete_arguments, drop_column, drop_layer, drop_rule, feature_arguments, feature_command, feature_named, find_arguments, form_of, get_arguments, join_arguments, join_by, beside_of, hex_command, ids_of, insert_vertex, layer_arguments, layer_command, made, match_arguments, move_layer, move_vertex, of_layer, of_text, query_arguments, relate_arguments, remove_vertex, rename_layer, replace_arguments, rule_arguments, rule_asked, rule_command, second_of, set_arguments, sought_of, unset_arguments, valid_of, vertex_arguments, vertex_command, with_geometry}
 use Rattle.sf_commands.specs.Members.{member_by, member_by_verb, member_by_words, member_of, second_is_last, third_is_last}
-use Rattle.sf_commands.specs.GroupTexts.{and_behind, members_behind, members_in, parts_of, placed}
+use Rattle.sf_words.specs.Parts.{parts_of}
+use Rattle.sf_commands.specs.GroupTexts.{and_behind, members_behind, members_in, placed}
 use Rattle.sf_commands.specs.Laws.{CommandsBringGridPoints, MembersBringGridPoints}
 use Rattle.sf_words.proofs.PointLemmas.{spelled_on_grid}
 

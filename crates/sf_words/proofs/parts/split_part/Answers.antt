@@ -2,9 +2,9 @@ use Rattle.std.proofs.Common.{◌≡◌, ◌≢◌, ◌∙◌, ◌+◌, ℕ, ap,
 use Rattle.std.specs.List.{list_any, prefix_len}
 use Rattle.std.specs.Str.{IsCharBoundary}
 use Rattle.std.proofs.lemmas.Grind.{common_steps}
-use Rattle.sf_commands.specs.GroupTexts.{is_return}
-use Rattle.sf_commands.proofs.PartLemmas.{CutAt, boundary-before, boundary-behind, cut-at, is_kept, kept-whole}
-use Rattle.sf_commands.proofs.group_text.split_part.Goals as goal
+use Rattle.sf_words.specs.Parts.{is_return}
+use Rattle.sf_words.proofs.PartLemmas.{CutAt, boundary-before, boundary-behind, cut-at, is_kept, kept-whole}
+use Rattle.sf_words.proofs.parts.split_part.Goals as goal
 
 pub returns-then-end-text : goal.returns-then-end-text
 returns-then-end-text c =
