@@ -1,6 +1,5 @@
 -- Commands behind an editor's word.
-use Rattle.std.proofs.Common.{◌≡◌, ℕ, ◌-◌, ◌≤◌, Bool, true, false, nat_lt, List, length, Result, Ok, Err, IsErrAnd, if◌then◌else◌, sym, ap, subst, arith}
-use lib.Utf8
+use Rattle.std.proofs.Common.{◌≡◌, ℕ, ◌≤◌, Bool, true, false, nat_lt, List, length, Result, Ok, Err, IsErrAnd, if◌then◌else◌, sym, ap, subst, arith}
 use Rattle.std.proofs.lemmas.Grind.{common_steps}
 use Rattle.sf_refusals.specs.declared.refusal.Refusal.{Refusal}
 use Rattle.sf_refusals.specs.declared.refusal.Refusal.TheVariants.{LineTooLong, Memory}
