@@ -31,6 +31,7 @@ HEADLINE: list[tuple[str, list[str]]] = [
     ("sf_ruled/src/laws.rt", []),
     ("sf_constraints/src/laws.rt", ["breaks_are_over_the_plane", "rules_are_over_the_plane"]),
     ("sf_commands/src/laws.rt", []),
+    ("sf_command_laws/src/laws.rt", []),
     ("sf_steps/src/laws.rt", []),
     ("sf_format/src/laws.rt", []),
     ("sf_query/src/laws.rt", []),
@@ -70,7 +71,7 @@ SUBJECTS: list[tuple[str, list[str]]] = [
         "Texts, binary and files",
         ["sf_lines", "sf_streams", "sf_wkt", "sf_wkb", "sf_format", "sf_loading", "sf_saving"],
     ),
-    ("The session", ["sf_commands", "sf_console", "sf_run"]),
+    ("The session", ["sf_words", "sf_values", "sf_commands", "sf_command_laws", "sf_console", "sf_run"]),
     ("The journal and the save", ["sf_journal", "sf_keeping", "sf_folder"]),
 ]
 
@@ -84,6 +85,13 @@ USE = re.compile(r"^ *(?:pub )?(?:ghost )?use Rattle\.([\w.]+)\.\{([^}]*)\}", re
 FUNCTION = re.compile(r"(?:^ *///[^\n]*\n)*^ *pub fn (\w+).*?^ *\{", re.MULTILINE | re.DOTALL)
 TRAIT = re.compile(r"(?:^///[^\n]*\n)*^pub trait (\w+).*?^\}", re.MULTILINE | re.DOTALL)
 CODE_TYPE = re.compile(r"^pub (?:enum|struct) (\w+).*?^\}", re.MULTILINE | re.DOTALL)
+
+# The files of specs/ that a crate passes on, by the crate and the file: the crate below that has it.
+PASSED_ON = {
+    (path.parts[-3], file): below
+    for path in sorted(CRATES.glob("*/specs/Lib.antt"))
+    for below, file in re.findall(r"^pub use Rattle\.(\w+)\.specs\.(\w+)$", path.read_text(encoding="utf-8"), re.MULTILINE)
+}
 
 
 @dataclass(frozen=True, order=True)
@@ -120,7 +128,8 @@ def named(path: list[str], name: str) -> Name:
     if path[2] == "declared":
         types = [part for part in path[3:] if part[0].isupper() and part != "TheVariants"]
         return Name(f"{path[0]}/src", types[0] if types else name)
-    return Name(f"{path[0]}/specs/{'/'.join(path[2:])}.antt", name)
+    home = PASSED_ON.get((path[0], path[2]), path[0])
+    return Name(f"{home}/specs/{'/'.join(path[2:])}.antt", name)
 
 
 def definitions_of(text: str) -> dict[str, str]:
@@ -193,6 +202,13 @@ def cited(text: str, source: Source, file: str) -> Iterator[Name]:
             yield Name(file, word)
 
 
+def at_home(name: Name, files: dict[str, Source]) -> Name:
+    """A definition that a file passes on, in the file that has it."""
+    while name.file in files and name.name not in files[name.file].definitions and name.name in files[name.file].brought:
+        name = files[name.file].brought[name.name]
+    return name
+
+
 def closure(files: dict[str, Source]) -> set[Name]:
     """All that the headline's contracts cite, and what that cites."""
     left: list[Name] = []
@@ -206,7 +222,7 @@ def closure(files: dict[str, Source]) -> set[Name]:
         left += cited(trait_text(path, trait), Source({}, brought_in(text)), path)
     found: set[Name] = set()
     while left:
-        name = left.pop()
+        name = at_home(left.pop(), files)
         if name in found:
             continue
         found.add(name)

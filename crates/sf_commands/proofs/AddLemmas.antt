@@ -12,10 +12,11 @@ use Rattle.sf_features.specs.declared.attr_value.AttrValue.{AttrValue}
 use Rattle.sf_steps.specs.declared.edit.Edit.TheVariants as edits
 use Rattle.sf_commands.specs.declared.command.Command.{Command}
 use Rattle.sf_commands.specs.declared.command.Command.TheVariants.{Edit}
-use Rattle.sf_commands.specs.declared.naming.Naming.{Naming}
-use Rattle.sf_commands.specs.Words.{words, skip_blanks, skip_word, trimmed_end}
-use Rattle.sf_commands.specs.Commands.{id_named, given, of_text, layer_and_text, replace_arguments, set_arguments, OrMemory}
-use Rattle.sf_commands.specs.Values.{value_of}
+use Rattle.sf_words.specs.declared.naming.Naming.{Naming}
+use Rattle.sf_words.specs.Words.{words, skip_blanks, skip_word, trimmed_end}
+use Rattle.sf_words.specs.Naming.{id_named, given}
+use Rattle.sf_commands.specs.Commands.{of_text, layer_and_text, replace_arguments, set_arguments, OrMemory}
+use Rattle.sf_values.specs.Values.{value_of}
 
 with_text : (command : List ℕ → Geometry → Command) (layer text : List ℕ) (more : List (List ℕ)) → more ≢ []
     → layer_and_text command (layer ∷ more) text ≡ of_text (read text) (command layer)

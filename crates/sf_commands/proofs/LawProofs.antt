@@ -29,19 +29,25 @@ use Rattle.sf_groups.specs.Members.{may_follow}
 use Rattle.sf_commands.specs.declared.command.Command.{Command}
 use Rattle.sf_commands.specs.declared.command.Command.TheVariants.{Edit, Undo, Redo, Layers, Columns, Rules, Show, Hex, Simple, Extent, Relate, Match, Query}
 use Rattle.sf_commands.specs.declared.group_text.GroupRefusal.{GroupRefusal}
-use Rattle.sf_commands.specs.declared.naming.Naming.{Naming}
-use Rattle.sf_commands.specs.declared.naming.Naming.TheVariants.{ById, OrLast}
-use Rattle.sf_commands.specs.declared.verb.Verb.{Verb}
-use Rattle.sf_commands.specs.declared.verb.Verb.TheVariants as verbs
-use Rattle.sf_commands.specs.declared.verb.Action.{Action}
-use Rattle.sf_commands.specs.declared.verb.Action.TheVariants as actions
-use Rattle.sf_commands.specs.Words.{words, skip_blanks, skip_word, trimmed_end}
-use Rattle.sf_commands.specs.Values.{point_by, point_of, value_of}
-use Rattle.sf_commands.specs.Commands.{action_of, add_arguments, add_column, check_arguments, add_layer, add_rule, addhex_arguments, addressed, addressed_command, after_two_words, alone, ask_of, by_editor, by_verb, by_words, bytes_command, column_arguments, column_command, column_type_of, command_of, delete_arguments, drop_column, drop_layer, drop_rule, feature_arguments, feature_command, feature_named, find_arguments, form_of, get_arguments, join_arguments, join_by, beside_of, given, hex_command, id_named, id_of, ids_of, insert_vertex, layer_arguments, layer_command, layer_kind_of, made, match_arguments, move_layer, move_vertex, of_layer, of_text, predicate_of, query_arguments, relate_arguments, remove_vertex, rename_layer, replace_arguments, rule_arguments, rule_asked, rule_command, second_of, set_arguments, sought_of, unset_arguments, valid_of, verb_of, vertex_arguments, vertex_command, vertex_place, with_geometry}
+use Rattle.sf_words.specs.declared.naming.Naming.{Naming}
+use Rattle.sf_words.specs.declared.naming.Naming.TheVariants.{ById, OrLast}
+use Rattle.sf_words.specs.declared.verb.Verb.{Verb}
+use Rattle.sf_words.specs.declared.verb.Verb.TheVariants as verbs
+use Rattle.sf_words.specs.declared.verb.Action.{Action}
+use Rattle.sf_words.specs.declared.verb.Action.TheVariants as actions
+use Rattle.sf_words.specs.Words.{words, skip_blanks, skip_word, trimmed_end}
+use Rattle.sf_words.specs.Points.{point_by, point_of}
+use Rattle.sf_values.specs.Values.{value_of}
+use Rattle.sf_words.specs.Verbs.{action_of, verb_of}
+use Rattle.sf_words.specs.Naming.{given, id_named, id_of, vertex_place}
+use Rattle.sf_words.specs.Editors.{addressed}
+use Rattle.sf_values.specs.Kinds.{column_type_of, layer_kind_of, predicate_of}
+use Rattle.sf_commands.specs.Commands.{add_arguments, add_column, check_arguments, add_layer, add_rule, addhex_arguments, addressed_command, after_two_words, alone, ask_of, by_editor, by_verb, by_words, bytes_command, column_arguments, column_command, command_of, delete_arguments, drop_column, drop_layer, drop_rule, feature_arguments, feature_command, feature_named, find_arguments, form_of, get_arguments, join_arguments, join_by, beside_of, hex_command, ids_of, insert_vertex, layer_arguments, layer_command, made, match_arguments, move_layer, move_vertex, of_layer, of_text, query_arguments, relate_arguments, remove_vertex, rename_layer, replace_arguments, rule_arguments, rule_asked, rule_command, second_of, set_arguments, sought_of, unset_arguments, valid_of, vertex_arguments, vertex_command, with_geometry}
 use Rattle.sf_commands.specs.Members.{member_by, member_by_verb, member_by_words, member_of, second_is_last, third_is_last}
-use Rattle.sf_commands.specs.GroupTexts.{and_behind, members_behind, members_in, parts_of, placed}
+use Rattle.sf_words.specs.Parts.{parts_of}
+use Rattle.sf_commands.specs.GroupTexts.{and_behind, members_behind, members_in, placed}
 use Rattle.sf_commands.specs.Laws.{CommandsBringGridPoints, MembersBringGridPoints}
-use Rattle.sf_commands.proofs.PointLemmas.{spelled_on_grid}
+use Rattle.sf_words.proofs.PointLemmas.{spelled_on_grid}
 
 -- the points that a command brings into the store are on the grid
 abbrev BringsOnGrid : Command → Type 0

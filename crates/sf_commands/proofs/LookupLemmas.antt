@@ -6,7 +6,8 @@ use Rattle.sf_refusals.specs.declared.refusal.Refusal.{Refusal}
 use Rattle.sf_refusals.specs.declared.refusal.Refusal.TheVariants.{Memory, BadCommand}
 use Rattle.sf_commands.specs.declared.command.Command.{Command}
 use Rattle.sf_commands.specs.declared.command.Command.TheVariants.{Get}
-use Rattle.sf_commands.specs.Commands.{each, get_arguments, given, id_of, ids_max, ids_of, OrMemory}
+use Rattle.sf_words.specs.Naming.{given, id_of}
+use Rattle.sf_commands.specs.Commands.{each, get_arguments, ids_max, ids_of, OrMemory}
 use Rattle.sf_commands.proofs.AddLemmas.{OrMemory-memory, OrMemory-refused}
 
 -- ---- identifiers

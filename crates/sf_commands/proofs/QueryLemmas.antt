@@ -18,7 +18,7 @@ use Rattle.sf_known.specs.Patterns.{pattern_of}
 use Rattle.sf_wkt.specs.declared.fault.WktFault.{WktFault}
 use Rattle.sf_steps.proofs.Judged.{its_fault, no_fault}
 use Rattle.sf_commands.specs.declared.command.Command.{Command}
-use Rattle.sf_commands.specs.Words.{words, skip_blanks, skip_word}
+use Rattle.sf_words.specs.Words.{words, skip_blanks, skip_word}
 use Rattle.sf_commands.specs.Commands.{after_two_words, faultless, made, valid_of, OrMemory}
 use Rattle.sf_commands.proofs.AddLemmas.{OrMemory-memory, OrMemory-refused, OrMemory-same}
 

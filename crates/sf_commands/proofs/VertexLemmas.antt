@@ -4,7 +4,7 @@ use Rattle.std.specs.Result.{IsErrAnd}
 use Rattle.sf_refusals.specs.declared.refusal.Refusal.{Refusal}
 use Rattle.sf_refusals.specs.declared.refusal.Refusal.TheVariants.{BadCommand}
 use Rattle.sf_commands.specs.declared.command.Command.{Command}
-use Rattle.sf_commands.specs.declared.naming.Naming.{Naming}
+use Rattle.sf_words.specs.declared.naming.Naming.{Naming}
 use Rattle.sf_commands.specs.Commands.{insert_vertex, move_vertex, OrMemory}
 use Rattle.sf_commands.proofs.AddLemmas.{OrMemory-refused}
 

@@ -1,7 +1,5 @@
 -- The command of a line.
-use Rattle.std.specs.Prelude.{◌≡◌, ℕ, ◌^◌, Bool, true, false, ◌&&◌, List, [], ◌∷◌, length, Option, None, Some, Result, Ok, Err, nat_eq, nat_lt, nat_le, option_and_then, option_map, bytes_eq, codes, if◌then◌else◌}
-use Rattle.std.specs.Char.{is_ascii_digit}
-use Rattle.std.specs.List.{list_all}
+use Rattle.std.specs.Prelude.{◌≡◌, ℕ, Bool, true, false, ◌&&◌, List, [], ◌∷◌, length, Option, None, Some, Result, Ok, Err, nat_lt, nat_le, option_and_then, option_map, bytes_eq, codes, if◌then◌else◌}
 use Rattle.std.specs.Map.{lookup}
 use Rattle.std.specs.Option.{ok_or}
 use Rattle.hex.specs.declared.error.FromHexError.{FromHexError}
@@ -9,99 +7,40 @@ use Rattle.hex.specs.Hex.{decode_of}
 use Rattle.sf_refusals.specs.declared.refusal.Refusal.{Refusal}
 use Rattle.sf_refusals.specs.declared.refusal.Refusal.TheVariants.{Memory, Syntax, BadCommand, BadPattern, LineTooLong}
 use Rattle.sf_geometry.specs.declared.geometry.Geometry.{Geometry}
-use Rattle.sf_geometry.specs.declared.kind.Kind.TheVariants as kinds
 use Rattle.sf_rules.specs.declared.fault.Fault.{Fault}
 use Rattle.sf_rules.specs.Faults.{refusal_of as refusal_of_fault}
 use Rattle.sf_rules.specs.Verdicts.{first_fault}
 use Rattle.sf_known.specs.declared.predicate.Predicate.{Predicate}
-use Rattle.sf_known.specs.declared.predicate.Predicate.TheVariants as predicates
 use Rattle.sf_known.specs.declared.letter.Letter.{Letter}
 use Rattle.sf_known.specs.Patterns.{pattern_of}
 use Rattle.sf_lines.specs.Lines.{line_max}
 use Rattle.sf_wkt.specs.declared.fault.WktFault.{WktFault}
 use Rattle.sf_wkt.specs.Faults.{refusal_of}
-use Rattle.sf_wkt.specs.Tokens.{digits_value}
 use Rattle.sf_wkt.specs.Grammar.{read}
 use Rattle.sf_wkb.specs.declared.fault.WkbFault.{WkbFault}
 use Rattle.sf_wkb.specs.Faults.{refusal_of as refusal_of_bytes}
 use Rattle.sf_wkb.specs.Grammar.{read as read_bytes}
-use Rattle.sf_layers.specs.declared.layer_kind.LayerKind.{LayerKind}
-use Rattle.sf_layers.specs.declared.layer_kind.LayerKind.TheVariants.{Any, Only}
 use Rattle.sf_features.specs.declared.attr_value.AttrValue.{AttrValue}
-use Rattle.sf_features.specs.declared.column_type.ColumnType.{ColumnType}
-use Rattle.sf_features.specs.declared.column_type.ColumnType.TheVariants as types
 use Rattle.sf_query.specs.declared.ask.Ask.{Ask}
 use Rattle.sf_query.specs.declared.ask.Ask.TheVariants.{Matching, Named}
 use Rattle.sf_constraints.specs.declared.rule.Form.{Form}
 use Rattle.sf_constraints.specs.declared.rule.Form.TheVariants.{Never, Each}
 use Rattle.sf_steps.specs.declared.edit.Edit.TheVariants as edits
-use Rattle.sf_commands.specs.declared.verb.Verb.{Verb}
-use Rattle.sf_commands.specs.declared.verb.Verb.TheVariants as verbs
-use Rattle.sf_commands.specs.declared.verb.Action.{Action}
-use Rattle.sf_commands.specs.declared.verb.Action.TheVariants as actions
+use Rattle.sf_words.specs.declared.verb.Verb.{Verb}
+use Rattle.sf_words.specs.declared.verb.Verb.TheVariants as verbs
+use Rattle.sf_words.specs.declared.verb.Action.{Action}
+use Rattle.sf_words.specs.declared.verb.Action.TheVariants as actions
 use Rattle.sf_commands.specs.declared.command.Command.{Command}
 use Rattle.sf_commands.specs.declared.command.Command.TheVariants.{Edit, AddRule, DropRule, Undo, Redo, Layers, Columns, Rules, Show, Get, Find, Check, Hex, Simple, Extent, Relate, Match, Query, JoinMatching, JoinNamed}
-use Rattle.sf_commands.specs.declared.vertex_place.VertexPlace.{VertexPlace}
-use Rattle.sf_commands.specs.declared.naming.Naming.{Naming}
-use Rattle.sf_commands.specs.declared.naming.Naming.TheVariants.{ById, OrLast}
-use Rattle.sf_commands.specs.Words.{words, skip_blanks, skip_word, trimmed_end}
-use Rattle.sf_commands.specs.Values.{point_of, value_of}
-
--- the words of the verbs that ask, and change neither the store nor its history
-abbrev pub asking_verbs : List (List ℕ × Verb)
-asking_verbs = (codes "layers", verbs.Layers) ∷ (codes "columns", verbs.Columns) ∷ (codes "rules", verbs.Rules) ∷ (codes "show", verbs.Show)
-    ∷ (codes "get", verbs.Get) ∷ (codes "find", verbs.Find) ∷ (codes "check", verbs.Check) ∷ (codes "hex", verbs.Hex) ∷ (codes "box", verbs.Box) ∷ (codes "simple", verbs.Simple)
-    ∷ (codes "relate", verbs.Relate) ∷ (codes "match", verbs.Match) ∷ (codes "query", verbs.Query) ∷ (codes "join", verbs.Join) ∷ []
-
--- the asking verb that a word spells
-abbrev pub asking_verb_of : List ℕ → Option Verb
-asking_verb_of word = lookup (bytes_eq word) asking_verbs
-
--- the verb that a word spells
-abbrev pub verb_of : List ℕ → Option Verb
-verb_of word = lookup (bytes_eq word) ((codes "layer", verbs.Layer) ∷ (codes "column", verbs.Column)
-    ∷ (codes "add", verbs.Add) ∷ (codes "addhex", verbs.AddHex) ∷ (codes "delete", verbs.Delete) ∷ (codes "replace", verbs.Replace)
-    ∷ (codes "vertex", verbs.Vertex) ∷ (codes "set", verbs.Set) ∷ (codes "unset", verbs.Unset) ∷ (codes "rule", verbs.Rule) ∷ (codes "undo", verbs.Undo) ∷ (codes "redo", verbs.Redo)
-    ∷ asking_verbs)
-
--- what is done with a layer, a column, a vertex or a rule
-abbrev pub action_of : List ℕ → Option Action
-action_of word = lookup (bytes_eq word) ((codes "add", actions.Add) ∷ (codes "drop", actions.Drop) ∷ (codes "rename", actions.Rename)
-    ∷ (codes "move", actions.Move) ∷ (codes "insert", actions.Insert) ∷ (codes "remove", actions.Remove) ∷ [])
-
--- the kind of a layer that a word spells
-abbrev pub layer_kind_of : List ℕ → Option LayerKind
-layer_kind_of word = lookup (bytes_eq word) ((codes "any", Any) ∷ (codes "point", Only kinds.Point) ∷ (codes "linestring", Only kinds.LineString)
-    ∷ (codes "polygon", Only kinds.Polygon) ∷ (codes "multipoint", Only kinds.MultiPoint)
-    ∷ (codes "multilinestring", Only kinds.MultiLineString) ∷ (codes "multipolygon", Only kinds.MultiPolygon) ∷ [])
-
--- the type of a column that a word spells
-abbrev pub column_type_of : List ℕ → Option ColumnType
-column_type_of word = lookup (bytes_eq word) ((codes "int", types.Int) ∷ (codes "text", types.Text) ∷ [])
-
--- the predicate that a word spells
-abbrev pub predicate_of : List ℕ → Option Predicate
-predicate_of word = lookup (bytes_eq word) ((codes "equals", predicates.Equals) ∷ (codes "disjoint", predicates.Disjoint)
-    ∷ (codes "touches", predicates.Touches) ∷ (codes "crosses", predicates.Crosses) ∷ (codes "within", predicates.Within)
-    ∷ (codes "contains", predicates.Contains) ∷ (codes "overlaps", predicates.Overlaps) ∷ (codes "intersects", predicates.Intersects) ∷ [])
-
--- whether a word stands for the feature that a layer was given last
-abbrev pub is_last : List ℕ → Bool
-is_last word = bytes_eq word (codes "last")
-
--- how many digits an identifier has at most
-abbrev pub id_digits_max : ℕ
-id_digits_max = 10
-
--- the identifier, place or index that one to ten digits spell, where it has 32 bits
-abbrev pub id_of : List ℕ → Option ℕ
-id_of word = let id = digits_value word in
-    if (nat_le (length word) id_digits_max && list_all is_ascii_digit word) && (nat_lt 0 (length word) && nat_lt id (2 ^ 32)) then Some id else None
-
--- the feature that a word names: by its identifier; or, where that may be, as the last one, whose identifier is not known yet
-abbrev pub id_named : Naming → List ℕ → Option ℕ
-id_named ById word = id_of word
-id_named OrLast word = if is_last word then Some 0 else id_of word
+use Rattle.sf_words.specs.declared.naming.Naming.{Naming}
+use Rattle.sf_words.specs.declared.naming.Naming.TheVariants.{ById}
+use Rattle.sf_words.specs.Words.{words, skip_blanks, skip_word, trimmed_end}
+use Rattle.sf_words.specs.Editors.{addressed}
+use Rattle.sf_words.specs.Naming.{given, id_named, id_of, vertex_place}
+use Rattle.sf_words.specs.Verbs.{action_of, verb_of}
+use Rattle.sf_words.specs.Points.{point_of}
+use Rattle.sf_values.specs.Kinds.{column_type_of, layer_kind_of, predicate_of}
+use Rattle.sf_values.specs.Values.{value_of}
 
 -- what is made of each of a list, where something is made of all of them
 abbrev pub each : {X Y : Type 0} → (X → Option Y) → List X → Option (List Y)
@@ -115,11 +54,6 @@ ids_max = 1000
 -- the identifiers that words spell: one to 1,000 of them
 abbrev pub ids_of : List (List ℕ) → Option (List ℕ)
 ids_of words = if nat_lt 0 (length words) && nat_le (length words) ids_max then each id_of words else None
-
--- what is made of a word that could be read
-abbrev pub given : {X Y : Type 0} → Option X → (X → Result Y Refusal) → Result Y Refusal
-given None make = Err BadCommand
-given (Some x) make = make x
 
 -- what is made of what words name, or the refusal of them
 abbrev pub made : {X Y : Type 0} → Result X Refusal → (X → Result Y Refusal) → Result Y Refusal
@@ -195,12 +129,6 @@ column_command action arguments = Err BadCommand
 abbrev pub column_arguments : List (List ℕ) → Result Command Refusal
 column_arguments [] = Err BadCommand
 column_arguments (action ∷ arguments) = column_command (action_of action) arguments
-
--- the vertex that four words name
-abbrev pub vertex_place : Naming → List ℕ → List ℕ → List ℕ → List ℕ → Result VertexPlace Refusal
-vertex_place naming id part ring index =
-    given (id_named naming id) (λ id. given (id_of part) (λ part. given (id_of ring) (λ ring. given (id_of index) (λ index.
-    Ok (record { id = id; part = part; ring = ring; index = index })))))
 
 -- the words after `vertex insert`: a layer, the numbers of a vertex, x and y
 abbrev pub insert_vertex : Naming → List (List ℕ) → Result Command Refusal
@@ -456,34 +384,6 @@ by_verb None rest = Err BadCommand
 abbrev pub by_words : List (List ℕ) → List ℕ → Result Command Refusal
 by_words [] rest = Err BadCommand
 by_words (verb ∷ arguments) rest = by_verb (verb_of verb) rest
-
--- what stands behind the `@` at the front of a word, if one stands there
-abbrev pub behind_at : List ℕ → Option (List ℕ)
-behind_at [] = None
-behind_at (b ∷ bytes) = if nat_eq b 64 then Some bytes else None
-
--- how many digits the number of an editor has at most
-abbrev pub editor_digits_max : ℕ
-editor_digits_max = 3
-
--- the number of an editor that one to three digits spell: from 1 to 255
-abbrev pub editor_of : List ℕ → Option ℕ
-editor_of digits = let editor = digits_value digits in
-    if (nat_le (length digits) editor_digits_max && list_all is_ascii_digit digits) && (nat_lt 0 editor && nat_lt editor (2 ^ 8)) then Some editor else None
-
--- the editor whose digits stand behind an `@`, and the line behind them; editor 0 and the whole line where no `@` stands
-abbrev pub by_digits : Option (List ℕ) → List ℕ → List ℕ → Result (ℕ × List ℕ) Refusal
-by_digits None rest line = Ok (0, line)
-by_digits (Some digits) rest line = given (editor_of digits) (λ editor. Ok (editor, rest))
-
--- the editor of a line of these words, and the line behind the word that names it
-abbrev pub by_first_word : List (List ℕ) → List ℕ → Result (ℕ × List ℕ) Refusal
-by_first_word [] line = Err BadCommand
-by_first_word (word ∷ more) line = by_digits (behind_at word) (skip_word line) line
-
--- the editor of a line, and the line behind the word that names it
-abbrev pub addressed : List ℕ → Result (ℕ × List ℕ) Refusal
-addressed line = by_first_word (words line) line
 
 -- a command with the editor who gives it
 abbrev pub by_editor : ℕ → Result Command Refusal → Result (ℕ × Command) Refusal

@@ -1,5 +1,5 @@
 -- A group of edits as one text: its head, and its members, with carriage returns between them.
-use Rattle.std.specs.Prelude.{◌≡◌, ℕ, ◌+◌, Bool, false, ◌&&◌, ◌||◌, ◌==◌, List, [], ◌∷◌, ◌++◌, length, Option, None, Some, Result, Ok, Err, nat_eq, nat_lt, nat_le, option_and_then, option_map, bytes_eq, codes, if◌then◌else◌}
+use Rattle.std.specs.Prelude.{◌≡◌, ℕ, ◌+◌, Bool, false, ◌&&◌, ◌||◌, List, [], ◌∷◌, ◌++◌, length, Option, None, Some, Result, Ok, Err, nat_eq, nat_lt, nat_le, option_and_then, option_map, bytes_eq, codes, if◌then◌else◌}
 use Rattle.std.specs.List.{list_any}
 use Rattle.sf_refusals.specs.declared.refusal.Refusal.{Refusal}
 use Rattle.sf_refusals.specs.declared.refusal.Refusal.TheVariants.{BadCommand}
@@ -12,8 +12,10 @@ use Rattle.sf_groups.specs.Members.{may_follow}
 use Rattle.sf_commands.specs.declared.group_text.GroupRefusal.{GroupRefusal}
 use Rattle.sf_commands.specs.declared.group_text.GroupRefusal.TheVariants.{Member, Memory}
 use Rattle.sf_commands.specs.declared.head.Head.{Head}
-use Rattle.sf_commands.specs.Words.{words}
-use Rattle.sf_commands.specs.Commands.{addressed, id_of}
+pub use Rattle.sf_words.specs.Parts.{is_return, parts_of}
+use Rattle.sf_words.specs.Words.{words}
+use Rattle.sf_words.specs.Naming.{id_of}
+use Rattle.sf_words.specs.Editors.{addressed}
 use Rattle.sf_commands.specs.Members.{member_of}
 
 -- ---- the head
@@ -41,10 +43,6 @@ abbrev pub addressed_head : Result (ℕ × List ℕ) Refusal → Option Head
 addressed_head (Ok at) = head_by_words at.0 (words at.1)
 addressed_head (Err refusal) = None
 
--- whether a byte is a carriage return
-abbrev pub is_return : ℕ → Bool
-is_return b = b == 13
-
 -- the head that a text is
 abbrev pub head_of : List ℕ → Option Head
 head_of text = if list_any is_return text then None else addressed_head (addressed text)
@@ -53,18 +51,6 @@ head_of text = if list_any is_return text then None else addressed_head (address
 abbrev pub begins_as_head : List ℕ → Bool
 begins_as_head [] = false
 begins_as_head (b ∷ bytes) = is_blank b || (nat_eq b 64 || nat_eq b 116)
-
--- ---- the parts of a text
-
--- a byte in front of the first part
-abbrev pub onto_first : ℕ → List (List ℕ) → List (List ℕ)
-onto_first b [] = (b ∷ []) ∷ []
-onto_first b (part ∷ parts) = (b ∷ part) ∷ parts
-
--- the parts of a text, between carriage returns; one alone where it has none
-abbrev pub parts_of : List ℕ → List (List ℕ)
-parts_of [] = [] ∷ []
-parts_of (b ∷ bytes) = let rest = parts_of bytes in if is_return b then [] ∷ rest else onto_first b rest
 
 -- ---- the members
 

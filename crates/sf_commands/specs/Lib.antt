@@ -1,5 +1,5 @@
-pub mod Words
-pub mod Values
+pub use Rattle.sf_words.specs.Words
+pub use Rattle.sf_values.specs.Values
 pub mod Commands
 pub mod Laws
 pub mod Members

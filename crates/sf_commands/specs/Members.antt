@@ -6,11 +6,13 @@ use Rattle.sf_lines.specs.Lines.{line_max}
 use Rattle.sf_groups.specs.declared.member.Member.{Member}
 use Rattle.sf_commands.specs.declared.command.Command.{Command}
 use Rattle.sf_commands.specs.declared.command.Command.TheVariants.{Edit}
-use Rattle.sf_commands.specs.declared.naming.Naming.TheVariants.{OrLast}
-use Rattle.sf_commands.specs.declared.verb.Verb.{Verb}
-use Rattle.sf_commands.specs.declared.verb.Verb.TheVariants as verbs
-use Rattle.sf_commands.specs.Words.{words, skip_blanks, skip_word}
-use Rattle.sf_commands.specs.Commands.{is_last, verb_of, add_arguments, addhex_arguments, delete_arguments, replace_arguments, vertex_arguments, set_arguments, unset_arguments}
+use Rattle.sf_words.specs.declared.naming.Naming.TheVariants.{OrLast}
+use Rattle.sf_words.specs.declared.verb.Verb.{Verb}
+use Rattle.sf_words.specs.declared.verb.Verb.TheVariants as verbs
+use Rattle.sf_words.specs.Words.{words, skip_blanks, skip_word}
+use Rattle.sf_words.specs.Verbs.{verb_of}
+use Rattle.sf_words.specs.Naming.{is_last}
+use Rattle.sf_commands.specs.Commands.{add_arguments, addhex_arguments, delete_arguments, replace_arguments, vertex_arguments, set_arguments, unset_arguments}
 
 -- whether the first, the second or the third of some words says `last`
 abbrev pub first_is_last : List (List ℕ) → Bool

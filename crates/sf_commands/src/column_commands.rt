@@ -2,14 +2,13 @@
 ghost use Rattle.std.specs.Prelude.{◌≡◌};
 ghost use Rattle.sf_commands.specs.Commands.{column_arguments as column_command_of, add_column as add_column_of, drop_column as drop_column_of, of_layer, OrMemory};
 ghost use Rattle.sf_commands.specs.declared.command.Command.TheVariants.{Columns};
-ghost use Rattle.sf_commands.specs.Words.{words as words_of};
+ghost use Rattle.sf_words.specs.Words.{words as words_of};
 
 use super::command::Command;
-use super::spelling::{column_type_of, text_of};
-use super::verb::{Action, action_of};
-use super::words::Words;
 use sf_refusals::Refusal;
 use sf_steps::Edit;
+use sf_values::{column_type_of, text_of};
+use sf_words::{Action, Words, action_of};
 use std::alloc::Global;
 
 /// The command of the words after `column`.

@@ -1,17 +1,16 @@
-//! Commands about whole features and their geometries.
+//! Commands about whole features and their geometries. Names are copied first: a geometry has more to drop where memory
+//! runs out.
 ghost use Rattle.std.specs.Prelude.{◌≡◌};
 ghost use Rattle.sf_commands.specs.Commands.{add_arguments as add_command_of, addhex_arguments as addhex_command_of, check_arguments as check_command_of, delete_arguments as delete_command_of, replace_arguments as replace_command_of, set_arguments as set_command_of, unset_arguments as unset_command_of, feature_arguments as feature_command_of, feature_named, of_layer, OrMemory};
 ghost use Rattle.sf_commands.specs.declared.command.Command.TheVariants.{Show, Hex, Simple, Extent};
-ghost use Rattle.sf_commands.specs.Words.{words as words_of, skip_blanks, skip_word};
+ghost use Rattle.sf_words.specs.Words.{words as words_of, skip_blanks, skip_word};
 
 use super::command::Command;
-use super::naming::Naming;
-use super::spelling::{bytes_of, id_named, text_of};
-use super::value::value_of;
-use super::words::{Words, trimmed_end};
-use sf_layers::Text;
+use sf_features::Text;
 use sf_refusals::Refusal;
 use sf_steps::Edit;
+use sf_values::{text_of, value_of};
+use sf_words::{Naming, Words, bytes_of, id_named, trimmed_end};
 use std::alloc::Global;
 
 /// The text is the rest of the line from the second word after `add` on.
@@ -19,8 +18,9 @@ pub(crate) fn add_arguments(alloc: Global, mut words: Words<'_>) -> Result<Comma
     ensures { OrMemory (add_command_of (words_of words.entry) (skip_blanks (skip_word words.entry))) result }
 {
     let layer = words.next()?;
-    let geometry = sf_wkt::read(alloc, words.rest()?)?;
+    let text = words.rest()?;
     let layer = text_of(alloc, layer)?;
+    let geometry = sf_wkt::read(alloc, text)?;
     Ok(Command::Edit(Edit::AddFeature { layer, geometry }))
 }
 
@@ -29,8 +29,9 @@ pub(crate) fn check_arguments(alloc: Global, mut words: Words<'_>) -> Result<Com
     ensures { OrMemory (check_command_of (words_of words.entry) (skip_blanks (skip_word words.entry))) result }
 {
     let layer = words.next()?;
-    let geometry = sf_wkt::read(alloc, words.rest()?)?;
+    let text = words.rest()?;
     let layer = text_of(alloc, layer)?;
+    let geometry = sf_wkt::read(alloc, text)?;
     Ok(Command::Check(layer, geometry))
 }
 
@@ -41,9 +42,9 @@ pub(crate) fn addhex_arguments(alloc: Global, mut words: Words<'_>) -> Result<Co
     let layer = words.next()?;
     let text = words.next()?;
     words.finish()?;
+    let layer = text_of(alloc, layer)?;
     let bytes = bytes_of(alloc, text)?;
     let geometry = sf_wkb::read(alloc, &bytes)?;
-    let layer = text_of(alloc, layer)?;
     Ok(Command::Edit(Edit::AddFeature { layer, geometry }))
 }
 
@@ -71,8 +72,8 @@ pub(crate) fn replace_arguments(
     let id = words.next()?;
     let text = words.rest()?;
     let id = id_named(naming, id).ok_or(Refusal::BadCommand)?;
-    let geometry = sf_wkt::read(alloc, text)?;
     let layer = text_of(alloc, layer)?;
+    let geometry = sf_wkt::read(alloc, text)?;
     Ok(Command::Edit(Edit::ReplaceGeometry {
         layer,
         id,

@@ -1,15 +1,16 @@
 //! Several edits on one text: a head, and members behind it, with carriage returns between them.
-ghost use Rattle.std.specs.Prelude.{◌≡◌, [], ◌∷◌, List, MatchOption, MatchResult, None, Some, Ok, Err, Result, ◌++◌, false, length, not};
-ghost use Rattle.std.specs.List.{count_by, list_any, prefix_len};
+ghost use Rattle.std.specs.Prelude.{◌≡◌, [], ◌∷◌, List, MatchOption, MatchResult, None, Some, Ok, Err, Result, length};
 ghost use Rattle.sf_groups.specs.declared.member.Member.{Member};
 ghost use Rattle.sf_commands.specs.Commands.{OrMemory};
-ghost use Rattle.sf_commands.specs.GroupTexts.{group_of, is_return, members_behind, members_of, parts_of, placed, refusal_of_member, refusal_of_not_taken, OrNoMemory, WasPlaced};
+ghost use Rattle.sf_commands.specs.GroupTexts.{group_of, members_behind, members_of, placed, refusal_of_member, refusal_of_not_taken, OrNoMemory, WasPlaced};
 ghost use Rattle.sf_commands.specs.Members.{member_of};
+ghost use Rattle.sf_words.specs.Parts.{parts_of};
 
 use super::head::{begins_as_head, head_of};
 use super::members::parse_member;
 use sf_groups::{Group, Member, NotTaken};
 use sf_refusals::Refusal;
+use sf_words::{parts_count, split_part};
 use std::alloc::Global;
 
 /// Why the texts of members are no group.
@@ -145,38 +146,4 @@ fn refused(number: usize, refusal: Refusal) -> GroupRefusal
         Refusal::Memory => GroupRefusal::Memory,
         refusal => GroupRefusal::Member { number, refusal },
     }
-}
-
-/// What stands before the first carriage return of a text, and what behind it; None where it has none.
-fn split_part(text: &str) -> Option<(&str, &str)>
-    ensures { MatchOption result
-        (list_any is_return text.now ≡ false)
-        (λ parts. (list_any is_return parts.0.now ≡ false) × (text.now ≡ parts.0.now ++ 13 ∷ parts.1.now)) }
-{
-    let end = part_len(text.as_bytes());
-    if end == text.len() {
-        return None;
-    }
-    Some((&text[..end], &text[end + 1..]))
-}
-
-/// How many bytes stand before the first carriage return.
-fn part_len(bytes: &[u8]) -> usize
-    ensures { result ≡ prefix_len (λ byte. not (is_return byte)) bytes.now }
-{
-    bytes.iter().take_while(|byte| **byte != b'\r').count()
-}
-
-/// How many parts a text has, between carriage returns.
-fn parts_count(text: &str) -> usize
-    ensures { result ≡ length (parts_of text.now) }
-{
-    returns_count(text) + 1
-}
-
-/// How many carriage returns a text has.
-fn returns_count(text: &str) -> usize
-    ensures { result ≡ count_by is_return text.now }
-{
-    text.bytes().filter(|byte| *byte == b'\r').count()
 }

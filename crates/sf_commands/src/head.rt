@@ -1,11 +1,9 @@
 //! The head of several lines that are one step.
 ghost use Rattle.std.specs.Prelude.{◌≡◌, ◌∷◌, [], IsFalse, None};
 ghost use Rattle.sf_commands.specs.GroupTexts.{begins_as_head as begins_as_head_of, count_of as count_spelled, group_of, head_by_words, head_of as head_spelled};
-ghost use Rattle.sf_commands.specs.Words.{words as words_of};
+ghost use Rattle.sf_words.specs.Words.{words as words_of};
 
-use super::addressing::addressed;
-use super::spelling::id_of;
-use super::words::{Words, is_blank};
+use sf_words::{Words, addressed, id_of, is_blank};
 
 /// The first line of several that are one step: whose step it is, and how many members come.
 #[derive(Clone, Copy, Debug, PartialEq, Eq)]

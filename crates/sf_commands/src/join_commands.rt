@@ -3,13 +3,13 @@ ghost use Rattle.std.specs.Prelude.{◌≡◌, ok_or};
 ghost use Rattle.sf_known.specs.Patterns.{pattern_of};
 ghost use Rattle.sf_refusals.specs.declared.refusal.Refusal.TheVariants.{BadPattern};
 ghost use Rattle.sf_commands.specs.Commands.{beside_of as beside_spelled, join_arguments as join_command_of, join_asked, join_matching, join_named, OrMemory};
-ghost use Rattle.sf_commands.specs.Words.{words as words_of};
+ghost use Rattle.sf_words.specs.Words.{words as words_of};
 
 use super::command::Command;
-use super::spelling::{id_of, predicate_of, text_of};
-use super::words::Words;
+use sf_known::{Pattern, Predicate};
 use sf_refusals::Refusal;
-use sf_relate::{Pattern, Predicate};
+use sf_values::{predicate_of, text_of};
+use sf_words::{Words, id_of};
 use std::alloc::Global;
 
 /// The command of the words after `join`: a layer, a predicate or pattern, another layer, and an identifier where one is

@@ -2,14 +2,13 @@
 ghost use Rattle.std.specs.Prelude.{◌≡◌};
 ghost use Rattle.sf_commands.specs.Commands.{layer_arguments as layer_command_of, add_layer as add_layer_of, drop_layer as drop_layer_of, rename_layer as rename_layer_of, move_layer as move_layer_of, alone, OrMemory};
 ghost use Rattle.sf_commands.specs.declared.command.Command.TheVariants.{Layers};
-ghost use Rattle.sf_commands.specs.Words.{words as words_of};
+ghost use Rattle.sf_words.specs.Words.{words as words_of};
 
 use super::command::Command;
-use super::spelling::{id_of, layer_kind_of, text_of};
-use super::verb::{Action, action_of};
-use super::words::Words;
 use sf_refusals::Refusal;
 use sf_steps::Edit;
+use sf_values::{layer_kind_of, text_of};
+use sf_words::{Action, Words, action_of, id_of};
 use std::alloc::Global;
 
 /// The command of the words after `layer`.

@@ -2,15 +2,13 @@
 ghost use Rattle.std.specs.Prelude.{◌≡◌, ok_or};
 ghost use Rattle.sf_refusals.specs.declared.refusal.Refusal.TheVariants.{BadCommand};
 ghost use Rattle.sf_commands.specs.Commands.{find_arguments as find_command_of, get_arguments as get_command_of, ids_of as ids_spelled, sought_of as sought_spelled, OrMemory};
-ghost use Rattle.sf_commands.specs.Words.{words as words_of, skip_blanks, skip_word};
+ghost use Rattle.sf_words.specs.Words.{words as words_of, skip_blanks, skip_word};
 
 use super::command::Command;
-use super::identifiers::Identifiers;
-use super::spelling::{id_of, text_of};
-use super::value::value_of;
-use super::words::{Words, trimmed_end};
-use sf_layers::AttrValue;
+use sf_features::AttrValue;
 use sf_refusals::Refusal;
+use sf_values::{text_of, value_of};
+use sf_words::{Identifiers, Words, id_of, trimmed_end};
 use std::alloc::Global;
 
 /// How many identifiers `get` takes at most.

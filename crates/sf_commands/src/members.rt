@@ -2,21 +2,18 @@
 ghost use Rattle.std.specs.Prelude.{◌≡◌};
 ghost use Rattle.sf_commands.specs.Commands.{OrMemory};
 ghost use Rattle.sf_commands.specs.Members.{member_by, member_by_verb, member_by_words, member_of, first_is_last, second_is_last, third_is_last};
-ghost use Rattle.sf_commands.specs.Words.{words as words_of, skip_word};
+ghost use Rattle.sf_words.specs.Words.{words as words_of, skip_word};
 
 use super::command::Command;
 use super::feature_commands::{
     add_arguments, addhex_arguments, delete_arguments, replace_arguments, set_arguments,
     unset_arguments,
 };
-use super::naming::Naming;
-use super::spelling::is_last;
-use super::verb::{Verb, verb_of};
 use super::vertex_commands::vertex_arguments;
-use super::words::Words;
 use sf_groups::Member;
 use sf_lines::LINE_MAX;
 use sf_refusals::Refusal;
+use sf_words::{Naming, Verb, Words, is_last, verb_of};
 use std::alloc::Global;
 
 /// The member of a line: an edit of a feature, without an editor's word, in which `last` may stand for the identifier.

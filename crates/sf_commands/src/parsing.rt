@@ -2,9 +2,8 @@
 ghost use Rattle.std.specs.Prelude.{◌≡◌};
 ghost use Rattle.sf_commands.specs.Commands.{command_of, by_words, by_verb, alone, takes_memory, verb_takes_memory, words_take_memory, OrMemoryIf};
 ghost use Rattle.sf_commands.specs.declared.command.Command.TheVariants.{Undo, Redo};
-ghost use Rattle.sf_commands.specs.Words.{words as words_of, skip_word};
+ghost use Rattle.sf_words.specs.Words.{words as words_of, skip_word};
 
-use super::addressing::addressed;
 use super::column_commands::{column_arguments, columns_arguments};
 use super::command::Command;
 use super::feature_commands::{
@@ -15,14 +14,12 @@ use super::feature_commands::{
 use super::join_commands::join_arguments;
 use super::layer_commands::{layer_arguments, layers_arguments};
 use super::lookup_commands::{find_arguments, get_arguments};
-use super::naming::Naming;
 use super::query_commands::{match_arguments, query_arguments, relate_arguments};
 use super::rule_commands::{rule_arguments, rules_arguments};
-use super::verb::{Verb, verb_of};
 use super::vertex_commands::vertex_arguments;
-use super::words::Words;
 use sf_lines::LINE_MAX;
 use sf_refusals::Refusal;
+use sf_words::{Naming, Verb, Words, addressed, verb_of};
 use std::alloc::Global;
 
 /// The command of a line with the number of the editor who gives it, 0 where its first word names none; or the

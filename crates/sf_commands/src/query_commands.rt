@@ -2,14 +2,14 @@
 ghost use Rattle.std.specs.Prelude.{◌≡◌};
 ghost use Rattle.sf_wkt.specs.Grammar.{read};
 ghost use Rattle.sf_commands.specs.Commands.{match_arguments as match_command_of, query_arguments as query_command_of, relate_arguments as relate_command_of, valid_of as valid_read, OrMemory};
-ghost use Rattle.sf_commands.specs.Words.{words as words_of, skip_blanks, skip_word};
+ghost use Rattle.sf_words.specs.Words.{words as words_of, skip_blanks, skip_word};
 
 use super::command::Command;
-use super::spelling::{id_of, predicate_of, text_of};
-use super::words::Words;
+use sf_known::Pattern;
 use sf_refusals::Refusal;
-use sf_relate::Pattern;
 use sf_validity::{Valid, validate};
+use sf_values::{predicate_of, text_of};
+use sf_words::{Words, id_of};
 use std::alloc::Global;
 
 /// The given geometry is the rest of the line from the third word after `relate` on.
@@ -20,8 +20,8 @@ pub(crate) fn relate_arguments(alloc: Global, mut words: Words<'_>) -> Result<Co
     let id = words.next()?;
     let text = words.rest()?;
     let id = id_of(id).ok_or(Refusal::BadCommand)?;
-    let given = valid_of(alloc, text)?;
     let layer = text_of(alloc, layer)?;
+    let given = valid_of(alloc, text)?;
     Ok(Command::Relate(layer, id, given))
 }
 
@@ -33,8 +33,8 @@ pub(crate) fn match_arguments(alloc: Global, mut words: Words<'_>) -> Result<Com
     let pattern = words.next()?;
     let text = words.rest()?;
     let pattern = Pattern::parse(pattern)?;
-    let given = valid_of(alloc, text)?;
     let layer = text_of(alloc, layer)?;
+    let given = valid_of(alloc, text)?;
     Ok(Command::Match(layer, pattern, given))
 }
 
@@ -46,8 +46,8 @@ pub(crate) fn query_arguments(alloc: Global, mut words: Words<'_>) -> Result<Com
     let predicate = words.next()?;
     let text = words.rest()?;
     let predicate = predicate_of(predicate).ok_or(Refusal::BadCommand)?;
-    let given = valid_of(alloc, text)?;
     let layer = text_of(alloc, layer)?;
+    let given = valid_of(alloc, text)?;
     Ok(Command::Query(layer, predicate, given))
 }
 

@@ -2,14 +2,14 @@
 ghost use Rattle.std.specs.Prelude.{◌≡◌, Ok, Err, MatchResult};
 ghost use Rattle.sf_commands.specs.Commands.{rule_arguments as rule_command_of, add_rule as add_rule_of, drop_rule as drop_rule_of, rule_asked as rule_asked_of, second_of as second_spelled, alone, OrMemory};
 ghost use Rattle.sf_commands.specs.declared.command.Command.TheVariants.{Rules};
-ghost use Rattle.sf_commands.specs.Words.{words as words_of};
+ghost use Rattle.sf_words.specs.Words.{words as words_of};
 
 use super::command::Command;
-use super::spelling::{ask_of, form_of, text_of};
-use super::verb::{Action, action_of};
-use super::words::Words;
+use super::spelling::{ask_of, form_of};
 use sf_constraints::{Form, Rule};
 use sf_refusals::Refusal;
+use sf_values::text_of;
+use sf_words::{Action, Words, action_of};
 use std::alloc::Global;
 
 /// The command of the words after `rule`.

@@ -1,17 +1,13 @@
 //! Commands about the vertices of a feature.
 ghost use Rattle.std.specs.Prelude.{◌≡◌};
-ghost use Rattle.sf_commands.specs.Commands.{vertex_arguments as vertex_command_of, insert_vertex as insert_vertex_of, move_vertex as move_vertex_of, remove_vertex as remove_vertex_of, vertex_place, OrMemory};
-ghost use Rattle.sf_commands.specs.Words.{words as words_of};
+ghost use Rattle.sf_commands.specs.Commands.{vertex_arguments as vertex_command_of, insert_vertex as insert_vertex_of, move_vertex as move_vertex_of, remove_vertex as remove_vertex_of, OrMemory};
+ghost use Rattle.sf_words.specs.Words.{words as words_of};
 
 use super::command::Command;
-use super::naming::Naming;
-use super::point::point_of;
-use super::spelling::{id_named, id_of, text_of};
-use super::verb::{Action, action_of};
-use super::vertex_place::VertexPlace;
-use super::words::Words;
 use sf_refusals::Refusal;
 use sf_steps::Edit;
+use sf_values::text_of;
+use sf_words::{Action, Naming, Words, action_of, place_of, point_of};
 use std::alloc::Global;
 
 /// The command of the words after `vertex`.
@@ -93,26 +89,4 @@ fn remove_vertex(alloc: Global, naming: Naming, mut words: Words<'_>) -> Result<
         ring: place.ring,
         index: place.index,
     }))
-}
-
-/// The vertex that four words name.
-fn place_of(
-    naming: Naming,
-    id: &str,
-    part: &str,
-    ring: &str,
-    index: &str,
-) -> Result<VertexPlace, Refusal>
-    ensures { result ≡ vertex_place naming id.now part.now ring.now index.now }
-{
-    let id = id_named(naming, id).ok_or(Refusal::BadCommand)?;
-    let part = id_of(part).ok_or(Refusal::BadCommand)?;
-    let ring = id_of(ring).ok_or(Refusal::BadCommand)?;
-    let index = id_of(index).ok_or(Refusal::BadCommand)?;
-    Ok(VertexPlace {
-        id,
-        part,
-        ring,
-        index,
-    })
 }

@@ -4,7 +4,8 @@ use Rattle.sf_wkt.specs.Grammar.{read}
 use Rattle.sf_steps.specs.declared.edit.Edit.TheVariants as edits
 use Rattle.sf_commands.specs.declared.command.Command.{Command}
 use Rattle.sf_commands.specs.declared.command.Command.TheVariants.{Edit}
-use Rattle.sf_commands.specs.Commands.{id_named, of_text, OrMemory}
+use Rattle.sf_words.specs.Naming.{id_named}
+use Rattle.sf_commands.specs.Commands.{of_text, OrMemory}
 use Rattle.sf_commands.proofs.AddLemmas.{replace_arguments-text, replaced_by, OrMemory-unread}
 use Rattle.sf_commands.proofs.feature_commands.replace_arguments.Goals as goal
 

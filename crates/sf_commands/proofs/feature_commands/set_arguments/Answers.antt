@@ -2,9 +2,9 @@ use Rattle.std.proofs.Common.{◌≡◌, ◌∙◌, None, Ok, Some, ap, sym, rul
 use Rattle.sf_refusals.specs.declared.refusal.Refusal.TheVariants.{BadCommand}
 use Rattle.sf_steps.specs.declared.edit.Edit.TheVariants as edits
 use Rattle.sf_commands.specs.declared.command.Command.TheVariants.{Edit}
-use Rattle.sf_commands.specs.Commands.{id_named}
-use Rattle.sf_commands.specs.Values.{value_of}
-use Rattle.sf_commands.specs.Words.{trimmed_end}
+use Rattle.sf_words.specs.Naming.{id_named}
+use Rattle.sf_values.specs.Values.{value_of}
+use Rattle.sf_words.specs.Words.{trimmed_end}
 use Rattle.sf_commands.proofs.AddLemmas.{OrMemory-refused, set_arguments-text, set_by}
 use Rattle.sf_commands.proofs.feature_commands.set_arguments.Goals as goal
 

@@ -1,6 +1,7 @@
 use Rattle.std.proofs.Common.{[], ◌∙◌, ap, sym, rules}
-use Rattle.sf_commands.specs.GroupTexts.{members_behind, parts_of}
-use Rattle.sf_commands.proofs.PartLemmas.{first_part, one_part}
+use Rattle.sf_words.specs.Parts.{parts_of}
+use Rattle.sf_commands.specs.GroupTexts.{members_behind}
+use Rattle.sf_words.proofs.PartLemmas.{first_part, one_part}
 use Rattle.sf_commands.proofs.GroupLemmas.{behind_taken, refused_behind}
 use Rattle.sf_commands.proofs.group_text.group_of_parts.Goals as goal
 

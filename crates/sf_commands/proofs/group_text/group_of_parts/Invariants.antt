@@ -1,7 +1,8 @@
 use Rattle.std.proofs.Common.{◌≡◌, [], length}
 use denote.Text.{Utf8}
 use denote.Shadow.{shadow}
-use Rattle.sf_commands.specs.GroupTexts.{members_behind, parts_of}
+use Rattle.sf_words.specs.Parts.{parts_of}
+use Rattle.sf_commands.specs.GroupTexts.{members_behind}
 use Rattle.sf_commands.proofs.group_text.group_of_parts.Given as goal
 
 -- the members so far, and those of the parts that are left behind them

@@ -1,5 +1,5 @@
 use Rattle.std.proofs.Common.{◌∙◌, ap, [], sym, length, arith}
-use Rattle.sf_commands.specs.GroupTexts.{parts_of}
+use Rattle.sf_words.specs.Parts.{parts_of}
 use Rattle.sf_commands.proofs.GroupLemmas.{counted}
 use Rattle.sf_commands.proofs.group_text.members_count.Goals as goal
 

@@ -1,8 +1,9 @@
 use Rattle.std.proofs.Common.{◌≡◌, false, ◌∙◌, sym, arith}
 use Rattle.std.specs.List.{list_any}
 use Rattle.std.proofs.lemmas.Str.Pattern.{contains_char}
-use Rattle.sf_commands.specs.GroupTexts.{is_return}
-use Rattle.sf_commands.proofs.PartLemmas.{head_of-addressed, no_return}
+use Rattle.sf_words.specs.Parts.{is_return}
+use Rattle.sf_words.proofs.PartLemmas.{no_return}
+use Rattle.sf_commands.proofs.PartLemmas.{head_of-addressed}
 use Rattle.sf_commands.proofs.head.head_of.Goals as goal
 
 pub returns-else-contains : goal.returns-else-contains

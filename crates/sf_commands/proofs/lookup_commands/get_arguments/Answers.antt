@@ -1,4 +1,4 @@
-use Rattle.sf_commands.specs.Words.{words}
+use Rattle.sf_words.specs.Words.{words}
 use Rattle.sf_commands.proofs.LookupLemmas.{get-refused}
 use Rattle.sf_commands.proofs.lookup_commands.get_arguments.Goals as goal
 

@@ -1,4 +1,4 @@
-use Rattle.sf_commands.specs.Words.{words}
+use Rattle.sf_words.specs.Words.{words}
 use Rattle.sf_commands.proofs.LookupLemmas.{AreRead}
 use Rattle.sf_commands.proofs.lookup_commands.ids_of.Given as goal
 

@@ -5,7 +5,8 @@ use Rattle.sf_refusals.specs.declared.refusal.Refusal.TheVariants.{BadCommand}
 use Rattle.sf_wkt.specs.Grammar.{read}
 use Rattle.sf_commands.specs.declared.command.Command.{Command}
 use Rattle.sf_commands.specs.declared.command.Command.TheVariants.{Query}
-use Rattle.sf_commands.specs.Commands.{predicate_of, valid_of, with_geometry, OrMemory}
+use Rattle.sf_values.specs.Kinds.{predicate_of}
+use Rattle.sf_commands.specs.Commands.{valid_of, with_geometry, OrMemory}
 use Rattle.sf_commands.proofs.QueryLemmas.{after_two_words-text, OrMemory-made}
 use Rattle.sf_commands.proofs.query_commands.query_arguments.Goals as goal
 

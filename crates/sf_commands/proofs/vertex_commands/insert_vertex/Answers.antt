@@ -1,4 +1,4 @@
-use Rattle.sf_commands.specs.Words.{words}
+use Rattle.sf_words.specs.Words.{words}
 use Rattle.sf_commands.proofs.VertexLemmas.{seven_words, insert_vertex-refused}
 use Rattle.sf_commands.proofs.vertex_commands.insert_vertex.Goals as goal
 

@@ -1,4 +1,4 @@
-use Rattle.sf_commands.specs.Words.{words}
+use Rattle.sf_words.specs.Words.{words}
 use Rattle.sf_commands.proofs.VertexLemmas.{seven_words, move_vertex-refused}
 use Rattle.sf_commands.proofs.vertex_commands.move_vertex.Goals as goal
 

@@ -1,0 +1,479 @@
+-- Geometries that features are compared with are judged over all points of the plane.
+use Rattle.std.proofs.Common.{◌≡◌, ℕ, ℤ, Bool, true, false, nat_lt, bytes_eq, codes, List, [], ◌∷◌, length, Option, None, Some, ok_or, Result, Ok, Err, IfErr, IfOk, if◌then◌else◌, refl, sym, ap, ◌∙◌, subst, true≢false}
+use Rattle.std.specs.List.{AllByRecursion}
+use Rattle.hex.specs.declared.error.FromHexError.{FromHexError}
+use Rattle.hex.specs.Hex.{decode_of}
+use Rattle.sf_refusals.specs.declared.refusal.Refusal.{Refusal}
+use Rattle.sf_refusals.specs.declared.refusal.Refusal.TheVariants.{BadCommand, BadPattern, LineTooLong, Syntax}
+use Rattle.sf_refusals.specs.declared.refusal.Refusal.TheVariants as refusals
+use Rattle.sf_grid.specs.Plane.{IsOnGrid}
+use Rattle.sf_geometry.specs.Parts.{points_of}
+use Rattle.sf_geometry.specs.declared.geometry.Geometry.{Geometry}
+use Rattle.sf_geometry.specs.Size.{IsSized}
+use Rattle.sf_rules.specs.declared.fault.Fault.{Fault}
+use Rattle.sf_rules.specs.declared.fault.Fault.TheVariants as faults
+use Rattle.sf_rules.specs.Faults.{refusal_of as refusal_of_fault}
+use Rattle.sf_rules.specs.Validity.{IsFirstFault, IsVerdict}
+use Rattle.sf_rules.specs.Verdicts.{first_fault}
+use Rattle.sf_rules.proofs.FirstLaws.{first_fault-over_plane}
+use Rattle.sf_known.specs.declared.predicate.Predicate.{Predicate}
+use Rattle.sf_known.specs.Patterns.{pattern_of}
+use Rattle.sf_lines.specs.Lines.{line_max}
+use Rattle.sf_wkt.specs.declared.fault.WktFault.{WktFault}
+use Rattle.sf_wkt.specs.declared.fault.WktFault.TheVariants as texts
+use Rattle.sf_wkt.specs.Faults.{refusal_of}
+use Rattle.sf_wkt.specs.Grammar.{read}
+use Rattle.sf_wkt.specs.Tokens.{coordinate_of}
+use Rattle.sf_wkt.proofs.Sized.{read_is_sized}
+use Rattle.sf_wkb.specs.declared.fault.WkbFault.{WkbFault}
+use Rattle.sf_wkb.specs.declared.fault.WkbFault.TheVariants as binaries
+use Rattle.sf_wkb.specs.Faults.{refusal_of as refusal_of_bytes}
+use Rattle.sf_wkb.specs.Grammar.{read as read_bytes}
+use Rattle.sf_constraints.specs.declared.rule.Form.{Form}
+use Rattle.sf_constraints.specs.declared.rule.Form.TheVariants.{Never, Each}
+use Rattle.sf_steps.specs.declared.edit.Edit.TheVariants as edits
+use Rattle.sf_commands.specs.declared.command.Command.{Command}
+use Rattle.sf_commands.specs.declared.command.Command.TheVariants.{Edit, Undo, Redo, Layers, Columns, Rules, Show, Hex, Simple, Extent, Relate, Match, Query}
+use Rattle.sf_words.specs.declared.naming.Naming.TheVariants.{ById}
+use Rattle.sf_words.specs.declared.verb.Verb.{Verb}
+use Rattle.sf_words.specs.declared.verb.Verb.TheVariants as verbs
+use Rattle.sf_words.specs.declared.verb.Action.{Action}
+use Rattle.sf_words.specs.declared.verb.Action.TheVariants as actions
+use Rattle.sf_words.specs.Words.{words, skip_blanks, skip_word, trimmed_end}
+use Rattle.sf_words.specs.Points.{point_by, point_of}
+use Rattle.sf_values.specs.Values.{value_of}
+use Rattle.sf_words.specs.Verbs.{action_of, verb_of}
+use Rattle.sf_words.specs.Naming.{given, id_of, vertex_place}
+use Rattle.sf_words.specs.Editors.{addressed, behind_at, by_digits, by_first_word, editor_of}
+use Rattle.sf_values.specs.Kinds.{column_type_of, layer_kind_of, predicate_of}
+use Rattle.sf_commands.specs.Commands.{add_arguments, add_column, check_arguments, add_layer, add_rule, addhex_arguments, addressed_command, after_two_words, alone, ask_by, ask_of, by_editor, by_verb, by_words, bytes_command, column_arguments, column_command, delete_arguments, drop_column, drop_layer, drop_rule, faultless, feature_arguments, feature_command, feature_named, find_arguments, form_of, get_arguments, join_arguments, join_by, beside_of, hex_command, ids_of, insert_vertex, layer_arguments, layer_command, made, match_arguments, move_layer, move_vertex, of_layer, of_text, query_arguments, relate_arguments, remove_vertex, rename_layer, replace_arguments, rule_arguments, rule_asked, rule_command, second_of, set_arguments, sought_of, unset_arguments, valid_of, vertex_arguments, vertex_command, with_geometry, with_id}
+use Rattle.sf_command_laws.specs.Laws.{GivenGeometriesAreJudgedOverThePlane, HasFaultyGiven, HasJudgedGiven, HasValidGiven, SpellsValid, given_text}
+
+-- what is said of what was made of a text behind the verb
+abbrev Judged : List ℕ → Result Command Refusal → Type 0
+Judged t (Ok command) = HasValidGiven t command
+Judged t (Err refusal) = HasFaultyGiven t refusal
+
+-- ---- refusals for a fault of shape, and others
+
+abbrev is_of_shape : Refusal → Bool
+is_of_shape refusals.ShortLine = true
+is_of_shape refusals.OpenRing = true
+is_of_shape refusals.ShortRing = true
+is_of_shape refusals.RingNotSimple = true
+is_of_shape refusals.RingsMeet = true
+is_of_shape refusals.HoleOutside = true
+is_of_shape refusals.HolesNested = true
+is_of_shape refusals.PolygonsOverlap = true
+is_of_shape refusal = false
+
+abbrev IsOther : Refusal → Type 0
+IsOther refusal = is_of_shape refusal ≡ false
+
+of_shape : (fault : Fault) → is_of_shape (refusal_of_fault fault) ≡ true
+of_shape faults.ShortLine = refl
+of_shape faults.OpenRing = refl
+of_shape faults.ShortRing = refl
+of_shape faults.RingNotSimple = refl
+of_shape faults.RingsMeet = refl
+of_shape faults.HoleOutside = refl
+of_shape faults.HolesNested = refl
+of_shape faults.PolygonsOverlap = refl
+
+other : (t : List ℕ) (refusal : Refusal) → IsOther refusal → HasFaultyGiven t refusal
+other t refusal is_other fault is = absurd (true≢false (sym (ap is_of_shape is ∙ of_shape fault) ∙ is_other))
+
+of_text_fault : (fault : WktFault) → IsOther (refusal_of fault)
+of_text_fault texts.Memory = refl
+of_text_fault (texts.Syntax place) = refl
+of_text_fault texts.OffGrid = refl
+of_text_fault texts.OutOfRange = refl
+of_text_fault texts.Empty = refl
+of_text_fault texts.UnsupportedType = refl
+of_text_fault texts.TooManyVertices = refl
+
+of_binary_fault : (fault : WkbFault) → IsOther (refusal_of_bytes fault)
+of_binary_fault binaries.Memory = refl
+of_binary_fault binaries.OffGrid = refl
+of_binary_fault binaries.OutOfRange = refl
+of_binary_fault binaries.Empty = refl
+of_binary_fault binaries.UnsupportedType = refl
+of_binary_fault binaries.Truncated = refl
+of_binary_fault binaries.Trailing = refl
+of_binary_fault binaries.TooManyVertices = refl
+
+bad : (t : List ℕ) → HasFaultyGiven t BadCommand
+bad t = other t BadCommand refl
+
+-- ---- what is made of parts
+
+given_judged : {X : Type 0} (t : List ℕ) (o : Option X) (make : X → Result Command Refusal) → ((x : X) → Judged t (make x)) → Judged t (given o make)
+given_judged t None make judged = bad t
+given_judged t (Some x) make judged = judged x
+
+made_judged : {X : Type 0} (t : List ℕ) (r : Result X Refusal) (make : X → Result Command Refusal) → IfErr r IsOther → ((x : X) → Judged t (make x)) → Judged t (made r make)
+made_judged t (Ok x) make others judged = judged x
+made_judged t (Err refusal) make others judged = other t refusal others
+
+text_judged : (t : List ℕ) (r : Result Geometry WktFault) (make : Geometry → Command) → ((geometry : Geometry) → HasValidGiven t (make geometry)) → Judged t (of_text r make)
+text_judged t (Ok geometry) make judged = judged geometry
+text_judged t (Err fault) make judged = other t (refusal_of fault) (of_text_fault fault)
+
+bytes_judged : (t layer : List ℕ) (r : Result Geometry WkbFault) → Judged t (bytes_command layer r)
+bytes_judged t layer (Ok geometry) = tt
+bytes_judged t layer (Err fault) = other t (refusal_of_bytes fault) (of_binary_fault fault)
+
+hex_judged : (t layer : List ℕ) (r : Result (List ℕ) FromHexError) → Judged t (hex_command layer r)
+hex_judged t layer (Ok bytes) = bytes_judged t layer (read_bytes bytes)
+hex_judged t layer (Err fault) = other t Syntax refl
+
+given_other : {X Y : Type 0} (o : Option X) (make : X → Result Y Refusal) → ((x : X) → IfErr (make x) IsOther) → IfErr (given o make) IsOther
+given_other None make others = refl
+given_other (Some x) make others = others x
+
+made_other : {X Y : Type 0} (r : Result X Refusal) (make : X → Result Y Refusal) → IfErr r IsOther → ((x : X) → IfErr (make x) IsOther) → IfErr (made r make) IsOther
+made_other (Ok x) make others further = further x
+made_other (Err refusal) make others further = others
+
+place_other : (id part ring index : List ℕ) → IfErr (vertex_place ById id part ring index) IsOther
+place_other id part ring index =
+    given_other (id_of id) _ (λ id. given_other (id_of part) _ (λ part. given_other (id_of ring) _ (λ ring. given_other (id_of index) _ (λ index. tt))))
+
+point_by_other : (x y : Option (Result ℤ WktFault)) → IfErr (point_by x y) IsOther
+point_by_other None y = refl
+point_by_other (Some x) None = refl
+point_by_other (Some (Err fault)) (Some y) = of_text_fault fault
+point_by_other (Some (Ok x)) (Some (Err fault)) = of_text_fault fault
+point_by_other (Some (Ok x)) (Some (Ok y)) = tt
+
+spelled_other : {X : Type 0} (o : Option X) (refusal : Refusal) → IsOther refusal → IfErr (ok_or o refusal) IsOther
+spelled_other None refusal is_other = is_other
+spelled_other (Some x) refusal is_other = tt
+
+-- ---- a given geometry
+
+-- what is said of a geometry that a text gives, or of its refusal
+abbrev GivenJudged : List ℕ → Result Geometry Refusal → Type 0
+GivenJudged t (Ok given) = SpellsValid t given
+GivenJudged t (Err refusal) = HasFaultyGiven t refusal
+
+-- the fault of shape of a refusal; of one that has none, any
+abbrev fault_of : Refusal → Fault
+fault_of refusals.OpenRing = faults.OpenRing
+fault_of refusals.ShortRing = faults.ShortRing
+fault_of refusals.RingNotSimple = faults.RingNotSimple
+fault_of refusals.RingsMeet = faults.RingsMeet
+fault_of refusals.HoleOutside = faults.HoleOutside
+fault_of refusals.HolesNested = faults.HolesNested
+fault_of refusals.PolygonsOverlap = faults.PolygonsOverlap
+fault_of refusal = faults.ShortLine
+
+its_fault : (fault : Fault) → fault_of (refusal_of_fault fault) ≡ fault
+its_fault faults.ShortLine = refl
+its_fault faults.OpenRing = refl
+its_fault faults.ShortRing = refl
+its_fault faults.RingNotSimple = refl
+its_fault faults.RingsMeet = refl
+its_fault faults.HoleOutside = refl
+its_fault faults.HolesNested = refl
+its_fault faults.PolygonsOverlap = refl
+
+one_fault : (first fault : Fault) → refusal_of_fault first ≡ refusal_of_fault fault → first ≡ fault
+one_fault first fault is = sym (its_fault first) ∙ ap fault_of is ∙ its_fault fault
+
+faultless_judged : (t : List ℕ) (geometry : Geometry) (verdict : Option Fault) → read t ≡ Ok geometry → IsVerdict geometry verdict → GivenJudged t (faultless geometry verdict)
+faultless_judged t geometry None is valid = (is, valid)
+faultless_judged t geometry (Some first) is faulty = λ fault same.
+    record { given = geometry; spelled = is; first = subst (IsFirstFault geometry) (one_fault first fault same) faulty }
+
+read_judged : (t : List ℕ) (r : Result Geometry WktFault) → read t ≡ r → IfOk r IsSized → GivenJudged t (valid_of r)
+read_judged t (Ok geometry) is sized = faultless_judged t geometry (first_fault geometry) is (first_fault-over_plane geometry sized)
+read_judged t (Err fault) is sized = other t (refusal_of fault) (of_text_fault fault)
+
+given_is_judged : (t : List ℕ) → GivenJudged t (valid_of (read t))
+given_is_judged t = read_judged t (read t) refl (read_sized (read t) (read_is_sized t))
+  where
+    read_sized : (r : Result Geometry WktFault) → IfOk r (λ g. IsSized g × AllByRecursion IsOnGrid (points_of g)) → IfOk r IsSized
+    read_sized (Ok geometry) good = good.0
+    read_sized (Err fault) good = tt
+
+with_geometry_judged : {X : Type 0} (t : List ℕ) (command : List ℕ → X → Geometry → Command) (layer : List ℕ) (spelled : Result X Refusal) (geometry : Result Geometry Refusal)
+    → IfErr spelled IsOther → GivenJudged t geometry → ((x : X) (given : Geometry) → SpellsValid t given → HasValidGiven t (command layer x given))
+    → Judged t (with_geometry command layer spelled geometry)
+with_geometry_judged t command layer (Err refusal) geometry others judged valid = other t refusal others
+with_geometry_judged t command layer (Ok x) (Err refusal) others judged valid = judged
+with_geometry_judged t command layer (Ok x) (Ok given) others judged valid = valid x given judged
+
+-- ---- the words after each verb
+
+add_layer_judged : (t : List ℕ) (arguments : List (List ℕ)) → Judged t (add_layer arguments)
+add_layer_judged t (name ∷ kind ∷ []) = given_judged t (layer_kind_of kind) _ (λ kind. tt)
+add_layer_judged t arguments = bad t
+
+drop_layer_judged : (t : List ℕ) (arguments : List (List ℕ)) → Judged t (drop_layer arguments)
+drop_layer_judged t (name ∷ []) = tt
+drop_layer_judged t arguments = bad t
+
+rename_layer_judged : (t : List ℕ) (arguments : List (List ℕ)) → Judged t (rename_layer arguments)
+rename_layer_judged t (name ∷ new_name ∷ []) = tt
+rename_layer_judged t arguments = bad t
+
+move_layer_judged : (t : List ℕ) (arguments : List (List ℕ)) → Judged t (move_layer arguments)
+move_layer_judged t (name ∷ place ∷ []) = given_judged t (id_of place) _ (λ place. tt)
+move_layer_judged t arguments = bad t
+
+layer_command_judged : (t : List ℕ) (action : Option Action) (arguments : List (List ℕ)) → Judged t (layer_command action arguments)
+layer_command_judged t (Some actions.Add) arguments = add_layer_judged t arguments
+layer_command_judged t (Some actions.Drop) arguments = drop_layer_judged t arguments
+layer_command_judged t (Some actions.Rename) arguments = rename_layer_judged t arguments
+layer_command_judged t (Some actions.Move) arguments = move_layer_judged t arguments
+layer_command_judged t action arguments = bad t
+
+layer_judged : (t : List ℕ) (arguments : List (List ℕ)) → Judged t (layer_arguments arguments)
+layer_judged t [] = bad t
+layer_judged t (action ∷ arguments) = layer_command_judged t (action_of action) arguments
+
+add_column_judged : (t : List ℕ) (arguments : List (List ℕ)) → Judged t (add_column arguments)
+add_column_judged t (layer ∷ name ∷ column_type ∷ []) = given_judged t (column_type_of column_type) _ (λ column_type. tt)
+add_column_judged t arguments = bad t
+
+drop_column_judged : (t : List ℕ) (arguments : List (List ℕ)) → Judged t (drop_column arguments)
+drop_column_judged t (layer ∷ name ∷ []) = tt
+drop_column_judged t arguments = bad t
+
+column_command_judged : (t : List ℕ) (action : Option Action) (arguments : List (List ℕ)) → Judged t (column_command action arguments)
+column_command_judged t (Some actions.Add) arguments = add_column_judged t arguments
+column_command_judged t (Some actions.Drop) arguments = drop_column_judged t arguments
+column_command_judged t action arguments = bad t
+
+column_judged : (t : List ℕ) (arguments : List (List ℕ)) → Judged t (column_arguments arguments)
+column_judged t [] = bad t
+column_judged t (action ∷ arguments) = column_command_judged t (action_of action) arguments
+
+insert_vertex_judged : (t : List ℕ) (arguments : List (List ℕ)) → Judged t (insert_vertex ById arguments)
+insert_vertex_judged t (layer ∷ id ∷ part ∷ ring ∷ index ∷ x ∷ y ∷ []) =
+    made_judged t (vertex_place ById id part ring index) _ (place_other id part ring index) (λ v. made_judged t (point_of x y) _ (point_by_other (coordinate_of x) (coordinate_of y)) (λ point. tt))
+insert_vertex_judged t arguments = bad t
+
+move_vertex_judged : (t : List ℕ) (arguments : List (List ℕ)) → Judged t (move_vertex ById arguments)
+move_vertex_judged t (layer ∷ id ∷ part ∷ ring ∷ index ∷ x ∷ y ∷ []) =
+    made_judged t (vertex_place ById id part ring index) _ (place_other id part ring index) (λ v. made_judged t (point_of x y) _ (point_by_other (coordinate_of x) (coordinate_of y)) (λ point. tt))
+move_vertex_judged t arguments = bad t
+
+remove_vertex_judged : (t : List ℕ) (arguments : List (List ℕ)) → Judged t (remove_vertex ById arguments)
+remove_vertex_judged t (layer ∷ id ∷ part ∷ ring ∷ index ∷ []) = made_judged t (vertex_place ById id part ring index) _ (place_other id part ring index) (λ v. tt)
+remove_vertex_judged t arguments = bad t
+
+vertex_command_judged : (t : List ℕ) (action : Option Action) (arguments : List (List ℕ)) → Judged t (vertex_command ById action arguments)
+vertex_command_judged t (Some actions.Insert) arguments = insert_vertex_judged t arguments
+vertex_command_judged t (Some actions.Move) arguments = move_vertex_judged t arguments
+vertex_command_judged t (Some actions.Remove) arguments = remove_vertex_judged t arguments
+vertex_command_judged t action arguments = bad t
+
+vertex_judged : (t : List ℕ) (arguments : List (List ℕ)) → Judged t (vertex_arguments ById arguments)
+vertex_judged t [] = bad t
+vertex_judged t (action ∷ arguments) = vertex_command_judged t (action_of action) arguments
+
+add_judged : (t : List ℕ) (arguments : List (List ℕ)) (text : List ℕ) → Judged t (add_arguments arguments text)
+add_judged t (layer ∷ first ∷ more) text = text_judged t (read text) _ (λ geometry. tt)
+add_judged t arguments text = bad t
+
+check_judged : (t : List ℕ) (arguments : List (List ℕ)) (text : List ℕ) → Judged t (check_arguments arguments text)
+check_judged t (layer ∷ first ∷ more) text = text_judged t (read text) _ (λ geometry. tt)
+check_judged t arguments text = bad t
+
+addhex_judged : (t : List ℕ) (arguments : List (List ℕ)) → Judged t (addhex_arguments arguments)
+addhex_judged t (layer ∷ hex ∷ []) = hex_judged t layer (decode_of hex)
+addhex_judged t arguments = bad t
+
+-- of commands about a feature that compare it with nothing
+about_judged : (t : List ℕ) (command : List ℕ → ℕ → Command) (r : Result (List ℕ × ℕ) Refusal) → IfErr r IsOther
+    → ((layer : List ℕ) (id : ℕ) → HasValidGiven t (command layer id)) → Judged t (feature_command command r)
+about_judged t command (Ok feature) others judged = judged feature.0 feature.1
+about_judged t command (Err refusal) others judged = other t refusal others
+
+with_id_other : (layer : List ℕ) (id : Option ℕ) → IfErr (with_id layer id) IsOther
+with_id_other layer None = refl
+with_id_other layer (Some id) = tt
+
+named_other : (arguments : List (List ℕ)) → IfErr (feature_named ById arguments) IsOther
+named_other (layer ∷ id ∷ []) = with_id_other layer (id_of id)
+named_other arguments = refl
+
+feature_judged : (t : List ℕ) (command : List ℕ → ℕ → Command) (arguments : List (List ℕ)) → ((layer : List ℕ) (id : ℕ) → HasValidGiven t (command layer id)) → Judged t (feature_arguments command arguments)
+feature_judged t command arguments judged = about_judged t command (feature_named ById arguments) (named_other arguments) judged
+
+delete_judged : (t : List ℕ) (arguments : List (List ℕ)) → Judged t (delete_arguments ById arguments)
+delete_judged t arguments = feature_judged t (λ layer id. Edit (edits.DeleteFeature layer id)) arguments (λ layer id. tt)
+
+replace_judged : (t : List ℕ) (arguments : List (List ℕ)) (text : List ℕ) → Judged t (replace_arguments ById arguments text)
+replace_judged t (layer ∷ id ∷ first ∷ more) text =
+    given_judged t (id_of id) _ (λ id. text_judged t (read text) _ (λ geometry. tt))
+replace_judged t arguments text = bad t
+
+set_judged : (t : List ℕ) (arguments : List (List ℕ)) (text : List ℕ) → Judged t (set_arguments ById arguments text)
+set_judged t (layer ∷ id ∷ column ∷ first ∷ more) text =
+    given_judged t (id_of id) _ (λ id. given_judged t (value_of (trimmed_end text)) _ (λ value. tt))
+set_judged t arguments text = bad t
+
+unset_judged : (t : List ℕ) (arguments : List (List ℕ)) → Judged t (unset_arguments ById arguments)
+unset_judged t (layer ∷ id ∷ column ∷ []) = given_judged t (id_of id) _ (λ id. tt)
+unset_judged t arguments = bad t
+
+get_judged : (t : List ℕ) (arguments : List (List ℕ)) → Judged t (get_arguments arguments)
+get_judged t [] = bad t
+get_judged t (layer ∷ ids) = given_judged t (ids_of ids) _ (λ ids. tt)
+
+sought_other : (value : List (List ℕ)) (text : List ℕ) → IfErr (sought_of value text) IsOther
+sought_other [] text = tt
+sought_other (first ∷ more) text = given_other (value_of (trimmed_end text)) _ (λ value. tt)
+
+find_judged : (t : List ℕ) (arguments : List (List ℕ)) (text : List ℕ) → Judged t (find_arguments arguments text)
+find_judged t [] text = bad t
+find_judged t (layer ∷ []) text = bad t
+find_judged t (layer ∷ column ∷ value) text = made_judged t (sought_of value text) _ (sought_other value text) (λ sought. tt)
+
+beside_other : (words : List (List ℕ)) → IfErr (beside_of words) IsOther
+beside_other [] = tt
+beside_other (id ∷ []) = given_other (id_of id) _ (λ id. tt)
+beside_other (id ∷ (word ∷ more)) = refl
+
+join_by_judged : (t first ask : List ℕ) (predicate : Option Predicate) (second : List ℕ) (beside : Option ℕ) → Judged t (join_by first ask predicate second beside)
+join_by_judged t first ask (Some predicate) second beside = tt
+join_by_judged t first ask None second beside = made_judged t (ok_or (pattern_of ask) BadPattern) _ (spelled_other (pattern_of ask) BadPattern refl) (λ letters. tt)
+
+join_judged : (t : List ℕ) (arguments : List (List ℕ)) → Judged t (join_arguments arguments)
+join_judged t [] = bad t
+join_judged t (first ∷ []) = bad t
+join_judged t (first ∷ ask ∷ []) = bad t
+join_judged t (first ∷ ask ∷ second ∷ beside) = made_judged t (beside_of beside) _ (beside_other beside) (λ beside. join_by_judged t first ask (predicate_of ask) second beside)
+
+ask_by_other : (word : List ℕ) (predicate : Option Predicate) → IfErr (ask_by word predicate) IsOther
+ask_by_other word (Some predicate) = tt
+ask_by_other word None = made_other (ok_or (pattern_of word) BadPattern) _ (spelled_other (pattern_of word) BadPattern refl) (λ letters. tt)
+
+some_other : (is : Bool) (second : List ℕ) → IfErr (if is then Ok second else Err BadCommand) IsOther
+some_other true second = tt
+some_other false second = refl
+
+second_other : (form : Form) (arguments : List (List ℕ)) → IfErr (second_of form arguments) IsOther
+second_other Never [] = refl
+second_other Never (second ∷ []) = tt
+second_other Never (second ∷ word ∷ more) = refl
+second_other Each [] = refl
+second_other Each (some ∷ []) = refl
+second_other Each (some ∷ second ∷ []) = some_other (bytes_eq some (codes "some")) second
+second_other Each (some ∷ second ∷ word ∷ more) = refl
+
+rule_asked_judged : (t name : List ℕ) (form : Form) (first ask second : List ℕ) → Judged t (rule_asked name form first ask second)
+rule_asked_judged t name form first ask second = made_judged t (ask_of ask) _ (ask_by_other ask (predicate_of ask)) (λ ask. tt)
+
+add_rule_judged : (t : List ℕ) (arguments : List (List ℕ)) → Judged t (add_rule arguments)
+add_rule_judged t [] = bad t
+add_rule_judged t (name ∷ []) = bad t
+add_rule_judged t (name ∷ form ∷ []) = bad t
+add_rule_judged t (name ∷ form ∷ first ∷ []) = bad t
+add_rule_judged t (name ∷ form ∷ first ∷ ask ∷ second) =
+    given_judged t (form_of form) _ (λ form. made_judged t (second_of form second) _ (second_other form second) (λ second. rule_asked_judged t name form first ask second))
+
+drop_rule_judged : (t : List ℕ) (arguments : List (List ℕ)) → Judged t (drop_rule arguments)
+drop_rule_judged t (name ∷ []) = tt
+drop_rule_judged t arguments = bad t
+
+rule_command_judged : (t : List ℕ) (action : Option Action) (arguments : List (List ℕ)) → Judged t (rule_command action arguments)
+rule_command_judged t (Some actions.Add) arguments = add_rule_judged t arguments
+rule_command_judged t (Some actions.Drop) arguments = drop_rule_judged t arguments
+rule_command_judged t action arguments = bad t
+
+rule_judged : (t : List ℕ) (arguments : List (List ℕ)) → Judged t (rule_arguments arguments)
+rule_judged t [] = bad t
+rule_judged t (action ∷ arguments) = rule_command_judged t (action_of action) arguments
+
+after_two_words_judged : (t : List ℕ) (make : List ℕ → List ℕ → List ℕ → Result Command Refusal) (arguments : List (List ℕ)) → ((layer word : List ℕ) → Judged t (make layer word t))
+    → Judged t (after_two_words make arguments t)
+after_two_words_judged t make (layer ∷ word ∷ first ∷ more) judged = judged layer word
+after_two_words_judged t make arguments judged = bad t
+
+relate_judged : (t : List ℕ) (arguments : List (List ℕ)) → Judged t (relate_arguments arguments t)
+relate_judged t arguments = after_two_words_judged t _ arguments (λ layer id.
+    with_geometry_judged t Relate layer (ok_or (id_of id) BadCommand) (valid_of (read t)) (spelled_other (id_of id) BadCommand refl) (given_is_judged t) (λ id given valid. valid))
+
+match_judged : (t : List ℕ) (arguments : List (List ℕ)) → Judged t (match_arguments arguments t)
+match_judged t arguments = after_two_words_judged t _ arguments (λ layer pattern.
+    with_geometry_judged t Match layer (ok_or (pattern_of pattern) BadPattern) (valid_of (read t)) (spelled_other (pattern_of pattern) BadPattern refl) (given_is_judged t) (λ pattern given valid. valid))
+
+query_judged : (t : List ℕ) (arguments : List (List ℕ)) → Judged t (query_arguments arguments t)
+query_judged t arguments = after_two_words_judged t _ arguments (λ layer predicate.
+    with_geometry_judged t Query layer (ok_or (predicate_of predicate) BadCommand) (valid_of (read t)) (spelled_other (predicate_of predicate) BadCommand refl) (given_is_judged t) (λ predicate given valid. valid))
+
+of_layer_judged : (t : List ℕ) (command : List ℕ → Command) (arguments : List (List ℕ)) → ((layer : List ℕ) → HasValidGiven t (command layer)) → Judged t (of_layer command arguments)
+of_layer_judged t command (layer ∷ []) judged = judged layer
+of_layer_judged t command arguments judged = bad t
+
+alone_judged : (t : List ℕ) (command : Command) (arguments : List (List ℕ)) → HasValidGiven t command → Judged t (alone command arguments)
+alone_judged t command [] judged = judged
+alone_judged t command arguments judged = bad t
+
+-- ---- the line
+
+-- the text that a given geometry has behind a verb and the line after it
+abbrev behind : List ℕ → List ℕ
+behind rest = skip_blanks (skip_word (skip_word rest))
+
+by_verb_judged : (verb : Option Verb) (rest : List ℕ) → Judged (behind rest) (by_verb verb rest)
+by_verb_judged (Some verbs.Layer) rest = layer_judged (behind rest) (words rest)
+by_verb_judged (Some verbs.Column) rest = column_judged (behind rest) (words rest)
+by_verb_judged (Some verbs.Add) rest = add_judged (behind rest) (words rest) (skip_blanks (skip_word rest))
+by_verb_judged (Some verbs.AddHex) rest = addhex_judged (behind rest) (words rest)
+by_verb_judged (Some verbs.Delete) rest = delete_judged (behind rest) (words rest)
+by_verb_judged (Some verbs.Replace) rest = replace_judged (behind rest) (words rest) (behind rest)
+by_verb_judged (Some verbs.Vertex) rest = vertex_judged (behind rest) (words rest)
+by_verb_judged (Some verbs.Set) rest = set_judged (behind rest) (words rest) (skip_blanks (skip_word (skip_word (skip_word rest))))
+by_verb_judged (Some verbs.Unset) rest = unset_judged (behind rest) (words rest)
+by_verb_judged (Some verbs.Rule) rest = rule_judged (behind rest) (words rest)
+by_verb_judged (Some verbs.Undo) rest = alone_judged (behind rest) Undo (words rest) tt
+by_verb_judged (Some verbs.Redo) rest = alone_judged (behind rest) Redo (words rest) tt
+by_verb_judged (Some verbs.Layers) rest = alone_judged (behind rest) Layers (words rest) tt
+by_verb_judged (Some verbs.Columns) rest = of_layer_judged (behind rest) Columns (words rest) (λ layer. tt)
+by_verb_judged (Some verbs.Rules) rest = alone_judged (behind rest) Rules (words rest) tt
+by_verb_judged (Some verbs.Show) rest = of_layer_judged (behind rest) Show (words rest) (λ layer. tt)
+by_verb_judged (Some verbs.Get) rest = get_judged (behind rest) (words rest)
+by_verb_judged (Some verbs.Find) rest = find_judged (behind rest) (words rest) (behind rest)
+by_verb_judged (Some verbs.Check) rest = check_judged (behind rest) (words rest) (skip_blanks (skip_word rest))
+by_verb_judged (Some verbs.Hex) rest = feature_judged (behind rest) Hex (words rest) (λ layer id. tt)
+by_verb_judged (Some verbs.Box) rest = feature_judged (behind rest) Extent (words rest) (λ layer id. tt)
+by_verb_judged (Some verbs.Simple) rest = feature_judged (behind rest) Simple (words rest) (λ layer id. tt)
+by_verb_judged (Some verbs.Relate) rest = relate_judged (behind rest) (words rest)
+by_verb_judged (Some verbs.Match) rest = match_judged (behind rest) (words rest)
+by_verb_judged (Some verbs.Query) rest = query_judged (behind rest) (words rest)
+by_verb_judged (Some verbs.Join) rest = join_judged (behind rest) (words rest)
+by_verb_judged None rest = bad (behind rest)
+
+by_words_judged : (all : List (List ℕ)) (rest : List ℕ) → Judged (behind rest) (by_words all rest)
+by_words_judged [] rest = bad (behind rest)
+by_words_judged (verb ∷ arguments) rest = by_verb_judged (verb_of verb) rest
+
+by_editor_judged : (t : List ℕ) (editor : ℕ) (r : Result Command Refusal) → Judged t r → HasJudgedGiven t (by_editor editor r)
+by_editor_judged t editor (Ok command) judged = judged
+by_editor_judged t editor (Err refusal) judged = judged
+
+digits_other : (digits : Option (List ℕ)) (rest line : List ℕ) → IfErr (by_digits digits rest line) IsOther
+digits_other None rest line = tt
+digits_other (Some digits) rest line = given_other (editor_of digits) _ (λ editor. tt)
+
+first_word_other : (all : List (List ℕ)) (line : List ℕ) → IfErr (by_first_word all line) IsOther
+first_word_other [] line = refl
+first_word_other (word ∷ more) line = digits_other (behind_at word) (skip_word line) line
+
+addressed_judged : (r : Result (ℕ × List ℕ) Refusal) → IfErr r IsOther → HasJudgedGiven (given_text r) (made r (λ at. by_editor at.0 (by_words (words at.1) (skip_word at.1))))
+addressed_judged (Ok at) others = by_editor_judged (behind (skip_word at.1)) at.0 (by_words (words at.1) (skip_word at.1)) (by_words_judged (words at.1) (skip_word at.1))
+addressed_judged (Err refusal) others = other [] refusal others
+
+by_length : (t : List ℕ) (long : Bool) (r : Result (ℕ × Command) Refusal) → HasJudgedGiven t r → HasJudgedGiven t (if long then Err LineTooLong else r)
+by_length t true r judged = other t LineTooLong refl
+by_length t false r judged = judged
+
+pub given_geometries_are_judged_over_the_plane : GivenGeometriesAreJudgedOverThePlane
+given_geometries_are_judged_over_the_plane line =
+    by_length (given_text (addressed line)) (nat_lt line_max (length line)) (addressed_command line)
+    (addressed_judged (addressed line) (first_word_other (words line) line))

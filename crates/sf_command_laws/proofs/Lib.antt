@@ -1,0 +1,5 @@
+pub mod JudgedProofs
+mod Computed
+mod ComputedQueries
+mod ComputedMembers
+mod ComputedGroups

@@ -1,0 +1,2 @@
+pub mod IntLemmas
+pub mod QuoteLemmas
