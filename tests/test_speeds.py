@@ -371,7 +371,7 @@ class Speeds(unittest.TestCase):
         asked = {
             "across": ([f"query a {predicate} {WINDOW}" for predicate in predicates] * 10, 1.4),
             "within": ([f"query a {predicate} {ROUND}" for predicate in predicates] * 10, 0.2),
-            "matrices": ([f"relate a {k} {WINDOW}" for k in range(1, RINGS + 1)] * 5, 0.25),
+            "matrices": ([f"relate a {k} {WINDOW}" for k in range(1, RINGS + 1)] * 40, 1.5),
         }
         for name, (lines, needed) in asked.items():
             with self.subTest(name):
