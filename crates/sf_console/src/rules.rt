@@ -2,7 +2,7 @@
 ghost use Rattle.std.specs.Prelude.{◌≡◌, ◌++◌, ◌⊎◌, false, map, string_bytes, IfOk, Ok, OnOk};
 ghost use Rattle.sf_known.specs.Patterns.{pattern_text};
 ghost use Rattle.sf_commands.specs.declared.command.Command.TheVariants as commands;
-ghost use Rattle.sf_console.specs.Answers.{broken_line as broken_line_of, line, refusal_line, reply_text, rows, step_refusal_line};
+ghost use Rattle.sf_console.specs.Answers.{IsSaidAlways, broken_line as broken_line_of, line, refusal_line, reply_text, rows, step_refusal_line};
 ghost use Rattle.sf_console.specs.Readings.{Asked};
 ghost use Rattle.sf_console.specs.RuleRows.{ask_word, break_words, broken_name as broken_name_of, form_words as form_words_of, front_words, rule_name as rule_name_of, rule_row, second_words as second_words_of};
 ghost use Rattle.sf_console.specs.Session.{IsAnswered};
@@ -55,13 +55,14 @@ pub(crate) fn rules(alloc: Global, rules: &Rules) -> Result<Reply, Refusal>
     Ok(Reply::Lines(rule_rows(alloc, rules.as_slice())?))
 }
 
-/// The reply to a step that is refused under these rules.
+/// The reply to a step that is refused under these rules. Only the line of a rule that would be broken takes memory.
 pub fn refused_by_rules(
     alloc: Global,
     rules: &Rules,
     refusal: StepRefusal,
 ) -> Result<Reply, Refusal>
-    ensures { (reply_text result ≡ step_refusal_line (broken_name_of rules.now refusal) refusal) ⊎ (reply_text result ≡ refusal_line Refusal.Memory) }
+    ensures said { (reply_text result ≡ step_refusal_line (broken_name_of rules.now refusal) refusal) ⊎ (reply_text result ≡ refusal_line Refusal.Memory) }
+    ensures always { IsSaidAlways refusal → reply_text result ≡ step_refusal_line (broken_name_of rules.now refusal) refusal }
 {
     let name = broken_name(rules.as_slice(), &refusal);
     refused_step(alloc, name, refusal)
@@ -87,9 +88,11 @@ fn rule_name(rules: &[Rule], place: usize) -> &str
     }
 }
 
-/// The reply to a step that is refused. The name is that of the rule that it would break, where it would break one.
+/// The reply to a step that is refused. The name is that of the rule that it would break, where it would break one; only the line
+/// of such a rule takes memory.
 pub fn refused_step(alloc: Global, name: &str, refusal: StepRefusal) -> Result<Reply, Refusal>
-    ensures { (reply_text result ≡ step_refusal_line name.now refusal) ⊎ (reply_text result ≡ refusal_line Refusal.Memory) }
+    ensures said { (reply_text result ≡ step_refusal_line name.now refusal) ⊎ (reply_text result ≡ refusal_line Refusal.Memory) }
+    ensures always { IsSaidAlways refusal → reply_text result ≡ step_refusal_line name.now refusal }
 {
     match refusal {
         StepRefusal::ByEdit(refusal) => Err(refusal.into()),

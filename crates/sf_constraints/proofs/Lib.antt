@@ -6,6 +6,7 @@ pub mod LookLaws
 pub mod LoopLaws
 pub mod LeavingLaws
 pub mod WholeLaws
+pub mod MutualLaws
 pub mod UnderwayLaws
 pub mod HoldsLaws
 pub mod NearLaws

@@ -111,7 +111,7 @@ and-true : (b : Bool) → b && true ≡ b
 and-true true = refl
 and-true false = refl
 
-partner-now : (between : Between) (i j : ℕ) → between.leaving.now ≡ [] → is_partner between i j ≡ are_distinct between.one i j
+pub partner-now : (between : Between) (i j : ℕ) → between.leaving.now ≡ [] → is_partner between i j ≡ are_distinct between.one i j
 partner-now between i j none =
     ap (λ (leaving : List Slot). are_distinct between.one i j && not (is_leaving leaving between.second_place j)) none ∙ and-true (are_distinct between.one i j)
 

@@ -1,6 +1,6 @@
 -- Internal: who wants to trust the program need not read this file.
 -- Which breaks are looked at after a change, between two layers: by the features that were changed, and by those beside them.
-use Rattle.std.specs.Prelude.{ℕ, Bool, not, ◌&&◌, List, [], ◌∷◌, ◌++◌, map, filter, flat_map, Option, None, Some, nat_eq, if◌then◌else◌}
+use Rattle.std.specs.Prelude.{◌≡◌, ℕ, Bool, true, false, not, ◌&&◌, List, [], ◌∷◌, ◌++◌, map, filter, flat_map, Option, None, Some, bytes_eq, nat_eq, nat_lt, if◌then◌else◌}
 use Rattle.std.specs.List.{list_any}
 use Rattle.sf_patches.specs.declared.slot.Slot.{Slot}
 use Rattle.sf_patches.specs.declared.slot.Slot.TheVariants.{Counter, State}
@@ -9,7 +9,14 @@ use Rattle.sf_constraints.specs.Leaving.{is_leaving}
 use Rattle.sf_geometry.specs.declared.geometry.Geometry.{Geometry}
 use Rattle.sf_features.specs.Features.{FeatureContent}
 use Rattle.sf_layers.specs.Content.{LayerContent, feature_of}
+use Rattle.sf_layers.specs.WellFormed.{IsLayer}
+use Rattle.sf_joins.specs.Converse.{HasNineLetters, converse}
 use Rattle.sf_joins.specs.Joins.{are_distinct}
+use Rattle.sf_known.specs.Patterns.{letter_character}
+use Rattle.sf_known.specs.declared.letter.Letter.{Letter}
+use Rattle.sf_known.specs.declared.predicate.Predicate.TheVariants.{Contains, Within}
+use Rattle.sf_query.specs.declared.ask.Ask.{Ask}
+use Rattle.sf_query.specs.declared.ask.Ask.TheVariants.{Matching, Named}
 use Rattle.sf_query.specs.Answers.{ids_found}
 use Rattle.sf_constraints.specs.declared.breaks.Break.{Break}
 use Rattle.sf_constraints.specs.declared.rule.Form.{Form}
@@ -68,6 +75,34 @@ pairs_second between place id =
 abbrev pub pairs_of_slot : Between → Slot → List Break
 pairs_of_slot between (Counter place next_id) = []
 pairs_of_slot between (State place id state) = pairs_first between place id ++ pairs_second between place id
+
+-- nine letters ask the same of two geometries either way round
+abbrev pub is_symmetric : List Letter → Bool
+is_symmetric (ii ∷ ib ∷ ie ∷ bi ∷ bb ∷ be ∷ ei ∷ eb ∷ rest) =
+    bytes_eq (letter_character ib ∷ []) (letter_character bi ∷ []) && bytes_eq (letter_character ie ∷ []) (letter_character ei ∷ [])
+    && bytes_eq (letter_character be ∷ []) (letter_character eb ∷ [])
+is_symmetric letters = false
+
+-- an ask is its own converse
+abbrev pub is_own_converse : Ask → Bool
+is_own_converse (Matching letters) = is_symmetric letters
+is_own_converse (Named Within) = false
+is_own_converse (Named Contains) = false
+is_own_converse (Named predicate) = true
+
+-- a pair of two features of one layer is as asked from either side, and none leaves
+pub record IsMutual (between : Between) : Type 0 where
+  pub one : between.one ≡ true
+  pub same : between.second.now ≡ between.first.now
+  pub own : between.converse ≡ between.ask
+  pub turned : between.converse ≡ converse between.ask
+  pub nine : HasNineLetters between.ask
+  pub leaves : between.leaving.now ≡ []
+  pub fine : IsLayer between.first.now
+
+-- the pairs with a feature behind one
+abbrev pub pairs_behind : Between → ℕ → Geometry → List Break
+pairs_behind between i geometry = map (λ j. Pair i j) (filter (λ j. nat_lt i j) (partners between geometry))
 
 -- ---- a feature without a partner
 

@@ -2,13 +2,14 @@
 
 ghost use Rattle.std.specs.Prelude.{◌≡◌, IfOk, None};
 ghost use Rattle.sf_constraints.specs.Breaks.{least_from};
-ghost use Rattle.sf_constraints.specs.Looks.{pairs_beside, pairs_first, pairs_looked_at, pairs_of_slot, pairs_second, pairs_with};
+ghost use Rattle.sf_constraints.specs.Looks.{pairs_behind, pairs_beside, pairs_first, pairs_looked_at, pairs_of_slot, pairs_second, pairs_with};
+ghost use Rattle.sf_constraints.specs.Rules.{first_of};
 ghost use Rattle.sf_layers.specs.WellFormed.{IsLayer};
 
 use super::between::{Between, staying};
 use super::breaks::{Break, lesser};
 use sf_patches::Slot;
-use sf_query::features_asked;
+use sf_query::{features_asked, ids_asked_behind};
 use sf_validity::Valid;
 use std::alloc::{AllocError, Global};
 
@@ -114,7 +115,27 @@ pub(crate) fn least_with(
     Ok(least)
 }
 
-/// The same with a feature of the second layer.
+/// The first pair of a feature with one behind it that is as asked.
+pub(crate) fn first_behind(
+    alloc: Global,
+    between: &Between<'_>,
+    id: u32,
+    valid: &Valid,
+) -> Result<Option<Break>, AllocError>
+    requires { IsLayer between.now.second.now }
+    ensures { IfOk result (λ found. found ≡ first_of (pairs_behind between.now id valid.now)) }
+{
+    let behind = ids_asked_behind(alloc, between.second, &between.converse, valid, id)?;
+    let Some(second) = behind.as_slice().first() else {
+        return Ok(None);
+    };
+    Ok(Some(Break::Pair {
+        first: id,
+        second: *second,
+    }))
+}
+
+/// The least of the pairs with a feature of the second layer, and of what was the least before.
 fn least_beside(
     alloc: Global,
     between: &Between<'_>,

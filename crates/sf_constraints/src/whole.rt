@@ -3,14 +3,14 @@
 ghost use Rattle.std.specs.Prelude.{◌≡◌, [], IfOk, None, flat_map};
 ghost use Rattle.sf_layers.specs.WellFormed.{IsLayer};
 ghost use Rattle.sf_constraints.specs.Rules.{break_of, first_of};
-ghost use Rattle.sf_constraints.specs.Looks.{alone_of_entry, pairs_of_entry};
+ghost use Rattle.sf_constraints.specs.Looks.{IsMutual, alone_of_entry, pairs_of_entry};
 ghost use Rattle.sf_constraints.specs.Underway.{IsBetweenOrMissing};
 
 use super::alone::least_if_alone;
 use super::between::Between;
 use super::breaks::Break;
 use super::leaving::Leaving;
-use super::pairs::least_with;
+use super::pairs::{first_behind, least_with};
 use super::rule::{Form, Rule};
 use sf_joins::converse;
 use sf_layers::Store;
@@ -43,7 +43,13 @@ fn first_break_of(
         return Ok(None);
     };
     match rule.form {
-        Form::Never => first_pair(alloc, &between),
+        Form::Never => {
+            if between.is_mutual() {
+                first_mutual_pair(alloc, &between)
+            } else {
+                first_pair(alloc, &between)
+            }
+        }
         Form::Each => first_alone(alloc, &between),
     }
 }
@@ -92,6 +98,22 @@ fn first_pair(alloc: Global, between: &Between<'_>) -> Result<Option<Break>, All
         let least = least_with(alloc, between, *id, feature.valid(), None)?;
         if least.is_some() {
             return Ok(least);
+        }
+    }
+    Ok(None)
+}
+
+/// The first pair of a layer with itself, where a pair is as asked from either side. So each is asked for once, from the feature
+/// that comes first.
+fn first_mutual_pair(alloc: Global, between: &Between<'_>) -> Result<Option<Break>, AllocError>
+    requires { IsMutual between.now }
+    ensures { IfOk result (λ found. found ≡ first_of
+        (flat_map (pairs_of_entry between.now) between.now.first.now.features)) }
+{
+    for (id, feature) in between.first.features() {
+        let first = first_behind(alloc, between, *id, feature.valid())?;
+        if first.is_some() {
+            return Ok(first);
         }
     }
     Ok(None)

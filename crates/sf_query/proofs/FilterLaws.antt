@@ -5,11 +5,11 @@ use Rattle.std.specs.declared.cmp.Ordering.TheVariants.{Less}
 use Rattle.std.specs.List.{AllByRecursion, Contains}
 use Rattle.std.specs.List.Sorted.{IsStrictlySortedBy}
 use Rattle.std.specs.Map.{keys_of, values_of, lookup}
+use Rattle.std.specs.Option.{option_map_or}
 use Rattle.std.specs.Ordering.{nat_cmp}
 use Rattle.std.proofs.lemmas.Bool.{eq-eqb, eqb-true, ne_eqb}
 use Rattle.std.proofs.lemmas.Bool.Decides.{nat_tests}
-use Rattle.std.proofs.lemmas.List.{get_or-map, map-append}
-use Rattle.std.proofs.lemmas.List.Elements.{All-contains, All-from_recursion, All-get_or, All-map, Contains-append_right, filter_more}
+use Rattle.std.proofs.lemmas.List.Elements.{All-contains, All-from_recursion, All-map, Contains-append_right, filter_more}
 
 -- ---- members
 
@@ -104,24 +104,29 @@ IsPassing-end p near true all left ids looked none was =
 IsPassing-end p near false all left ids looked none was =
     (sym (append-nil ids) ∙ ap (λ es. ids ++ keys_of (filter p es)) (sym none) ∙ was.found, omega (arith, ap length none, was.counted))
 
--- ---- entries by places
+-- ---- identifiers by places
 
--- the identifiers of those that pass, with the entry at the next place
-pub taken-found : {X : Type 0} (p : ℕ × X → Bool) (es : List (ℕ × X)) (i : ℕ) (e : ℕ × X) (ids new : List ℕ) → i < length es → get_or es i e ≡ e
-    → ids ≡ keys_of (filter p (take i es)) → p e ≡ true → new ≡ ids ++ e.0 ∷ [] → new ≡ keys_of (filter p (take (i + 1) es))
-taken-found p es i e ids new below here was passes pushed =
-    pushed ∙ ap (λ ks. ks ++ e.0 ∷ []) was ∙ sym (map-append (λ f. f.0) (filter p (take i es)) (e ∷ []))
-    ∙ ap (λ b. keys_of (filter p (take i es) ++ cond b (e ∷ []) [])) (sym passes)
-    ∙ ap (λ f. keys_of (filter p (take i es) ++ cond (p f) (f ∷ []) [])) (sym here)
-    ∙ ap keys_of (sym (filter_more p es i e below))
+-- those that pass, with the one at the next place
+pub kept-more : (p : ℕ → Bool) (xs : List ℕ) (i d : ℕ) (kept new : List ℕ) → i < length xs → kept ≡ filter p (take i xs) → p (get_or xs i d) ≡ true → new ≡ kept ++ get_or xs i d ∷ []
+    → new ≡ filter p (take (i + 1) xs)
+kept-more p xs i d kept new below was passes pushed =
+    pushed ∙ ap (λ ks. ks ++ get_or xs i d ∷ []) was ∙ ap (λ b. filter p (take i xs) ++ cond b (get_or xs i d ∷ []) []) (sym passes) ∙ sym (filter_more p xs i d below)
 
-pub taken-other : {X : Type 0} (p : ℕ × X → Bool) (es : List (ℕ × X)) (i : ℕ) (e : ℕ × X) (ids : List ℕ) → i < length es → get_or es i e ≡ e
-    → ids ≡ keys_of (filter p (take i es)) → p e ≡ false → ids ≡ keys_of (filter p (take (i + 1) es))
-taken-other p es i e ids below here was fails =
-    was ∙ ap keys_of (sym (append-nil (filter p (take i es))))
-    ∙ ap (λ b. keys_of (filter p (take i es) ++ cond b (e ∷ []) [])) (sym fails)
-    ∙ ap (λ f. keys_of (filter p (take i es) ++ cond (p f) (f ∷ []) [])) (sym here)
-    ∙ ap keys_of (sym (filter_more p es i e below))
+pub passed-more : (p : ℕ → Bool) (xs : List ℕ) (i d : ℕ) (kept : List ℕ) → i < length xs → kept ≡ filter p (take i xs) → p (get_or xs i d) ≡ false → kept ≡ filter p (take (i + 1) xs)
+passed-more p xs i d kept below was fails =
+    was ∙ sym (append-nil (filter p (take i xs))) ∙ ap (λ b. filter p (take i xs) ++ cond b (get_or xs i d ∷ []) []) (sym fails) ∙ sym (filter_more p xs i d below)
+
+-- of two tests either may come first
+pub filter-turn : (p q : ℕ → Bool) (xs : List ℕ) → filter p (filter q xs) ≡ filter q (filter p xs)
+filter-turn p q [] = refl
+filter-turn p q (x ∷ xs) = by (p x) (q x) refl refl (filter-turn p q xs)
+  where
+    by : (b c : Bool) → p x ≡ b → q x ≡ c → filter p (filter q xs) ≡ filter q (filter p xs)
+        → filter p (cond c (x ∷ filter q xs) (filter q xs)) ≡ filter q (cond b (x ∷ filter p xs) (filter p xs))
+    by true true pass passes rest = ap (λ b. cond b (x ∷ filter p (filter q xs)) (filter p (filter q xs))) pass ∙ ap (λ ys. x ∷ ys) rest ∙ ap (λ b. cond b (x ∷ filter q (filter p xs)) (filter q (filter p xs))) (sym passes)
+    by true false pass fails rest = rest ∙ ap (λ b. cond b (x ∷ filter q (filter p xs)) (filter q (filter p xs))) (sym fails)
+    by false true fail passes rest = ap (λ b. cond b (x ∷ filter p (filter q xs)) (filter p (filter q xs))) fail ∙ rest
+    by false false fail fails rest = rest
 
 -- ---- rising identifiers
 
@@ -209,22 +214,21 @@ pub each-value : {X : Type 0} (P : X → Type 0) (es : List (ℕ × X)) → AllB
 each-value P [] h = tt
 each-value P (e ∷ es) h = (h.0, each-value P es h.1)
 
--- the look-up of the identifier at a place finds the entry there
-pub entry-at : {X : Type 0} (es fs : List (ℕ × X)) (i id d : ℕ) (f : X) → AllByRecursion (IsFoundIn es) fs → i < length fs → id ≡ get_or (keys_of fs) i d
-    → lookup (nat_eq id) es ≡ Some f → get_or fs i (id, f) ≡ (id, f)
-entry-at {X} es fs i id d f each below at found =
-    let e : ℕ × X = get_or fs i (id, f) in
-    let key : e.0 ≡ id = sym (get_or-map (λ (g : ℕ × X). g.0) fs i (id, f) d below) ∙ sym at in
-    let there : ◌≡◌ {A = Option X} (lookup (nat_eq e.0) es) (Some e.1) = All-get_or (IsFoundIn es) fs i (id, f) below (All-from_recursion (IsFoundIn es) fs each) in
-    let value : ◌≡◌ {A = Option X} (Some e.1) (Some f) = sym there ∙ ap (λ k. lookup (nat_eq k) es) key ∙ found in
-    let same : ◌≡◌ {A = X} e.1 f = cc in
-    ap (λ k. (k, e.1)) key ∙ ap (λ x. (id, x)) same
+-- each identifier of such entries is there
+pub keys-there : {X : Type 0} (es fs : List (ℕ × X)) → AllByRecursion (IsFoundIn es) fs → AllByRecursion (λ id. IsSome (lookup (nat_eq id) es)) (keys_of fs)
+keys-there es [] each = tt
+keys-there es (f ∷ fs) each = (ap is_some each.0, keys-there es fs each.1)
 
--- there is one at each place
-pub some-at : {X : Type 0} (es fs : List (ℕ × X)) (i id d : ℕ) → AllByRecursion (IsFoundIn es) fs → i < length fs → id ≡ get_or (keys_of fs) i d → IsSome (lookup (nat_eq id) es)
-some-at es [] i id d each below at = absurd (omega arith)
-some-at {X} es (f ∷ fs) i id d each below at =
-    let e : ℕ × X = get_or (f ∷ fs) i f in
-    let key : e.0 ≡ id = sym (get_or-map (λ (g : ℕ × X). g.0) (f ∷ fs) i f d below) ∙ sym at in
-    let there : ◌≡◌ {A = Option X} (lookup (nat_eq e.0) es) (Some e.1) = All-get_or (IsFoundIn es) (f ∷ fs) i f below (All-from_recursion (IsFoundIn es) (f ∷ fs) each) in
-    ap is_some (ap (λ k. lookup (nat_eq k) es) (sym key) ∙ there)
+-- the identifiers of which a look-up finds what passes are those of the entries that pass
+pub keys-filter : {X : Type 0} (t : X → Bool) (es fs : List (ℕ × X)) → AllByRecursion (IsFoundIn es) fs
+    → filter (λ id. option_map_or t (lookup (nat_eq id) es) false) (keys_of fs) ≡ keys_of (filter (λ e. t e.1) fs)
+keys-filter t es [] each = refl
+keys-filter {X} t es (f ∷ fs) each =
+    ap (λ (o : Option X). cond (option_map_or t o false) (f.0 ∷ filter (λ id. option_map_or t (lookup (nat_eq id) es) false) (keys_of fs)) (filter (λ id. option_map_or t (lookup (nat_eq id) es) false) (keys_of fs))) each.0
+    ∙ by (t f.1) (keys-filter t es fs each.1)
+  where
+    by : (b : Bool) → filter (λ id. option_map_or t (lookup (nat_eq id) es) false) (keys_of fs) ≡ keys_of (filter (λ e. t e.1) fs)
+        → cond b (f.0 ∷ filter (λ id. option_map_or t (lookup (nat_eq id) es) false) (keys_of fs)) (filter (λ id. option_map_or t (lookup (nat_eq id) es) false) (keys_of fs))
+        ≡ keys_of (cond b (f ∷ filter (λ e. t e.1) fs) (filter (λ e. t e.1) fs))
+    by true rest = ap (λ ks. f.0 ∷ ks) rest
+    by false rest = rest

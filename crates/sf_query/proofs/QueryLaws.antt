@@ -1,10 +1,11 @@
 -- What a query may pass over, and that its answers are those over the plane.
-use Rattle.std.proofs.Common.{◌≡◌, ◌∙◌, ℕ, ◌+◌, ◌<◌, ◌≤◌, ◌++◌, ◌&&◌, Bool, Bor, true, false, List, [], ◌∷◌, filter, length, take, take_all, get_or, option_copied, Option, None, Some, Ok, IsSome, IsTrue, IsFalse, refl, ap, sym, subst, arith}
+use Rattle.std.proofs.Common.{◌≡◌, ◌∙◌, ℕ, ◌&&◌, Bool, Bor, true, false, List, [], ◌∷◌, filter, length, nat_lt, option_copied, Option, None, Some, Ok, IsSome, IsTrue, IsFalse, refl, ap, sym, subst}
 use Rattle.std.proofs.lemmas.Bool.{both_ways, false≢true, not-false}
 use Rattle.std.proofs.lemmas.Map.Entries.{length-keys_of}
 use Rattle.std.specs.Prelude.{bytes_eq, cond, not}
 use Rattle.std.specs.List.{AllByRecursion}
 use Rattle.std.specs.Map.{keys_of}
+use Rattle.std.specs.Option.{option_map_or}
 use Rattle.sf_geometry.specs.declared.extent.Extent.{Extent}
 use Rattle.sf_geometry.specs.declared.geometry.Geometry.{Geometry}
 use Rattle.sf_geometry.specs.Envelope.{envelope_of, extents_meet}
@@ -25,9 +26,9 @@ use Rattle.sf_relate.proofs.SharedLaws.{contact_is_shared}
 use Rattle.sf_query.specs.declared.ask.Ask.{Ask}
 use Rattle.sf_query.specs.declared.ask.Ask.TheVariants.{Matching, Named}
 use Rattle.sf_query.specs.declared.found.Found.{Found}
-use Rattle.sf_query.specs.Answers.{IsAnswer, dim_of_geometry, is_answered, is_asked, is_near, needs_contact}
+use Rattle.sf_query.specs.Answers.{IsAnswer, dim_of_geometry, ids_found, is_answered, is_asked, is_asked_at, is_near, needs_contact}
 use Rattle.sf_query.specs.Replies.{AnswersAreOverThePlane, AreFound, IsQueried, IsRelated, IsRelatedTo}
-use Rattle.sf_query.proofs.FilterLaws.{IsFoundIn, each-filter, each-found, each-map, each-value, entry-at, filter-within, found-passes, passes-found, rising-filter, some-at, taken-found, taken-other, value-found, viewed}
+use Rattle.sf_query.proofs.FilterLaws.{IsFoundIn, each-filter, each-found, each-map, each-value, filter-within, found-passes, filter-turn, keys-filter, keys-there, passes-found, rising-filter, value-found, viewed}
 
 -- ---- what is known without a walk
 
@@ -116,46 +117,40 @@ pub record AreNear (layer : LayerContent) (b : Geometry) (items : List ℕ) : Ty
   pub fits : IsLayer layer
   pub are : items ≡ keys_of (filter (is_near b) layer.features)
 
-below-near : (layer : LayerContent) (b : Geometry) (items : List ℕ) (i : ℕ) → AreNear layer b items → i < length items → i < length (filter (is_near b) layer.features)
-below-near layer b items i near below = omega (arith, ap length near.are, length-keys_of (filter (is_near b) layer.features))
+-- each identifier that the index gave is there
+pub near-there : (layer : LayerContent) (b : Geometry) (items : List ℕ) → AreNear layer b items → AllByRecursion (λ id. IsSome (feature_of layer id)) items
+near-there layer b items near =
+    subst (λ ids. AllByRecursion (λ id. IsSome (feature_of layer id)) ids) (sym near.are)
+    (keys-there layer.features (filter (is_near b) layer.features) (near-found layer b near.fits))
 
-at-near : (layer : LayerContent) (b : Geometry) (items : List ℕ) (i : ℕ) → AreNear layer b items → get_or items i 0 ≡ get_or (keys_of (filter (is_near b) layer.features)) i 0
-at-near layer b items i near = ap (λ ks. get_or ks i 0) near.are
+-- those of them whose features are as asked are the answer
+pub near-asked : (layer : LayerContent) (ask : Ask) (b : Geometry) (items : List ℕ) → AreNear layer b items → IsValid b → IsTrue (needs_contact ask)
+    → filter (is_asked_at layer ask b) items ≡ ids_found layer ask b
+near-asked layer ask b items near vb needs =
+    ap (filter (is_asked_at layer ask b)) near.are
+    ∙ keys-filter (λ f. is_asked ask f.geometry b) layer.features (filter (is_near b) layer.features) (near-found layer b near.fits)
+    ∙ ap keys_of (near-answers layer ask b near.fits vb needs)
 
-pub near-some : (layer : LayerContent) (b : Geometry) (items : List ℕ) (i : ℕ) → AreNear layer b items → i < length items → IsSome (feature_of layer (get_or items i 0))
-near-some layer b items i near below =
-    some-at layer.features (filter (is_near b) layer.features) i (get_or items i 0) 0 (near-found layer b near.fits) (below-near layer b items i near below) (at-near layer b items i near)
+-- and of those behind an identifier
+pub behind-asked : (layer : LayerContent) (ask : Ask) (b : Geometry) (items behind : List ℕ) (id : ℕ) → AreNear layer b items → IsValid b → IsTrue (needs_contact ask)
+    → behind ≡ filter (λ other. nat_lt id other) items → filter (is_asked_at layer ask b) behind ≡ filter (λ other. nat_lt id other) (ids_found layer ask b)
+behind-asked layer ask b items behind id near vb needs is =
+    ap (filter (is_asked_at layer ask b)) is
+    ∙ filter-turn (is_asked_at layer ask b) (λ other. nat_lt id other) items
+    ∙ ap (filter (λ other. nat_lt id other)) (near-asked layer ask b items near vb needs)
 
-near-entry : (layer : LayerContent) (b : Geometry) (items : List ℕ) (i : ℕ) (f : FeatureContent) → AreNear layer b items → i < length items → feature_of layer (get_or items i 0) ≡ Some f
-    → get_or (filter (is_near b) layer.features) i (get_or items i 0, f) ≡ (get_or items i 0, f)
-near-entry layer b items i f near below found =
-    entry-at layer.features (filter (is_near b) layer.features) i (get_or items i 0) 0 f (near-found layer b near.fits) (below-near layer b items i near below) (at-near layer b items i near) found
-
--- the identifiers of the near features so far that pass
-abbrev pub AreFoundTo : LayerContent → Ask → Geometry → ℕ → List ℕ → Type 0
-AreFoundTo layer ask b i ids = ids ≡ keys_of (filter (passes ask b) (take i (filter (is_near b) layer.features)))
-
-pub found-more : (layer : LayerContent) (ask : Ask) (a b : Geometry) (items ids new : List ℕ) (i : ℕ) (f : FeatureContent) (answer : Bool) → AreNear layer b items → i < length items
-    → feature_of layer (get_or items i 0) ≡ Some f → answer ≡ is_asked ask a b → a ≡ f.geometry → answer ≡ true → new ≡ ids ++ get_or items i 0 ∷ []
-    → AreFoundTo layer ask b i ids → AreFoundTo layer ask b (i + 1) new
-found-more layer ask a b items ids new i f answer near below found is same said pushed was =
-    taken-found (passes ask b) (filter (is_near b) layer.features) i (get_or items i 0, f) ids new (below-near layer b items i near below) (near-entry layer b items i f near below found)
-    was (asked-passes ask a b (get_or items i 0, f) answer true is same said) pushed
-
-pub found-other : (layer : LayerContent) (ask : Ask) (a b : Geometry) (items ids : List ℕ) (i : ℕ) (f : FeatureContent) (answer : Bool) → AreNear layer b items → i < length items
-    → feature_of layer (get_or items i 0) ≡ Some f → answer ≡ is_asked ask a b → a ≡ f.geometry → answer ≡ false
-    → AreFoundTo layer ask b i ids → AreFoundTo layer ask b (i + 1) ids
-found-other layer ask a b items ids i f answer near below found is same denied was =
-    taken-other (passes ask b) (filter (is_near b) layer.features) i (get_or items i 0, f) ids (below-near layer b items i near below) (near-entry layer b items i f near below found)
-    was (asked-passes ask a b (get_or items i 0, f) answer false is same denied)
-
-pub index-answers : (layer : LayerContent) (ask : Ask) (b : Geometry) (items : List ℕ) (i : ℕ) (found : Found) → AreNear layer b items → IsValid b → IsTrue (needs_contact ask)
-    → length items ≤ i → AreFoundTo layer ask b i found.ids.items → found.looked ≡ length items → IsAnswer layer ask b found
-index-answers layer ask b items i found near vb needs over are looked = record {
-  ids = are ∙ ap (λ es. keys_of (filter (passes ask b) es)) (take_all i (filter (is_near b) layer.features) (omega (arith, ap length near.are, length-keys_of (filter (is_near b) layer.features))))
-      ∙ ap keys_of (near-answers layer ask b near.fits vb needs);
+pub index-answers : (layer : LayerContent) (ask : Ask) (b : Geometry) (items : List ℕ) (found : Found) → AreNear layer b items → IsValid b → IsTrue (needs_contact ask)
+    → found.ids.items ≡ filter (is_asked_at layer ask b) items → found.looked ≡ length items → IsAnswer layer ask b found
+index-answers layer ask b items found near vb needs are looked = record {
+  ids = are ∙ near-asked layer ask b items near vb needs;
   looked = looked ∙ ap length near.are ∙ length-keys_of (filter (is_near b) layer.features) ∙ ap (λ n. length (viewed n (is_near b) layer.features)) (sym needs);
 }
+
+-- one that passes is there
+pub there-asked : (layer : LayerContent) (ask : Ask) (a b : Geometry) (id : ℕ) (f : FeatureContent) (answer : Bool) → feature_of layer id ≡ Some f → answer ≡ is_asked ask a b → a ≡ f.geometry
+    → is_asked_at layer ask b id ≡ answer
+there-asked layer ask a b id f answer found is same =
+    ap (λ o. option_map_or (λ feature. is_asked ask feature.geometry b) o false) found ∙ ap (λ g. is_asked ask g b) (sym same) ∙ sym is
 
 -- what a look-up copies is there where it is
 pub some-copied : {X : Type 0} (o : Option (Bor X)) (p : Option X) → option_copied o ≡ p → IsSome p → IsSome o

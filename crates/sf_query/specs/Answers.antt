@@ -1,11 +1,12 @@
 -- What a query answers: the features of a layer whose matrix with the given geometry is as it asks.
 use Rattle.std.specs.Prelude.{◌≡◌, ℕ, Bool, true, false, List, filter, length, if◌then◌else◌}
 use Rattle.std.specs.Map.{keys_of}
+use Rattle.std.specs.Option.{option_map_or}
 use Rattle.sf_geometry.specs.declared.geometry.Geometry.{Geometry}
 use Rattle.sf_geometry.specs.Envelope.{envelope_of, extents_meet}
 use Rattle.sf_geometry.specs.Kinds.{dimension_of, kind_of}
 use Rattle.sf_features.specs.Features.{FeatureContent}
-use Rattle.sf_layers.specs.Content.{LayerContent}
+use Rattle.sf_layers.specs.Content.{LayerContent, feature_of}
 use Rattle.sf_plane.specs.declared.dim.Dim.{Dim}
 use Rattle.sf_plane.specs.Unions.{dim_of}
 use Rattle.sf_relate.specs.Matrices.{matrix_of}
@@ -43,6 +44,10 @@ is_of_contact ask = false
 -- computes the identifiers of the features that answer (AreFound), as the law AnswersAreOverThePlane says; rising
 abbrev pub ids_found : LayerContent → Ask → Geometry → List ℕ
 ids_found layer ask b = keys_of (filter (λ entry. is_asked ask entry.1.geometry b) layer.features)
+
+-- so is the feature under an identifier, which is there
+abbrev pub is_asked_at : LayerContent → Ask → Geometry → ℕ → Bool
+is_asked_at layer ask b id = option_map_or (λ feature. is_asked ask feature.geometry b) (feature_of layer id) false
 
 -- the boxes of the feature and of the given geometry share a point
 abbrev pub is_near : Geometry → ℕ × FeatureContent → Bool

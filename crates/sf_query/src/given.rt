@@ -7,7 +7,7 @@ ghost use Rattle.sf_rules.specs.Validity.{IsValid};
 ghost use Rattle.sf_relate.specs.Matrices.{matrix_of};
 
 use super::ask::Ask;
-use super::order::MANY_FEATURES;
+use super::order::{MANY_FEATURES, MANY_FEATURES_OF_FEW_POINTS};
 use sf_contact::FEW_POINTS;
 use sf_geometry::{Extent, Geometry};
 use sf_prepared::Prepared;
@@ -66,15 +66,20 @@ impl<'a> Given<'a> {
         }
     }
 
-    /// The same, prepared where so many features are asked about it. Of a small one its own edges show contact as soon, and of a
-    /// Point its place shows more.
+    /// The same, prepared where so many features are asked about it that this pays. Of a small one its own edges show contact as
+    /// soon, and of a Point its place shows more.
     pub(crate) fn prepared_for(self, alloc: Global, ask: &Ask, features: usize) -> Given<'a>
         ensures { result ≡ self.entry }
     {
         let geometry = self.valid.geometry();
         let is_point = matches!(geometry, Geometry::Point(_));
         let is_small = geometry.point_count() <= FEW_POINTS;
-        if features < MANY_FEATURES || is_point || (is_small && ask.is_of_contact()) {
+        let many = if is_small {
+            MANY_FEATURES_OF_FEW_POINTS
+        } else {
+            MANY_FEATURES
+        };
+        if features < many || is_point || (is_small && ask.is_of_contact()) {
             return self;
         }
         self.prepared(alloc)

@@ -14,5 +14,5 @@ mod refusal;
 pub use ask::Ask;
 pub use evidence::shown_by_each;
 pub use found::Found;
-pub use queries::{features_asked, query, relate_one};
+pub use queries::{features_asked, ids_asked_behind, query, relate_one};
 pub use refusal::Refusal;

@@ -9,6 +9,9 @@ use sf_contact::FEW_POINTS;
 /// How many features there are at least for what is made of the given geometry to pay.
 pub(crate) const MANY_FEATURES: usize = 8;
 
+/// The same of a small one: to look at its few edges for each feature takes little.
+pub(crate) const MANY_FEATURES_OF_FEW_POINTS: usize = 32;
+
 /// How many points a feature has at least for the edges near the given geometry to be picked: with fewer, a walk over
 /// all of them is as quick.
 pub(crate) const MANY_POINTS: usize = 32;

@@ -1,13 +1,14 @@
 //! Queries over a layer, by its index where it has one.
 
-ghost use Rattle.std.specs.Prelude.{◌≡◌, IfOk, IsTrue};
+ghost use Rattle.std.specs.Prelude.{◌≡◌, IfOk, IsSome, IsTrue, filter, nat_lt};
+ghost use Rattle.std.specs.List.{AllByRecursion};
 ghost use Rattle.sf_geometry.specs.Envelope.{envelope_of};
 ghost use Rattle.sf_rtree.specs.Indexes.{ids_meeting};
 ghost use Rattle.sf_rules.specs.Validity.{IsValid};
 ghost use Rattle.sf_layers.specs.Boxes.{boxes_of};
-ghost use Rattle.sf_layers.specs.Content.{layer_of};
+ghost use Rattle.sf_layers.specs.Content.{feature_of, layer_of};
 ghost use Rattle.sf_layers.specs.WellFormed.{IsLayer};
-ghost use Rattle.sf_query.specs.Answers.{IsAnswer, needs_contact};
+ghost use Rattle.sf_query.specs.Answers.{IsAnswer, ids_found, is_asked_at, needs_contact};
 ghost use Rattle.sf_query.specs.Replies.{IsQueried, IsRelated};
 
 use super::ask::Ask;
@@ -87,6 +88,36 @@ pub fn features_asked(
     }
 }
 
+/// The identifiers behind one of the features of a layer whose matrix with the given geometry is as asked, rising. Where the
+/// order of two features makes no difference to the ask, each pair of a layer is so asked for once.
+///
+/// # Errors
+///
+/// Out of memory alone.
+pub fn ids_asked_behind(
+    alloc: Global,
+    layer: &Layer,
+    ask: &Ask,
+    given: &Valid,
+    id: u32,
+) -> Result<Vec<u32>, AllocError>
+    requires { IsLayer layer.now }
+    ensures { IfOk result (λ ids. ids.items ≡ filter (λ other. nat_lt id other) (ids_found layer.now ask.now given.now)) }
+{
+    match (layer.index(), ask.needs_contact()) {
+        (Some(index), true) => {
+            let given = Given::new(given);
+            let near = given.near_ids(alloc, index)?;
+            let given = given.prepared_for(alloc, ask, near.len());
+            found_behind(alloc, layer, near.as_slice(), ask, &given, id)
+        }
+        _ => {
+            let found = found_by_pass(alloc, layer, ask, given)?;
+            ids_behind(alloc, found.ids.as_slice(), id)
+        }
+    }
+}
+
 /// The features that answer, where these are the identifiers of all whose boxes meet the given geometry's. No other can, since
 /// the ask needs contact.
 fn found_among(
@@ -102,6 +133,41 @@ fn found_among(
     requires contact { IsTrue (needs_contact ask.now) }
     ensures { IfOk result (IsAnswer layer.now ask.now given.now) }
 {
+    let ids = ids_among(alloc, layer, near, ask, given)?;
+    let looked = near.len();
+    Ok(Found { ids, looked })
+}
+
+/// The identifiers behind one of the features that answer.
+fn found_behind(
+    alloc: Global,
+    layer: &Layer,
+    near: &[u32],
+    ask: &Ask,
+    given: &Given,
+    id: u32,
+) -> Result<Vec<u32>, AllocError>
+    requires layer { IsLayer layer.now }
+    requires valid { IsValid given.now }
+    requires near { near.now ≡ ids_meeting (envelope_of given.now) (boxes_of layer.now.features) }
+    requires contact { IsTrue (needs_contact ask.now) }
+    ensures { IfOk result (λ ids. ids.items ≡ filter (λ other. nat_lt id other) (ids_found layer.now ask.now given.now)) }
+{
+    let behind = ids_behind(alloc, near, id)?;
+    ids_among(alloc, layer, behind.as_slice(), ask, given)
+}
+
+/// Those of the identifiers whose features are as asked, in their order.
+fn ids_among(
+    alloc: Global,
+    layer: &Layer,
+    near: &[u32],
+    ask: &Ask,
+    given: &Given,
+) -> Result<Vec<u32>, AllocError>
+    requires { AllByRecursion (λ id. IsSome (feature_of layer.now id)) near.now }
+    ensures { IfOk result (λ ids. ids.items ≡ filter (is_asked_at layer.now ask.now given.now) near.now) }
+{
     let mut ids = Vec::new(alloc);
     for id in near {
         let feature = layer.feature(*id).unwrap();
@@ -109,8 +175,20 @@ fn found_among(
             ids.push(*id)?;
         }
     }
-    let looked = near.len();
-    Ok(Found { ids, looked })
+    Ok(ids)
+}
+
+/// Those of the identifiers that are behind one, in their order.
+fn ids_behind(alloc: Global, ids: &[u32], id: u32) -> Result<Vec<u32>, AllocError>
+    ensures { IfOk result (λ behind. behind.items ≡ filter (λ other. nat_lt id other) ids.now) }
+{
+    let mut behind = Vec::with_capacity(alloc, ids.len())?;
+    for other in ids {
+        if id < *other {
+            behind.push(*other)?;
+        }
+    }
+    Ok(behind)
 }
 
 /// The features that answer, by one pass over all of them. Those whose boxes don't meet the given

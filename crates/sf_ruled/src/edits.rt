@@ -7,7 +7,10 @@ ghost use Rattle.sf_steps.specs.Steps.{edit_layer};
 ghost use Rattle.sf_steps.specs.declared.edit.Edit.{Edit as EditOf};
 ghost use Rattle.sf_layers.specs.WellFormed.{IsWellFormed};
 ghost use Rattle.sf_ruled.specs.Ruled.{OfChange, ruled_step, rules_after};
-ghost use Rattle.sf_ruled.specs.Outcomes.{IsRefusedAs, answer_of as answer_of_ids, ruled};
+ghost use Rattle.sf_changes.specs.declared.undo.Undo.TheVariants as changes;
+ghost use Rattle.sf_steps.specs.Inverses.{answer_of as inverse_answer};
+ghost use Rattle.sf_ruled.specs.declared.undo.Undo.TheVariants as undos;
+ghost use Rattle.sf_ruled.specs.Outcomes.{IsRefusedAs, answer_of as answer_of_ids, by_edit as by_edit_of, ruled};
 ghost use Rattle.sf_ruled.specs.Undos.{IsEdited, IsGrouped, IsSettled, IsUnseen, alone, changes_geometries as changes_geometries_of, is_renaming, names_layer};
 
 use super::refusal::{Refusal, as_edit, as_member, by_edit, by_member, by_rules};
@@ -17,7 +20,7 @@ use sf_constraints::{NotExchanged, exchange_under};
 use sf_edits::apply;
 use sf_groups::{Group, Member};
 use sf_layers::Store;
-use sf_steps::{Answer, Edit};
+use sf_steps::{Answer, Edit, Inverse};
 use sf_together::{Plan, plan};
 use std::alloc::{AllocError, Global};
 use std::mem::swap;
@@ -37,18 +40,19 @@ pub struct Grouped {
     pub undo: Undo,
 }
 
-/// Carries out an edit.
+/// Carries out an edit of a layer that a rule names.
 ///
 /// # Errors
 ///
 /// Those of `Ruled::edit`.
-pub(crate) fn carry_out_edit(
+pub(crate) fn carry_out_ruled(
     alloc: Global,
     store: &mut Store,
     rules: &mut Rules,
     edit: Edit,
 ) -> Result<Edited, Refusal>
-    requires { IsSettled (ruled store.old rules.old) }
+    requires settled { IsSettled (ruled store.old rules.old) }
+    requires named { names_layer (edit_layer edit) rules.old ≡ true }
     ensures accepted { IfOk result (λ done.
         IsEdited (ruled store.old rules.old) edit done.answer done.undo (ruled store.new rules.new)) }
     ensures refused { IfErr result (IsRefusedAs (ruled_step (ruled store.old rules.old) (OfChange (OfEdit edit)))) }
@@ -56,9 +60,6 @@ pub(crate) fn carry_out_edit(
     ensures kept { OnErr result (rules.new ≡ rules.old) }
 {
     is_well_formed(store);
-    if !is_ruled(rules, &edit) {
-        return carry_out_unseen(alloc, store, rules, edit);
-    }
     if changes_geometries(&edit) {
         return carry_out_seen(alloc, store, rules, edit);
     }
@@ -73,7 +74,7 @@ pub(crate) fn carry_out_edit(
 }
 
 /// Whether a rule names the layer of an edit.
-fn is_ruled(rules: &Rules, edit: &Edit) -> bool
+pub(crate) fn is_ruled(rules: &Rules, edit: &Edit) -> bool
     ensures { result ≡ names_layer (edit_layer edit.now) rules.now }
 {
     rules.names(edit.layer_name().as_str())
@@ -102,7 +103,11 @@ fn changes_geometries(edit: &Edit) -> bool
 }
 
 /// Carries out an edit that no rule sees.
-fn carry_out_unseen(
+///
+/// # Errors
+///
+/// `ByEdit`, or out of memory.
+pub(crate) fn carry_out_unseen(
     alloc: Global,
     store: &mut Store,
     rules: &Rules,
@@ -117,12 +122,27 @@ fn carry_out_unseen(
 {
     is_well_formed(store);
     match apply(alloc, store, edit) {
-        Ok(inverse) => Ok(Edited {
-            answer: inverse.answer(),
-            undo: Undo::Change(sf_changes::Undo::Edit(inverse)),
-        }),
-        Err((_, refusal)) => Err(by_edit(refusal)),
+        Ok(inverse) => Ok(accepted(inverse)),
+        Err(refused) => Err(refusal_of(refused)),
     }
+}
+
+/// An edit that was carried out, and that this takes back.
+fn accepted(inverse: Inverse) -> Edited
+    ensures { result ≡ record { answer = inverse_answer inverse; undo = undos.Change (changes.Edit inverse) } }
+{
+    Edited {
+        answer: inverse.answer(),
+        undo: Undo::Change(sf_changes::Undo::Edit(inverse)),
+    }
+}
+
+/// Why an edit was given back. It is dropped here, so that `carry_out_unseen` has no place for it.
+fn refusal_of(given_back: (Edit, sf_steps::Refusal)) -> Refusal
+    ensures { result ≡ by_edit_of given_back.1 }
+{
+    let (_, refusal) = given_back;
+    by_edit(refusal)
 }
 
 /// Carries out an edit of a feature's geometry in a layer that a rule names: as a group of one.

@@ -7,7 +7,7 @@ ghost use Rattle.sf_ruled.specs.Outcomes.{IsRefusedAs, ruled};
 ghost use Rattle.sf_ruled.specs.Undos.{FitsRedoUnder, FitsUndoUnder, FreesOnlyUnder, IsEdited, IsGrouped, IsLed, MakesAgainUnder, TakesBackUnder, TakesNoMemoryUnder};
 ghost use Rattle.sf_changes.specs.Changes.{OfEdit, OfGroup};
 
-use super::edits::{Edited, Grouped, carry_out_edit, carry_out_group};
+use super::edits::{Edited, Grouped, carry_out_group, carry_out_ruled, carry_out_unseen, is_ruled};
 use super::redo::Redo;
 use super::refusal::Refusal;
 use super::rules::Rules;
@@ -91,7 +91,11 @@ impl Ruled {
         ensures refused { IfErr result (IsRefusedAs (ruled_step self.old (OfChange (OfEdit edit)))) }
         ensures unchanged { OnErr result (self.new ≡ self.old) }
     {
-        carry_out_edit(alloc, &mut self.store, &mut self.rules, edit)
+        if is_ruled(&self.rules, &edit) {
+            carry_out_ruled(alloc, &mut self.store, &mut self.rules, edit)
+        } else {
+            carry_out_unseen(alloc, &mut self.store, &self.rules, edit)
+        }
     }
 
     /// Carries out a group, as one step.

@@ -18,9 +18,9 @@ asking_verb_of word = lookup (bytes_eq word) asking_verbs
 
 -- the verb that a word spells
 abbrev pub verb_of : List ℕ → Option Verb
-verb_of word = lookup (bytes_eq word) ((codes "layer", verbs.Layer) ∷ (codes "column", verbs.Column)
-    ∷ (codes "add", verbs.Add) ∷ (codes "addhex", verbs.AddHex) ∷ (codes "delete", verbs.Delete) ∷ (codes "replace", verbs.Replace)
-    ∷ (codes "vertex", verbs.Vertex) ∷ (codes "set", verbs.Set) ∷ (codes "unset", verbs.Unset) ∷ (codes "rule", verbs.Rule) ∷ (codes "undo", verbs.Undo) ∷ (codes "redo", verbs.Redo)
+verb_of word = lookup (bytes_eq word) ((codes "add", verbs.Add) ∷ (codes "set", verbs.Set) ∷ (codes "vertex", verbs.Vertex)
+    ∷ (codes "undo", verbs.Undo) ∷ (codes "redo", verbs.Redo) ∷ (codes "delete", verbs.Delete) ∷ (codes "replace", verbs.Replace)
+    ∷ (codes "unset", verbs.Unset) ∷ (codes "addhex", verbs.AddHex) ∷ (codes "layer", verbs.Layer) ∷ (codes "column", verbs.Column) ∷ (codes "rule", verbs.Rule)
     ∷ asking_verbs)
 
 -- what is done with a layer, a column, a vertex or a rule

@@ -43,23 +43,23 @@ pub enum Action {
     Remove,
 }
 
-/// The verb that a word spells, in small letters.
+/// The verb that a word spells, in small letters. Words are compared in turn: those that come most often stand first.
 pub fn verb_of(word: &str) -> Option<Verb>
     ensures { result ≡ verb_named word.now }
 {
     match word {
-        "layer" => Some(Verb::Layer),
-        "column" => Some(Verb::Column),
         "add" => Some(Verb::Add),
-        "addhex" => Some(Verb::AddHex),
-        "delete" => Some(Verb::Delete),
-        "replace" => Some(Verb::Replace),
-        "vertex" => Some(Verb::Vertex),
         "set" => Some(Verb::Set),
-        "unset" => Some(Verb::Unset),
-        "rule" => Some(Verb::Rule),
+        "vertex" => Some(Verb::Vertex),
         "undo" => Some(Verb::Undo),
         "redo" => Some(Verb::Redo),
+        "delete" => Some(Verb::Delete),
+        "replace" => Some(Verb::Replace),
+        "unset" => Some(Verb::Unset),
+        "addhex" => Some(Verb::AddHex),
+        "layer" => Some(Verb::Layer),
+        "column" => Some(Verb::Column),
+        "rule" => Some(Verb::Rule),
         _ => asking_verb_of(word),
     }
 }

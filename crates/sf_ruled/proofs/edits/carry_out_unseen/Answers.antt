@@ -1,6 +1,5 @@
 use Rattle.std.proofs.Common.{sym, subst}
-use Rattle.sf_changes.specs.declared.undo.Undo.TheVariants as changes
-use Rattle.sf_ruled.specs.declared.undo.Undo.TheVariants as undos
+use Rattle.sf_ruled.specs.declared.edits.Edited.{Edited}
 use Rattle.sf_ruled.specs.Outcomes.{ruled}
 use Rattle.sf_ruled.specs.Undos.{IsEdited}
 use Rattle.sf_ruled.proofs.CallLaws.{unseen-edited}
@@ -11,6 +10,5 @@ returns-in-Ok-clause-accepted c =
     let old = c.args.store.now in
     let new = c.apply.new.store in
     let rules = c.args.rules.now in
-    let inverse = c.in-Ok.inverse in
-    subst (λ answer. IsEdited (ruled old rules) c.args.edit answer (undos.Change (changes.Edit inverse)) (ruled new rules)) (sym c.answer.ensures)
-    (unseen-edited old new rules c.args.edit inverse c.is_well_formed.ensures c.requires.settled c.requires.unseen c.in-Ok.ensures.carried_out.accepted)
+    subst (λ (done : Edited). IsEdited (ruled old rules) c.args.edit done.answer done.undo (ruled new rules)) (sym c.accepted.ensures)
+    (unseen-edited old new rules c.args.edit c.in-Ok.inverse c.is_well_formed.ensures c.requires.settled c.requires.unseen c.in-Ok.ensures.carried_out.accepted)

@@ -1,4 +1,4 @@
-use Rattle.std.proofs.Common.{◌≡◌, true, Err, sym, subst, ◌∙◌}
+use Rattle.std.proofs.Common.{◌≡◌, true, Err, sym, subst}
 use Rattle.sf_steps.specs.Steps.{edit_layer}
 use Rattle.sf_changes.specs.Changes.{OfEdit}
 use Rattle.sf_ruled.specs.declared.refusal.Refusal.TheVariants.{LayerRuled}
@@ -6,13 +6,12 @@ use Rattle.sf_ruled.specs.Outcomes.{ruled}
 use Rattle.sf_ruled.specs.Ruled.{OfChange, ruled_step}
 use Rattle.sf_ruled.specs.Undos.{names_layer}
 use Rattle.sf_ruled.proofs.CallLaws.{dropped-refused}
-use Rattle.sf_ruled.proofs.edits.carry_out_edit.Goals as goal
+use Rattle.sf_ruled.proofs.edits.carry_out_ruled.Goals as goal
 
 pub returns-in-DropLayer-clause-refused : goal.returns-in-DropLayer-clause-refused
 returns-in-DropLayer-clause-refused c =
     let store = c.args.store.now in
     let rules = c.args.rules.now in
-    let named : names_layer (edit_layer c.args.edit) rules ≡ true = sym c.is_ruled.ensures ∙ c.if-not-is_ruled.false in
     subst (λ edit. ruled_step (ruled store rules) (OfChange (OfEdit edit)) ≡ Err LayerRuled) (sym c.in-DropLayer.is)
-    (dropped-refused store rules c.in-DropLayer.name c.is_well_formed.ensures c.requires
-    (subst (λ edit. names_layer (edit_layer edit) rules ≡ true) c.in-DropLayer.is named))
+    (dropped-refused store rules c.in-DropLayer.name c.is_well_formed.ensures c.requires.settled
+    (subst (λ edit. names_layer (edit_layer edit) rules ≡ true) c.in-DropLayer.is c.requires.named))
