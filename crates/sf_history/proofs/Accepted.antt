@@ -1,13 +1,7 @@
 -- What a step makes of a machine, by what it makes of the content and the rules.
 use Rattle.std.proofs.Common.{◌≡◌, ◌⊎◌, inl, inr, ℕ, List, Result, Ok, Err, refl, sym, ap, ◌∙◌}
 use Rattle.sf_layers.specs.Content.{Content}
-use Rattle.sf_steps.specs.declared.answer.Answer.{Answer}
-use Rattle.sf_steps.specs.declared.edit.Edit.{Edit}
-use Rattle.sf_steps.specs.declared.refusal.Refusal.{Refusal as EditRefusal}
-use Rattle.sf_steps.specs.Steps.{step}
-use Rattle.sf_groups.specs.declared.member.Member.{Member}
-use Rattle.sf_groups.specs.Members.{Refused, together}
-use Rattle.sf_changes.specs.Changes.{OfEdit, OfGroup}
+use Rattle.sf_ruled.specs.Stepped.{Answer, Edit, EditRefusal, Member, OfEdit, OfGroup, Refused, step, together}
 use Rattle.sf_ruled.specs.declared.refusal.Refusal.{Refusal as StepRefusal}
 use Rattle.sf_ruled.specs.declared.refusal.Refusal.TheVariants.{ByEdit, ByMember, Memory}
 use Rattle.sf_ruled.specs.Outcomes.{IsRefusedAs}

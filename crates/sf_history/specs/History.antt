@@ -2,14 +2,7 @@
 -- contents with their rules.
 use Rattle.std.specs.Prelude.{ℕ, List, [], ◌∷◌, Result, Ok, Err, nat_eq, if◌then◌else◌}
 use Rattle.sf_layers.specs.Content.{Content}
-use Rattle.sf_steps.specs.declared.answer.Answer.{Answer}
-use Rattle.sf_steps.specs.declared.edit.Edit.{Edit}
-use Rattle.sf_steps.specs.declared.refusal.Refusal.{Refusal as EditRefusal}
-use Rattle.sf_steps.specs.Steps.{step}
-use Rattle.sf_groups.specs.declared.member.Member.{Member}
-use Rattle.sf_groups.specs.Members.{Refused, together}
-use Rattle.sf_changes.specs.Changes.{OfEdit, OfGroup}
-use Rattle.sf_constraints.specs.declared.rule.Rule.{Rule}
+use Rattle.sf_ruled.specs.Stepped.{Answer, Edit, EditRefusal, Member, OfEdit, OfGroup, Refused, Rule, step, together}
 use Rattle.sf_ruled.specs.declared.undo.Undo.{Undo}
 use Rattle.sf_ruled.specs.declared.redo.Redo.{Redo}
 use Rattle.sf_ruled.specs.declared.refusal.Refusal.{Refusal as StepRefusal}

@@ -3,12 +3,11 @@ ghost use Rattle.sf_ruled.specs.declared.refusal.Refusal.TheVariants.{Memory};
 ghost use Rattle.sf_ruled.specs.Ruled.{AddRule, DropRule};
 ghost use Rattle.sf_history.specs.History.{edited, fresh, fresh_under, grouped, redone, ruled_now, stepped, undone};
 
-use sf_constraints::Rule;
-use sf_groups::Group;
 use sf_layers::Store;
 use sf_refusals::Refusal;
-use sf_ruled::{Edited, Grouped, Redo, Refusal as StepRefusal, Ruled, Rules, Undo};
-use sf_steps::{Answer, Edit};
+use sf_ruled::{
+    Answer, Edit, Edited, Group, Grouped, Redo, Refusal as StepRefusal, Rule, Ruled, Rules, Undo,
+};
 use std::alloc::{AllocError, Global};
 use std::marker::Model;
 

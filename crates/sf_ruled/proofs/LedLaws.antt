@@ -14,7 +14,7 @@ use Rattle.sf_constraints.specs.declared.rule.Rule.{Rule}
 use Rattle.sf_constraints.specs.Rules.{break_of, broken_or, first_broken}
 use Rattle.sf_ruled.specs.declared.refusal.Refusal.{Refusal}
 use Rattle.sf_ruled.specs.declared.refusal.Refusal.TheVariants.{LayerRuled}
-use Rattle.sf_ruled.specs.Ruled.{OfChange, AddRule, DropRule, Ruled, added, after_change, change_led, edit_led, group_led, has_layers, place_of_rule, ruled_step, rules_after, settled, unless_broken, with_rule, without_rule}
+use Rattle.sf_ruled.specs.Ruled.{OfChange, AddRule, DropRule, Ruled, added, after_change, edit_led, group_led, has_layers, place_of_rule, ruled_step, rules_after, settled, unless_broken, with_rule, without_rule}
 use Rattle.sf_ruled.proofs.RuledLaws.{AddsOr, Adds, Refuses, adds, unless-kept}
 
 settled-same : (ruled new : Ruled) → settled ruled ≡ Ok new → ruled ≡ new

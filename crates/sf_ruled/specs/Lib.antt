@@ -2,3 +2,4 @@ pub mod Ruled
 pub mod Laws
 pub mod Outcomes
 pub mod Undos
+pub mod Stepped

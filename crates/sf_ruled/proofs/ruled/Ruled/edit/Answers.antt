@@ -4,6 +4,6 @@ use Rattle.sf_ruled.proofs.ruled.Ruled.edit.Goals as goal
 
 pub invariant_of-self : goal.invariant_of-self
 invariant_of-self c =
-    let now = c.carry_out_edit.new in
-    edited-settled c.carry_out_edit.result (ruled c.self.inside.store c.self.inside.rules) c.args.edit now.store now.rules c.self.invariant
-    c.carry_out_edit.ensures.accepted c.carry_out_edit.ensures.unchanged c.carry_out_edit.ensures.kept
+    let now = c.carry_out_ruled.new in
+    edited-settled c.carry_out_ruled.result (ruled c.self.inside.store c.self.inside.rules) c.args.edit now.store now.rules c.self.invariant
+    c.carry_out_ruled.ensures.accepted c.carry_out_ruled.ensures.unchanged c.carry_out_ruled.ensures.kept
