@@ -2,8 +2,7 @@
 
 use crate::support::{Gauge, town};
 use sf_layers::Store;
-use sf_ruled::Ruled;
-use sf_saving::{SaveFault, save};
+use sf_saving::{Ruled, SaveFault, save};
 use std::test::Fail;
 
 /// The file of a layer `wells` of points with one feature, the point 3 4.
