@@ -1,9 +1,7 @@
 -- What a text of a journal does: the edits that were accepted, replayed.
 use Rattle.std.specs.Prelude.{◌≡◌, ℕ, List, [], ◌∷◌, Option, None, Some, Result, Ok, Err}
 use Rattle.sf_refusals.specs.declared.refusal.Refusal.{Refusal}
-use Rattle.sf_steps.specs.declared.answer.Answer.{Answer}
-use Rattle.sf_groups.specs.declared.member.Member.{Member}
-use Rattle.sf_console.specs.Carried.{AddRule, Adding, Command, DropRule, Dropping, Edit, GroupRefusal, Redo, StepRefusal, Undo}
+use Rattle.sf_console.specs.Carried.{AddRule, Adding, Answer, Command, DropRule, Dropping, Edit, GroupRefusal, Member, Redo, StepRefusal, Undo}
 use Rattle.sf_console.specs.History.{Machine, edited, grouped, stepped, undone, redone}
 use Rattle.sf_console.specs.Readings.{Reading, Asked, Grouped, text_reading}
 
