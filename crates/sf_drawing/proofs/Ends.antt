@@ -1,8 +1,8 @@
 -- How drawing ends.
 use Rattle.std.proofs.Common.{◌≡◌, ◌∙◌, ℕ, List, Option, Some, Result, Ok, Err, ap, refl, subst, sym}
 use Rattle.std.specs.Prelude.{IfErr}
-use Rattle.sf_ruled.specs.Ruled.{Ruled}
 use Rattle.sf_loading.specs.Loading.{Loads}
+use Rattle.sf_loading.specs.Stored.{Ruled}
 use Rattle.sf_layers.specs.Content.{Content}
 use Rattle.sf_picture.specs.Pictures.{Choice}
 use Rattle.sf_drawing.specs.declared.running.RunFault.{RunFault}

@@ -3,8 +3,8 @@
 use Rattle.std.specs.Prelude.{◌≡◌, ℕ, ◌+◌, ◌*◌, ◌/◌, List, Option, None, Some, IfNone, IfSome, find, max, min, not, string_bytes}
 use Rattle.sf_layers.specs.Content.{Content, has_layer}
 use Rattle.sf_streams.specs.Streams.{WritesFront}
-use Rattle.sf_ruled.specs.Ruled.{Ruled}
 use Rattle.sf_loading.specs.Loading.{FailsBy, Loads}
+use Rattle.sf_loading.specs.Stored.{Ruled}
 use Rattle.sf_picture.specs.Pictures.{Choice, picture, row_height}
 use Rattle.sf_picture.specs.Views.{HasAllShown, IsOver, IsRound, bar_length, box_shown, framing_height, map_height_max, share, shown_count}
 use Rattle.sf_picture.specs.declared.view.View.{View}

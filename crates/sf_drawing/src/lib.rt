@@ -5,3 +5,4 @@
 mod running;
 
 pub use running::{RunFault, draw_from};
+pub use sf_loading::LoadFault;

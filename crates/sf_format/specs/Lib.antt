@@ -1,3 +1,4 @@
+pub mod Stored
 pub mod Defects
 pub mod Readings
 pub mod Format

@@ -7,4 +7,7 @@ pub mod laws;
 mod version;
 
 pub use defect::Defect;
+pub use sf_constraints::{Form, Rule};
+pub use sf_query::Ask;
+pub use sf_ruled::{Refusal as StepRefusal, Ruled, Rules};
 pub use version::Version;

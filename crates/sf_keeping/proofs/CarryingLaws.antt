@@ -1,12 +1,8 @@
 -- What becomes of a text that is carried out.
 use Rattle.std.proofs.Common.{◌≡◌, ℕ, Bool, true, false, List, Some, Result, Ok, inl, sym, ap, ◌∙◌, subst}
 use Rattle.sf_refusals.specs.declared.refusal.Refusal.{Refusal}
-use Rattle.sf_groups.specs.declared.member.Member.{Member}
-use Rattle.sf_history.specs.History.{Machine}
-use Rattle.sf_commands.specs.declared.command.Command.{Command}
-use Rattle.sf_commands.specs.declared.group_text.GroupRefusal.{GroupRefusal}
-use Rattle.sf_commands.specs.Commands.{command_of, takes_memory, OrMemoryIf}
-use Rattle.sf_commands.specs.GroupTexts.{group_of}
+use Rattle.sf_console.specs.History.{Machine}
+use Rattle.sf_console.specs.Carried.{Command, GroupRefusal, Member, OrMemoryIf, command_of, group_of, takes_memory}
 use Rattle.sf_console.specs.Answers.{accepted_line, reply, reply_text}
 use Rattle.sf_console.specs.Readings.{Asked, Grouped, by_group, text_reading}
 use Rattle.sf_console.specs.Session.{IsAnswered}

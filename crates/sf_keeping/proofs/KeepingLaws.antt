@@ -3,7 +3,7 @@ use Rattle.std.proofs.Common.{◌≡◌, ◌≢◌, ℕ, ◌<◌, ◌≤◌, fal
 use Rattle.sf_refusals.specs.declared.refusal.Refusal.TheVariants.{Memory}
 use Rattle.sf_lines.specs.Lines.{HasNoFeed, line_max}
 use Rattle.sf_journal.specs.Records.{sum_with}
-use Rattle.sf_history.specs.History.{Machine}
+use Rattle.sf_console.specs.History.{Machine}
 use Rattle.sf_console.specs.Answers.{refusal_line}
 use Rattle.sf_console.specs.declared.group_lines.GroupLines.{GroupLines}
 use Rattle.sf_console.specs.Readings.{line_text, text_reading}

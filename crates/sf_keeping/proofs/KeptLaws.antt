@@ -4,7 +4,7 @@ use Rattle.std.specs.List.{AllByRecursion}
 use Rattle.sf_lines.specs.Lines.{HasNoFeed}
 use Rattle.sf_journal.specs.Fronts.{IsFrontOf}
 use Rattle.sf_journal.proofs.FrontLaws.{front-law}
-use Rattle.sf_history.specs.History.{Machine}
+use Rattle.sf_console.specs.History.{Machine}
 use Rattle.sf_console.specs.Requests.{Request}
 use Rattle.sf_keeping.specs.Changes.{Leads}
 use Rattle.sf_keeping.specs.Kept.{IsKept, Keeps}

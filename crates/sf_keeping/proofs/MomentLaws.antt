@@ -3,7 +3,7 @@ use Rattle.std.proofs.Common.{◌≡◌, ℕ, List, [], ◌∷◌, ◌++◌, ref
 use Rattle.sf_journal.specs.Records.{records, sum_behind}
 use Rattle.sf_journal.specs.Fronts.{IsFrontOf}
 use Rattle.sf_journal.proofs.FrontLaws.{records-append}
-use Rattle.sf_history.specs.History.{Machine}
+use Rattle.sf_console.specs.History.{Machine}
 use Rattle.sf_console.specs.Requests.{Request}
 use Rattle.sf_keeping.specs.Desks.{Call, Standing, nothing_yet, after_call, after_calls}
 use Rattle.sf_keeping.specs.Kept.{Keeps}

@@ -10,7 +10,7 @@ use Rattle.sf_journal.specs.Records.{records, record_of, line_of, mark_of, sum_w
 use Rattle.sf_journal.specs.Readings.{AreIn, Reads}
 use Rattle.sf_journal.specs.Readings.Ending.{CutShort, Damaged}
 use Rattle.sf_journal.proofs.FrontLaws.{Reads-records, records-append}
-use Rattle.sf_history.specs.History.{Machine}
+use Rattle.sf_console.specs.History.{Machine}
 use Rattle.sf_console.specs.Readings.{text_reading}
 use Rattle.sf_keeping.specs.Changes.{changed}
 use Rattle.sf_keeping.specs.Changes.{Leads}

@@ -8,7 +8,7 @@ use Rattle.sf_lines.specs.Lines.{Line, line_max, lines_of, text_of, without_retu
 use Rattle.sf_lines.proofs.LineLemmas.{lines_of-unfed}
 use Rattle.sf_lines.specs.Buffers.{Buffered, IsBufferOf, line_buffered, nothing_buffered}
 use Rattle.sf_lines.proofs.BufferLemmas.{nothing_buffered-of}
-use Rattle.sf_commands.specs.declared.head.Head.{Head}
+use Rattle.sf_console.specs.Carried.{Head}
 use Rattle.sf_console.specs.Readings.{line_text}
 use Rattle.sf_console.specs.Requests.{Closed, Comes, Ends, Gathering, Open, Request, come, gathered, gathered_on, inside, is_passed_over, left_in, line_head, member_text, nothing_asked, outside, requests_from, requests_in, requests_of, text_asked, with_member}
 use Rattle.sf_console.specs.Gatherings.{IsUnfed, events_at_end}

@@ -7,7 +7,7 @@ use Rattle.sf_lines.specs.Buffers.{IsBufferOf}
 use Rattle.sf_lines.proofs.LineLemmas.{IsWhole-append}
 use Rattle.sf_lines.proofs.BufferLemmas.{IsBufferOf-nothing}
 use Rattle.sf_journal.specs.Records.{records, line_of, sum_with, sum_behind}
-use Rattle.sf_history.specs.History.{Machine}
+use Rattle.sf_console.specs.History.{Machine}
 use Rattle.sf_console.specs.declared.group_lines.GroupLines.{GroupLines}
 use Rattle.sf_console.specs.declared.group_lines.GroupLines.TheVariants as lines
 use Rattle.sf_console.specs.Requests.{Closed, Ends, Request, come, left_in, requests_from, requests_in, requests_of}

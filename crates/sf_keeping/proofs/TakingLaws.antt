@@ -4,7 +4,7 @@ use Rattle.sf_lines.specs.Lines.{text_of, IsWhole, HasNoFeed}
 use Rattle.sf_lines.specs.Buffers.{IsBufferOf}
 use Rattle.sf_lines.proofs.LineLemmas.{IsWhole-append, IsWhole-fed, HasNoFeed-append}
 use Rattle.sf_lines.proofs.BufferLemmas.{IsBufferOf-extend, IsBufferOf-nothing}
-use Rattle.sf_history.specs.History.{Machine}
+use Rattle.sf_console.specs.History.{Machine}
 use Rattle.sf_console.specs.declared.group_lines.GroupLines.{GroupLines}
 use Rattle.sf_console.specs.Requests.{Closed, Gathering, Request, left_in, requests_in}
 use Rattle.sf_console.specs.Gatherings.{IsHeld}

@@ -1,14 +1,8 @@
 -- What a text of a journal does: the edits that were accepted, replayed.
 use Rattle.std.specs.Prelude.{◌≡◌, ℕ, List, [], ◌∷◌, Option, None, Some, Result, Ok, Err}
 use Rattle.sf_refusals.specs.declared.refusal.Refusal.{Refusal}
-use Rattle.sf_steps.specs.declared.answer.Answer.{Answer}
-use Rattle.sf_groups.specs.declared.member.Member.{Member}
-use Rattle.sf_ruled.specs.Ruled.{AddRule as Adding, DropRule as Dropping}
-use Rattle.sf_ruled.specs.declared.refusal.Refusal.{Refusal as StepRefusal}
-use Rattle.sf_history.specs.History.{Machine, edited, grouped, stepped, undone, redone}
-use Rattle.sf_commands.specs.declared.command.Command.{Command}
-use Rattle.sf_commands.specs.declared.group_text.GroupRefusal.{GroupRefusal}
-use Rattle.sf_commands.specs.declared.command.Command.TheVariants.{AddRule, DropRule, Edit, Undo, Redo}
+use Rattle.sf_console.specs.Carried.{AddRule, Adding, Answer, Command, DropRule, Dropping, Edit, GroupRefusal, Member, Redo, StepRefusal, Undo}
+use Rattle.sf_console.specs.History.{Machine, edited, grouped, stepped, undone, redone}
 use Rattle.sf_console.specs.Readings.{Reading, Asked, Grouped, text_reading}
 
 -- the machine of an accepted edit

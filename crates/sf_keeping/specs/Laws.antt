@@ -3,7 +3,7 @@ use Rattle.std.specs.Prelude.{◌≡◌, ◌≢◌, ℕ, List, ◌++◌}
 use Rattle.sf_journal.specs.Readings.{Ending, Reads}
 use Rattle.sf_journal.specs.Readings.Ending.{Damaged}
 use Rattle.sf_journal.specs.Fronts.{IsFrontOf}
-use Rattle.sf_history.specs.History.{Machine}
+use Rattle.sf_console.specs.History.{Machine}
 use Rattle.sf_console.specs.Requests.{Request}
 use Rattle.sf_keeping.specs.Desks.{Standing}
 use Rattle.sf_keeping.specs.Changes.{Leads}

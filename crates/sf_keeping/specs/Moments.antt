@@ -2,7 +2,7 @@
 use Rattle.std.specs.Prelude.{◌≡◌, ℕ, List, ◌++◌}
 use Rattle.sf_journal.specs.Records.{records}
 use Rattle.sf_journal.specs.Fronts.{IsFrontOf}
-use Rattle.sf_history.specs.History.{Machine}
+use Rattle.sf_console.specs.History.{Machine}
 use Rattle.sf_console.specs.Requests.{Request}
 use Rattle.sf_keeping.specs.Desks.{Call, Standing, nothing_yet, after_calls}
 use Rattle.sf_keeping.specs.Kept.{Keeps}

@@ -1,10 +1,8 @@
 -- Internal: who wants to trust the program need not read this file.
 -- What becomes of a text that is carried out.
 use Rattle.std.specs.Prelude.{◌≡◌, ℕ, false, List, Result, Some, Ok}
-use Rattle.sf_groups.specs.declared.member.Member.{Member}
-use Rattle.sf_history.specs.History.{Machine}
-use Rattle.sf_commands.specs.declared.group_text.GroupRefusal.{GroupRefusal}
-use Rattle.sf_commands.specs.declared.command.Command.{Command}
+use Rattle.sf_console.specs.History.{Machine}
+use Rattle.sf_console.specs.Carried.{Command, GroupRefusal, Member}
 use Rattle.sf_console.specs.Answers.{accepted_line, group_reply, reply, reply_text}
 use Rattle.sf_console.specs.Readings.{Asked, text_reading}
 use Rattle.sf_console.specs.Readings.Reading.{Grouped as AskedGroup}

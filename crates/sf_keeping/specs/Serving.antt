@@ -3,7 +3,7 @@ use Rattle.std.specs.Prelude.{◌≡◌, ℕ, true, false, List, [], ◌∷◌, 
 use Rattle.std.specs.Io.KnownBytes.{Consumes, IsAtEnd}
 use Rattle.sf_lines.specs.Lines.{Line, text_of, IsWhole, HasNoFeed}
 use Rattle.sf_journal.specs.Records.{records, sum_behind}
-use Rattle.sf_history.specs.History.{Machine}
+use Rattle.sf_console.specs.History.{Machine}
 use Rattle.sf_console.specs.Requests.{Closed, Request, left_in, requests_in, requests_of}
 use Rattle.sf_keeping.specs.Desks.{Call, Makes, nothing_yet, after_calls}
 use Rattle.sf_keeping.specs.Kept.{Keeps}

@@ -5,7 +5,7 @@ use Rattle.std.specs.Io.KnownBytes.{Consumes}
 use Rattle.sf_lines.specs.Lines.{line_max, text_of, IsWhole, HasNoFeed}
 use Rattle.sf_lines.specs.Buffers.{IsBufferOf, nothing_buffered}
 use Rattle.sf_journal.specs.Records.{records, sum_behind}
-use Rattle.sf_history.specs.History.{Machine}
+use Rattle.sf_console.specs.History.{Machine}
 use Rattle.sf_keeping.specs.Desks.{Call, Makes, nothing_yet, after_calls}
 use Rattle.sf_keeping.specs.Waiting.{Waiting, nothing_waits}
 use Rattle.sf_keeping.specs.declared.keeping.Stop.{Stop}

@@ -1,17 +1,13 @@
 //! A text carried out, and whether it is one to be kept.
 ghost use Rattle.std.specs.Prelude.{List, Ok, Result};
-ghost use Rattle.sf_groups.specs.declared.member.Member.{Member};
-ghost use Rattle.sf_commands.specs.declared.group_text.GroupRefusal.{GroupRefusal as GroupRefusalOf};
-ghost use Rattle.sf_commands.specs.GroupTexts.{OrNoMemory};
+ghost use Rattle.sf_console.specs.Carried.{GroupRefusal as GroupRefusalOf, Member, OrNoMemory};
 ghost use Rattle.sf_keeping.specs.Outcomes.{Becomes, BecomesGrouped, IsOutcome};
 
-use sf_commands::{Command, GroupRefusal, is_blank_text, parse, parse_group};
 use sf_console::{
-    Editor, Reply, carry_out_group, execute, refused, refused_by_rules, refused_step,
+    Answer, Command, Editor, Group, GroupRefusal, Reply, carry_out_group, execute, is_blank_text,
+    parse, parse_group, refused, refused_by_rules, refused_step,
 };
-use sf_groups::Group;
 use sf_refusals::Refusal;
-use sf_steps::Answer;
 use std::alloc::Global;
 use std::str::from_utf8;
 

@@ -2,7 +2,7 @@
 ghost use Rattle.std.specs.Prelude.{◌≡◌, ◌≤◌, ◌<◌, ◌+◌, ◌∷◌, ℕ, List, [], true, false, length, option_copied, IfOk, OnOk, OnErr};
 ghost use Rattle.sf_lines.specs.Lines.{HasNoFeed, line_max, text_of};
 ghost use Rattle.sf_lines.specs.Buffers.{IsBufferOf};
-ghost use Rattle.sf_history.specs.History.{Machine};
+ghost use Rattle.sf_console.specs.History.{Machine};
 ghost use Rattle.sf_console.specs.Answers.{reply_text};
 ghost use Rattle.sf_keeping.specs.Waiting.{nothing_waits};
 ghost use Rattle.sf_keeping.specs.Saves.{is_save as is_save_of, AskForNone};

@@ -14,3 +14,4 @@ pub use input::Input;
 pub use keeping::{Stop, serve_kept};
 pub use pending::Pending;
 pub use replaying::{ReplayFault, Replayed, replay};
+pub use sf_console::Editor;

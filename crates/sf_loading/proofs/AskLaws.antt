@@ -9,7 +9,7 @@ use Rattle.std.proofs.lemmas.Str.{IsUtf8-from_ascii, is_utf8-from_IsUtf8}
 use Rattle.sf_known.specs.declared.letter.Letter.{Letter}
 use Rattle.sf_known.specs.declared.letter.Letter.TheVariants as letters
 use Rattle.sf_known.specs.Patterns.{letter_of, letters_of, pattern_of}
-use Rattle.sf_query.specs.declared.ask.Ask.TheVariants.{Named}
+use Rattle.sf_format.specs.Stored.{Named}
 use Rattle.sf_format.specs.Readings.{done}
 use Rattle.sf_format.specs.Format.{asked_by, predicate_of_byte}
 

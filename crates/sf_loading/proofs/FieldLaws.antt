@@ -7,8 +7,7 @@ use Rattle.sf_features.specs.Columns.{named, numbered}
 use Rattle.sf_features.specs.declared.column.Column.{Column}
 use Rattle.sf_layers.specs.Content.{Content, has_layer, layer_of}
 use Rattle.sf_layers.specs.WellFormed.{IsIssued}
-use Rattle.sf_constraints.specs.declared.rule.Rule.{Rule}
-use Rattle.sf_ruled.specs.Ruled.{has_rule}
+use Rattle.sf_format.specs.Stored.{Rule, has_rule}
 use Rattle.sf_streams.specs.Streams.{Left}
 use Rattle.sf_streams.proofs.ReadingLaws.{at}
 use Rattle.sf_format.specs.declared.defect.Defect.{Defect}

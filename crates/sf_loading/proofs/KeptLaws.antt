@@ -4,13 +4,8 @@ use Rattle.std.specs.Prelude.{is_some, nat_lt, if◌then◌else◌}
 use Rattle.std.proofs.lemmas.Bool.{lt-ltb}
 use Rattle.sf_features.specs.Names.{is_name}
 use Rattle.sf_layers.specs.Content.{Content, has_layer}
-use Rattle.sf_constraints.specs.declared.breaks.Break.{Break}
-use Rattle.sf_constraints.specs.declared.rule.Rule.{Rule}
-use Rattle.sf_constraints.specs.Rules.{break_of, broken_or}
-use Rattle.sf_ruled.specs.declared.refusal.Refusal.{Refusal}
-use Rattle.sf_ruled.specs.declared.refusal.Refusal.TheVariants as refusals
-use Rattle.sf_ruled.specs.Outcomes.{IsRefusedAs}
-use Rattle.sf_ruled.specs.Ruled.{Ruled, added, has_rule, rules_max, unless_broken, with_rule}
+use Rattle.sf_format.specs.Stored.{Break, IsRefusedAs, Refusal, Rule, Ruled, added, break_of, broken_or, has_rule, rules_max, unless_broken, with_rule}
+use Rattle.sf_format.specs.Stored.refusals as refusals
 use Rattle.sf_streams.specs.Streams.{Goes, Left}
 use Rattle.sf_streams.proofs.ReadingLaws.{Goes-nothing}
 use Rattle.sf_format.specs.declared.version.Version.{Version}

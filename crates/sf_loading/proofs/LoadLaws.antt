@@ -2,7 +2,7 @@
 use Rattle.std.proofs.Common.{◌≡◌, ℕ, ◌<◌, List, [], ◌∷◌, ◌++◌, length, Option, Some, None, Ok, Err, refl, sym, ap, subst, ◌∙◌, append-nil, arith}
 use Rattle.std.proofs.KnownBytes.{Consumes-trans}
 use Rattle.std.specs.Io.KnownBytes.{Consumes, IsAtEnd}
-use Rattle.sf_ruled.specs.Ruled.{Ruled}
+use Rattle.sf_format.specs.Stored.{Ruled}
 use Rattle.sf_streams.specs.Streams.{Left, ReadsAhead, Goes, nothing_ahead}
 use Rattle.sf_streams.proofs.ReadingLaws.{at}
 use Rattle.sf_format.specs.declared.defect.Defect.{Defect}

@@ -3,10 +3,8 @@
 use Rattle.std.specs.Prelude.{◌≡◌, ℕ, false, true, List, Option, Result, Ok, Err, IsTrue}
 use Rattle.sf_features.specs.Names.{is_name}
 use Rattle.sf_layers.specs.Content.{has_layer}
-use Rattle.sf_constraints.specs.declared.rule.Rule.{Rule}
-use Rattle.sf_ruled.specs.declared.refusal.Refusal.{Refusal}
-use Rattle.sf_ruled.specs.declared.refusal.Refusal.TheVariants as refusals
-use Rattle.sf_ruled.specs.Ruled.{Ruled, has_rule, with_rule}
+use Rattle.sf_format.specs.Stored.{Refusal, Rule, Ruled, has_rule, with_rule}
+use Rattle.sf_format.specs.Stored.refusals as refusals
 use Rattle.sf_streams.specs.Streams.{Left}
 use Rattle.sf_format.specs.declared.defect.Defect.TheVariants.{RuleBroken}
 use Rattle.sf_format.specs.Format.{held_rule}

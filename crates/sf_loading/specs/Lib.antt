@@ -1,3 +1,4 @@
+pub use Rattle.sf_format.specs.Stored
 pub mod Streaming
 pub mod Loading
 pub mod Types

@@ -1,7 +1,7 @@
 -- What loading does to a reader, in the words of `Read` for the bytes that it reports.
 use Rattle.std.specs.Prelude.{◌≡◌, ℕ, List, ◌++◌, Option, Ok, Err}
 use Rattle.std.specs.Io.KnownBytes.{Consumes, IsAtEnd}
-use Rattle.sf_ruled.specs.Ruled.{Ruled}
+use Rattle.sf_format.specs.Stored.{Ruled}
 use Rattle.sf_streams.specs.Streams.{AreLeft, Loses}
 use Rattle.sf_format.specs.declared.defect.Defect.{Defect}
 use Rattle.sf_format.specs.Defects.{number_of}

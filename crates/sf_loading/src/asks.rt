@@ -1,16 +1,15 @@
 //! What rules ask.
 ghost use Rattle.std.specs.Prelude.{◌≡◌, ◌≤◌, length, option_map, take};
 ghost use Rattle.sf_known.specs.Patterns.{pattern_of};
-ghost use Rattle.sf_query.specs.declared.ask.Ask.TheVariants.{Matching, Named};
+ghost use Rattle.sf_format.specs.Stored.{Matching, Named};
 ghost use Rattle.sf_format.specs.Format.{ask as read_ask, asked as read_asked, asked_by, predicate_of_byte};
 ghost use Rattle.sf_loading.specs.Streaming.{Gives};
 
 use super::halt::Halt;
 use super::numbers::{number_u8, require};
 use super::rules::present;
-use sf_format::Defect;
+use sf_format::{Ask, Defect};
 use sf_known::{Pattern, Predicate};
-use sf_query::Ask;
 use sf_streams::Window;
 use std::io::Read;
 use std::str::from_utf8;

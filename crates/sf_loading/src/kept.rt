@@ -1,6 +1,6 @@
 //! The rules of a store, each of which has to hold in it.
 ghost use Rattle.std.specs.Prelude.{◌≡◌, ◌<◌, [], length, IfOk, OnOk};
-ghost use Rattle.sf_ruled.specs.Ruled.{rules_max, with_rule};
+ghost use Rattle.sf_format.specs.Stored.{rules_max, with_rule};
 ghost use Rattle.sf_format.specs.declared.defect.Defect.TheVariants.{BadFile};
 ghost use Rattle.sf_format.specs.Readings.{field, items, number};
 ghost use Rattle.sf_format.specs.Format.{form_of_byte as form_of_byte_of, held_rule as read_held_rule, present as present_of, rule as read_rule, rules as read_rules, rules_in, unbroken};
@@ -12,10 +12,8 @@ use super::halt::Halt;
 use super::numbers::{number_u8, number_u16};
 use super::rules::present;
 use super::texts::{known_layer, rule_name};
-use sf_constraints::{Form, Rule};
-use sf_format::{Defect, Version};
+use sf_format::{Defect, Form, Rule, Ruled, StepRefusal, Version};
 use sf_layers::Store;
-use sf_ruled::{Refusal, Ruled};
 use sf_streams::Window;
 use std::alloc::Global;
 use std::io::Read;
@@ -66,11 +64,11 @@ fn rule<R: Read>(
 }
 
 /// Why reading ended where a rule is refused that can only be broken.
-fn refused(place: u64, refusal: Refusal) -> Halt
+fn refused(place: u64, refusal: StepRefusal) -> Halt
     ensures { result ≡ halt_of place refusal }
 {
     match refusal {
-        Refusal::Memory => Halt::Memory,
+        StepRefusal::Memory => Halt::Memory,
         _ => Halt::Found(place, Defect::RuleBroken),
     }
 }

@@ -17,3 +17,4 @@ mod values;
 
 pub use load_fault::LoadFault;
 pub use loading::load;
+pub use sf_format::Ruled;

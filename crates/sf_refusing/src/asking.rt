@@ -3,9 +3,8 @@ ghost use Rattle.std.specs.Prelude.{◌≡◌, IfOk};
 
 use super::answer::Answer;
 use super::boxes::{all_of, boxes_of, has, tree_of};
-use sf_commands::{Command, parse};
+use sf_console::{Command, Depths, Editor, parse};
 use sf_geometry::Extent;
-use sf_history::{Depths, Editor};
 use sf_layers::{Layer, Store};
 use sf_query::{Ask, query};
 use sf_refusals::Refusal;

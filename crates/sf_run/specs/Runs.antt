@@ -1,10 +1,9 @@
 -- What a run does from the bytes of a file on, in the words of `Read` and `Write` for the bytes that they report.
 use Rattle.std.specs.Prelude.{◌≡◌, ℕ, List, Option}
-use Rattle.sf_ruled.specs.Laws.{IsKept}
-use Rattle.sf_ruled.specs.Ruled.{Ruled}
 use Rattle.sf_layers.specs.WellFormed.{IsWellFormed}
 use Rattle.sf_loading.specs.Loading.{FailsBy, Loads}
-use Rattle.sf_history.specs.History.{Machine, fresh_under}
+use Rattle.sf_loading.specs.Stored.{IsKept, Ruled}
+use Rattle.sf_console.specs.History.{Machine, fresh_under}
 use Rattle.sf_console.specs.declared.serving.ServeFault.{ServeFault}
 use Rattle.sf_console.specs.declared.serving.ServeFault.TheVariants.{Read, Write, Memory}
 use Rattle.sf_console.specs.Serving.{BreaksOff, ServesWholeLines}

@@ -5,3 +5,6 @@
 mod running;
 
 pub use running::{RunFault, Served, run, run_from};
+pub use sf_console::ServeFault;
+pub use sf_loading::{LoadFault, Ruled, load};
+pub use sf_saving::{SaveFault, save};

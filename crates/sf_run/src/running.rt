@@ -3,8 +3,8 @@
 ghost use Rattle.std.specs.Prelude.{[], IfErr, IfOk, OnErr, OnOk};
 ghost use Rattle.std.specs.Io.KnownBytes.{Appends};
 ghost use Rattle.sf_streams.specs.Streams.{WritesFront};
-ghost use Rattle.sf_format.specs.Canonical.{canonical_ruled};
-ghost use Rattle.sf_history.specs.History.{fresh, ruled_now};
+ghost use Rattle.sf_saving.specs.Canonical.{canonical_ruled};
+ghost use Rattle.sf_console.specs.History.{fresh, ruled_now};
 ghost use Rattle.sf_console.specs.Serving.{ServesAll};
 ghost use Rattle.sf_run.specs.Runs.{Breaks, EndsEarly, RunsFrom};
 
@@ -23,7 +23,7 @@ pub struct Served {
 }
 
 impl Model for Served {
-    ghost use Rattle.sf_history.specs.History.{Machine};
+    ghost use Rattle.sf_console.specs.History.{Machine};
 
     ghost Value = { Machine };
 

@@ -7,8 +7,7 @@ use Rattle.std.proofs.lemmas.List.Concat.{flat_map-cons}
 use Rattle.sf_known.specs.declared.letter.Letter.{Letter}
 use Rattle.sf_known.specs.Patterns.{letter_character, pattern_text}
 use Rattle.sf_layers.specs.Content.{Content}
-use Rattle.sf_constraints.specs.declared.rule.Rule.{Rule}
-use Rattle.sf_ruled.specs.Ruled.{Ruled}
+use Rattle.sf_format.specs.Stored.{Rule, Ruled}
 use Rattle.sf_streams.proofs.Putting.{Putting, Putting-left, Putting-start, left-at}
 use Rattle.sf_format.specs.Canonical.{canonical_ruled, canonical_with, front, layers_bytes, ruled_front, rules_bytes}
 use Rattle.sf_saving.specs.Parts.{front_with, letter_bytes, rules_part}

@@ -1,2 +1,3 @@
+pub use Rattle.sf_format.specs.Canonical
 pub mod Fits
 pub mod Parts

@@ -3,7 +3,7 @@
 use Rattle.std.specs.Prelude.{ℕ, List, [], ◌∷◌}
 use Rattle.sf_known.specs.declared.letter.Letter.{Letter}
 use Rattle.sf_known.specs.Patterns.{letter_character}
-use Rattle.sf_constraints.specs.declared.rule.Rule.{Rule}
+use Rattle.sf_format.specs.Stored.{Rule}
 use Rattle.sf_format.specs.Canonical.{front, ruled_front, rules_bytes}
 
 -- the bytes at the front of a file with these rules

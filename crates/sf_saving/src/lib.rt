@@ -11,3 +11,4 @@ mod saving;
 
 pub use save_fault::SaveFault;
 pub use saving::save;
+pub use sf_format::Ruled;

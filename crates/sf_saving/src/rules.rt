@@ -7,9 +7,8 @@ ghost use Rattle.sf_saving.specs.Parts.{letter_bytes, rules_part};
 ghost use Rattle.sf_streams.specs.Streams.{Puts, WritesFront};
 
 use super::fields::put_name;
-use sf_constraints::{Form, Rule};
+use sf_format::{Ask, Form, Rule};
 use sf_known::{Letter, Pattern, Predicate};
-use sf_query::Ask;
 use sf_streams::{Output, WriteFault};
 use std::io::Write;
 

@@ -1,8 +1,7 @@
 //! Files of stores, between the lines of a session and by themselves.
 
 use super::session::Session;
-use sf_loading::{LoadFault, load};
-use sf_ruled::Ruled;
+use sf_loading::{LoadFault, Ruled, load};
 use sf_saving::save;
 use std::alloc::Global;
 use std::io::{self, Write};

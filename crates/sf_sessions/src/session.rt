@@ -2,7 +2,7 @@
 
 use super::lines::bytes_of;
 use sf_console::{Editor, serve};
-use sf_ruled::Ruled;
+use sf_loading::Ruled;
 use std::alloc::Global;
 use std::io::{self, Read, Write};
 

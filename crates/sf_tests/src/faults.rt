@@ -4,8 +4,7 @@ ghost use Rattle.std.specs.Prelude.{◌≡◌, IfOk};
 
 use super::support::{other_answer, put};
 use sf_console::{Depths, Editor, ServeFault, serve};
-use sf_loading::{LoadFault, load};
-use sf_ruled::Ruled;
+use sf_loading::{LoadFault, Ruled, load};
 use sf_saving::{SaveFault, save};
 use std::alloc::Global;
 use std::io;

@@ -1,5 +1,5 @@
-//! Tests that cross crates and look within: readers and writers of every kind, whose steps are whose, what inverses weigh, what an
-//! index finds. What the console can be asked is asked of the program (`tests/test_sizes.py`, `tests/test_shapes.py`).
+//! Tests that cross crates and look within: files, readers and writers of every kind, whose steps are whose, what inverses weigh, what
+//! an index finds. What the console can be asked is asked of the program (`tests/test_sizes.py`, `tests/test_shapes.py`).
 #![tactic(auto)]
 
 #[cfg(test)]
@@ -10,6 +10,10 @@ mod editors;
 mod faults;
 #[cfg(test)]
 mod indexes;
+#[cfg(test)]
+mod loading;
+#[cfg(test)]
+mod saving;
 #[cfg(test)]
 mod support;
 #[cfg(test)]

@@ -1,6 +1,5 @@
 //! How a run ends before its time: its status, and its last words.
-use sf_drawing::RunFault;
-use sf_loading::LoadFault;
+use sf_drawing::{LoadFault, RunFault};
 use sf_picture::{AskedFault, DrawFault};
 use std::{fmt, io};
 

@@ -1,10 +1,7 @@
 //! How a run ends before its time: its status, and its last words.
-use sf_console::ServeFault;
 use sf_keeping::KeepFault;
-use sf_loading::LoadFault;
 use sf_options::OptionsFault;
-use sf_run::RunFault;
-use sf_saving::SaveFault;
+use sf_run::{LoadFault, RunFault, SaveFault, ServeFault};
 use std::fmt;
 
 /// Why a run ended before its time.

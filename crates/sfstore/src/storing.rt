@@ -1,18 +1,15 @@
 //! A run over a store that is kept: loaded, its journal done again, served, and saved.
 
 use super::ending::{Ending, JournalFault};
-use sf_console::Editor;
 use sf_folder::{
     Chosen, Folder, Known, Lock, Name, Places, Seen, Source, StoreFolder, choose, renew, save,
     take_lock,
 };
 use sf_journal::{FileSum, Sum, SumFault, head, sum_of};
-use sf_keeping::{Desk, Input, KeepFault, Pending, ReplayFault, Stop, replay, serve_kept};
+use sf_keeping::{Desk, Editor, Input, KeepFault, Pending, ReplayFault, Stop, replay, serve_kept};
 use sf_layers::Store;
 use sf_lines::line_feed;
-use sf_loading::{LoadFault, load};
-use sf_ruled::Ruled;
-use sf_saving::SaveFault;
+use sf_run::{LoadFault, Ruled, SaveFault, load};
 use sf_streams::{WriteFault, flush, send};
 use std::alloc::Global;
 use std::fs::{File, Files, OpenFile};
@@ -67,12 +64,12 @@ impl<'a, R: Files<File = File>, W: Write> Desk for StoreDesk<'a, R, W> {
 struct Saved<'a>(&'a Ruled);
 
 impl<'a> Source for Saved<'a> {
-    ghost use Rattle.sf_format.specs.Canonical.{canonical_ruled};
+    ghost use Rattle.sf_run.specs.Canonical.{canonical_ruled};
 
     ghost bytes = { λ s. canonical_ruled s.0.now };
 
     fn write_to<W: Write>(&self, alloc: Global, writer: &mut W) -> io::Result<()> {
-        sf_saving::save(alloc, self.0, writer).map_err(|fault| match fault {
+        sf_run::save(alloc, self.0, writer).map_err(|fault| match fault {
             SaveFault::Memory => io::Error::from(ErrorKind::OutOfMemory),
             SaveFault::Write => io::Error::from(ErrorKind::WriteZero),
         })

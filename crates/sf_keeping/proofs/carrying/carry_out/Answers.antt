@@ -4,8 +4,7 @@ use Rattle.std.specs.Str.{is_utf8}
 use Rattle.std.proofs.lemmas.Str.{is_utf8-from_IsUtf8}
 use Rattle.sf_refusals.specs.declared.refusal.Refusal.TheVariants.{BadCommand}
 use Rattle.sf_wkt.specs.Tokens.{is_blank}
-use Rattle.sf_commands.specs.Commands.{command_of, takes_memory, OrMemoryIf}
-use Rattle.sf_commands.specs.GroupTexts.{group_of}
+use Rattle.sf_console.specs.Carried.{OrMemoryIf, command_of, group_of, takes_memory}
 use Rattle.sf_console.specs.Answers.{refusal_line}
 use Rattle.sf_console.specs.Readings.{by_group}
 use Rattle.sf_console.specs.Session.{IsAnswered}

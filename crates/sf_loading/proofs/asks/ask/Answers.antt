@@ -1,6 +1,6 @@
 use Rattle.std.proofs.Common.{Option}
 use Rattle.std.proofs.lemmas.Result.{err_from_is_err_and}
-use Rattle.sf_query.specs.declared.ask.Ask.{Ask}
+use Rattle.sf_format.specs.Stored.{Ask}
 use Rattle.sf_format.specs.declared.defect.Defect.TheVariants.{BadPattern}
 use Rattle.sf_format.specs.Format.{asked, present}
 use Rattle.sf_loading.proofs.StreamLaws.{Ends-field, Gives-judged}

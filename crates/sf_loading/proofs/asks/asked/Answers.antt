@@ -1,6 +1,6 @@
 use Rattle.std.proofs.Common.{◌∙◌, ℕ, Option, ap, arith, subst, sym}
 use Rattle.std.proofs.lemmas.Result.{err_from_is_err_and}
-use Rattle.sf_query.specs.declared.ask.Ask.{Ask}
+use Rattle.sf_format.specs.Stored.{Ask}
 use Rattle.sf_streams.specs.Streams.{Goes}
 use Rattle.sf_format.specs.Readings.{Reading, done, number}
 use Rattle.sf_format.specs.Format.{asked, asked_by}

@@ -1,8 +1,7 @@
 use Rattle.std.proofs.Common.{ℕ, List, Option, option_map, subst, sym, take}
 use Rattle.std.proofs.lemmas.Result.{err_from_is_err_and}
 use Rattle.sf_known.specs.Patterns.{pattern_of}
-use Rattle.sf_query.specs.declared.ask.Ask.{Ask}
-use Rattle.sf_query.specs.declared.ask.Ask.TheVariants.{Matching}
+use Rattle.sf_format.specs.Stored.{Ask, Matching}
 use Rattle.sf_format.specs.Readings.{bytes, done}
 use Rattle.sf_format.specs.Format.{asked_by}
 use Rattle.sf_loading.specs.Streaming.{Takes}

@@ -1,6 +1,6 @@
 use Rattle.std.proofs.Common.{◌∙◌, ℕ, List, ap, option_map, sym}
 use Rattle.sf_known.specs.Patterns.{pattern_of}
-use Rattle.sf_query.specs.declared.ask.Ask.TheVariants.{Matching}
+use Rattle.sf_format.specs.Stored.{Matching}
 use Rattle.sf_loading.proofs.AskLaws.{no-pattern}
 use Rattle.sf_loading.proofs.TextLaws.{not-utf8}
 use Rattle.sf_loading.proofs.asks.pattern_ahead.Goals as goal

@@ -1,8 +1,7 @@
 use Rattle.std.proofs.Common.{◌≡◌, ◌∙◌, ◌++◌, ◌∷◌, ◌+◌, ◌-◌, ℕ, List, [], ap, arith, length, length-append, rules, subst, sym}
 use Rattle.std.proofs.lemmas.Result.{err_from_is_err_and}
 use Rattle.sf_layers.specs.Content.{Content}
-use Rattle.sf_constraints.specs.declared.rule.Rule.{Rule}
-use Rattle.sf_ruled.specs.Ruled.{Ruled}
+use Rattle.sf_format.specs.Stored.{Rule, Ruled}
 use Rattle.sf_streams.specs.Streams.{Goes}
 use Rattle.sf_streams.proofs.ReadingLaws.{Goes-nothing, Goes-on}
 use Rattle.sf_format.specs.Readings.{items}

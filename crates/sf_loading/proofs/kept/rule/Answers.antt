@@ -1,8 +1,7 @@
 use Rattle.std.proofs.Common.{◌≡◌, ℕ, false, true, List, subst}
 use Rattle.std.proofs.lemmas.Result.{err_from_is_err_and}
 use Rattle.sf_layers.specs.Content.{Content, has_layer}
-use Rattle.sf_constraints.specs.declared.rule.Rule.{Rule}
-use Rattle.sf_ruled.specs.Ruled.{has_rule}
+use Rattle.sf_format.specs.Stored.{Rule, has_rule}
 use Rattle.sf_format.specs.declared.defect.Defect.TheVariants.{BadFile}
 use Rattle.sf_format.specs.Readings.{done, field, number}
 use Rattle.sf_format.specs.Format.{ask, form_of_byte, fresh_rule_name, known_layer_name, name, present, rule}

@@ -1,7 +1,7 @@
 use Rattle.std.proofs.Common.{ap, subst, sym}
 use Rattle.sf_format.specs.declared.version.Version.{Version}
 use Rattle.sf_format.specs.Format.{rules_in}
-use Rattle.sf_ruled.specs.Ruled.{Ruled}
+use Rattle.sf_format.specs.Stored.{Ruled}
 use Rattle.sf_loading.specs.Streaming.{Gives}
 use Rattle.sf_loading.proofs.KeptLaws.{no-rules-read}
 use Rattle.sf_loading.proofs.kept.ruled.Goals as goal

@@ -1,7 +1,7 @@
 use Rattle.std.proofs.Common.{ℕ, []}
 use Rattle.sf_format.specs.Readings.{done, items, number}
 use Rattle.sf_format.specs.Format.{held_rule, rules}
-use Rattle.sf_ruled.specs.Ruled.{Ruled}
+use Rattle.sf_format.specs.Stored.{Ruled}
 use Rattle.sf_loading.proofs.StreamLaws.{Goes-then, Reaches-after}
 use Rattle.sf_loading.proofs.kept.rules.Goals as goal
 

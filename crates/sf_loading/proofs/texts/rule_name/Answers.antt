@@ -1,6 +1,5 @@
 use Rattle.std.proofs.Common.{◌∙◌, ℕ, List, ap, is_some, sym}
-use Rattle.sf_constraints.specs.declared.rule.Rule.{Rule}
-use Rattle.sf_ruled.specs.Ruled.{has_rule, place_of_rule}
+use Rattle.sf_format.specs.Stored.{Rule, has_rule, place_of_rule}
 use Rattle.sf_format.specs.declared.defect.Defect.TheVariants.{RuleExists}
 use Rattle.sf_format.specs.Format.{allowed, fresh_rule_name, name}
 use Rattle.sf_loading.proofs.StreamLaws.{Gives-ruled}
