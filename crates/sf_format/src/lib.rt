@@ -9,5 +9,5 @@ mod version;
 pub use defect::Defect;
 pub use sf_constraints::{Form, Rule};
 pub use sf_query::Ask;
-pub use sf_ruled::{Refusal as StepRefusal, Ruled, Rules};
+pub use sf_ruled::{Refusal as StepRefusal, Ruled, Rules as KeptRules};
 pub use version::Version;

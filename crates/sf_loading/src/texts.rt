@@ -12,7 +12,7 @@ use super::halt::Halt;
 use super::numbers::{number_u8, require};
 use super::rules::allowed;
 use sf_features::{Text, is_name};
-use sf_format::{Defect, Rules};
+use sf_format::{Defect, KeptRules};
 use sf_layers::{Layer, Store};
 use sf_streams::Window;
 use std::alloc::{AllocError, Global};
@@ -123,7 +123,7 @@ pub(crate) fn rule_name<R: Read>(
     alloc: Global,
     window: &mut Window,
     reader: &mut R,
-    rules: &Rules,
+    rules: &KeptRules,
 ) -> Result<Text, Halt>
     ensures { Gives (λ t. t) (field name_of (fresh_rule_name rules.now)) (R.remaining reader.old)
         (R.remaining reader.new) window.old window.new result }
