@@ -391,11 +391,11 @@ class Speeds(unittest.TestCase):
         self.check(Claim(rings_apart(), [*asked, "layers"], 1, b"a polygon", 2.5))
 
     def test_a_layer_is_asked_about_itself_in_pairs(self) -> None:
-        """Refuses a rule of a layer with itself that asks for each pair from either side, and for each feature with itself."""
-        corners = [(10 * x, 10 * y) for x in range(100) for y in range(100)]
-        known = [f"add a {text('POLYGON', closed([(x, y), (x + 10, y), (x + 10, y + 10), (x, y + 10)]))}" for x, y in corners]
-        asked = [f"rule add {name} never a T******** a" for name in ("r", "s", "t")]
-        self.check(Claim(["layer add a polygon", *known], asked, 2, b"ok", 1.5))
+        """Refuses a rule of a layer with itself that asks for each pair from either side: for rings whose boxes meet, and which are
+        apart, each ask is a walk."""
+        places = [(300 * x + 150 * (y % 2), 130 * y) for x in range(100) for y in range(100)]
+        known = [f"add a {ring(24, x, y, (90, 80))}" for x, y in places]
+        self.check(Claim(["layer add a polygon", *known], ["rule add r never a T******** a"], 8, b"ok", 1.5))
 
     def test_a_given_point_is_placed_without_a_walk(self) -> None:
         """Refuses walks of rings with a point that is given: its place in each tells."""
