@@ -48,8 +48,9 @@ class Terminal:
         code = START.format(folder=str(FOLDER), hide=hide, module=module, words=words)
         self.process, self.file = pty.fork()
         if self.process == 0:
-            # Tests that were begun behind `nohup` would hand on that a hangup is ignored.
+            # Tests that were begun behind `nohup`, or in the background, would hand on that a hangup or an interrupt is ignored.
             signal.signal(signal.SIGHUP, signal.SIG_DFL)
+            signal.signal(signal.SIGINT, signal.SIG_DFL)
             os.execve(sys.executable, [sys.executable, "-c", code], environment)
         fcntl.ioctl(self.file, termios.TIOCSWINSZ, struct.pack("4H", *SIZE, 0, 0))
         self.seen = ""
