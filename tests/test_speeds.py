@@ -353,6 +353,13 @@ class Speeds(unittest.TestCase):
         asked = [f"relate a 1 {text('POLYGON', armed())}"] * 200
         self.check(Claim(["layer add a polygon", *known], asked, 1.0, b"212101212", 6))
 
+    def test_stars_with_edges_that_cross_are_told_to_overlap(self) -> None:
+        """Refuses walks over stars, and over what their edges cross, where these are asked whether they overlap. They are so few
+        that nothing is prepared."""
+        known = [f"add a {text('POLYGON', star())}"] * 5
+        asked = [f"query a overlaps {text('POLYGON', armed())}"] * 20
+        self.check(Claim(["layer add a polygon", *known], asked, 1.0, b"5", 6))
+
     def test_runs_are_tried_with_those_that_they_reach(self) -> None:
         """Refuses a search for edges along one another that tries all pairs of thousands on one line."""
         known = [f"add a {text('POLYGON', level_edge())}"] * 20
