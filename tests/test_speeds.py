@@ -384,6 +384,13 @@ class Speeds(unittest.TestCase):
             with self.subTest(name):
                 self.check(Claim(rings(), [*lines, "layers"], needed, b"a polygon"))
 
+    def test_a_square_within_a_ring_is_told_by_the_edges_nearby(self) -> None:
+        """Refuses walks over all edges of a ring for a square within it: none of them is near."""
+        places = [1_000 * k for k in range(RINGS)]
+        squares_within = [text("POLYGON", closed([(x - 5, -5), (x + 5, -5), (x + 5, 5), (x - 5, 5)])) for x in places]
+        asked = [f"relate a {k} {square_within}" for k, square_within in enumerate(squares_within, 1)] * 20
+        self.check(Claim(rings(), asked, 1.3, b"212FF1FF2"))
+
     def test_parcels_side_by_side_are_told_without_a_walk(self) -> None:
         """Refuses walks over parcels that share a border, where a line between them tells that no interiors meet."""
         slanted = [((10 * x + 3 * y, 10 * y), (10 * x + 3 * y + 10, 10 * y), (10 * x + 3 * y + 13, 10 * y + 10), (10 * x + 3 * y + 3, 10 * y + 10))
