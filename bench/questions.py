@@ -5,6 +5,7 @@ Rings of several sizes that cross the border of a window of four edges are asked
 that has them all inside, and rings round one place with a window in the corner of their box, which share no point with
 it; two stars that overlap are asked about each other, and two combs of which one is turned by a quarter and lies across
 the other; lines along a star and sets of points of which the matrix is told early are related, beside such as are not.
+Lines to and fro are asked about such lines across them, and many short lines about a longer one.
 Printed is processor time for each feature or question, with its line: the difference of runs with and without the
 questions, the least of some.
 
@@ -14,6 +15,7 @@ questions, the least of some.
 from __future__ import annotations
 
 import math
+import random
 import resource
 import subprocess
 from pathlib import Path
@@ -129,6 +131,34 @@ def lines_along(count: int) -> None:
         print(f"line along a star of {count}, {name}: relate {each:.0f} us")
 
 
+def lines_across(count: int) -> None:
+    """A line to and fro of so many edges, and one turned by a quarter, which cross again and again; twenty features for a
+    question, since the given line is read with each; and an area round the turned one."""
+    upright = [(200 * k - 100 * count, 300 * (-1) ** k) for k in range(count + 1)]
+    turned = [(y, x) for x, y in upright]
+    before = ["layer add a any", *[f"add a {text_of('LINESTRING', upright)}"] * 20]
+    line = text_of("LINESTRING", turned)
+    area = "POLYGON ((" + ", ".join(f"{x} {y}" for x, y in [*turned, (1_000, turned[-1][1]), (1_000, turned[0][1]), turned[0]]) + "))"
+    for name, given in (("a line", line), ("an area", area)):
+        for predicate in ("crosses", "touches", "overlaps"):
+            times = max(3, 2_000 // count)
+            each = cost(before, [f"query a {predicate} {given}"] * times) / times / 20
+            print(f"lines of {count} across {name}: {predicate} {each:.1f} us for each feature")
+        print(f"lines of {count} across {name}: relate {related(before, given, count):.0f} us")
+
+
+def short_lines() -> None:
+    """Ten thousand lines of 16 points in rows, a hundred and more of them near a line of 100 points across them."""
+    dice = random.Random(5)
+    starts = [(600 * (k % 100), 600 * (k // 100)) for k in range(10_000)]
+    lines = [[(x + 30 * k + dice.randint(-200, 200), y + dice.randint(-200, 200)) for k in range(16)] for x, y in starts]
+    before = ["layer add a linestring", *(f"add a {text_of('LINESTRING', line)}" for line in lines)]
+    given = text_of("LINESTRING", [(30_000 + dice.randint(-300, 300), 600 * k) for k in range(100)])
+    for predicate in ("intersects", "crosses", "touches", "overlaps", "within", "equals"):
+        each = cost(before, [f"query a {predicate} {given}"] * 50) / 50
+        print(f"10,000 lines of 16 points: {predicate} {each:.0f} us")
+
+
 def points_shared(count: int) -> None:
     """Two sets of so many points, of which one half are in both, so that they are told after some columns, or none."""
     angles = [2 * math.pi * k / count + 0.1 for k in range(count)]
@@ -148,7 +178,9 @@ def main() -> None:
         stars(count)
         combs(count)
         lines_along(count)
+        lines_across(count)
         points_shared(count)
+    short_lines()
 
 
 if __name__ == "__main__":

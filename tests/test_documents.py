@@ -223,6 +223,19 @@ class Map(unittest.TestCase):
         for call, path in calls:
             self.assertRegex(path.read_text(), rf"\b(fn|struct|enum|trait) {call}\b", f"{path}: {call}")
 
+    def test_evidence_stands_in_the_order_that_the_code_has(self):
+        code = (CRATES / "sf_query" / "src" / "order.rt").read_text()
+        orders = {
+            name: re.findall(r"\w+", listed)
+            for name, listed in re.findall(r"static (\w+): \[Evidence; \d+\] =\s*\[([^\]]*)\]", code)
+        }
+        rows = re.findall(r"^\| `(\w+)`: [^|]*\|[^|]*\| (\d*) ?\| (\d*) ?\| (\d*) ?\|[^|]*\|$", self.text, re.MULTILINE)
+        for column, order in enumerate(("OF_CONTACT", "OF_MATRIX", "OF_ENTRIES_OF_FEW")):
+            told = {kind: int(places[column]) for kind, *places in rows if places[column]}
+            self.assertEqual(told, {kind: place for place, kind in enumerate(orders[order], 1) if kind != "Boxes"}, order)
+        kinds = re.findall(r"^    (\w+),$", (CRATES / "sf_query" / "src" / "evidence.rt").read_text(), re.MULTILINE)
+        self.assertEqual({kind for kind, *_ in rows} | {"Boxes", "Clear", "Prepared"}, set(kinds))
+
 
 if __name__ == "__main__":
     unittest.main()

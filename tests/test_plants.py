@@ -9,6 +9,7 @@ from pathlib import Path
 TOP = Path(__file__).resolve().parent.parent
 sys.path.insert(0, str(TOP / "bench"))
 
+import kept  # noqa: E402
 import plants  # noqa: E402
 from planted import file_of  # noqa: E402
 
@@ -60,6 +61,24 @@ class Plants(unittest.TestCase):
     def test_what_is_said_of_each_is_read(self) -> None:
         wanted = {"one": "refused", "two": "proved", "three": "refused by names", "four": "bad", "five": "not tried"}
         self.assertEqual(plants.verdicts(OUTPUT), {f"sf_query-{name}": found for name, found in wanted.items()})
+
+    def test_what_the_prover_says_is_read(self) -> None:
+        cases = {
+            "refused": (1, "note: src/a.rt:1:1: it is not proved that ..\nlogic=not-proved"),
+            "refused by names": (1, "./proofs/a/Answers.antt:1:1: error: `returns`: record `A` has no field `b`"),
+            "bad": (1, "src/a.rt:1:1: error: expected an expression"),
+            "proved": (0, "only=3 proved=3"),
+            "refused by a limit": (3, "antt ran out of stack"),
+            "not tried": (2, "rattle: error: `sf_grid` has no function `bounds`"),
+        }
+        for wanted, (status, output) in cases.items():
+            with self.subTest(wanted):
+                self.assertEqual(kept.judged(status, output)[0], wanted)
+
+    def test_a_plant_is_looked_at_by_its_modules(self) -> None:
+        named = {plant.name: plant for plant in self.plants}
+        self.assertEqual(kept.modules(named["sf_query-looked_counts_all"]), ["queries"])
+        self.assertEqual(kept.below("sf_edge_tree"), ["sf_grid", "sf_geometry"])
 
     def test_a_row_is_marked_where_something_else_came(self) -> None:
         plant = next(plant for plant in self.plants if plant.expected.startswith("proved"))

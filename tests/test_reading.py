@@ -13,8 +13,8 @@ from pathlib import Path
 
 TOP = Path(__file__).resolve().parent.parent
 NAMES = re.compile(r"ghost use [^;]*\{([^}]*)\}")
-# What a machine takes some nine minutes for. Fewer are wanted.
-STEPS = 460_000_000
+# What a machine takes some six minutes for. Fewer are wanted.
+STEPS = 340_000_000
 
 
 def below() -> dict[str, list[str]]:

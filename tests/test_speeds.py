@@ -299,14 +299,16 @@ class Speeds(unittest.TestCase):
         self.check(Claim(["layer add a polygon", *[whole] * 100], [*vertex_moves(1_000), "box a 1"], 1.0, b"0 0 8184 100", 3))
 
     def test_a_sweep_hands_out_what_changes(self) -> None:
-        """Refuses walks over all cells: a star's are thousands of times its edges."""
-        smooth, star = ring(EDGES, 0, 0, (500_000, 500_000)), ring(EDGES, 0, 0, (500_000, 250_000))
-        self.check(Claim(["layer add a polygon", *[f"add a {smooth}"] * 20], [*[f"add a {star}"] * 20], 5.6, b"ok 40", 2.5))
+        """Refuses walks over all cells: those of a star within another are thousands of times their edges."""
+        star, within = ring(EDGES, 0, 0, (500_000, 250_000)), ring(EDGES, 0, 0, (450_000, 200_000))
+        known = ["layer add a polygon", *[f"add a {star}"] * 20]
+        self.check(Claim(known, [f"relate a 1 {within}"] * 10, 4.0, b"212FF1FF2", 2.5))
 
     def test_walks_of_questions_end_early(self) -> None:
-        """Refuses a sink of questions that is never full: two lines cross a million times, and the first tells."""
+        """Refuses a sink of questions that is never full: two lines cross a million times, and the first tells. One of them goes
+        to and fro, so that no edge has a crossing alone."""
         lines = [f"add a {text('LINESTRING', UPRIGHT)}"] * 20
-        given = text("LINESTRING", ACROSS_IT)
+        given = text("LINESTRING", [*ACROSS_IT, *reversed(ACROSS_IT[:-1])])
         asks = ["query a intersects", "query a disjoint", "query a touches", "match a T********", "query a within"]
         self.check(Claim(["layer add a linestring", *lines], [f"{ask} {given}" for ask in asks], 20.0, b"rows 0"))
 
@@ -354,11 +356,26 @@ class Speeds(unittest.TestCase):
         self.check(Claim(["layer add a polygon", *known], asked, 1.0, b"212101212", 6))
 
     def test_stars_with_edges_that_cross_are_told_to_overlap(self) -> None:
-        """Refuses walks over stars, and over what their edges cross, where these are asked whether they overlap. They are so few
-        that nothing is prepared."""
-        known = [f"add a {text('POLYGON', star())}"] * 5
-        asked = [f"query a overlaps {text('POLYGON', armed())}"] * 20
-        self.check(Claim(["layer add a polygon", *known], asked, 1.0, b"5", 6))
+        """Refuses walks over stars, and over what their edges cross, where these are asked whether they overlap: they are so few
+        that nothing is prepared, or so many that something is."""
+        for count in (5, 20):
+            with self.subTest(count):
+                known = [f"add a {text('POLYGON', star())}"] * count
+                asked = [f"query a overlaps {text('POLYGON', armed())}"] * 20
+                self.check(Claim(["layer add a polygon", *known], asked, 1.0, str(count).encode(), 6))
+
+    def test_lines_that_cross_take_no_walk(self) -> None:
+        """Refuses walks over a million crossings of two lines, or of a line and an area: edges that cross, ends, and edges along
+        one another tell the matrix."""
+        line, area = text("LINESTRING", ACROSS_IT), text("POLYGON", areal_across(ACROSS_IT))
+        known = [f"add a {text('LINESTRING', UPRIGHT)}"] * 20
+        asked = {
+            "a line": ([f"relate a 1 {line}", f"query a crosses {line}", f"query a overlaps {line}"], 12.0, b"rows 0"),
+            "an area": ([f"query a crosses {area}", f"query a within {area}", f"relate a 1 {area}"], 9.0, b"101FF0212"),
+        }
+        for name, (lines, needed, last) in asked.items():
+            with self.subTest(name):
+                self.check(Claim(["layer add a linestring", *known], lines * 5, needed, last))
 
     def test_runs_are_tried_with_those_that_they_reach(self) -> None:
         """Refuses a search for edges along one another that tries all pairs of thousands on one line."""
@@ -385,11 +402,15 @@ class Speeds(unittest.TestCase):
                 self.check(Claim(rings(), [*lines, "layers"], needed, b"a polygon"))
 
     def test_a_square_within_a_ring_is_told_by_the_edges_nearby(self) -> None:
-        """Refuses walks over all edges of a ring for a square within it: none of them is near."""
+        """Refuses walks over all edges of a ring for a square within it, whichever of the two is given: none of them is near."""
         places = [1_000 * k for k in range(RINGS)]
         squares_within = [text("POLYGON", closed([(x - 5, -5), (x + 5, -5), (x + 5, 5), (x - 5, 5)])) for x in places]
         asked = [f"relate a {k} {square_within}" for k, square_within in enumerate(squares_within, 1)] * 20
         self.check(Claim(rings(), asked, 1.3, b"212FF1FF2"))
+        town = ring(EDGES, 0, 0, (500_000, 500_000))
+        known = ["layer add a polygon", f"add a {squares_within[0]}", "layer add b polygon", *[f"add b {town}"] * 20]
+        asked = [line for line in (f"relate a 1 {town}", f"query a within {town}") for _ in range(20)]
+        self.check(Claim(known, asked, 2.5, b"1", 2))
 
     def test_parcels_side_by_side_are_told_without_a_walk(self) -> None:
         """Refuses walks over parcels that share a border, where a line between them tells that no interiors meet."""
@@ -424,10 +445,12 @@ class Speeds(unittest.TestCase):
                 self.check(Claim(border_squares(kind), [*asked, "layers"], 2.0, b"b polygon"))
 
     def test_what_is_clear_of_a_large_geometry_is_told_by_a_point(self) -> None:
-        """Refuses walks for each of many squares within a town, or off its border and off a street."""
-        given = [town(IN_TOWN, False), street(IN_TOWN)]
-        asked = [f"query a {predicate} {each}" for predicate in ("within", "crosses", "touches") for each in given]
-        self.check(Claim(["layer add a polygon", *squares(IN_TOWN)], [*asked, "layers"], 9.0, b"a polygon"))
+        """Refuses walks for each of many squares within a town, or off its border and off a street, and passes over all edges of
+        these for each of them."""
+        for given, needed in ((town(IN_TOWN, False), 1.8), (street(IN_TOWN), 20.0)):
+            with self.subTest(given[:7]):
+                asked = [f"query a {predicate} {given}" for predicate in ("within", "crosses", "touches")] * 2
+                self.check(Claim(["layer add a polygon", *squares(IN_TOWN)], [*asked, "layers"], needed, b"a polygon", 3))
 
     def test_what_is_between_slanted_edges_is_told_by_its_box(self) -> None:
         """Refuses walks for what is in the boxes of a line's edges and off the edges."""

@@ -9,9 +9,9 @@ use Rattle.sf_steps.specs.declared.refusal.Refusal.{Refusal as EditRefusal}
 use Rattle.sf_steps.specs.Steps.{step}
 use Rattle.sf_groups.specs.declared.member.Member.{Member}
 use Rattle.sf_groups.specs.Members.{Refused, and_behind, ids_given, in_front, members_from, resolved, together}
-use Rattle.sf_changes.specs.Changes.{OfGroup}
-use Rattle.sf_ruled.specs.declared.refusal.Refusal.{Refusal as StepRefusal}
-use Rattle.sf_ruled.specs.Ruled.{OfChange}
+use Rattle.sf_history.specs.Recorded.{OfGroup}
+use Rattle.sf_history.specs.Recorded.{StepRefusal}
+use Rattle.sf_history.specs.Recorded.{OfChange}
 use Rattle.sf_history.specs.History.{Machine, giving, grouped, identifying, stepped}
 
 -- an answer gives at most one identifier

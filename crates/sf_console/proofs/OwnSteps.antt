@@ -9,9 +9,9 @@ use Rattle.sf_steps.specs.Steps.{step}
 use Rattle.sf_groups.specs.declared.member.Member.{Member}
 use Rattle.sf_groups.specs.Members.{Refused, together}
 use Rattle.sf_steps.specs.declared.refusal.Refusal.{Refusal as EditRefusal}
-use Rattle.sf_changes.specs.Changes.{OfEdit, OfGroup}
-use Rattle.sf_ruled.specs.declared.refusal.Refusal.{Refusal as StepRefusal}
-use Rattle.sf_ruled.specs.Ruled.{AddRule, DropRule, OfChange}
+use Rattle.sf_history.specs.Recorded.{OfEdit, OfGroup}
+use Rattle.sf_history.specs.Recorded.{StepRefusal}
+use Rattle.sf_history.specs.Recorded.{AddRule, DropRule, OfChange}
 use Rattle.sf_history.specs.History.{Machine, answering, fresh_under, giving, identifying, stepped, undone, redone}
 use Rattle.sf_history.specs.Laws.{Turn, Leads, LeadInTurn}
 use Rattle.sf_history.proofs.OwnSteps.{own_steps_law}

@@ -13,14 +13,14 @@ use Rattle.sf_steps.specs.declared.refusal.Refusal.{Refusal as EditRefusal}
 use Rattle.sf_steps.specs.Laws.{BringsGridPoints}
 use Rattle.sf_steps.specs.Steps.{step}
 use Rattle.sf_steps.proofs.StepsFine.{IsWellFormed-step}
-use Rattle.sf_changes.specs.Changes.{OfEdit, OfGroup}
+use Rattle.sf_history.specs.Recorded.{OfEdit, OfGroup}
 use Rattle.sf_features.specs.Names.{is_name}
-use Rattle.sf_constraints.specs.declared.breaks.Broken.{Broken}
-use Rattle.sf_constraints.specs.declared.rule.Rule.{Rule}
-use Rattle.sf_constraints.specs.Rules.{break_of, broken_or, first_broken}
-use Rattle.sf_ruled.specs.declared.refusal.Refusal.{Refusal as StepRefusal}
-use Rattle.sf_ruled.specs.declared.refusal.Refusal.TheVariants.{BadName, LayerRuled, NoLayer, RuleExists, TooManyRules}
-use Rattle.sf_ruled.specs.Ruled.{Ruled, added, after_change, edit_led, group_led, has_layers, has_rule, place_of_rule, rules_after, rules_max, settled, unless_broken, with_rule, without_rule}
+use Rattle.sf_history.specs.Recorded.{Broken}
+use Rattle.sf_history.specs.Recorded.{Rule}
+use Rattle.sf_history.specs.Recorded.{break_of, broken_or, first_broken}
+use Rattle.sf_history.specs.Recorded.{StepRefusal}
+use Rattle.sf_history.specs.Recorded.refusals.{BadName, LayerRuled, NoLayer, RuleExists, TooManyRules}
+use Rattle.sf_history.specs.Recorded.{Ruled, added, after_change, edit_led, group_led, has_layers, has_rule, place_of_rule, rules_after, rules_max, settled, unless_broken, with_rule, without_rule}
 use Rattle.sf_history.specs.History.{Kept, Machine, after_step, answering, back_to, forth_to, fresh, giving, identifying, ruled_now}
 use Rattle.sf_commands.specs.declared.command.Command.{Command}
 use Rattle.sf_commands.specs.declared.command.Command.TheVariants as commands

@@ -5,13 +5,13 @@ use Rattle.sf_known.specs.Patterns.{pattern_text}
 use Rattle.sf_known.specs.Predicates.{predicate_name}
 use Rattle.sf_query.specs.declared.ask.Ask.{Ask}
 use Rattle.sf_query.specs.declared.ask.Ask.TheVariants.{Matching, Named}
-use Rattle.sf_constraints.specs.declared.breaks.Break.{Break}
-use Rattle.sf_constraints.specs.declared.breaks.Break.TheVariants.{Alone, Pair}
-use Rattle.sf_constraints.specs.declared.rule.Form.{Form}
-use Rattle.sf_constraints.specs.declared.rule.Form.TheVariants.{Each, Never}
-use Rattle.sf_constraints.specs.declared.rule.Rule.{Rule}
-use Rattle.sf_ruled.specs.declared.refusal.Refusal.{Refusal as StepRefusal}
-use Rattle.sf_ruled.specs.declared.refusal.Refusal.TheVariants.{RuleBroken}
+use Rattle.sf_history.specs.Recorded.{Break}
+use Rattle.sf_history.specs.Recorded.{Alone, Pair}
+use Rattle.sf_history.specs.Recorded.{Form}
+use Rattle.sf_history.specs.Recorded.{Each, Never}
+use Rattle.sf_history.specs.Recorded.{Rule}
+use Rattle.sf_history.specs.Recorded.{StepRefusal}
+use Rattle.sf_history.specs.Recorded.refusals.{RuleBroken}
 
 -- what is asked, as one word
 abbrev pub ask_word : Ask → List ℕ

@@ -8,13 +8,11 @@ ghost use Rattle.sf_console.specs.RuleRows.{ask_word, break_words, broken_name a
 ghost use Rattle.sf_console.specs.Session.{IsAnswered};
 
 use super::reply::Reply;
-use sf_constraints::{Break, Form, Rule};
-use sf_history::{Editor, StepRefusal};
+use sf_history::{Break, Editor, Form, Rule, Rules, StepRefusal};
 use sf_known::Letter;
 use sf_layers::Text;
 use sf_query::Ask;
 use sf_refusals::Refusal;
-use sf_ruled::Rules;
 use sf_steps::Answer;
 use std::alloc::{AllocError, Global};
 

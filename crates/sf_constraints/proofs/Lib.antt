@@ -11,3 +11,4 @@ pub mod UnderwayLaws
 pub mod HoldsLaws
 pub mod NearLaws
 mod Computed
+pub mod JoinedLists

@@ -6,3 +6,4 @@ pub mod Near
 pub mod Looks
 pub mod Underway
 pub mod Exchanging
+pub mod Asked

@@ -15,4 +15,5 @@ mod whole;
 pub use breaks::{Break, Broken};
 pub use exchanging::{NotExchanged, exchange_under};
 pub use rule::{Form, Rule};
+pub use sf_query::Ask;
 pub use whole::first_break;

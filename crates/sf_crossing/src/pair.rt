@@ -38,7 +38,7 @@ pub(crate) fn cross_alone(first: &[Edge], second: &[Edge], i: usize, j: usize) -
 }
 
 /// Whether each of two edges leads from one side of the other to the other side.
-fn do_cross(e: &Edge, f: &Edge) -> bool
+pub(crate) fn do_cross(e: &Edge, f: &Edge) -> bool
     ensures { result ≡ do_cross (edge_of e.now) (edge_of f.now) }
 {
     are_parted(e, f.0, f.1) && are_parted(f, e.0, e.1)

@@ -18,9 +18,9 @@ use Rattle.sf_wkb.specs.declared.fault.WkbFault.TheVariants as binaries
 use Rattle.sf_wkb.specs.Grammar.{read_in}
 use Rattle.sf_wkb.proofs.Sized.{read_is_sized}
 use Rattle.sf_known.specs.Patterns.{pattern_of}
-use Rattle.sf_query.specs.declared.ask.Ask.TheVariants.{Matching, Named}
-use Rattle.sf_constraints.specs.declared.rule.Rule.{Rule}
-use Rattle.sf_constraints.specs.Rules.{break_of}
+use Rattle.sf_ruled.specs.Ruling.{Matching, Named}
+use Rattle.sf_ruled.specs.Ruling.{Rule}
+use Rattle.sf_ruled.specs.Ruling.{break_of}
 use Rattle.sf_ruled.specs.Ruled.{Ruled, has_rule}
 use Rattle.sf_features.specs.declared.column.Column.{Column}
 use Rattle.sf_features.specs.declared.column_type.ColumnType.{ColumnType}

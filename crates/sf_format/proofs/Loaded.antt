@@ -36,9 +36,9 @@ use Rattle.sf_layers.specs.Content.{Content, LayerContent, has_layer, layer_of, 
 use Rattle.sf_layers.specs.WellFormed.{IsIssued, IsColumn, IsValue, IsFeature, IsLayer, IsWellFormed, layers_max}
 use Rattle.sf_layers.proofs.Issued.{all-push}
 use Rattle.sf_layers.proofs.Kept.{none-from}
-use Rattle.sf_constraints.specs.declared.rule.Rule.{Rule}
-use Rattle.sf_constraints.specs.Holds.{HasLayers}
-use Rattle.sf_constraints.proofs.HoldsLaws.{rules_are_over_the_plane}
+use Rattle.sf_ruled.specs.Ruling.{Rule}
+use Rattle.sf_ruled.specs.Ruling.{HasLayers}
+use Rattle.sf_ruled.proofs.HeldLaws.{rules_are_over_the_plane}
 use Rattle.sf_ruled.specs.Ruled.{Ruled, has_layers}
 use Rattle.sf_streams.specs.Streams.{Left}
 use Rattle.sf_format.specs.declared.version.Version.{Version}

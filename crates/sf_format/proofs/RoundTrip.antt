@@ -33,7 +33,7 @@ use Rattle.sf_layers.specs.declared.layer_kind.LayerKind.TheVariants.{Any, Only}
 use Rattle.sf_layers.specs.Content.{Content, LayerContent, layer_of, admits}
 use Rattle.sf_layers.specs.WellFormed.{IsIssued, IsColumn, IsValue, IsFeature, IsLayer, IsWellFormed, column_end, layers_max}
 use Rattle.sf_layers.proofs.Kept.{none_or}
-use Rattle.sf_constraints.specs.declared.rule.Rule.{Rule}
+use Rattle.sf_ruled.specs.Ruling.{Rule}
 use Rattle.sf_ruled.specs.Ruled.{Ruled}
 use Rattle.sf_format.specs.declared.version.Version.{Version}
 use Rattle.sf_format.specs.declared.version.Version.TheVariants.{First, Second, Third}

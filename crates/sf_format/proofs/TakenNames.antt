@@ -4,7 +4,7 @@ use Rattle.std.specs.List.{position_from}
 use Rattle.std.specs.List.{list_any}
 use Rattle.std.specs.Cmp.Lexicographic.{nat_list_eq_equiv}
 use Rattle.std.proofs.lemmas.Iterator.Adapters.{position_from-zero}
-use Rattle.sf_constraints.specs.declared.rule.Rule.{Rule}
+use Rattle.sf_ruled.specs.Ruling.{Rule}
 use Rattle.sf_ruled.specs.Ruled.{has_rule}
 
 found : {X : Type 0} (test : X → Bool) (i : ℕ) (xs : List X) → is_some (position_from test i xs) ≡ list_any test xs

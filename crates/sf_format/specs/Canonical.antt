@@ -6,11 +6,11 @@ use Rattle.sf_wkb.specs.Grammar.{code_of, canonical as canonical_wkb}
 use Rattle.sf_known.specs.Patterns.{pattern_text}
 use Rattle.sf_known.specs.declared.predicate.Predicate.{Predicate}
 use Rattle.sf_known.specs.declared.predicate.Predicate.TheVariants as predicates
-use Rattle.sf_query.specs.declared.ask.Ask.{Ask}
-use Rattle.sf_query.specs.declared.ask.Ask.TheVariants.{Matching, Named}
-use Rattle.sf_constraints.specs.declared.rule.Rule.{Rule}
-use Rattle.sf_constraints.specs.declared.rule.Form.{Form}
-use Rattle.sf_constraints.specs.declared.rule.Form.TheVariants.{Never, Each}
+use Rattle.sf_ruled.specs.Ruling.{Ask}
+use Rattle.sf_ruled.specs.Ruling.{Matching, Named}
+use Rattle.sf_ruled.specs.Ruling.{Rule}
+use Rattle.sf_ruled.specs.Ruling.{Form}
+use Rattle.sf_ruled.specs.Ruling.{Never, Each}
 use Rattle.sf_ruled.specs.Ruled.{Ruled}
 use Rattle.sf_features.specs.Features.{FeatureContent}
 use Rattle.sf_layers.specs.Content.{Content, LayerContent}

@@ -10,8 +10,8 @@ use Rattle.sf_rules.specs.Verdicts.{first_fault}
 use Rattle.sf_known.specs.declared.predicate.Predicate.{Predicate}
 use Rattle.sf_known.specs.declared.predicate.Predicate.TheVariants.{Equals, Disjoint, Intersects, Touches, Within, Contains, Crosses, Overlaps}
 use Rattle.sf_known.specs.Patterns.{pattern_of}
-use Rattle.sf_query.specs.declared.ask.Ask.{Ask}
-use Rattle.sf_query.specs.declared.ask.Ask.TheVariants.{Matching, Named}
+use Rattle.sf_ruled.specs.Ruling.{Ask}
+use Rattle.sf_ruled.specs.Ruling.{Matching, Named}
 use Rattle.sf_wkb.specs.declared.fault.WkbFault.{WkbFault}
 use Rattle.sf_wkb.specs.declared.grid.Grid.{Grid}
 use Rattle.sf_wkb.specs.declared.grid.Grid.TheVariants.{Bits20, Bits24}
@@ -29,10 +29,10 @@ use Rattle.sf_features.specs.declared.column_type.ColumnType.{ColumnType}
 use Rattle.sf_features.specs.declared.column_type.ColumnType.TheVariants as types
 use Rattle.sf_features.specs.declared.attr_value.AttrValue.{AttrValue}
 use Rattle.sf_features.specs.declared.attr_value.AttrValue.TheVariants as values
-use Rattle.sf_constraints.specs.declared.rule.Rule.{Rule}
-use Rattle.sf_constraints.specs.declared.rule.Form.{Form}
-use Rattle.sf_constraints.specs.declared.rule.Form.TheVariants.{Never, Each}
-use Rattle.sf_constraints.specs.Rules.{break_of}
+use Rattle.sf_ruled.specs.Ruling.{Rule}
+use Rattle.sf_ruled.specs.Ruling.{Form}
+use Rattle.sf_ruled.specs.Ruling.{Never, Each}
+use Rattle.sf_ruled.specs.Ruling.{break_of}
 use Rattle.sf_ruled.specs.Ruled.{Ruled, has_rule}
 use Rattle.sf_format.specs.declared.version.Version.{Version}
 use Rattle.sf_format.specs.declared.version.Version.TheVariants.{First, Second, Third}

@@ -13,9 +13,9 @@ use Rattle.sf_features.specs.Columns.{IsDistinct}
 use Rattle.sf_features.specs.Names.{is_name}
 use Rattle.sf_layers.specs.Content.{Content}
 use Rattle.sf_layers.specs.WellFormed.{IsWellFormed}
-use Rattle.sf_joins.specs.Converse.{HasNineLetters}
-use Rattle.sf_constraints.specs.declared.rule.Rule.{Rule}
-use Rattle.sf_constraints.specs.Holds.{AllHold}
+use Rattle.sf_ruled.specs.Ruling.{HasNineLetters}
+use Rattle.sf_ruled.specs.Ruling.{Rule}
+use Rattle.sf_ruled.specs.Ruling.{AllHold}
 use Rattle.sf_ruled.specs.Ruled.{Ruled, rules_max}
 use Rattle.sf_ruled.specs.Undos.{IsSettled}
 use Rattle.sf_streams.specs.Streams.{Left}

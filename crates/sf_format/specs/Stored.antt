@@ -1,10 +1,10 @@
 -- Internal: who wants to trust the program need not read this file.
 -- What a file is of, in the words of the crates below, passed on to those that load and save it.
-pub use Rattle.sf_query.specs.declared.ask.Ask.{Ask}
-pub use Rattle.sf_query.specs.declared.ask.Ask.TheVariants.{Matching, Named}
-pub use Rattle.sf_constraints.specs.declared.rule.Rule.{Rule}
-pub use Rattle.sf_constraints.specs.declared.breaks.Break.{Break}
-pub use Rattle.sf_constraints.specs.Rules.{break_of, broken_or}
+pub use Rattle.sf_ruled.specs.Ruling.{Ask}
+pub use Rattle.sf_ruled.specs.Ruling.{Matching, Named}
+pub use Rattle.sf_ruled.specs.Ruling.{Rule}
+pub use Rattle.sf_ruled.specs.Ruling.{Break}
+pub use Rattle.sf_ruled.specs.Ruling.{break_of, broken_or}
 pub use Rattle.sf_ruled.specs.declared.refusal.Refusal.{Refusal}
 pub use Rattle.sf_ruled.specs.declared.refusal.Refusal.TheVariants as refusals
 pub use Rattle.sf_ruled.specs.Ruled.{Ruled, added, has_rule, place_of_rule, rules_max, unless_broken, with_rule}

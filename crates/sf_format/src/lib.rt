@@ -7,7 +7,5 @@ pub mod laws;
 mod version;
 
 pub use defect::Defect;
-pub use sf_constraints::{Form, Rule};
-pub use sf_query::Ask;
-pub use sf_ruled::{Refusal as StepRefusal, Ruled, Rules as KeptRules};
+pub use sf_ruled::{Ask, Form, Refusal as StepRefusal, Rule, Ruled, Rules as KeptRules};
 pub use version::Version;

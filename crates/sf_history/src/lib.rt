@@ -6,4 +6,4 @@ pub mod laws;
 
 pub use editor::{Depths, Editor};
 pub use sf_refusals::Refusal;
-pub use sf_ruled::Refusal as StepRefusal;
+pub use sf_ruled::{Break, Form, Refusal as StepRefusal, Rule, Rules};

@@ -3,6 +3,7 @@
 ghost use Rattle.std.specs.Prelude.{◌≡◌, ◌<◌, ◌&&◌, ◌||◌, Some, None, not, slice_index_or, if◌then◌else◌};
 ghost use Rattle.sf_plane.specs.declared.dim.Dim.TheVariants.{Nothing};
 ghost use Rattle.sf_known.specs.Entries.{exceeds};
+ghost use Rattle.sf_known.specs.Transposed.{known_transposed};
 ghost use Rattle.sf_known.specs.Known.{allows_contact, answer_of, at_most, but_boundaries, exactly, have_most, greatest_each, is_enough, is_matched, is_missed, known_by_both, known_with, least_each, nothing_known, one_answer, pattern_answer, settled};
 
 use super::aim::Aim;
@@ -62,6 +63,19 @@ impl Known {
             least: greatest_each(&self.least, &other.least),
             most: least_each(&self.most, &other.most),
             contact: self.contact || other.contact,
+        }
+    }
+
+    /// What is so known of the two geometries the other way round.
+    pub fn transposed(&self) -> Known
+        ensures { result ≡ known_transposed self.now }
+    {
+        let Matrix(least) = Matrix(self.least).transposed();
+        let Matrix(most) = Matrix(self.most).transposed();
+        Known {
+            least,
+            most,
+            contact: self.contact,
         }
     }
 

@@ -10,4 +10,4 @@ mod prepared;
 mod small;
 
 pub use prepared::Prepared;
-pub use small::matrix_nearby;
+pub use small::{matrix_nearby, matrix_with_area};

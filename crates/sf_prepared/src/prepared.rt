@@ -56,23 +56,20 @@ impl Prepared {
         Ok(Prepared { edges: tree })
     }
 
-    /// The matrix of a geometry with the one that was prepared, where the edges nearby show it. Where the box of
-    /// the geometry lies on one side of each edge, its place shows it. Else a walk does, over the edges of an area
-    /// that can be on a point of the geometry or above one. None where that is not quicker than a walk over all of
-    /// them, and where no memory is found; never where the boxes of all edges are off the box of the geometry, and
-    /// there are edges.
-    pub fn matrix_told(&self, alloc: Global, geometry: &Valid, given: &Valid) -> Option<Matrix>
+    /// The matrix of a geometry with the one that was prepared, where no edge of that one has a point of the geometry's box: its
+    /// place shows it. None where an edge has one, or it takes more to see that none has, and where points were prepared; never
+    /// where the boxes of all edges are off the box of the geometry, and there are edges.
+    pub fn matrix_clear(&self, alloc: Global, geometry: &Valid, given: &Valid) -> Option<Matrix>
         requires { AreEdgesOf given.now self.now }
         ensures told { IfSome result (λ matrix. matrix.0 ≡ matrix_of geometry.now given.now) }
         ensures answers { IsFalse (is_box_met (envelope_of geometry.now) self.now) → shape_of given.now ≢ Points →
             is_some result ≡ true }
     {
         let extent = geometry.geometry().envelope();
-        if self.is_clear(alloc, &extent) {
-            self.told_by_place(alloc, geometry, given, extent)
-        } else {
-            self.told_by_walk(alloc, geometry, given, &extent)
+        if !self.is_clear(alloc, &extent) {
+            return None;
         }
+        self.told_by_place(alloc, geometry, given, extent)
     }
 
     /// Whether no edge has a point of the box, as boxes show, or else the edges whose boxes are in the way.
@@ -196,17 +193,9 @@ impl Prepared {
 
     /// The matrix of a geometry with the one that was prepared, by a walk over the edges that can be on a point of
     /// the geometry or above one. None where that one is no area or has few edges, where many edges are near or none of
-    /// these leaves the geometry's box, `extent`, and where no memory is found.
-    fn told_by_walk(
-        &self,
-        alloc: Global,
-        geometry: &Valid,
-        given: &Valid,
-        extent: &Extent,
-    ) -> Option<Matrix>
-        requires edges { AreEdgesOf given.now self.now }
-        requires held { IsHeld geometry.now }
-        requires extent { extent.now ≡ envelope_of geometry.now }
+    /// these leaves the geometry's box, and where no memory is found.
+    pub fn matrix_nearby(&self, alloc: Global, geometry: &Valid, given: &Valid) -> Option<Matrix>
+        requires { AreEdgesOf given.now self.now }
         ensures { IfSome result (λ matrix. matrix.0 ≡ matrix_of geometry.now given.now) }
     {
         if self.edges.edges().len() <= FEW_EDGES {
@@ -214,10 +203,11 @@ impl Prepared {
         }
         match given.geometry() {
             Geometry::Polygon(_) | Geometry::MultiPolygon(_) => {
-                let Ok(edges) = self.nearby(alloc, extent) else {
+                let extent = geometry.geometry().envelope();
+                let Ok(edges) = self.nearby(alloc, &extent) else {
                     return None;
                 };
-                walked_nearby(alloc, geometry, given, extent, edges.as_slice())
+                walked_nearby(alloc, geometry, given, &extent, edges.as_slice())
             }
             _ => None,
         }

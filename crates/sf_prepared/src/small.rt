@@ -18,19 +18,24 @@ use std::alloc::Global;
 pub fn matrix_nearby(alloc: Global, area: &Valid, small: &Valid) -> Option<Matrix>
     ensures { IfSome result (λ matrix. matrix.0 ≡ matrix_of area.now small.now) }
 {
+    let Some(matrix) = matrix_with_area(alloc, small, area) else {
+        return None;
+    };
+    Some(matrix.transposed())
+}
+
+/// The same of the two the other way round: the matrix of a small geometry with an area.
+pub fn matrix_with_area(alloc: Global, small: &Valid, area: &Valid) -> Option<Matrix>
+    ensures { IfSome result (λ matrix. matrix.0 ≡ matrix_of small.now area.now) }
+{
     match area.geometry() {
-        Geometry::Polygon(_) | Geometry::MultiPolygon(_) => {
-            let Some(matrix) = with_area(alloc, small, area) else {
-                return None;
-            };
-            Some(matrix.transposed())
-        }
+        Geometry::Polygon(_) | Geometry::MultiPolygon(_) => by_edges_nearby(alloc, small, area),
         _ => None,
     }
 }
 
-/// The matrix of a small geometry with an area.
-fn with_area(alloc: Global, small: &Valid, area: &Valid) -> Option<Matrix>
+/// The matrix of a small geometry with what is known to be an area.
+fn by_edges_nearby(alloc: Global, small: &Valid, area: &Valid) -> Option<Matrix>
     requires { shape_of area.now ≡ Areas }
     ensures { IfSome result (λ matrix. matrix.0 ≡ matrix_of small.now area.now) }
 {

@@ -26,7 +26,7 @@ use Rattle.sf_relate.proofs.SharedLaws.{contact_is_shared}
 use Rattle.sf_relate.proofs.PointLaws.{places_are_known}
 use Rattle.sf_relate.proofs.FoundLaws.{nothing-holds}
 use Rattle.sf_prepared.proofs.TransposedLaws.{matrices_are_transposed}
-use Rattle.sf_query.specs.Evidence.{known_transposed}
+use Rattle.sf_known.specs.Transposed.{known_transposed}
 
 -- nine entries that are at most others are so by columns too
 columns-at_most : (a b c d e f g h i j k l m n o p q r : Dim) → AreAtMost (a ∷ b ∷ c ∷ d ∷ e ∷ f ∷ g ∷ h ∷ i ∷ []) (j ∷ k ∷ l ∷ m ∷ n ∷ o ∷ p ∷ q ∷ r ∷ [])

@@ -42,11 +42,11 @@ impl Given<'_> {
             return Ok(answer);
         }
         let goal = ask.goal(geometry, self.valid);
-        if let Some(matrix) = self.matrix_prepared(alloc, geometry) {
-            return Ok(goal.is_met(&matrix));
-        }
         let mut known = Known::nothing();
-        for evidence in order_of(ask) {
+        for evidence in order_of(ask, self, geometry) {
+            if !evidence.pays(&known) {
+                continue;
+            }
             let Some(shown) = evidence.shown(alloc, geometry, self) else {
                 continue;
             };
@@ -85,6 +85,9 @@ impl Given<'_> {
     {
         let mut known = Known::nothing();
         for evidence in order_of_entries(self.valid.geometry().point_count()) {
+            if !evidence.pays(&known) {
+                continue;
+            }
             if let Some(shown) = evidence.shown(alloc, geometry, self) {
                 known = known.and(&shown);
                 if known.is_enough(&Aim::ButBoundaries) {

@@ -10,15 +10,16 @@ ghost use Rattle.sf_known.specs.Known.{Holds, exactly, nothing_known};
 ghost use Rattle.sf_relate.specs.Contact.{has_first_point_in};
 ghost use Rattle.sf_relate.specs.Matrices.{matrix_of};
 ghost use Rattle.sf_contact.specs.Few.{few_points};
-ghost use Rattle.sf_query.specs.Evidence.{known_transposed};
 
 use super::given::Given;
 use super::order::MANY_POINTS;
 use sf_contact::{FEW_POINTS, contact_between, known_by_sides};
+use sf_crossed::known_by_crossed_lines;
 use sf_geometry::Geometry;
-use sf_prepared::matrix_nearby;
+use sf_linework::{known_alongside, known_by_ends};
+use sf_prepared::{matrix_nearby, matrix_with_area};
 use sf_relate::{
-    Known, Matrix, known_by_crossing, known_of_place, locate, matrix_alike, matrix_apart,
+    Dim, Known, Matrix, known_by_crossing, known_of_place, locate, matrix_alike, matrix_apart,
     matrix_by_boxes, shares_first_point,
 };
 use sf_validity::Valid;
@@ -27,6 +28,10 @@ use std::alloc::Global;
 /// A way to know something of a matrix. None of them is ever out of memory: then it shows nothing.
 #[derive(Clone, Copy, Debug, PartialEq, Eq)]
 pub(crate) enum Evidence {
+    /// No edge of the given geometry, as it was prepared, has a point of the feature's box.
+    Clear,
+    /// Those edges of the given geometry, as it was prepared, that are near the feature.
+    Prepared,
     /// Geometries that are written alike.
     Alike,
     /// Boxes that share no point.
@@ -39,38 +44,56 @@ pub(crate) enum Evidence {
     FirstPoints,
     /// A line through an edge of one of two small areas, which has them on its two sides.
     Sides,
-    /// Edges of areas that cross.
+    /// Edges of lines and areas that cross.
     Crossing,
-    /// Those edges of a large feature that are near a small given geometry.
+    /// Those edges of a large area that are near a small geometry: of the feature's, or of the given one.
     Nearby,
+    /// The places of a line's ends in the other geometry.
+    Ends,
+    /// Edges of a line that run along the other geometry's, or that none does.
+    Along,
 }
 
 impl Evidence {
+    /// Whether it is worth a look, by what is known. What lines show beside is of use once they are known to cross: a part of the
+    /// first is then outside of the second.
+    pub(crate) fn pays(self, known: &Known) -> bool {
+        match self {
+            Evidence::Ends | Evidence::Along => !matches!(known.least[2], Dim::Nothing),
+            _ => true,
+        }
+    }
+
     /// What the evidence shows of the matrix, if anything.
     pub(crate) fn shown(self, alloc: Global, geometry: &Valid, given: &Given) -> Option<Known>
         ensures { IfSome result (λ known. Holds known (matrix_of geometry.now given.now)) }
     {
         match self {
+            Evidence::Clear => exactly(given.matrix_clear(alloc, geometry)),
+            Evidence::Prepared => exactly(given.matrix_prepared(alloc, geometry)),
             Evidence::Alike => exactly(matrix_alike(geometry, given.valid)),
             Evidence::Boxes => exactly(matrix_by_boxes(geometry, given.valid, given.extent)),
             Evidence::Place => by_place(geometry, given.valid),
             Evidence::Edges => by_edges(geometry, given.valid),
             Evidence::FirstPoints => by_first_points(geometry, given.valid),
             Evidence::Sides => known_by_sides(geometry, given.valid),
-            Evidence::Crossing => known_by_crossing(alloc, geometry, given.valid),
+            Evidence::Crossing => by_crossing(alloc, geometry, given.valid),
             Evidence::Nearby => exactly(matrix_by_edges_nearby(alloc, geometry, given.valid)),
+            Evidence::Ends => known_by_ends(geometry, given.valid),
+            Evidence::Along => known_alongside(alloc, geometry, given.valid),
         }
     }
 }
 
-/// What each kind of evidence shows of the matrix of a feature's geometry with the given one, one beside the other: prepared
-/// geometry, alike, place, edges, first points, sides, crossing, nearby.
-pub fn shown_by_each(alloc: Global, geometry: &Valid, given: &Valid) -> [Option<Known>; 8]
+/// What each kind of evidence shows of the matrix of a feature's geometry with the given one, one beside the other: clear of what
+/// was prepared, near it, alike, place, edges, first points, sides, crossing, nearby, ends, along.
+pub fn shown_by_each(alloc: Global, geometry: &Valid, given: &Valid) -> [Option<Known>; 11]
     ensures { AllByRecursion (λ shown. IfSome shown (λ known. Holds known (matrix_of geometry.now given.now))) result }
 {
     let given = Given::new(given).prepared(alloc);
     [
-        exactly(given.matrix_prepared(alloc, geometry)),
+        Evidence::Clear.shown(alloc, geometry, &given),
+        Evidence::Prepared.shown(alloc, geometry, &given),
         Evidence::Alike.shown(alloc, geometry, &given),
         Evidence::Place.shown(alloc, geometry, &given),
         Evidence::Edges.shown(alloc, geometry, &given),
@@ -78,20 +101,35 @@ pub fn shown_by_each(alloc: Global, geometry: &Valid, given: &Valid) -> [Option<
         Evidence::Sides.shown(alloc, geometry, &given),
         Evidence::Crossing.shown(alloc, geometry, &given),
         Evidence::Nearby.shown(alloc, geometry, &given),
+        Evidence::Ends.shown(alloc, geometry, &given),
+        Evidence::Along.shown(alloc, geometry, &given),
     ]
 }
 
-/// The matrix of a feature's geometry of many points with a small given one, where the edges nearby show it.
+/// Edges that cross show most of the matrix of two areas, and some of that of lines.
+fn by_crossing(alloc: Global, geometry: &Valid, given: &Valid) -> Option<Known>
+    ensures { IfSome result (λ known. Holds known (matrix_of geometry.now given.now)) }
+{
+    match known_by_crossing(alloc, geometry, given) {
+        Some(known) => Some(known),
+        None => known_by_crossed_lines(alloc, geometry, given),
+    }
+}
+
+/// The matrix of two geometries of which one is small and the other has many points, where those edges of the large one show it that
+/// are near the small one.
 fn matrix_by_edges_nearby(alloc: Global, geometry: &Valid, given: &Valid) -> Option<Matrix>
     ensures { IfSome result (λ matrix. matrix.0 ≡ matrix_of geometry.now given.now) }
 {
-    if given.geometry().point_count() > FEW_POINTS {
-        return None;
+    let points = geometry.geometry().point_count();
+    let given_points = given.geometry().point_count();
+    if given_points <= FEW_POINTS && points >= MANY_POINTS {
+        return matrix_nearby(alloc, geometry, given);
     }
-    if geometry.geometry().point_count() < MANY_POINTS {
-        return None;
+    if points <= FEW_POINTS && given_points >= MANY_POINTS {
+        return matrix_with_area(alloc, geometry, given);
     }
-    matrix_nearby(alloc, geometry, given)
+    None
 }
 
 /// A Point's place shows its row, and that of a given Point its column.
@@ -114,23 +152,8 @@ fn by_given_place(geometry: &Valid, given: &Valid) -> Option<Known>
     ensures answers { (p : Coordinates) → given.now ≡ Point p → is_some result ≡ true }
 {
     match given.geometry() {
-        Geometry::Point(point) => Some(transposed(&known_of_place(locate(geometry, *point)))),
+        Geometry::Point(point) => Some(known_of_place(locate(geometry, *point)).transposed()),
         _ => None,
-    }
-}
-
-/// What is known of the matrix of the two geometries the other way round.
-fn transposed(known: &Known) -> Known
-    ensures { result ≡ known_transposed known.now }
-{
-    let least = known.least;
-    let most = known.most;
-    let Matrix(least) = Matrix(least).transposed();
-    let Matrix(most) = Matrix(most).transposed();
-    Known {
-        least,
-        most,
-        contact: known.contact,
     }
 }
 

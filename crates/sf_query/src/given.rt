@@ -85,12 +85,22 @@ impl<'a> Given<'a> {
         self.prepared(alloc)
     }
 
-    /// The matrix of a feature's geometry with it, where what was made of it shows that.
+    /// The matrix of a feature's geometry with it, where it was prepared and no edge of it has a point of the feature's box.
+    pub(crate) fn matrix_clear(&self, alloc: Global, geometry: &Valid) -> Option<Matrix>
+        ensures { IfSome result (λ matrix. matrix.0 ≡ matrix_of geometry.now self.now) }
+    {
+        match &self.prepared {
+            Some(prepared) => prepared.matrix_clear(alloc, geometry, self.valid),
+            None => None,
+        }
+    }
+
+    /// The matrix of a feature's geometry with it, where it was prepared and the edges nearby show that.
     pub(crate) fn matrix_prepared(&self, alloc: Global, geometry: &Valid) -> Option<Matrix>
         ensures { IfSome result (λ matrix. matrix.0 ≡ matrix_of geometry.now self.now) }
     {
         match &self.prepared {
-            Some(prepared) => prepared.matrix_told(alloc, geometry, self.valid),
+            Some(prepared) => prepared.matrix_nearby(alloc, geometry, self.valid),
             None => None,
         }
     }

@@ -88,8 +88,8 @@ pub fn features_asked(
     }
 }
 
-/// The identifiers behind one of the features of a layer whose matrix with the given geometry is as asked, rising. Where the
-/// order of two features makes no difference to the ask, each pair of a layer is so asked for once.
+/// Of the features of a layer whose matrix with the given geometry is as asked, the identifiers above this one, rising. Where the
+/// order of two features makes no difference to the ask, each pair of a layer is so asked about once.
 ///
 /// # Errors
 ///
@@ -138,7 +138,7 @@ fn found_among(
     Ok(Found { ids, looked })
 }
 
-/// The identifiers behind one of the features that answer.
+/// Of the features that answer, the identifiers above this one.
 fn found_behind(
     alloc: Global,
     layer: &Layer,
@@ -178,7 +178,7 @@ fn ids_among(
     Ok(ids)
 }
 
-/// Those of the identifiers that are behind one, in their order.
+/// Those of the identifiers that are above this one, in their order.
 fn ids_behind(alloc: Global, ids: &[u32], id: u32) -> Result<Vec<u32>, AllocError>
     ensures { IfOk result (λ behind. behind.items ≡ filter (λ other. nat_lt id other) ids.now) }
 {

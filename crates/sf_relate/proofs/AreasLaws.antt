@@ -62,7 +62,7 @@ second-thin a t d v s h e =
     thin a v s (wider-triangle (both t (in_boundary a)) (in_boundary a) (λ p i. (and_parts (t p) (in_boundary a p) i).1) wide)
 
 -- ---- the boundary of an area is its edges
-any-flat : {A B : Type 0} (test : B → Bool) (f : A → List B) (xs : List A) → list_any test (flat_map f xs) ≡ list_any (λ x. list_any test (f x)) xs
+pub any-flat : {A B : Type 0} (test : B → Bool) (f : A → List B) (xs : List A) → list_any test (flat_map f xs) ≡ list_any (λ x. list_any test (f x)) xs
 any-flat test f [] = refl
 any-flat test f (x ∷ xs) = list_any-append test (f x) (flat_map f xs) ∙ ap (λ v. list_any test (f x) || v) (any-flat test f xs)
 

@@ -1,9 +1,9 @@
--- A crossing of those edges of two areas whose boxes meet the common box of both is one of all their edges: the point is in that
--- box, so no edge that has it was left out.
-use Rattle.std.proofs.Common.{◌≡◌, ℕ, ◌+◌, ◌≤◌, arith, refl, ap, sym, ◌∙◌, subst, ℤ, pos, ◌*ℤ◌, Bool, true, false, cond, ◌&&◌, List, [], ◌∷◌, map, ◌⊎◌, inl, inr}
+-- A crossing of those edges of two geometries whose boxes meet the common box of both is one of all their edges: the point is in
+-- that box, so no edge that has it was left out.
+use Rattle.std.proofs.Common.{◌≡◌, ℕ, ◌+◌, ◌≤◌, arith, refl, ap, sym, ◌∙◌, subst, ℤ, pos, ◌*ℤ◌, Bool, true, false, cond, ◌&&◌, ◌||◌, not, List, [], ◌∷◌, map, ◌⊎◌, inl, inr}
 use Rattle.std.specs.Prelude.{if◌then◌else◌, int_le}
 use Rattle.std.specs.Int.{int_max, int_min}
-use Rattle.std.specs.List.{count_by}
+use Rattle.std.specs.List.{count_by, list_any}
 use Rattle.std.proofs.lemmas.Bool.{and_from, and_parts, both_ways, false_from_ne_true, or_right}
 use Rattle.std.proofs.lemmas.Int.{by_lt_z, clamps, ints}
 use Rattle.std.proofs.lemmas.List.Sums.{sum_by-cons}
@@ -11,10 +11,12 @@ use Rattle.sf_crossing.specs.Crossing.{HaveCrossing}
 use Rattle.sf_crossing.specs.Meeting.{ends_meeting, ends_of_edge, extent_of_edge}
 use Rattle.sf_geometry.specs.declared.extent.Extent.{Extent}
 use Rattle.sf_geometry.specs.declared.geometry.Geometry.{Geometry}
+use Rattle.sf_geometry.specs.declared.geometry.Geometry.TheVariants.{Point, LineString, Polygon, MultiPoint, MultiLineString, MultiPolygon}
 use Rattle.sf_geometry.specs.Envelope.{envelope_of, extents_meet}
+use Rattle.sf_geometry.specs.Lists.{edges_of as edges_of_list}
 use Rattle.sf_geometry.specs.Parts.{edge_of, edges_of}
-use Rattle.sf_geometry.specs.PointSets.{in_boundary, in_interior}
-use Rattle.sf_grid.specs.Edge.{Edge as Line, on_edge, within}
+use Rattle.sf_geometry.specs.PointSets.{in_boundary, in_interior, on_line}
+use Rattle.sf_grid.specs.Edge.{Edge as Line, IsOnEdge, on_edge, within}
 use Rattle.sf_grid.specs.Plane.{Coordinates, IsPoint, Point as PlanePoint, grid_point, x_of, y_of}
 use Rattle.sf_grid.proofs.CallerLemmas.{test_from_le}
 use Rattle.sf_plane.proofs.BoxLaws.{common_point_meets, edge_in_box}
@@ -22,12 +24,12 @@ use Rattle.sf_plane.proofs.CoverLaws.{contains}
 use Rattle.sf_plane.proofs.PlaceLaws.{IsIn}
 use Rattle.sf_plane.proofs.ShareLaws.{in_from_contains}
 use Rattle.sf_plane.specs.Boxes.{HasEnds}
+use Rattle.sf_rules.proofs.MemberLaws.{one-any}
 use Rattle.sf_rules.specs.Validity.{IsValid}
 use Rattle.sf_validity.specs.Beside.{box_of_extent}
-use Rattle.sf_relate.specs.declared.shape.Shape.TheVariants.{Areas}
 use Rattle.sf_relate.specs.Areas.{common_extent}
-use Rattle.sf_relate.specs.Contact.{in_extent}
-use Rattle.sf_relate.specs.Places.{shape_of}
+use Rattle.sf_relate.specs.Contact.{in_extent, is_in}
+use Rattle.sf_relate.proofs.AreasLaws.{any-flat}
 use Rattle.sf_relate.proofs.EnvelopeLaws.{lies_in_box, valid-closed}
 use Rattle.sf_relate.proofs.OverlapLaws.{on-boundary}
 
@@ -110,18 +112,41 @@ kept-in box (f ∷ es) e i = by_test (extents_meet (extent_of_edge (ends_of_edge
     by_test true rest (inr later) = inr (rest later)
     by_test false rest later = inr (rest later)
 
+-- ---- the edges of a geometry are in it
+kept-or : (on end : Bool) → on ≡ true → ((on && not end) || end) ≡ true
+kept-or true true h = refl
+kept-or true false h = refl
+kept-or false end h = absurd (both_ways false refl h)
+
+or-none : (b : Bool) → (b || false) ≡ b
+or-none true = refl
+or-none false = refl
+
+pub edge-is-in : (a : Geometry) (e : Line) (q : PlanePoint) → IsIn (edges_of a) e → IsOnEdge e q → is_in a q ≡ true
+edge-is-in (Point p) e q i on = absurd i
+edge-is-in (MultiPoint ps) e q i on = absurd i
+edge-is-in (LineString ps) e q i on =
+    kept-or (on_line ps q) (in_boundary (LineString ps) q)
+    (sym (or-none (on_line ps q)) ∙ sym (any-flat (λ f. on_edge f q) edges_of_list (ps ∷ [])) ∙ one-any (λ f. on_edge f q) (edges_of (LineString ps)) e i on)
+edge-is-in (MultiLineString lines) e q i on =
+    kept-or (list_any (λ ps. on_line ps q) lines) (in_boundary (MultiLineString lines) q)
+    (sym (any-flat (λ f. on_edge f q) edges_of_list lines) ∙ one-any (λ f. on_edge f q) (edges_of (MultiLineString lines)) e i on)
+edge-is-in (Polygon rings) e q i on = or_right (in_interior (Polygon rings) q) (in_boundary (Polygon rings) q) (on-boundary (Polygon rings) e q refl i on)
+edge-is-in (MultiPolygon polygons) e q i on =
+    or_right (in_interior (MultiPolygon polygons) q) (in_boundary (MultiPolygon polygons) q) (on-boundary (MultiPolygon polygons) e q refl i on)
+
 -- ---- all edges
-pub crossing-of-all : (a b : Geometry) → IsValid a → IsValid b → shape_of a ≡ Areas → shape_of b ≡ Areas →
+pub crossing-of-all : (a b : Geometry) → IsValid a → IsValid b →
     let box = common_extent (envelope_of a) (envelope_of b) in
     HaveCrossing (map edge_of (ends_meeting box (edges_of a))) (map edge_of (ends_meeting box (edges_of b))) → HaveCrossing (edges_of a) (edges_of b)
-crossing-of-all a b v w s t h =
+crossing-of-all a b v w h =
     let box = common_extent (envelope_of a) (envelope_of b) in
     let first = kept-in box (edges_of a) h.first (in_from_contains (map edge_of (ends_meeting box (edges_of a))) h.first h.of_first) in
     let second = kept-in box (edges_of b) h.second (in_from_contains (map edge_of (ends_meeting box (edges_of b))) h.second h.of_second) in
     let inside =
     in-common (envelope_of a) (envelope_of b) h.point
-    (lies_in_box a h.point (valid-closed a v) h.is_point (or_right (in_interior a h.point) (in_boundary a h.point) (on-boundary a h.first h.point s first h.on_first)))
-    (lies_in_box b h.point (valid-closed b w) h.is_point (or_right (in_interior b h.point) (in_boundary b h.point) (on-boundary b h.second h.point t second h.on_second))) in
+    (lies_in_box a h.point (valid-closed a v) h.is_point (edge-is-in a h.first h.point first h.on_first))
+    (lies_in_box b h.point (valid-closed b w) h.is_point (edge-is-in b h.second h.point second h.on_second)) in
     record {
       first = h.first;
       second = h.second;

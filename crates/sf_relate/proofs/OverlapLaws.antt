@@ -40,7 +40,7 @@ use Rattle.sf_relate.proofs.TestedPlaces.{tests_tell_places}
 use Rattle.sf_relate.proofs.ToldLaws.{exterior-from, outside-both}
 
 -- ---- points by the parity of the edges above them
-none-on : (q : PlanePoint) (es : List Line) → IsOff q es → list_any (λ e. on_edge e q) es ≡ false
+pub none-on : (q : PlanePoint) (es : List Line) → IsOff q es → list_any (λ e. on_edge e q) es ≡ false
 none-on q [] h = refl
 none-on q (e ∷ es) h = or_from (on_edge e q) (list_any (λ f. on_edge f q) es) h.0 (none-on q es h.1)
 
@@ -58,16 +58,16 @@ place-at a odd q v s i h =
     (by-tests a q s ∙ ap (λ on. area_place on (is_odd (edges_above q (edges_of a)))) (none-on q (edges_of a) h.off) ∙ ap (area_place false) h.parity)
     (tests_tell_places a q v i)
 
-inside-at : (a : Geometry) (q : PlanePoint) → IsValid a → shape_of a ≡ Areas → IsPoint q → IsAt (edges_of a) true q → in_interior a q ≡ true
+pub inside-at : (a : Geometry) (q : PlanePoint) → IsValid a → shape_of a ≡ Areas → IsPoint q → IsAt (edges_of a) true q → in_interior a q ≡ true
 inside-at a q v s i h = (place-at a true q v s i h).interior
 
-outside-at : (a : Geometry) (q : PlanePoint) → IsValid a → shape_of a ≡ Areas → IsPoint q → IsAt (edges_of a) false q → in_exterior a q ≡ true
+pub outside-at : (a : Geometry) (q : PlanePoint) → IsValid a → shape_of a ≡ Areas → IsPoint q → IsAt (edges_of a) false q → in_exterior a q ≡ true
 outside-at a q v s i h = let p = place-at a false q v s i h in exterior-from a q (or_from (in_interior a q) (in_boundary a q) p.interior p.boundary)
 
 pub on-boundary : (a : Geometry) (e : Line) (q : PlanePoint) → shape_of a ≡ Areas → IsIn (edges_of a) e → IsOnEdge e q → in_boundary a q ≡ true
 on-boundary a e q s i on = sym (by-edges a q s) ∙ one-any (λ f. on_edge f q) (edges_of a) e i on
 
-balanced-area : (a : Geometry) (q : PlanePoint) → IsValid a → shape_of a ≡ Areas → IsPoint q → IsBalanced (edges_of a) q
+pub balanced-area : (a : Geometry) (q : PlanePoint) → IsValid a → shape_of a ≡ Areas → IsPoint q → IsBalanced (edges_of a) q
 balanced-area (Polygon rings) q v s i = balanced-rings rings q i (each-of_flat (λ ring. is_closed ring ≡ true) (λ (rs : List (List Coordinates)). rs) (rings ∷ []) (valid-closed (Polygon rings) v)).0
 balanced-area (MultiPolygon polygons) q v s i = balanced-rings (joined polygons) q i (valid-closed (MultiPolygon polygons) v)
 balanced-area (Point p) q v s i = absurd cc
@@ -116,7 +116,7 @@ crossing_areas_overlap a b v w s t h =
           (λ q i f g. and_from (in_interior a q) (in_interior b q) (inside-at a q v s i f) (inside-at b q w t i g))))
           (cons _ _ _ _
           (one (both (in_interior a) (in_boundary b)) _ m.1.0 (second-thin b (in_interior a) _ w t m.1.0)
-          (crossing-piece fs es back bal' bal true (both (in_interior a) (in_boundary b))
+          (crossing-piece fs es back bal true (both (in_interior a) (in_boundary b))
           (λ q i on f. and_from (in_interior a q) (in_boundary b q) (inside-at a q v s i f) (on-boundary b h.second q t second on))))
           (cons _ _ _ _
           (two (both (in_interior a) (in_exterior b)) _ m.1.1.0
@@ -124,7 +124,7 @@ crossing_areas_overlap a b v w s t h =
           (λ q i f g. and_from (in_interior a q) (in_exterior b q) (inside-at a q v s i f) (outside-at b q w t i g))))
           (cons _ _ _ _
           (one (both (in_boundary a) (in_interior b)) _ m.1.1.1.0 (first-thin a (in_interior b) _ v s m.1.1.1.0)
-          (crossing-piece es fs h bal bal' true (both (in_boundary a) (in_interior b))
+          (crossing-piece es fs h bal' true (both (in_boundary a) (in_interior b))
           (λ q i on f. and_from (in_boundary a q) (in_interior b q) (on-boundary a h.first q s first on) (inside-at b q w t i f))))
           (cons _ _ _ _
           (filled (both (in_boundary a) (in_boundary b)) _ m.1.1.1.1.0 (first-thin a (in_boundary b) _ v s m.1.1.1.1.0)
@@ -135,7 +135,7 @@ crossing_areas_overlap a b v w s t h =
           }))
           (cons _ _ _ _
           (one (both (in_boundary a) (in_exterior b)) _ m.1.1.1.1.1.0 (first-thin a (in_exterior b) _ v s m.1.1.1.1.1.0)
-          (crossing-piece es fs h bal bal' false (both (in_boundary a) (in_exterior b))
+          (crossing-piece es fs h bal' false (both (in_boundary a) (in_exterior b))
           (λ q i on f. and_from (in_boundary a q) (in_exterior b q) (on-boundary a h.first q s first on) (outside-at b q w t i f))))
           (cons _ _ _ _
           (two (both (in_exterior a) (in_interior b)) _ m.1.1.1.1.1.1.0
@@ -143,7 +143,7 @@ crossing_areas_overlap a b v w s t h =
           (λ q i f g. and_from (in_exterior a q) (in_interior b q) (outside-at a q v s i f) (inside-at b q w t i g))))
           (cons _ _ _ _
           (one (both (in_exterior a) (in_boundary b)) _ m.1.1.1.1.1.1.1.0 (second-thin b (in_exterior a) _ w t m.1.1.1.1.1.1.1.0)
-          (crossing-piece fs es back bal' bal false (both (in_exterior a) (in_boundary b))
+          (crossing-piece fs es back bal false (both (in_exterior a) (in_boundary b))
           (λ q i on f. and_from (in_exterior a q) (in_boundary b q) (outside-at a q v s i f) (on-boundary b h.second q t second on))))
           (cons _ _ _ _ (two (both (in_exterior a) (in_exterior b)) _ m.1.1.1.1.1.1.1.1.0 (outside-both a b v w)) refl))))))));
     }

@@ -1,5 +1,6 @@
 -- Where two edges cross, each alone at the point: between them, on each side of either, lies a triangle of which all points have
--- one parity of each list's edges above them; and of each edge a piece on each side of the other.
+-- one parity of each list's edges above them; and of each edge a piece on each side of the other. If a list's parities aren't
+-- balanced, as those of lines aren't, the piece is off its edges all the same.
 use Rattle.std.proofs.Common.{◌≡◌, ◌≢◌, ℕ, suc, ◌+◌, ◌*◌, ◌<◌, ◌≤◌, arith, refl, ap, sym, ◌∙◌, subst, ℤ, pos, ◌+ℤ◌, ◌-ℤ◌, ◌*ℤ◌, ◌<ℤ◌, ◌≤ℤ◌, Bool, true, false, cond, unsigned_abs, List, [], ◌∷◌, inl, inr}
 use Rattle.std.specs.Prelude.{int_lt}
 use Rattle.std.specs.List.{AllByRecursion, count_by}
@@ -13,7 +14,7 @@ use Rattle.sf_grid.specs.EvenOdd.{edges_above, is_odd}
 use Rattle.sf_grid.specs.Plane.{Coordinates, IsPoint, IsSamePoint, Point, grid_point, same_point}
 use Rattle.sf_grid.proofs.CallerLemmas.{dif, eq_from_mul, eq_from_test, lies, lt_from_mul, lt_from_test, mul, mul_le, mul_lt, num, on_edge-swap, ring, same_point_is_equivalence, same_points_are_alike, same_tests, sum, test_from_eq, test_from_lt, var, zero_from_factor, zero_from_mul}
 use Rattle.sf_grid.proofs.Products.{mul_assoc}
-use Rattle.sf_slabs.proofs.CallerLemmas.{each-both}
+use Rattle.sf_slabs.proofs.CallerLemmas.{each-append, each-both, each-parts}
 use Rattle.sf_plane.proofs.CombineLaws.{start_on_edge}
 use Rattle.sf_plane.proofs.FormLaws.{mean-point, mean_of_three-point, nudged, nudged-point}
 use Rattle.sf_plane.proofs.PlaceLaws.{IsIn}
@@ -22,11 +23,11 @@ use Rattle.sf_plane.specs.Dimension.{HasSegment, HasTriangle, PointSet, area, me
 use Rattle.sf_rules.proofs.MemberLaws.{count-same, each-from_in, each-in}
 use Rattle.sf_interiors.proofs.AlongLaws.{along-on, rise_to, run_to}
 use Rattle.sf_interiors.proofs.ChainLaws.{IsBalanced}
-use Rattle.sf_interiors.proofs.InsideLaws.{IsOff, each-fine, swerves}
+use Rattle.sf_interiors.proofs.InsideLaws.{IsOff, each-fine, stays-off, swerves}
 use Rattle.sf_interiors.proofs.NudgeLaws.{IsFine, swerve}
 use Rattle.sf_interiors.proofs.SideLaws.{differ}
 use Rattle.sf_crossing.specs.Crossing.{HaveCrossing, are_parted}
-use Rattle.sf_relate.proofs.CornerLaws.{HasAlone, IsAmid, IsSided, sided}
+use Rattle.sf_relate.proofs.CornerLaws.{HasAlone, IsAmid, IsSided, sided, stepped}
 
 -- ---- the mean of two steps
 small : (a b : ℤ) (x y u : ℕ) → 0 < u → a ≤ℤ pos x → (pos 0 -ℤ a) ≤ℤ pos x → b ≤ℤ pos y → (pos 0 -ℤ b) ≤ℤ pos y → unsigned_abs (a +ℤ b) < u + x + y
@@ -141,34 +142,87 @@ toward c p u v line =
     rest : (z : ℤ) → z -ℤ pos 0 ≡ z
     rest z = omega (arith, ints)
 
--- ---- a point reached by both steps
-module _ (es : List Line) (e : Line) (p : Point) (is_p : IsPoint p) (s : IsSided es e p) (i j m n : ℤ) (k : ℕ) (positive : 0 < k)
-    (first : AllByRecursion (IsFine i j k) es) (second : AllByRecursion (IsFine m n k) es) where
-  abbrev near : ℕ → ℕ → ℕ → Point
-  near u v w = nudged (factor k u v w) (step i m v w) (step j n v w) p
+-- the points of one parity of the edges above, off them all
+pub record IsAt (es : List Line) (odd : Bool) (q : Point) : Type 0 where
+  pub off : IsOff q es
+  pub parity : is_odd (edges_above q es) ≡ odd
 
-  near-point : (u v w : ℕ) → 0 < u → IsPoint (near u v w)
-  near-point u v w h = nudged-point (factor k u v w) (step i m v w) (step j n v w) p (more (k * v) (k * w)) is_p
+-- ---- off the edge that alone has the point, a small step leads to a point of no edge
+abbrev IsClear : List Line → Line → Point → Type 0
+IsClear es e p = (i j : ℤ) (k : ℕ) → AllByRecursion (IsFine i j k) es → swerve i j e.a e.b ≢ pos 0 → IsOff (nudged k i j p) es
+
+clear : (es : List Line) (e : Line) (p : Point) → IsOnEdge e p → HasAlone es e p → IsClear es e p
+clear es e p on h i j k fine n =
+    let q = nudged k i j p in
+    let parts = each-parts (IsFine i j k) h.before (e ∷ h.after) (subst (λ gs. AllByRecursion (IsFine i j k) gs) h.is fine) in
+    subst (IsOff q) (sym h.is)
+    (each-append (λ f. on_edge f q ≡ false) h.before (e ∷ h.after) (stays-off h.before p i j k parts.0 h.off_before)
+    (false_from_ne_true (on_edge e q) (λ t. n (sym (stepped e.a e.b p i j k (lies e p on).line) ∙ (lies e q t).line)), stays-off h.after p i j k parts.1.1 h.off_after))
+
+differ-twice : (a b : Bool) → differ a (differ a b) ≡ b
+differ-twice true true = refl
+differ-twice true false = refl
+differ-twice false b = refl
+
+-- ---- a point that both steps lead to
+-- with their weights, the side of the edge that they lead to, and whether that is below
+record IsReached (es : List Line) (e : Line) (p : Point) (below : Bool) (z : Point) : Type 0 where
+  i : ℤ
+  j : ℤ
+  m : ℤ
+  n : ℤ
+  k : ℕ
+  first : AllByRecursion (IsFine i j k) es
+  second : AllByRecursion (IsFine m n k) es
+  u : ℕ
+  v : ℕ
+  w : ℕ
+  some : 0 < u
+  side : ℤ
+  l : ℕ
+  large : 0 < l
+  off : side ≢ pos 0
+  is : step (swerve i j e.a e.b) (swerve m n e.a e.b) v w ≡ side *ℤ pos l
+  signed : int_lt side (pos 0) ≡ below
+  same : IsSamePoint z (nudged (factor k u v w) (step i m v w) (step j n v w) p)
+
+module _ (es : List Line) (e : Line) (p : Point) (is_p : IsPoint p) (below : Bool) (z : Point) (is_z : IsPoint z) (r : IsReached es e p below z) where
+  abbrev across : ℤ
+  across = step r.i r.m r.v r.w
+
+  abbrev up : ℤ
+  up = step r.j r.n r.v r.w
+
+  abbrev parts : ℕ
+  parts = factor r.k r.u r.v r.w
+
+  near-point : IsPoint (nudged parts across up p)
+  near-point = nudged-point parts across up p (more r.u (r.k * r.v) (r.k * r.w) r.some) is_p
     where
-      more : (x y : ℕ) → 0 < u + x + y
-      more x y = omega (arith, h)
+      more : (u x y : ℕ) → 0 < u → 0 < u + x + y
+      more u x y h = omega (arith, h)
 
-  record IsTold (z : Point) (side : ℤ) : Type 0 where
-    off : IsOff z es
-    odd : is_odd (edges_above z es) ≡ differ s.base (int_lt side (pos 0))
+  near-fine : AllByRecursion (IsFine across up parts) es
+  near-fine = each-both (IsFine r.i r.j r.k) (IsFine r.m r.n r.k) (IsFine across up parts) es (λ g f h. fine-mean r.i r.j r.m r.n r.k r.u r.v r.w g r.some f h) r.first r.second
 
-  told : (z : Point) (u v w : ℕ) (side : ℤ) (l : ℕ) → IsPoint z → 0 < u → 0 < l → side ≢ pos 0 → step (swerve i j e.a e.b) (swerve m n e.a e.b) v w ≡ side *ℤ pos l →
-      IsSamePoint z (near u v w) → IsTold z side
-  told z u v w side l is_z some large off is same =
-      let fine = each-both (IsFine i j k) (IsFine m n k) (IsFine (step i m v w) (step j n v w) (factor k u v w)) es (λ g f h. fine-mean i j m n k u v w g some f h) first second in
-      let swerved : swerve (step i m v w) (step j n v w) e.a e.b ≡ side *ℤ pos l = swerve-mean i j m n v w e.a e.b ∙ is in
-      let leaves : swerve (step i m v w) (step j n v w) e.a e.b ≢ pos 0 = λ q. nonzero-scaled side l large off (sym swerved ∙ q) in
+  near-side : swerve across up e.a e.b ≡ r.side *ℤ pos r.l
+  near-side = swerve-mean r.i r.j r.m r.n r.v r.w e.a e.b ∙ r.is
+
+  leaves : swerve across up e.a e.b ≢ pos 0
+  leaves q = nonzero-scaled r.side r.l r.large r.off (sym near-side ∙ q)
+
+  off-near : IsClear es e p → IsOff z es
+  off-near c = off-same es z (nudged parts across up p) is_z near-point r.same (c across up parts near-fine leaves)
+
+  told : (s : IsSided es e p) (odd : Bool) → below ≡ differ s.base odd → IsAt es odd z
+  told s odd b =
       record {
-        off = off-same es z (near u v w) is_z (near-point u v w some) same (s.off (step i m v w) (step j n v w) (factor k u v w) fine leaves);
-        odd =
-            odd-same es z (near u v w) is_z (near-point u v w some) same
-            ∙ s.odd (step i m v w) (step j n v w) (factor k u v w) fine leaves
-            ∙ ap (differ s.base) (ap (λ q. int_lt q (pos 0)) swerved ∙ sign-scaled side l large);
+        off = off-near s.off;
+        parity =
+            odd-same es z (nudged parts across up p) is_z near-point r.same
+            ∙ s.odd across up parts near-fine leaves
+            ∙ ap (differ s.base) (ap (λ q. int_lt q (pos 0)) near-side ∙ sign-scaled r.side r.l r.large ∙ r.signed ∙ b)
+            ∙ differ-twice s.base odd;
       }
 
 -- ---- triangles
@@ -414,93 +468,6 @@ amid e f p is_p on_e on_f h =
 product_positive : (d m : ℕ) → 0 < d → 0 < m → 0 < d * m
 product_positive d m h k = omega (arith, mul-lt-mul_of_pos_right h k)
 
-differ-twice : (a b : Bool) → differ a (differ a b) ≡ b
-differ-twice true true = refl
-differ-twice true false = refl
-differ-twice false b = refl
-
--- the points of one parity of the edges above, off them all
-pub record IsAt (es : List Line) (odd : Bool) (q : Point) : Type 0 where
-  pub off : IsOff q es
-  pub parity : is_odd (edges_above q es) ≡ odd
-
-module _ (es fs : List Line) (h : HaveCrossing es fs) (first_balanced : (q : Point) → IsPoint q → IsBalanced es q) (second_balanced : (q : Point) → IsPoint q → IsBalanced fs q) where
-  abbrev crossed : (are_parted h.first h.second.a h.second.b ≡ true) × (are_parted h.second h.first.a h.first.b ≡ true)
-  crossed = and_parts (are_parted h.first h.second.a h.second.b) (are_parted h.second h.first.a h.first.b) h.crossing
-
-  first-sided : IsSided es h.first h.point
-  first-sided =
-      sided es h.first h.point h.is_point (amid h.first h.second h.point h.is_point h.on_first h.on_second crossed.1)
-      (alone-from h.point es h.first (in_from_contains es h.first h.of_first) h.on_first h.first_alone) (first_balanced h.point h.is_point)
-
-  second-sided : IsSided fs h.second h.point
-  second-sided =
-      sided fs h.second h.point h.is_point (amid h.second h.first h.point h.is_point h.on_second h.on_first crossed.0)
-      (alone-from h.point fs h.second (in_from_contains fs h.second h.of_second) h.on_second h.second_alone) (second_balanced h.point h.is_point)
-
-  -- a triangle of each pair of parities
-  pub crossing-triangle : (odd_first odd_second : Bool) (set : PointSet) →
-      ((q : Point) → IsPoint q → IsAt es odd_first q → IsAt fs odd_second q → set q ≡ true) → HasTriangle set
-  crossing-triangle odd_first odd_second set has =
-      let d = has-end h.first h.second (differ first-sided.base odd_first) crossed.0 in
-      let c = has-end h.second h.first (differ second-sided.base odd_second) crossed.1 in
-      let p = h.point in
-      let i = run_to c.corner p in
-      let j = rise_to c.corner p in
-      let m = run_to d.corner p in
-      let n = rise_to d.corner p in
-      let k : ℕ = suc (swerves i j es + swerves i j fs + swerves m n es + swerves m n fs) in
-      let line_first = (lies h.first p h.on_first).line in
-      let line_second = (lies h.second p h.on_second).line in
-      let along_first = toward c.corner p h.first.a h.first.b line_first ∙ ap (λ z. z *ℤ pos p.d) (lies h.first (grid_point c.corner) c.on).line ∙ none (pos p.d) in
-      let along_second = toward d.corner p h.second.a h.second.b line_second ∙ ap (λ z. z *ℤ pos p.d) (lies h.second (grid_point d.corner) d.on).line ∙ none (pos p.d) in
-      let off_first = toward d.corner p h.first.a h.first.b line_first in
-      let off_second = toward c.corner p h.second.a h.second.b line_second in
-      triangle-near p i j m n k set h.is_point (omega arith)
-      (wide-steps (h.first.b.x -ℤ h.first.a.x) (h.first.b.y -ℤ h.first.a.y) i j m n along_first
-      (λ z. nonzero-scaled (cross h.first.a h.first.b (grid_point d.corner)) p.d h.is_point.positive d.off (sym off_first ∙ z))
-      (no-end h.second c.corner p h.is_point line_second c.off))
-      (λ z u v w is_z u_some v_some w_some same.
-      let first =
-      told es h.first p h.is_point first-sided i j m n k (omega arith) (each-fine i j es k (omega arith)) (each-fine m n es k (omega arith)) z u v w
-      (cross h.first.a h.first.b (grid_point d.corner)) (p.d * w) is_z u_some (product_positive p.d w h.is_point.positive w_some) d.off
-      (second-step (swerve i j h.first.a h.first.b) (swerve m n h.first.a h.first.b) v w along_first ∙ ap (λ y. y *ℤ pos w) off_first ∙ together (cross h.first.a h.first.b (grid_point d.corner)) p.d w) same in
-      let second =
-      told fs h.second p h.is_point second-sided i j m n k (omega arith) (each-fine i j fs k (omega arith)) (each-fine m n fs k (omega arith)) z u v w
-      (cross h.second.a h.second.b (grid_point c.corner)) (p.d * v) is_z u_some (product_positive p.d v h.is_point.positive v_some) c.off
-      (first-step (swerve i j h.second.a h.second.b) (swerve m n h.second.a h.second.b) v w along_second ∙ ap (λ y. y *ℤ pos v) off_second ∙ together (cross h.second.a h.second.b (grid_point c.corner)) p.d v) same in
-      has z is_z
-      (record { off = first.off; parity = first.odd ∙ ap (differ first-sided.base) d.side ∙ differ-twice first-sided.base odd_first })
-      (record { off = second.off; parity = second.odd ∙ ap (differ second-sided.base) c.side ∙ differ-twice second-sided.base odd_second }))
-    where
-      none : (z : ℤ) → pos 0 *ℤ z ≡ pos 0
-      none z = omega (arith, ints)
-
-      together : (z : ℤ) (x y : ℕ) → (z *ℤ pos x) *ℤ pos y ≡ z *ℤ pos (x * y)
-      together z x y = mul_assoc z (pos x) (pos y)
-
-  -- a piece of the first edge of each parity of the second list
-  pub crossing-piece : (odd : Bool) (set : PointSet) → ((q : Point) → IsPoint q → IsOnEdge h.first q → IsAt fs odd q → set q ≡ true) → HasSegment set
-  crossing-piece odd set has =
-      let c = has-end h.second h.first (differ second-sided.base odd) crossed.1 in
-      let p = h.point in
-      let i = run_to c.corner p in
-      let j = rise_to c.corner p in
-      let l : ℕ = suc (swerves i j fs + swerves (pos 0) (pos 0) fs) in
-      let line = (lies h.second p h.on_second).line in
-      let off = toward c.corner p h.second.a h.second.b line in
-      segment-near h.first c.corner p l set h.is_point (omega arith) h.on_first c.on (no-end h.second c.corner p h.is_point line c.off)
-      (λ z u v w is_z on u_some v_some w_some same.
-      let second =
-      told fs h.second p h.is_point second-sided i j (pos 0) (pos 0) (l + 1) (omega arith) (each-fine i j fs (l + 1) (omega arith)) (each-fine (pos 0) (pos 0) fs (l + 1) (omega arith)) z u v w
-      (cross h.second.a h.second.b (grid_point c.corner)) (p.d * v) is_z u_some (product_positive p.d v h.is_point.positive v_some) c.off
-      (first-step (swerve i j h.second.a h.second.b) (swerve (pos 0) (pos 0) h.second.a h.second.b) v w (still (h.second.b.x -ℤ h.second.a.x) (h.second.b.y -ℤ h.second.a.y))
-      ∙ ap (λ y. y *ℤ pos v) off ∙ mul_assoc (cross h.second.a h.second.b (grid_point c.corner)) (pos p.d) (pos v)) same in
-      has z is_z on (record { off = second.off; parity = second.odd ∙ ap (differ second-sided.base) c.side ∙ differ-twice second-sided.base odd }))
-    where
-      still : (a b : ℤ) → a *ℤ pos 0 -ℤ b *ℤ pos 0 ≡ pos 0
-      still a b = ring (a ∷ b ∷ []) (dif (mul (var 0) (num (pos 0))) (mul (var 1) (num (pos 0)))) (num (pos 0)) refl
-
 -- a crossing is one of either list
 abbrev pub swapped : (es fs : List Line) → HaveCrossing es fs → HaveCrossing fs es
 swapped es fs h =
@@ -518,3 +485,155 @@ swapped es fs h =
       first_alone = h.second_alone;
       second_alone = h.first_alone;
     }
+
+-- each edge has the ends of the other on its two sides
+abbrev parted : (es fs : List Line) (h : HaveCrossing es fs) → (are_parted h.first h.second.a h.second.b ≡ true) × (are_parted h.second h.first.a h.first.b ≡ true)
+parted es fs h = and_parts (are_parted h.first h.second.a h.second.b) (are_parted h.second h.first.a h.first.b) h.crossing
+
+-- the first edge doesn't end at the point, and no other edge of its list has it
+pub first-amid : (es fs : List Line) (h : HaveCrossing es fs) → IsAmid h.first h.point
+first-amid es fs h = amid h.first h.second h.point h.is_point h.on_first h.on_second (parted es fs h).1
+
+pub first-alone : (es fs : List Line) (h : HaveCrossing es fs) → HasAlone es h.first h.point
+first-alone es fs h = alone-from h.point es h.first (in_from_contains es h.first h.of_first) h.on_first h.first_alone
+
+first-sided : (es fs : List Line) (h : HaveCrossing es fs) → ((q : Point) → IsPoint q → IsBalanced es q) → IsSided es h.first h.point
+first-sided es fs h balanced = sided es h.first h.point h.is_point (first-amid es fs h) (first-alone es fs h) (balanced h.point h.is_point)
+
+module _ (es fs : List Line) (h : HaveCrossing es fs) where
+  -- a triangle on one side of each edge
+  triangle-beside : (first_below second_below : Bool) (set : PointSet) →
+      ((q : Point) → IsPoint q → IsReached es h.first h.point first_below q → IsReached fs h.second h.point second_below q → set q ≡ true) → HasTriangle set
+  triangle-beside first_below second_below set has =
+      let d = has-end h.first h.second first_below (parted es fs h).0 in
+      let c = has-end h.second h.first second_below (parted es fs h).1 in
+      let p = h.point in
+      let i = run_to c.corner p in
+      let j = rise_to c.corner p in
+      let m = run_to d.corner p in
+      let n = rise_to d.corner p in
+      let k : ℕ = suc (swerves i j es + swerves i j fs + swerves m n es + swerves m n fs) in
+      let line_first = (lies h.first p h.on_first).line in
+      let line_second = (lies h.second p h.on_second).line in
+      let along_first = toward c.corner p h.first.a h.first.b line_first ∙ ap (λ z. z *ℤ pos p.d) (lies h.first (grid_point c.corner) c.on).line ∙ none (pos p.d) in
+      let along_second = toward d.corner p h.second.a h.second.b line_second ∙ ap (λ z. z *ℤ pos p.d) (lies h.second (grid_point d.corner) d.on).line ∙ none (pos p.d) in
+      let off_first = toward d.corner p h.first.a h.first.b line_first in
+      let off_second = toward c.corner p h.second.a h.second.b line_second in
+      triangle-near p i j m n k set h.is_point (omega arith)
+      (wide-steps (h.first.b.x -ℤ h.first.a.x) (h.first.b.y -ℤ h.first.a.y) i j m n along_first
+      (λ z. nonzero-scaled (cross h.first.a h.first.b (grid_point d.corner)) p.d h.is_point.positive d.off (sym off_first ∙ z))
+      (no-end h.second c.corner p h.is_point line_second c.off))
+      (λ z u v w is_z u_some v_some w_some same.
+      has z is_z
+      (record {
+        i = i;
+        j = j;
+        m = m;
+        n = n;
+        k = k;
+        first = each-fine i j es k (omega arith);
+        second = each-fine m n es k (omega arith);
+        u = u;
+        v = v;
+        w = w;
+        some = u_some;
+        side = cross h.first.a h.first.b (grid_point d.corner);
+        l = p.d * w;
+        large = product_positive p.d w h.is_point.positive w_some;
+        off = d.off;
+        is = second-step (swerve i j h.first.a h.first.b) (swerve m n h.first.a h.first.b) v w along_first ∙ ap (λ y. y *ℤ pos w) off_first ∙ together (cross h.first.a h.first.b (grid_point d.corner)) p.d w;
+        signed = d.side;
+        same = same;
+      })
+      (record {
+        i = i;
+        j = j;
+        m = m;
+        n = n;
+        k = k;
+        first = each-fine i j fs k (omega arith);
+        second = each-fine m n fs k (omega arith);
+        u = u;
+        v = v;
+        w = w;
+        some = u_some;
+        side = cross h.second.a h.second.b (grid_point c.corner);
+        l = p.d * v;
+        large = product_positive p.d v h.is_point.positive v_some;
+        off = c.off;
+        is = first-step (swerve i j h.second.a h.second.b) (swerve m n h.second.a h.second.b) v w along_second ∙ ap (λ y. y *ℤ pos v) off_second ∙ together (cross h.second.a h.second.b (grid_point c.corner)) p.d v;
+        signed = c.side;
+        same = same;
+      }))
+    where
+      none : (z : ℤ) → pos 0 *ℤ z ≡ pos 0
+      none z = omega (arith, ints)
+
+      together : (z : ℤ) (x y : ℕ) → (z *ℤ pos x) *ℤ pos y ≡ z *ℤ pos (x * y)
+      together z x y = mul_assoc z (pos x) (pos y)
+
+  -- a piece of the first edge on one side of the second one
+  piece-beside : (below : Bool) (set : PointSet) →
+      ((q : Point) → IsPoint q → IsOnEdge h.first q → IsReached fs h.second h.point below q → set q ≡ true) → HasSegment set
+  piece-beside below set has =
+      let c = has-end h.second h.first below (parted es fs h).1 in
+      let p = h.point in
+      let i = run_to c.corner p in
+      let j = rise_to c.corner p in
+      let l : ℕ = suc (swerves i j fs + swerves (pos 0) (pos 0) fs) in
+      let line = (lies h.second p h.on_second).line in
+      segment-near h.first c.corner p l set h.is_point (omega arith) h.on_first c.on (no-end h.second c.corner p h.is_point line c.off)
+      (λ z u v w is_z on u_some v_some w_some same.
+      has z is_z on
+      (record {
+        i = i;
+        j = j;
+        m = pos 0;
+        n = pos 0;
+        k = l + 1;
+        first = each-fine i j fs (l + 1) (omega arith);
+        second = each-fine (pos 0) (pos 0) fs (l + 1) (omega arith);
+        u = u;
+        v = v;
+        w = w;
+        some = u_some;
+        side = cross h.second.a h.second.b (grid_point c.corner);
+        l = p.d * v;
+        large = product_positive p.d v h.is_point.positive v_some;
+        off = c.off;
+        is =
+            first-step (swerve i j h.second.a h.second.b) (swerve (pos 0) (pos 0) h.second.a h.second.b) v w (still (h.second.b.x -ℤ h.second.a.x) (h.second.b.y -ℤ h.second.a.y))
+            ∙ ap (λ y. y *ℤ pos v) (toward c.corner p h.second.a h.second.b line)
+            ∙ mul_assoc (cross h.second.a h.second.b (grid_point c.corner)) (pos p.d) (pos v);
+        signed = c.side;
+        same = same;
+      }))
+    where
+      still : (a b : ℤ) → a *ℤ pos 0 -ℤ b *ℤ pos 0 ≡ pos 0
+      still a b = ring (a ∷ b ∷ []) (dif (mul (var 0) (num (pos 0))) (mul (var 1) (num (pos 0)))) (num (pos 0)) refl
+
+  -- a piece of the first edge off the second list
+  pub crossing-clear : (set : PointSet) → ((q : Point) → IsPoint q → IsOnEdge h.first q → IsOff q fs → set q ≡ true) → HasSegment set
+  crossing-clear set has =
+      let back = swapped es fs h in
+      piece-beside true set
+      (λ q i on r. has q i on (off-near fs h.second h.point h.is_point true q i r (clear fs h.second h.point h.on_second (first-alone fs es back))))
+
+  -- one of each parity of the second list, where that is balanced
+  pub crossing-piece : ((q : Point) → IsPoint q → IsBalanced fs q) → (odd : Bool) (set : PointSet) →
+      ((q : Point) → IsPoint q → IsOnEdge h.first q → IsAt fs odd q → set q ≡ true) → HasSegment set
+  crossing-piece balanced odd set has =
+      let s = first-sided fs es (swapped es fs h) balanced in
+      piece-beside (differ s.base odd) set (λ q i on r. has q i on (told fs h.second h.point h.is_point (differ s.base odd) q i r s odd refl))
+
+  -- where both are, a triangle of each pair of parities
+  pub crossing-triangle : ((q : Point) → IsPoint q → IsBalanced es q) → ((q : Point) → IsPoint q → IsBalanced fs q) → (odd_first odd_second : Bool) (set : PointSet) →
+      ((q : Point) → IsPoint q → IsAt es odd_first q → IsAt fs odd_second q → set q ≡ true) → HasTriangle set
+  crossing-triangle first_balanced second_balanced odd_first odd_second set has =
+      let s = first-sided es fs h first_balanced in
+      let t = first-sided fs es (swapped es fs h) second_balanced in
+      triangle-beside (differ s.base odd_first) (differ t.base odd_second) set
+      (λ q i r o.
+      has q i
+      (told es h.first h.point h.is_point (differ s.base odd_first) q i r s odd_first refl)
+      (told fs h.second h.point h.is_point (differ t.base odd_second) q i o t odd_second refl))

@@ -3,11 +3,14 @@
 //! run along one another decide that one.
 
 ghost use Rattle.std.specs.Prelude.{◌≡◌, IfOk, IfSome, IsTrue};
+ghost use Rattle.sf_crossing.specs.Crossing.{HaveCrossing};
+ghost use Rattle.sf_geometry.specs.Parts.{edges_of};
 ghost use Rattle.sf_known.specs.Known.{Holds};
 ghost use Rattle.sf_relate.specs.Areas.{Overlap, common_extent, known_overlapping, overlapping_entries, with_boundaries};
 ghost use Rattle.sf_relate.specs.Matrices.{matrix_of};
 ghost use Rattle.sf_relate.specs.Places.{shape_of};
 ghost use Rattle.sf_relate.specs.declared.shape.Shape.TheVariants.{Areas};
+ghost use Rattle.sf_validity.specs.Held.{IsHeld};
 
 use super::shape::Shape;
 use sf_crossing::have_crossing;
@@ -39,6 +42,18 @@ pub fn are_known_to_overlap(alloc: Global, a: &Valid, b: &Valid) -> Result<bool,
     if !are_areas(a, b) {
         return Ok(false);
     }
+    are_crossed(alloc, a, b)
+}
+
+/// Whether an edge of one geometry is found that crosses an edge of the other at a point that no other edge of the two has. If
+/// not, nothing is known. Only edges are tried whose boxes meet the box that both geometries have in common.
+///
+/// # Errors
+///
+/// Out of memory alone.
+pub fn are_crossed(alloc: Global, a: &Valid, b: &Valid) -> Result<bool, AllocError>
+    ensures { IfOk result (λ told. IsTrue told → HaveCrossing (edges_of a.now) (edges_of b.now)) }
+{
     let first = a.geometry();
     let second = b.geometry();
     let common = common_extent(&first.envelope(), &second.envelope());
@@ -63,7 +78,8 @@ fn common_extent(a: &Extent, b: &Extent) -> Extent
 
 /// Whether both geometries are polygons.
 pub(crate) fn are_areas(a: &Valid, b: &Valid) -> bool
-    ensures { IsTrue result → (shape_of a.now ≡ Areas) × (shape_of b.now ≡ Areas) }
+    ensures areas { IsTrue result → (shape_of a.now ≡ Areas) × (shape_of b.now ≡ Areas) }
+    ensures valid { IsTrue result → IsHeld a.now × IsHeld b.now }
 {
     Shape::of(a.geometry()).is_areal() && Shape::of(b.geometry()).is_areal()
 }

@@ -17,7 +17,7 @@ mod sink;
 mod told;
 mod walking;
 
-pub use areas::{are_known_to_overlap, known_by_crossing};
+pub use areas::{are_crossed, are_known_to_overlap, known_by_crossing};
 pub use at_most::known_of_kinds;
 pub use first_points::shares_first_point;
 pub use locating::{is_in, locate};

@@ -50,7 +50,7 @@ impl Place {
     }
 
     /// The row, or the column, of the place in a matrix.
-    pub(crate) fn row(self) -> usize
+    pub fn row(self) -> usize
         ensures value { result ≡ row_of self }
         ensures bound { result < 3 }
     {

@@ -17,7 +17,7 @@ pub enum Shape {
 
 impl Shape {
     /// What the geometry is made of.
-    pub(crate) fn of(geometry: &Geometry) -> Shape
+    pub fn of(geometry: &Geometry) -> Shape
         ensures { result ≡ shape_of geometry.now }
     {
         match geometry {

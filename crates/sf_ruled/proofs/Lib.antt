@@ -6,3 +6,4 @@ pub mod EditLaws
 pub mod CallLaws
 pub mod TurnLaws
 pub mod LedLaws
+pub mod HeldLaws

@@ -5,7 +5,7 @@ use Rattle.std.specs.List.{AllByRecursion, list_all, list_any, position_or_len}
 use Rattle.sf_features.specs.Columns.{IsDistinct}
 use Rattle.sf_features.specs.Names.{is_name}
 use Rattle.sf_layers.proofs.Kept.{distinct-remove}
-use Rattle.sf_joins.proofs.PairLaws.{each-append}
+use Rattle.sf_constraints.proofs.JoinedLists.{each-append}
 use Rattle.sf_constraints.specs.declared.rule.Rule.{Rule}
 use Rattle.sf_layers.specs.Content.{Content}
 use Rattle.sf_steps.specs.declared.edit.Edit.{Edit}

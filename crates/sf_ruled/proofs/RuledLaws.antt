@@ -20,7 +20,7 @@ use Rattle.sf_constraints.specs.Rules.{break_of, broken_or, first_broken}
 use Rattle.sf_ruled.specs.Ruled.{OfChange, AddRule, DropRule, Ruled, added, after_change, change_led, dropped, edit_led, group_led, has_layers, has_rule, place_of_rule, without_rule, rules_after, rules_max, settled, unless_broken, with_rule}
 use Rattle.sf_ruled.specs.Laws.{IsKept, IsRefusedRightly, RefusalsNameBreaks, RuledStepsKeepRules}
 use Rattle.sf_ruled.specs.Undos.{IsSettled}
-use Rattle.sf_joins.proofs.PairLaws.{each-append}
+use Rattle.sf_constraints.proofs.JoinedLists.{each-append}
 use Rattle.sf_constraints.proofs.HoldsLaws.{broken-at, reported_rules_are_broken, rule-over-the-plane, rules_are_over_the_plane}
 
 and_true : (a b : Bool) → a && b ≡ true → (a ≡ true) × (b ≡ true)

@@ -4,8 +4,8 @@ use Rattle.std.specs.List.{AllByRecursion, list_all, list_any}
 use Rattle.std.specs.Map.{keys_of}
 use Rattle.sf_features.specs.Features.{FeatureContent, plain_feature}
 use Rattle.sf_layers.specs.Content.{Content, LayerContent, has_layer, layer_of}
-use Rattle.sf_query.specs.declared.ask.Ask.{Ask}
-use Rattle.sf_joins.specs.Joins.{is_pair}
+use Rattle.sf_constraints.specs.Asked.{Ask}
+use Rattle.sf_constraints.specs.Asked.{is_pair}
 use Rattle.sf_constraints.specs.declared.rule.Rule.{Rule}
 use Rattle.sf_constraints.specs.declared.rule.Form.{Form}
 use Rattle.sf_constraints.specs.declared.rule.Form.TheVariants.{Never, Each}

@@ -13,7 +13,7 @@ use Rattle.sf_changes.proofs.ChangeLaws.{edit-made_again, edit-taken_back}
 use Rattle.sf_constraints.specs.declared.breaks.Break.{Break}
 use Rattle.sf_constraints.specs.declared.rule.Rule.{Rule}
 use Rattle.sf_constraints.specs.Rules.{break_of, broken_from, broken_or}
-use Rattle.sf_joins.proofs.PairLaws.{each-append}
+use Rattle.sf_constraints.proofs.JoinedLists.{each-append}
 use Rattle.sf_ruled.specs.declared.undo.Undo.TheVariants as undos
 use Rattle.sf_ruled.specs.declared.redo.Redo.TheVariants as redos
 use Rattle.sf_ruled.specs.Outcomes.{ruled}

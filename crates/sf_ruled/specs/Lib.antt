@@ -3,3 +3,4 @@ pub mod Laws
 pub mod Outcomes
 pub mod Undos
 pub mod Stepped
+pub mod Ruling

@@ -16,7 +16,7 @@ pub use redo::Redo;
 pub use refusal::Refusal;
 pub use ruled::Ruled;
 pub use rules::{RULES_MAX, Rules};
-pub use sf_constraints::Rule;
+pub use sf_constraints::{Ask, Break, Form, Rule};
 pub use sf_groups::Group;
 pub use sf_steps::{Answer, Edit};
 pub use undo::Undo;

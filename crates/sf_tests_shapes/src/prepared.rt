@@ -111,7 +111,10 @@ fn told_otherwise(alloc: Global, area: &Valid) -> Result<Option<usize>, Fail> {
     for (number, places) in SMALL.iter().enumerate() {
         let small = small(alloc, places)?;
         let nearby = matrix_nearby(alloc, area, &small);
-        let told = prepared.matrix_told(alloc, &small, area);
+        let told = match prepared.matrix_clear(alloc, &small, area) {
+            Some(matrix) => Some(matrix),
+            None => prepared.matrix_nearby(alloc, &small, area),
+        };
         if nearby != Some(relate(alloc, area, &small)?)
             || told != Some(relate(alloc, &small, area)?)
         {

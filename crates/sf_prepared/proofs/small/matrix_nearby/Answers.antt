@@ -1,5 +1,5 @@
 use Rattle.sf_prepared.proofs.TransposedLaws.{told-transposed}
 use Rattle.sf_prepared.proofs.small.matrix_nearby.Goals as goal
 
-pub returns-in-Some : goal.returns-in-Some
-returns-in-Some c = told-transposed c.args.area.now c.args.small.now c.in-Some.matrix c.transposed.result c.in-Some.ensures c.transposed.ensures
+pub returns : goal.returns
+returns c = told-transposed c.args.area.now c.args.small.now c.in-Some.matrix c.transposed.result c.in-Some.ensures c.transposed.ensures

@@ -2,7 +2,7 @@ use Rattle.std.proofs.Common.{◌∙◌, ap, subst, sym}
 use Rattle.sf_known.specs.declared.known.Known.{Known}
 use Rattle.sf_known.specs.Known.{Holds}
 use Rattle.sf_relate.specs.Matrices.{matrix_of}
-use Rattle.sf_query.specs.Evidence.{known_transposed}
+use Rattle.sf_known.specs.Transposed.{known_transposed}
 use Rattle.sf_query.proofs.EvidenceLaws.{given-place-holds}
 use Rattle.sf_query.proofs.evidence.by_given_place.Goals as goal
 

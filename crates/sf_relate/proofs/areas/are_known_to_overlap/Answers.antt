@@ -1,45 +1,9 @@
-use Rattle.std.proofs.Common.{◌≡◌, ap, ◌∙◌, subst, map}
-use Rattle.sf_crossing.specs.Crossing.{HaveCrossing}
-use Rattle.sf_crossing.specs.Meeting.{ends_meeting}
-use Rattle.sf_geometry.specs.declared.extent.Extent.{Extent}
-use Rattle.sf_geometry.specs.declared.geometry.Geometry.{Geometry}
-use Rattle.sf_geometry.specs.Envelope.{envelope_of}
-use Rattle.sf_geometry.specs.Parts.{edge_of, edges_of}
-use Rattle.sf_relate.specs.Areas.{Overlap, common_extent}
-use Rattle.sf_relate.proofs.CommonBoxLaws.{crossing-of-all}
 use Rattle.sf_relate.proofs.OverlapLaws.{crossing_areas_overlap}
 use Rattle.sf_relate.proofs.ResultLaws.{answered}
-use Rattle.sf_relate.proofs.SectorLaws.{swapped}
 use Rattle.sf_relate.proofs.areas.are_known_to_overlap.Goals as goal
-use Rattle.sf_relate.proofs.areas.are_known_to_overlap.Goals.{After-common_extent-common}
 
--- the edges that are tried
-abbrev tried : Extent → Geometry → Geometry → Type 0
-tried box f g = HaveCrossing (map edge_of (ends_meeting box (edges_of f))) (map edge_of (ends_meeting box (edges_of g)))
-
--- those of both that cross
-crossed : (c : After-common_extent-common) → tried c.common_extent-common.result c.geometry-first.result.now c.geometry-second.result.now → Overlap c.args.a.now c.args.b.now
-crossed c h =
-    let a = c.args.a.now in
-    let b = c.args.b.now in
-    let shapes = c.are_areas.ensures c.if-not-are_areas.false in
-    let box : c.common_extent-common.result ≡ common_extent (envelope_of a) (envelope_of b) =
-    c.common_extent-common.ensures
-    ∙ ap (λ e. common_extent e c.envelope-2.result) (c.envelope.ensures ∙ ap envelope_of c.geometry-first.ensures.same)
-    ∙ ap (common_extent (envelope_of a)) (c.envelope-2.ensures ∙ ap envelope_of c.geometry-second.ensures.same) in
-    crossing_areas_overlap a b c.geometry-first.ensures.valid.valid c.geometry-second.ensures.valid.valid shapes.0 shapes.1
-    (crossing-of-all a b c.geometry-first.ensures.valid.valid c.geometry-second.ensures.valid.valid shapes.0 shapes.1
-    (subst (λ e. tried e a b) box
-    (subst (λ (g : Geometry). tried c.common_extent-common.result a g) c.geometry-second.ensures.same
-    (subst (λ (g : Geometry). tried c.common_extent-common.result g c.geometry-second.result.now) c.geometry-first.ensures.same h))))
-
-pub returns-then-point_count : goal.returns-then-point_count
-returns-then-point_count c = answered c.have_crossing.result (λ told found t. crossed (goal.at.returns-then-point_count c).After-common_extent-common (found t)) c.have_crossing.ensures
-
-pub returns-else-point_count : goal.returns-else-point_count
-returns-else-point_count c =
-    answered c.have_crossing-else-point_count.result
-    (λ told found t.
-    crossed (goal.at.returns-else-point_count c).After-common_extent-common
-    (swapped (map edge_of (ends_meeting c.common_extent-common.result (edges_of c.geometry-second.result.now))) (map edge_of (ends_meeting c.common_extent-common.result (edges_of c.geometry-first.result.now))) (found t)))
-    c.have_crossing-else-point_count.ensures
+pub returns : goal.returns
+returns c =
+    let areas = c.are_areas.ensures.areas c.if-not-are_areas.false in
+    let valid = c.are_areas.ensures.valid c.if-not-are_areas.false in
+    answered c.are_crossed.result (λ told found t. crossing_areas_overlap c.args.a.now c.args.b.now valid.0.valid valid.1.valid areas.0 areas.1 (found t)) c.are_crossed.ensures

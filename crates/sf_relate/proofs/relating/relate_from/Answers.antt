@@ -30,7 +30,7 @@ returns-in_ok-along-in-None-clause-computed c =
     let missing = matrix-missing (have_most found.found.least found.found.most) found.found.least c.in-None.ensures in
     elim c.if-are_areas.branch [
       | then-are_areas w ↦
-          let areas = c.are_areas.ensures w.if-are_areas.true in
+          let areas = c.are_areas.ensures.areas w.if-are_areas.true in
           c.matrix_along.ensures
           ∙ boundaries-left a b found.found c.in_ok-along-in-None.along c.geometry.ensures.valid.valid c.geometry-in-None.ensures.valid.valid areas.0 areas.1
           found.ensures.holds (subst (λ (aim : Aim). IsTrue (is_enough found.found aim)) w.aim-is found.ensures.enough) missing

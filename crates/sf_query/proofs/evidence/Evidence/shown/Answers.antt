@@ -2,10 +2,18 @@ use Rattle.sf_relate.specs.Matrices.{matrix_of}
 use Rattle.sf_query.proofs.EvidenceLaws.{matrix-known, of-held}
 use Rattle.sf_query.proofs.evidence.Evidence.shown.Goals as goal
 
+pub returns-in-Clear : goal.returns-in-Clear
+returns-in-Clear c =
+    matrix-known c.matrix_clear.result c.exactly.result (matrix_of c.args.geometry.now c.args.given.now) c.exactly.ensures c.matrix_clear.ensures
+
+pub returns-in-Prepared : goal.returns-in-Prepared
+returns-in-Prepared c =
+    matrix-known c.matrix_prepared.result c.exactly-in-Prepared.result (matrix_of c.args.geometry.now c.args.given.now) c.exactly-in-Prepared.ensures c.matrix_prepared.ensures
+
 pub returns-in-Alike : goal.returns-in-Alike
 returns-in-Alike c =
-    of-held c.exactly.result c.args.geometry.now c.given.inside.valid.now c.args.given.now c.given.view_is
-    (matrix-known c.matrix_alike.result c.exactly.result (matrix_of c.args.geometry.now c.given.inside.valid.now) c.exactly.ensures c.matrix_alike.ensures.told)
+    of-held c.exactly-in-Alike.result c.args.geometry.now c.given.inside.valid.now c.args.given.now c.given.view_is
+    (matrix-known c.matrix_alike.result c.exactly-in-Alike.result (matrix_of c.args.geometry.now c.given.inside.valid.now) c.exactly-in-Alike.ensures c.matrix_alike.ensures.told)
 
 pub returns-in-Boxes : goal.returns-in-Boxes
 returns-in-Boxes c =
@@ -30,9 +38,17 @@ returns-in-Sides c =
 
 pub returns-in-Crossing : goal.returns-in-Crossing
 returns-in-Crossing c =
-    of-held c.known_by_crossing.result c.args.geometry.now c.given.inside.valid.now c.args.given.now c.given.view_is c.known_by_crossing.ensures
+    of-held c.by_crossing.result c.args.geometry.now c.given.inside.valid.now c.args.given.now c.given.view_is c.by_crossing.ensures
 
 pub returns-in-Nearby : goal.returns-in-Nearby
 returns-in-Nearby c =
     of-held c.exactly-in-Nearby.result c.args.geometry.now c.given.inside.valid.now c.args.given.now c.given.view_is
     (matrix-known c.matrix_by_edges_nearby.result c.exactly-in-Nearby.result (matrix_of c.args.geometry.now c.given.inside.valid.now) c.exactly-in-Nearby.ensures c.matrix_by_edges_nearby.ensures)
+
+pub returns-in-Ends : goal.returns-in-Ends
+returns-in-Ends c =
+    of-held c.known_by_ends.result c.args.geometry.now c.given.inside.valid.now c.args.given.now c.given.view_is c.known_by_ends.ensures.holds
+
+pub returns-in-Along : goal.returns-in-Along
+returns-in-Along c =
+    of-held c.known_alongside.result c.args.geometry.now c.given.inside.valid.now c.args.given.now c.given.view_is c.known_alongside.ensures.holds

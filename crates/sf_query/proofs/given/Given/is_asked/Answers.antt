@@ -1,7 +1,6 @@
 use Rattle.std.proofs.Common.{◌∙◌, ap, subst, sym}
 use Rattle.sf_geometry.specs.declared.geometry.Geometry.{Geometry}
 use Rattle.sf_known.specs.declared.known.Known.{Known}
-use Rattle.sf_known.specs.Goals.{is_met}
 use Rattle.sf_known.specs.Known.{Holds}
 use Rattle.sf_known.proofs.KnownLaws.{answers_are_true, both_hold}
 use Rattle.sf_relate.specs.Matrices.{matrix_of}
@@ -15,12 +14,6 @@ loop-evidence-init c =
     let a = c.args.geometry.now in
     let b = c.args.self.now in
     subst (λ (k : Known). Holds k (matrix_of a b)) (sym c.nothing-known.ensures) (nothing-holds a b)
-
-pub returns-in-Some-matrix_prepared : goal.returns-in-Some-matrix_prepared
-returns-in-Some-matrix_prepared c =
-    let a = c.args.geometry.now in
-    let m = matrix_of a c.args.self.now in
-    c.is_met.ensures ∙ ap (is_met c.goal-goal.result) c.in-Some-matrix_prepared.ensures ∙ c.goal-goal.ensures m ∙ ap (λ (g : Geometry). is_answered c.args.ask.now a g m) c.self.view_is
 
 pub returns-in-Some-answer : goal.returns-in-Some-answer
 returns-in-Some-answer c =

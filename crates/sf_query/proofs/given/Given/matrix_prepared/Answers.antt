@@ -5,4 +5,4 @@ use Rattle.sf_query.proofs.given.Given.matrix_prepared.Goals as goal
 
 pub returns-in-Some : goal.returns-in-Some
 returns-in-Some c =
-    subst (λ (g : Geometry). IfSome c.matrix_told.result (λ matrix. matrix.0 ≡ matrix_of c.args.geometry.now g)) c.self.view_is c.matrix_told.ensures.told
+    subst (λ (g : Geometry). IfSome c.matrix_nearby.result (λ matrix. matrix.0 ≡ matrix_of c.args.geometry.now g)) c.self.view_is c.matrix_nearby.ensures

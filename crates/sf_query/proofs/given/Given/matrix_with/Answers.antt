@@ -7,7 +7,7 @@ use Rattle.sf_relate.specs.Matrices.{matrix_of}
 use Rattle.sf_relate.proofs.FoundLaws.{nothing-holds}
 use Rattle.sf_relate.proofs.ResultLaws.{answered}
 use Rattle.sf_query.proofs.given.Given.matrix_with.Goals as goal
-use Rattle.sf_query.proofs.given.Given.matrix_with.Goals.{in-Some+else-is_enough, in_default, else-loop-evidence-test, then-loop-evidence-test+in-Some+then-is_enough}
+use Rattle.sf_query.proofs.given.Given.matrix_with.Goals.{in-Some+else-is_enough, in_default, else-loop-evidence-test, then-loop-evidence-test+else-not-pays+in-Some+then-is_enough}
 
 pub loop-evidence-init : goal.loop-evidence-init
 loop-evidence-init c =
@@ -30,7 +30,7 @@ relate_from-requires c =
     let holds : Holds c.loop-evidence-test.known m =
     elim c.loop-evidence-test.branch [
       | else-loop-evidence-test w ↦ subst (λ (k : Known). Holds k m) (sym w.known-is) c.loop-evidence.invariant
-      | then-loop-evidence-test+in-Some+then-is_enough w ↦
+      | then-loop-evidence-test+else-not-pays+in-Some+then-is_enough w ↦
           subst (λ (k : Known). Holds k m) (sym (w.known-is ∙ w.and-known.ensures)) (both_hold c.loop-evidence.known w.in-Some.shown m c.loop-evidence.invariant w.in-Some.ensures)
     ] in
     subst (λ (g : Geometry). Holds c.loop-evidence-test.known (matrix_of c.args.geometry.now g)) (sym c.self.view_is) holds

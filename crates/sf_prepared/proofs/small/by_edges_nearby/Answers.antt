@@ -3,7 +3,7 @@ use Rattle.sf_geometry.specs.Envelope.{envelope_of}
 use Rattle.sf_geometry.specs.Parts.{edges_of}
 use Rattle.sf_crossing.specs.Meeting.{ends_meeting}
 use Rattle.sf_prepared.specs.Nearby.{columns_over}
-use Rattle.sf_prepared.proofs.small.with_area.Goals as goal
+use Rattle.sf_prepared.proofs.small.by_edges_nearby.Goals as goal
 
 pub walked_nearby-requires-clause-extent : goal.walked_nearby-requires-clause-extent
 walked_nearby-requires-clause-extent c = c.envelope-extent.ensures ∙ ap envelope_of c.geometry.ensures.same

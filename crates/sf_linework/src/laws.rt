@@ -1,0 +1,14 @@
+//! Laws of lines, each the contract of a function that does nothing.
+
+ghost use Rattle.sf_linework.specs.Alongside.{AlongsideIsKnown};
+ghost use Rattle.sf_linework.specs.Ends.{EndsAreKnown};
+
+/// What the places of a line's two ends show of its matrix.
+pub fn ends_are_known()
+    ensures { EndsAreKnown }
+{}
+
+/// What it shows of the matrix of two lines, or of a line and an area, whether edges of them run along one another.
+pub fn alongside_is_known()
+    ensures { AlongsideIsKnown }
+{}
