@@ -25,6 +25,7 @@ PAGE = TOP / "docs" / "trust" / "TRUST.md"
 
 # The contracts that carry the headline: a file of code, and the functions in it; none: all of them.
 HEADLINE: list[tuple[str, list[str]]] = [
+    ("sf_run/src/files.rt", ["run_between"]),
     ("sf_run/src/running.rt", ["run", "run_from", "save"]),
     ("sf_console/src/laws.rt", []),
     ("sf_history/src/laws.rt", []),
@@ -50,6 +51,8 @@ HEADLINE: list[tuple[str, list[str]]] = [
 
 # The traits whose calls these contracts speak of, as they are declared.
 TRAITS: list[tuple[str, str]] = [
+    ("sf_run/src/files.rt", "RunFiles"),
+    ("sf_console/src/outlet.rt", "Outlet"),
     ("sf_keeping/src/desk.rt", "Desk"),
     ("sf_folder/src/folder.rt", "Folder"),
     ("sf_folder/src/beside.rt", "Source"),

@@ -2,8 +2,10 @@
 //! to the bytes of a file.
 #![tactic(auto)]
 
+mod files;
 mod running;
 
+pub use files::{BeginFault, FilesFault, OpenFault, RunFiles, run_between};
 pub use running::{RunFault, Served, run, run_from};
 pub use sf_console::ServeFault;
 pub use sf_loading::{LoadFault, Ruled, load};

@@ -1,7 +1,9 @@
 //! How a run ends before its time: its status, and its last words.
+ghost use Rattle.sfstore.specs.Statuses.{IsStatusOf};
+
 use sf_keeping::KeepFault;
 use sf_options::OptionsFault;
-use sf_run::{LoadFault, RunFault, SaveFault, ServeFault};
+use sf_run::{BeginFault, FilesFault, LoadFault, RunFault, SaveFault, ServeFault};
 use std::fmt;
 
 /// Why a run ended before its time.
@@ -64,10 +66,24 @@ impl From<RunFault> for Ending {
     }
 }
 
+impl From<FilesFault> for Ending {
+    fn from(fault: FilesFault) -> Ending {
+        match fault {
+            FilesFault::Open => Ending::LoadOpen,
+            FilesFault::Run(fault) => Ending::from(fault),
+            FilesFault::Begin(BeginFault::Memory) => Ending::Save(SaveFault::Memory),
+            FilesFault::Begin(BeginFault::Open) => Ending::SaveOpen,
+            FilesFault::Save(fault) => Ending::Save(fault),
+        }
+    }
+}
+
 impl Ending {
     /// The status of the program: 1 after a fault of serving, 2 of the words, 3 of loading, 4 of
     /// saving, and 0 where help was asked for.
-    pub fn status(&self) -> u8 {
+    pub fn status(&self) -> u8
+        ensures { IsStatusOf self.now result }
+    {
         match self {
             Ending::Serve(_) | Ending::Keep(_) => 1,
             Ending::Arguments | Ending::Options | Ending::Words(OptionsFault::Memory) => 2,

@@ -5,16 +5,17 @@
 
 mod ending;
 mod storing;
+mod system_files;
 
 use ending::Ending;
-use sf_folder::WholeFile;
 use sf_options::{Options, OptionsFault, options};
-use sf_run::{SaveFault, Served, run_from};
+use sf_run::run_between;
 use std::fs::File;
 use std::process::ExitCode;
 use std::rt::{Env, Files};
-use std::{env, fs, io};
+use std::{env, io};
 use storing::run_stored;
+use system_files::SystemFiles;
 
 /// Why the system's words could not be had.
 fn arguments_fault(error: &io::Error) -> Ending {
@@ -42,73 +43,6 @@ fn asked(rt: &(impl Env + AllocGlobal)) -> Result<Options, Ending> {
     options::asked(alloc, words.as_slice()).map_err(Ending::Words)
 }
 
-/// Answers all lines of the input, over the store of a file where one is named.
-fn served(
-    rt: &(impl Files + Input + Print + AllocGlobal),
-    path: &Option<String>,
-) -> Result<Served, Ending> {
-    let alloc = rt.alloc();
-    let mut input = rt.reader();
-    let mut output = io::writer(rt);
-    let Some(path) = path else {
-        return sf_run::run(alloc, &mut input, &mut output).map_err(Ending::Serve);
-    };
-    let Ok(mut file) = fs::open(rt, path.as_str()) else {
-        return Err(Ending::LoadOpen);
-    };
-    run_from(alloc, &mut file, &mut input, &mut output).map_err(Ending::from)
-}
-
-/// Saves what was served to a file, where one is named. A regular file is the old one until the new one is on the disk.
-fn saved(
-    rt: &(impl Files<File = File> + AllocGlobal),
-    path: &Option<String>,
-    served: &Served,
-) -> Result<(), Ending> {
-    let Some(path) = path else {
-        return Ok(());
-    };
-    match WholeFile::begin(rt, rt.alloc(), path.as_str()) {
-        Ok(Some(file)) => saved_whole(rt, file, served),
-        Ok(None) => saved_in_place(rt, path.as_str(), served),
-        Err(fault) => Err(open_fault(&fault)),
-    }
-}
-
-/// Why a file to save to could not be begun.
-fn open_fault(fault: &io::Error) -> Ending {
-    match fault.kind() {
-        io::ErrorKind::OutOfMemory => Ending::Save(SaveFault::Memory),
-        _ => Ending::SaveOpen,
-    }
-}
-
-/// Saves what was served to a file beside, which then takes its place.
-fn saved_whole(
-    rt: &(impl Files<File = File> + AllocGlobal),
-    file: WholeFile,
-    served: &Served,
-) -> Result<(), Ending> {
-    let mut file = file;
-    if let Err(fault) = served.save(rt.alloc(), file.file()) {
-        file.give_up(rt);
-        return Err(Ending::Save(fault));
-    }
-    file.finish(rt).map_err(|_| Ending::Save(SaveFault::Write))
-}
-
-/// Saves what was served to a pipe or a device.
-fn saved_in_place(
-    rt: &(impl Files + AllocGlobal),
-    path: &str,
-    served: &Served,
-) -> Result<(), Ending> {
-    let Ok(mut file) = fs::create(rt, path) else {
-        return Err(Ending::SaveOpen);
-    };
-    served.save(rt.alloc(), &mut file).map_err(Ending::Save)
-}
-
 /// The whole run.
 fn run(
     rt: &(impl Files<File = File> + Env + Input + Print + Eprint + AllocGlobal),
@@ -118,8 +52,15 @@ fn run(
         if asked.keep {
             return Err(Ending::Options);
         }
-        let served = served(rt, &asked.load)?;
-        return saved(rt, &asked.save, &served);
+        return run_between(
+            rt.alloc(),
+            &mut SystemFiles::new(rt, rt.alloc()),
+            asked.load.as_deref(),
+            asked.save.as_deref(),
+            &mut rt.reader(),
+            &mut io::writer(rt),
+        )
+        .map_err(Ending::from);
     };
     if asked.load.is_some() || asked.save.is_some() {
         return Err(Ending::Options);
