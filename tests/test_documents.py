@@ -235,6 +235,8 @@ class Map(unittest.TestCase):
             self.assertEqual(told, {kind: place for place, kind in enumerate(orders[order], 1) if kind != "Boxes"}, order)
         kinds = re.findall(r"^    (\w+),$", (CRATES / "sf_query" / "src" / "evidence.rt").read_text(), re.MULTILINE)
         self.assertEqual({kind for kind, *_ in rows} | {"Boxes", "Clear", "Prepared"}, set(kinds))
+        for order in ("OF_ENTRIES_OF_FEW", "OF_ENTRIES_OF_MANY"):
+            self.assertEqual({*orders[order], *orders["OF_ENTRIES_PREPARED"]}, set(kinds), "relate asks every kind")
 
 
 if __name__ == "__main__":

@@ -145,6 +145,13 @@ def several(line: Places) -> str:
     return f"MULTILINESTRING (({', '.join(f'{x} {y}' for x, y in line)}))"
 
 
+def parted(line: Places) -> str:
+    """A MultiLineString of a line in four parts."""
+    size = len(line) // 4
+    parts = [", ".join(f"{x} {y}" for x, y in line[k * size : (k + 1) * size]) for k in range(4)]
+    return f"MULTILINESTRING ({', '.join(f'({part})' for part in parts)})"
+
+
 def closed(places: Places) -> list[tuple[int, int]]:
     """The corners of a ring, the first one again at the end."""
     return [*places, places[0]]
@@ -376,6 +383,33 @@ class Speeds(unittest.TestCase):
         for name, (lines, needed, last) in asked.items():
             with self.subTest(name):
                 self.check(Claim(["layer add a linestring", *known], lines * 5, needed, last))
+
+    def test_several_lines_that_cross_take_no_walk(self) -> None:
+        """Refuses walks over a million crossings of several lines: their ends tell where the boundary lies."""
+        known = [f"add a {parted(UPRIGHT)}"] * 20
+        lines = [f"relate a 1 {parted(ACROSS_IT)}", f"query a crosses {parted(ACROSS_IT)}"]
+        self.check(Claim(["layer add a multilinestring", *known], lines * 5, 12.0, b"20"))
+
+    def test_a_point_on_a_line_takes_no_walk(self) -> None:
+        """Refuses walks over a line that crosses itself a million times, for the matrix with a point on it or off it."""
+        known = [f"add a {text('LINESTRING', TANGLE)}"] * 20
+        asked = [f"relate a {k} POINT ({TANGLE[0][0]} {TANGLE[0][1]})" for k in range(1, 21)] * 10
+        self.check(Claim(["layer add a linestring", *known], [*asked, "layers"], 0.3, b"a linestring"))
+
+    def test_large_geometries_beside_one_another_take_no_walk(self) -> None:
+        """Refuses walks of two large geometries whose boxes meet and which share no point, or of which one lies in the other. So few
+        are asked about that nothing is prepared for all of them."""
+        known = [f"add a {ring(4_000, 0, 0, (9_000, 8_990))}"] * 7
+        beside, within = ring(40, 8_500, 8_500, (90, 80)), ring(40, 0, 0, (90, 80))
+        asked = {
+            "contact beside": [f"query a intersects {beside}"],
+            "touch beside": [f"query a touches {beside}"],
+            "matrix beside": [f"relate a {k} {beside}" for k in range(1, 8)],
+            "matrix within": [f"relate a {k} {within}" for k in range(1, 8)],
+        }
+        for name, lines in asked.items():
+            with self.subTest(name):
+                self.check(Claim(["layer add a polygon", *known], [*lines * 40, "layers"], 3.0, b"a polygon"))
 
     def test_runs_are_tried_with_those_that_they_reach(self) -> None:
         """Refuses a search for edges along one another that tries all pairs of thousands on one line."""

@@ -39,7 +39,7 @@ use Rattle.sf_relate.proofs.PlaceLaws.{end-on, odd-some-count, tight-of}
 use Rattle.sf_relate.proofs.SetLaws.{boundary_union, interior_union, second_has}
 use Rattle.sf_relate.proofs.SharedLaws.{one_cell}
 use Rattle.sf_relate.proofs.TestedPlaces.{tests_tell_places}
-use Rattle.sf_contact.specs.Absence.{AbsenceIsTold, begins_in, has_start_in, on_edges}
+use Rattle.sf_contact.specs.Absence.{AbsenceIsDecided, begins_in, has_start_in, on_edges}
 use Rattle.sf_contact.proofs.LowestLaws.{IsClearBelow, lowest, one_column}
 
 -- q is on one of these edges
@@ -312,8 +312,8 @@ begins a b q Areas Areas sa sb va vb apart i in_a in_b =
     by_edge (on_edges b q) (λ on_b. inr (edge-begins b a q va sa i apart on_b in_a))
     (λ off_b. areas-begin a b q va vb sa sb apart i off_a off_b in_a in_b))
 
-pub absence_is_told : AbsenceIsTold
-absence_is_told a b va vb apart none share =
+pub absence_is_decided : AbsenceIsDecided
+absence_is_decided a b va vb apart none share =
     let none_shared : ShareNoPoint (edges_of a) (edges_of b) = λ w i on_a on_b. apart (record { q = w; is_point = i; in_first = on_a; in_second = on_b }) in
     ⊎_elim
     (λ first. both_ways (has_start_in a b || has_start_in b a) none (or_left (has_start_in a b) (has_start_in b a) first))

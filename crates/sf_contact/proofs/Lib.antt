@@ -2,4 +2,5 @@ pub mod LowestLaws
 pub mod AbsenceLaws
 pub mod PairLaws
 pub mod StartLaws
+pub mod NearLaws
 pub mod DividedLaws

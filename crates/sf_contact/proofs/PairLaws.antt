@@ -1,16 +1,14 @@
 -- Edges of two geometries that share a point: one of either is one of several.
-use Rattle.std.proofs.Common.{◌≡◌, refl, ap, sym, ◌∙◌, arith, ℤ, pos, ◌*ℤ◌, Bool, true, false, ◌&&◌, ◌||◌, List, [], ◌∷◌, inl, inr, ⊎_elim}
-use Rattle.std.specs.Prelude.{if◌then◌else◌, int_le}
-use Rattle.std.specs.Int.{int_max, int_min}
+use Rattle.std.proofs.Common.{◌≡◌, refl, ap, sym, ◌∙◌, Bool, true, false, ◌||◌, List, [], ◌∷◌, inl, inr, ⊎_elim}
+use Rattle.std.specs.Prelude.{if◌then◌else◌}
 use Rattle.std.specs.List.{list_any}
-use Rattle.std.proofs.lemmas.Bool.{and_from, both_ways, false_from_ne_true, or_cases, or_left, or_right}
-use Rattle.std.proofs.lemmas.Int.{clamps, ints}
+use Rattle.std.proofs.lemmas.Bool.{both_ways, false_from_ne_true, or_cases, or_left, or_right}
 use Rattle.std.proofs.lemmas.List.Folds.{list_any-append}
-use Rattle.sf_grid.specs.Plane.{Coordinates, Point as PlanePoint, grid_point, x_of, y_of}
-use Rattle.sf_grid.specs.Edge.{Edge, IsOnEdge, edge_between, on_edge, within}
+use Rattle.sf_grid.specs.Plane.{Coordinates, Point as PlanePoint, grid_point}
+use Rattle.sf_grid.specs.Edge.{Edge, IsOnEdge, edge_between, on_edge}
 use Rattle.sf_grid.specs.Sharing.{IsSharing}
 use Rattle.sf_grid.specs.declared.meet.Meet.TheVariants.{Along, Apart, At}
-use Rattle.sf_grid.proofs.CallerLemmas.{same_point_is_equivalence, test_from_le}
+use Rattle.sf_grid.proofs.CallerLemmas.{same_point_is_equivalence}
 use Rattle.sf_geometry.specs.declared.extent.Extent.{Extent}
 use Rattle.sf_geometry.specs.declared.geometry.Geometry.{Geometry}
 use Rattle.sf_geometry.specs.declared.geometry.Geometry.TheVariants.{Point, LineString, Polygon, MultiPoint, MultiLineString, MultiPolygon}
@@ -19,20 +17,21 @@ use Rattle.sf_geometry.specs.Lists.{edges_of as edges_of_list, is_same}
 use Rattle.sf_geometry.specs.Parts.{edges_of, joined}
 use Rattle.sf_geometry.specs.PointSets.{on_line, on_polygon}
 use Rattle.sf_geometry.specs.Walks.{HasEdge}
+use Rattle.sf_edge_tree.specs.Meeting.{Meets, extent_of_edge}
 use Rattle.sf_geometry.proofs.ListLaws.{edges-step, same-is}
 use Rattle.sf_interiors.proofs.ParityLaws.{on-edges}
-use Rattle.sf_plane.specs.Boxes.{HasEnds}
 use Rattle.sf_plane.proofs.BoxLaws.{common_point_meets, edge_in_box}
 use Rattle.sf_rules.specs.Validity.{IsValid}
 use Rattle.sf_strands.proofs.EndLaws.{grid-IsPoint, start-on}
 use Rattle.sf_validity.specs.Beside.{box_of_extent}
 use Rattle.sf_relate.specs.Contact.{is_in}
+use Rattle.sf_relate.proofs.CommonBoxLaws.{has-ends}
 use Rattle.sf_relate.proofs.EnvelopeLaws.{lies_in_box, valid-closed}
 use Rattle.sf_relate.proofs.FirstLaws.{in-lines}
 use Rattle.sf_geometry.specs.PointSets.{in_boundary, in_interior, in_polygon}
 use Rattle.sf_contact.specs.EdgeContact.{Share, on_lines, on_polygons}
 use Rattle.sf_contact.specs.Absence.{on_edges}
-use Rattle.sf_contact.specs.Pairs.{MeetsNear, Tells, extent_between}
+use Rattle.sf_contact.specs.Pairs.{Tells}
 
 -- what the one set has the other has
 abbrev pub Leads : (PlanePoint → Bool) → (PlanePoint → Bool) → Type 0
@@ -155,31 +154,23 @@ edges-in (MultiLineString lines) q on = lines-in lines q (lines-edges lines q �
 edges-in (Polygon rings) q on = rings-in rings q (rings-edges rings q ∙ on)
 edges-in (MultiPolygon polygons) q on = polygons-in polygons q (polygons-edges polygons q ∙ on)
 
-has-ends : (a b : Coordinates) → HasEnds (box_of_extent (extent_between a b)) (edge_between a b)
-has-ends a b = (
-  and_from (within (int_min a.x b.x) (int_max a.x b.x) (x_of (grid_point a))) (within (int_min a.y b.y) (int_max a.y b.y) (y_of (grid_point a))) (first a.x b.x) (first a.y b.y),
-  and_from (within (int_min a.x b.x) (int_max a.x b.x) (x_of (grid_point b))) (within (int_min a.y b.y) (int_max a.y b.y) (y_of (grid_point b))) (second a.x b.x) (second a.y b.y),
-)
-  where
-    first : (s t : ℤ) → (int_le (int_min s t *ℤ pos 1) s && int_le s (int_max s t *ℤ pos 1)) ≡ true
-    first s t = and_from (int_le (int_min s t *ℤ pos 1) s) (int_le s (int_max s t *ℤ pos 1)) (test_from_le (int_min s t *ℤ pos 1) s (omega (arith, ints, clamps))) (test_from_le s (int_max s t *ℤ pos 1) (omega (arith, ints, clamps)))
-
-    second : (s t : ℤ) → (int_le (int_min s t *ℤ pos 1) t && int_le t (int_max s t *ℤ pos 1)) ≡ true
-    second s t = and_from (int_le (int_min s t *ℤ pos 1) t) (int_le t (int_max s t *ℤ pos 1)) (test_from_le (int_min s t *ℤ pos 1) t (omega (arith, ints, clamps))) (test_from_le t (int_max s t *ℤ pos 1) (omega (arith, ints, clamps)))
-
-pub near-other : (e : Edge) (other : Geometry) → IsValid other → Share (on_edge e) (on_edges other) → extents_meet (extent_between e.a e.b) (envelope_of other) ≡ true
+pub near-other : (e : Edge) (other : Geometry) → IsValid other → Share (on_edge e) (on_edges other) → extents_meet (extent_of_edge (e.a, e.b)) (envelope_of other) ≡ true
 near-other e other v s =
-    common_point_meets (box_of_extent (extent_between e.a e.b)) (box_of_extent (envelope_of other)) s.q s.is_point
-    (edge_in_box (box_of_extent (extent_between e.a e.b)) e s.q (has-ends e.a e.b) s.is_point s.in_first)
+    common_point_meets (box_of_extent (extent_of_edge (e.a, e.b))) (box_of_extent (envelope_of other)) s.q s.is_point
+    (edge_in_box (box_of_extent (extent_of_edge (e.a, e.b))) e s.q (has-ends (e.a, e.b)) s.is_point s.in_first)
     (lies_in_box other s.q (valid-closed other v) s.is_point (edges-in other s.q s.in_second))
 
-pub meets-by-one : (geometry other : Geometry) (extent : Extent) → HasEdge (MeetsNear other extent) (edges_of geometry) → Share (on_edges geometry) (on_edges other)
-meets-by-one geometry other extent has =
-    one-shares (on_edges other) (edges_of geometry) (has-mapped (MeetsNear other extent) (λ e. Share (on_edge e) (on_edges other)) (λ e meets. meets.1) (edges_of geometry) has)
+-- an edge that shares a point with one of the other geometry
+abbrev pub SharesWith : Geometry → Edge → Type 0
+SharesWith other e = Share (on_edge e) (on_edges other)
 
-pub met-by-one : (geometry other : Geometry) (extent : Extent) → IsValid other → extent ≡ envelope_of other → Share (on_edges geometry) (on_edges other) → HasEdge (MeetsNear other extent) (edges_of geometry)
+pub meets-by-one : (geometry other : Geometry) (extent : Extent) → HasEdge (Meets extent (SharesWith other)) (edges_of geometry) → Share (on_edges geometry) (on_edges other)
+meets-by-one geometry other extent has =
+    one-shares (on_edges other) (edges_of geometry) (has-mapped (Meets extent (SharesWith other)) (SharesWith other) (λ e meets. meets.1) (edges_of geometry) has)
+
+pub met-by-one : (geometry other : Geometry) (extent : Extent) → IsValid other → extent ≡ envelope_of other → Share (on_edges geometry) (on_edges other) → HasEdge (Meets extent (SharesWith other)) (edges_of geometry)
 met-by-one geometry other extent v is shared =
-    has-mapped (λ e. Share (on_edge e) (on_edges other)) (MeetsNear other extent) (λ e s. (ap (extents_meet (extent_between e.a e.b)) is ∙ near-other e other v s, s)) (edges_of geometry)
+    has-mapped (SharesWith other) (Meets extent (SharesWith other)) (λ e s. (ap (extents_meet (extent_of_edge (e.a, e.b))) is ∙ near-other e other v s, s)) (edges_of geometry)
     (shared-by-one (on_edges other) (edges_of geometry) shared)
 
 -- ---- what an answer tells

@@ -26,7 +26,7 @@ use Rattle.sf_relate.proofs.PlaceLaws.{tight-of}
 use Rattle.sf_relate.proofs.SharedLaws.{contact_is_shared}
 use Rattle.sf_contact.specs.Absence.{begins_in, has_start_in, on_edges}
 use Rattle.sf_contact.specs.Pairs.{Tells}
-use Rattle.sf_contact.proofs.AbsenceLaws.{absence_is_told}
+use Rattle.sf_contact.proofs.AbsenceLaws.{absence_is_decided}
 use Rattle.sf_contact.proofs.PairLaws.{edges-in}
 
 -- ---- lines and rings of valid geometries have edges
@@ -144,10 +144,22 @@ contact-by-start a b v any = shared a b (start-shared a b v any)
 pub contact-by-other : (a b : Geometry) → IsValid b → has_start_in b a ≡ true → IsContact true a b
 contact-by-other a b v any = shared a b (flipped b a (start-shared b a v any))
 
+pub contact-by-shared : (a b : Geometry) → Share (on_edges a) (on_edges b) → IsContact true a b
+contact-by-shared a b s = shared a b (of-edges a b (record { q = s.q; is_point = s.is_point; in_first = s.in_first; in_second = edges-in b s.q s.in_second }))
+
 pub contact-by-edges : (a b : Geometry) (told : Bool) → IsValid a → IsValid b → has_start_in a b ≡ false → has_start_in b a ≡ false → Tells told (on_edges a) (on_edges b) → IsContact told a b
-contact-by-edges a b true va vb first second s = shared a b (of-edges a b (record { q = s.q; is_point = s.is_point; in_first = s.in_first; in_second = edges-in b s.q s.in_second }))
+contact-by-edges a b true va vb first second s = contact-by-shared a b s
 contact-by-edges a b false va vb first second apart =
-    none a b (absence_is_told a b va vb apart (ap (λ t. t || has_start_in b a) first ∙ second))
+    none a b (absence_is_decided a b va vb apart (ap (λ t. t || has_start_in b a) first ∙ second))
+
+-- where no point is on an edge of each
+pub contact-by-any : (a b : Geometry) → IsValid a → IsValid b → ¬ (Share (on_edges a) (on_edges b)) → IsContact (has_start_in a b || has_start_in b a) a b
+contact-by-any a b va vb apart = by_starts (has_start_in a b) (has_start_in b a) refl refl
+  where
+    by_starts : (first second : Bool) → has_start_in a b ≡ first → has_start_in b a ≡ second → IsContact (first || second) a b
+    by_starts true second is_first is_second = contact-by-start a b va is_first
+    by_starts false true is_first is_second = contact-by-other a b vb is_second
+    by_starts false false is_first is_second = contact-by-edges a b false va vb is_first is_second apart
 
 pub any-joined : {X : Type 0} (test : X → Bool) (lists : List (List X)) → list_any (λ xs. list_any test xs) lists ≡ list_any test (joined lists)
 any-joined test [] = refl

@@ -10,7 +10,7 @@ use Rattle.sf_geometry.specs.Parts.{edges_of, lists_of}
 use Rattle.sf_rules.specs.Validity.{IsValid}
 use Rattle.sf_relate.specs.Contact.{is_in}
 use Rattle.sf_contact.specs.EdgeContact.{Share}
-use Rattle.sf_relate.specs.Told.{ShareNone}
+use Rattle.sf_relate.specs.ByKinds.{ShareNone}
 
 -- q is on an edge of a line or ring of the geometry; points have none
 abbrev pub on_edges : Geometry → PlanePoint → Bool
@@ -32,6 +32,6 @@ has_start_in (MultiPoint ps) b = list_any (λ p. is_in b (grid_point p)) ps
 has_start_in geometry b = list_any (begins_in b) (lists_of geometry)
 
 -- valid geometries share no point where their edges share none and no part of either begins in the other
-abbrev pub AbsenceIsTold : Type 0
-AbsenceIsTold =
+abbrev pub AbsenceIsDecided : Type 0
+AbsenceIsDecided =
     (a b : Geometry) → IsValid a → IsValid b → EdgesAreApart a b → IsFalse (has_start_in a b || has_start_in b a) → ShareNone a b

@@ -1,6 +1,6 @@
 -- Internal: who wants to trust the program need not read this file.
--- Areas that lie on the two sides of a line through an edge of one of them. Side by side as parcels are, they share no point of their interiors.
-use Rattle.std.specs.Prelude.{◌≡◌, ◌⊎◌, ℕ, Bool, true, false, ◌&&◌, ◌∷◌, IsTrue, nat_le, replicate}
+-- Areas that lie on the two sides of a line through an edge of one of them. Side by side as parcels are, they share points of their boundaries alone.
+use Rattle.std.specs.Prelude.{◌≡◌, ◌⊎◌, ℕ, Bool, true, false, ◌&&◌, [], ◌∷◌, IsTrue, nat_le}
 use Rattle.sf_grid.specs.Edge.{Edge}
 use Rattle.sf_grid.specs.Sharing.{turn_of}
 use Rattle.sf_grid.specs.declared.turn.Turn.{Turn}
@@ -10,9 +10,9 @@ use Rattle.sf_geometry.specs.declared.geometry.Geometry.TheVariants.{MultiPolygo
 use Rattle.sf_geometry.specs.Parts.{edges_of}
 use Rattle.sf_geometry.specs.Size.{point_count}
 use Rattle.sf_geometry.specs.Walks.{HasEdge}
-use Rattle.sf_known.specs.Known.{Holds, at_most}
+use Rattle.sf_known.specs.Known.{Holds}
 use Rattle.sf_known.specs.declared.known.Known.{Known}
-use Rattle.sf_plane.specs.declared.dim.Dim.TheVariants.{Nothing, Two}
+use Rattle.sf_plane.specs.declared.dim.Dim.TheVariants.{Nothing, One, Two}
 use Rattle.sf_relate.specs.Matrices.{matrix_of}
 use Rattle.sf_rules.specs.Validity.{IsValid}
 
@@ -49,9 +49,13 @@ AreDivided a b = HasEdge (Divides a b) (edges_of a) ⊎ HasEdge (Divides b a) (e
 abbrev pub AreBeside : Geometry → Geometry → Type 0
 AreBeside a b = IsTrue (is_small_area a) × (IsTrue (is_small_area b) × AreDivided a b)
 
--- the interiors have no point in common
+-- neither interior has a point of the other geometry, and each has a part of its interior and of its boundary outside of the other
 abbrev pub known_divided : Known
-known_divided = at_most (Nothing ∷ replicate 8 Two)
+known_divided = record {
+  least = Nothing ∷ Nothing ∷ Two ∷ Nothing ∷ Nothing ∷ One ∷ Two ∷ One ∷ Two ∷ [];
+  most = Nothing ∷ Nothing ∷ Two ∷ Nothing ∷ One ∷ One ∷ Two ∷ One ∷ Two ∷ [];
+  contact = false;
+}
 
 -- so it is of areas that are divided
 abbrev pub DividedAreasAreApart : Type 0

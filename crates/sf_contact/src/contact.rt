@@ -1,38 +1,66 @@
 //! Whether two geometries have contact, where that is known without a walk.
 
-ghost use Rattle.std.specs.Prelude.{◌≡◌, ◌||◌, IfSome, is_some, nat_le};
+ghost use Rattle.std.specs.Prelude.{◌≡◌, true, ◌||◌, IfSome, IsTrue, is_some, nat_le};
 ghost use Rattle.sf_geometry.specs.Size.{point_count};
 ghost use Rattle.sf_relate.specs.Matrices.{matrix_of};
 ghost use Rattle.sf_known.specs.Patterns.{has_contact};
+ghost use Rattle.sf_contact.specs.Absence.{has_start_in};
 ghost use Rattle.sf_contact.specs.Few.{few_points};
 
 use super::edges::edges_meet;
 use super::starts::has_start_in;
+use sf_crossing::find_sharing;
+use sf_edge_tree::Outcome;
+use sf_relate::common_extent;
 use sf_validity::Valid;
+use std::alloc::Global;
 
 /// How many points the smaller of two geometries has at most for its edges to be tried one by one: with
-/// more, a walk finds contact sooner.
+/// more, trees of edges, or a walk, find contact sooner.
 pub const FEW_POINTS: usize = 16;
 
-/// Whether two geometries have contact, as `intersects` asks and `disjoint` denies it; `None` where neither is so small,
-/// since then a walk finds it sooner. It takes no memory, and at most as many steps as the one has edges for each of
-/// the other.
-pub fn contact_between(a: &Valid, b: &Valid) -> Option<bool>
-    ensures told { IfSome result (λ answer. answer ≡ has_contact (matrix_of a.now b.now)) }
-    ensures few { is_some result ≡ (nat_le (point_count b.now) few_points || nat_le (point_count a.now) few_points) }
+/// Whether two geometries have contact, as `intersects` asks and `disjoint` denies it. Where one of the two is small each
+/// of its edges is tried with those of the other near it, which takes no memory. Where both have more points, trees of
+/// their edges find two that share a point; `None` where that search takes long, or finds no memory.
+pub fn contact_between(alloc: Global, a: &Valid, b: &Valid) -> Option<bool>
+    ensures holds { IfSome result (λ answer. answer ≡ has_contact (matrix_of a.now b.now)) }
+    ensures few { IsTrue (nat_le (point_count b.now) few_points || nat_le (point_count a.now) few_points) → is_some result ≡ true }
 {
     if b.geometry().point_count() <= FEW_POINTS {
         Some(have_contact(a, b))
     } else if a.geometry().point_count() <= FEW_POINTS {
         Some(have_contact(b, a))
     } else {
-        None
+        contact_of_many(alloc, a, b)
     }
 }
 
-/// Whether two geometries have contact, of which the second should be the smaller one: a part of either begins in the
-/// other, or an edge of each shares a point.
+/// Whether two geometries have contact, by trees of those of their edges that meet the box that both have in common: a
+/// point that both have lies in it.
+fn contact_of_many(alloc: Global, a: &Valid, b: &Valid) -> Option<bool>
+    ensures { IfSome result (λ answer. answer ≡ has_contact (matrix_of a.now b.now)) }
+{
+    let first = a.geometry();
+    let second = b.geometry();
+    let common = common_extent(&first.envelope(), &second.envelope());
+    match find_sharing(alloc, first, second, &common) {
+        Ok(Outcome::Found) => Some(true),
+        Ok(Outcome::Absent) => Some(has_any_start(a, b)),
+        Ok(Outcome::GaveUp) | Err(_) => None,
+    }
+}
+
+/// Whether a part of either geometry begins in the other.
+fn has_any_start(a: &Valid, b: &Valid) -> bool
+    ensures { result ≡ (has_start_in a.now b.now || has_start_in b.now a.now) }
+{
+    has_start_in(a, b) || has_start_in(b, a)
+}
+
+/// Whether two geometries have contact, of which the second is small: a part of either begins in the other, or an edge of
+/// each shares a point.
 fn have_contact(a: &Valid, b: &Valid) -> bool
+    requires { IsTrue (nat_le (point_count b.now) few_points) }
     ensures first { result ≡ has_contact (matrix_of a.now b.now) }
     ensures second { result ≡ has_contact (matrix_of b.now a.now) }
 {

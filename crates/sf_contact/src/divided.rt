@@ -10,7 +10,7 @@ use sf_geometry::{EdgeTest, Geometry};
 use sf_grid::edges::orientation;
 use sf_grid::{GridPoint, Turn};
 use sf_known::Known;
-use sf_plane::Dim;
+use sf_plane::Dim::{Nothing, One, Two};
 use sf_validity::Valid;
 
 /// How many points each of two areas has at most for a line between them to be looked for. Each edge of the one is tried with
@@ -18,7 +18,7 @@ use sf_validity::Valid;
 pub const SIDED_POINTS: usize = 64;
 
 /// What is known of two small areas that lie on the two sides of a line through an edge of one of them, as parcels do that
-/// share a border: their interiors have no point in common. None where there is no such line, and for other geometries.
+/// share a border: all entries but that of the two boundaries. None where there is no such line, and for other geometries.
 pub fn known_by_sides(a: &Valid, b: &Valid) -> Option<Known>
     ensures holds { IfSome result (λ known. Holds known (matrix_of a.now b.now)) }
     ensures beside { IsTrue (is_some result) ↔ AreBeside a.now b.now }
@@ -101,11 +101,14 @@ impl EdgeTest for BeginningOn {
     }
 }
 
-/// What is known of areas that are divided.
+/// What is known of areas that are divided: neither interior shares a point with the other's interior or boundary, and a part of each
+/// interior and boundary is outside of the other area. How the boundaries share points is left open, but that they share no area.
 fn known_divided() -> Known
     ensures { result ≡ known_divided }
 {
-    let mut most = [Dim::Two; 9];
-    most[0] = Dim::Nothing;
-    Known::at_most(most)
+    Known {
+        least: [Nothing, Nothing, Two, Nothing, Nothing, One, Two, One, Two],
+        most: [Nothing, Nothing, Two, Nothing, One, One, Two, One, Two],
+        contact: false,
+    }
 }

@@ -4,7 +4,8 @@ ghost use Rattle.sf_rules.specs.Validity.{IsValid};
 ghost use Rattle.sf_contact.specs.Absence.{on_edges};
 ghost use Rattle.sf_contact.specs.Pairs.{Tells};
 
-use sf_geometry::{EdgeTest, Extent, Geometry};
+use sf_edge_tree::has_edge_meeting;
+use sf_geometry::{EdgeTest, Geometry};
 use sf_grid::edges::meet;
 use sf_grid::{GridPoint, Meet};
 
@@ -14,25 +15,24 @@ pub(crate) fn edges_meet(geometry: &Geometry, other: &Geometry) -> bool
     requires { IsValid other.now }
     ensures { Tells result (on_edges geometry.now) (on_edges other.now) }
 {
-    let extent = other.envelope();
-    geometry.any_edge(&MeetingOther { other, extent })
+    has_edge_meeting(geometry, &other.envelope(), &MeetingOther { other })
 }
 
-/// Searches for edges that share a point with the geometry's, and whose boxes share one with a box.
+/// Searches for edges that share a point with one of the geometry's.
 #[derive(Drop)]
 struct MeetingOther<'a> {
     other: &'a Geometry,
-    extent: Extent,
 }
 
 impl EdgeTest for MeetingOther<'_> {
-    ghost use Rattle.sf_contact.specs.Pairs.{MeetsNear};
+    ghost use Rattle.sf_grid.specs.Edge.{on_edge};
+    ghost use Rattle.sf_contact.specs.Absence.{on_edges};
+    ghost use Rattle.sf_contact.specs.EdgeContact.{Share};
 
-    ghost Passes = { λ s edge. MeetsNear s.other.now s.extent edge };
+    ghost Passes = { λ s edge. Share (on_edge edge) (on_edges s.other.now) };
 
     fn test(&self, from: GridPoint, to: GridPoint) -> bool {
-        Extent::at(from).with(to).meets(self.extent)
-            && self.other.any_edge(&MeetingPair { from, to })
+        self.other.any_edge(&MeetingPair { from, to })
     }
 }
 

@@ -1,4 +1,5 @@
-//! Contact of two geometries, and that they have none, by edges and first points alone: no walk, and no memory.
+//! Contact of two geometries, and that they have none, by edges and first points alone, with no walk. Trees of edges take
+//! memory where both geometries are large; nothing else here does.
 #![tactic(auto)]
 
 mod contact;

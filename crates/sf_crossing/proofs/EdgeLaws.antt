@@ -14,7 +14,7 @@ use Rattle.sf_geometry.specs.Lists.{before_tight, edges_between, edges_from, edg
 use Rattle.sf_geometry.specs.Parts.{edges_of, joined}
 use Rattle.sf_edge_tree.specs.Boxes.{edge_at, extent_of_edge}
 use Rattle.sf_edge_tree.proofs.SearchLaws.{edge-read}
-use Rattle.sf_crossing.specs.Meeting.{ends_meeting, ends_of_edge}
+use Rattle.sf_edge_tree.specs.Meeting.{ends_meeting, ends_of_edge}
 
 -- ---- neighbours of a tight list differ
 -- no point of the list is the one after it

@@ -2,5 +2,5 @@ pub mod SideLaws
 pub mod EdgeLaws
 pub mod CountLaws
 pub mod AloneLaws
-pub mod MeetingLaws
 pub mod NearLaws
+pub mod SharingLaws

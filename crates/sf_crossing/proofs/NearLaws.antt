@@ -30,7 +30,7 @@ ranges-meet a b c d z n positive first second =
     between : int_min a b ≤ℤ int_max c d → int_min c d ≤ℤ int_max a b → int_max (int_min a b) (int_min c d) ≤ℤ int_min (int_max a b) (int_max c d)
     between h k = omega (arith, ints, clamps)
 
-boxes-meet : (e f : Coordinates × Coordinates) (q : Point) → IsPoint q → IsOnEdge (edge_of e) q → IsOnEdge (edge_of f) q → extents_meet (extent_of_edge e) (extent_of_edge f) ≡ true
+pub boxes-meet : (e f : Coordinates × Coordinates) (q : Point) → IsPoint q → IsOnEdge (edge_of e) q → IsOnEdge (edge_of f) q → extents_meet (extent_of_edge e) (extent_of_edge f) ≡ true
 boxes-meet e f q i on that =
     let k = lies (edge_of e) q on in
     let l = lies (edge_of f) q that in

@@ -1,2 +1,2 @@
 pub mod Crossing
-pub mod Meeting
+pub mod Sharing

@@ -3,20 +3,19 @@
 ghost use Rattle.std.specs.Prelude.{◌≡◌, ◌≢◌, map, IfOk, IsTrue};
 ghost use Rattle.std.specs.List.{AllByRecursion};
 ghost use Rattle.sf_geometry.specs.Parts.{edge_of, edges_of};
+ghost use Rattle.sf_edge_tree.specs.Meeting.{ends_meeting};
 ghost use Rattle.sf_crossing.specs.Crossing.{HaveCrossing};
-ghost use Rattle.sf_crossing.specs.Meeting.{ends_meeting};
 
-use crate::meeting::edges_meeting;
 use crate::pair::{Edge, cross_alone, do_cross};
-use sf_edge_tree::{Budget, EdgeTree, Outcome, PairTest};
+use sf_edge_tree::{Budget, EdgeTree, Outcome, PairTest, edges_meeting};
 use sf_geometry::{Extent, Geometry};
 use std::alloc::{AllocError, Global};
 
 /// Of how few edges each is tried with all of the other list: that takes less time than a tree of those.
 const FEW_EDGES: usize = 6;
 
-/// How many looks there are for each edge of two areas, on the average, before a search is given up.
-const LOOKS_FOR_EACH: usize = 16;
+/// How many looks there are for each edge of two geometries, on the average, before a search is given up.
+pub(crate) const LOOKS_FOR_EACH: usize = 16;
 
 /// How many there are where one of the two is of lines. Their edges may cover one another, so that no crossing is one of two edges
 /// alone, and to see that takes a pass over the edges each time.

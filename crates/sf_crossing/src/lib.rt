@@ -1,10 +1,10 @@
-//! Whether edges of two geometries cross at a point that no other edge of them has, found among edges near
-//! one another, with no sweep; and the edges of a geometry near a box.
+//! Whether edges of two geometries share a point, or cross at one that no other edge of them has, found among
+//! edges near one another, with no sweep.
 #![tactic(auto)]
 
 mod crossing;
-mod meeting;
 mod pair;
+mod sharing;
 
 pub use crossing::have_crossing;
-pub use meeting::edges_meeting;
+pub use sharing::find_sharing;

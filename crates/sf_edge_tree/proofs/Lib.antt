@@ -4,3 +4,4 @@ pub mod NodeLaws
 pub mod NearLaws
 pub mod PairLaws
 pub mod SearchLaws
+pub mod MeetingLaws

@@ -3,3 +3,4 @@ pub mod Searches
 pub mod Nodes
 pub mod Ranges
 pub mod Near
+pub mod Meeting

@@ -89,7 +89,7 @@ pub(crate) fn leaves_area(alloc: Global, area: &Valid, other: &Valid) -> Result<
 fn matrix_between(alloc: Global, area: &Valid, other: &Valid) -> Result<Matrix, AllocError>
     ensures { IfOk result (λ matrix. matrix.0 ≡ matrix_of area.now other.now) }
 {
-    match told_nearby(alloc, area, other) {
+    match decided_nearby(alloc, area, other) {
         Some(matrix) => Ok(matrix),
         None => relate(alloc, area, other),
     }
@@ -97,7 +97,7 @@ fn matrix_between(alloc: Global, area: &Valid, other: &Valid) -> Result<Matrix, 
 
 /// The matrix, where the edges of the area near the other geometry show it. Where the boxes of both share no point
 /// these are not looked for, since the boxes alone tell it.
-fn told_nearby(alloc: Global, area: &Valid, other: &Valid) -> Option<Matrix>
+fn decided_nearby(alloc: Global, area: &Valid, other: &Valid) -> Option<Matrix>
     ensures { IfSome result (λ matrix. matrix.0 ≡ matrix_of area.now other.now) }
 {
     let extent = area.geometry().envelope();

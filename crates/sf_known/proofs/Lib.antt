@@ -5,3 +5,4 @@ pub mod NineLaws
 pub mod KnownLaws
 pub mod ComputedPredicates
 pub mod TextLaws
+pub mod PlacedLaws

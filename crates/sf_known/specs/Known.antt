@@ -1,6 +1,6 @@
 -- Internal: who wants to trust the program need not read this file.
 -- What is known of a matrix: each entry lies between a least and a most, and the geometries may be known to share a point.
-use Rattle.std.specs.Prelude.{◌≡◌, ℕ, Bool, true, false, ◌&&◌, ◌||◌, not, List, [], ◌∷◌, Option, Some, None, IsTrue, IsFalse, option_map, is_some, map, replicate, slice_index_or, slice_set, zip, if◌then◌else◌}
+use Rattle.std.specs.Prelude.{◌≡◌, ℕ, Bool, true, false, ◌&&◌, ◌||◌, not, List, [], ◌∷◌, Option, Some, None, IsTrue, IsFalse, length, option_map, is_some, map, replicate, slice_index_or, slice_set, zip, if◌then◌else◌}
 use Rattle.std.specs.List.{list_all, list_any}
 use Rattle.sf_plane.specs.declared.dim.Dim.{Dim}
 use Rattle.sf_plane.specs.declared.dim.Dim.TheVariants as dims
@@ -82,6 +82,19 @@ known_by_both known other = record {
   most = least_each known.most other.most;
   contact = known.contact || other.contact;
 }
+
+-- neither interior has a point of the other geometry
+abbrev pub are_beside : List Dim → Bool
+are_beside (ii ∷ ib ∷ ie ∷ bi ∷ rest) = not (is_filled ii || (is_filled ib || is_filled bi))
+are_beside ds = false
+
+-- the boundaries share a point
+abbrev pub boundaries_meet : Known
+boundaries_meet = record nothing_known { least = slice_set no_entries 4 dims.Zero }
+
+-- where neither interior has a point of the other geometry, contact is one of the boundaries
+abbrev pub contact_placed : Known → Known
+contact_placed known = if known.contact && are_beside known.most then known_by_both known boundaries_meet else known
 
 -- ---- what it says of a goal
 -- the dimensions that a letter admits go from its lowest to its highest one
@@ -172,6 +185,10 @@ BothHold = (known other : Known) (m : List Dim) → Holds known m → Holds othe
 abbrev pub ContactAnswers : Type 0
 ContactAnswers =
     (known : Known) (letters : List Letter) → IsTrue known.contact → IsFalse (allows_contact letters) → answer_of known (Match letters) ≡ Some false
+
+-- where contact can be one of the boundaries alone, it is, and nothing else that is known is lost
+abbrev pub ContactIsPlaced : Type 0
+ContactIsPlaced = (known : Known) (m : List Dim) → length m ≡ 9 → Holds known m → Holds (contact_placed known) m
 
 -- where each entry has its least and no more, whatever is asked is known
 abbrev pub SettledIsEnough : Type 0

@@ -4,7 +4,7 @@ ghost use Rattle.std.specs.Prelude.{◌≡◌, ◌<◌, ◌&&◌, ◌||◌, Some
 ghost use Rattle.sf_plane.specs.declared.dim.Dim.TheVariants.{Nothing};
 ghost use Rattle.sf_known.specs.Entries.{exceeds};
 ghost use Rattle.sf_known.specs.Transposed.{known_transposed};
-ghost use Rattle.sf_known.specs.Known.{allows_contact, answer_of, at_most, but_boundaries, exactly, have_most, greatest_each, is_enough, is_matched, is_missed, known_by_both, known_with, least_each, nothing_known, one_answer, pattern_answer, settled};
+ghost use Rattle.sf_known.specs.Known.{allows_contact, answer_of, are_beside, at_most, boundaries_meet, but_boundaries, contact_placed, exactly, have_most, greatest_each, is_enough, is_matched, is_missed, known_by_both, known_with, least_each, nothing_known, one_answer, pattern_answer, settled};
 
 use super::aim::Aim;
 use super::entries::{exceeds, greater, lesser};
@@ -63,6 +63,18 @@ impl Known {
             least: greatest_each(&self.least, &other.least),
             most: least_each(&self.most, &other.most),
             contact: self.contact || other.contact,
+        }
+    }
+
+    /// The same, where contact can be one of the boundaries alone, with that: neither interior has a point of the other
+    /// geometry then.
+    pub fn with_contact_placed(&self) -> Known
+        ensures { result ≡ contact_placed self.now }
+    {
+        if self.contact && are_beside(&self.most) {
+            self.and(&boundaries_meet())
+        } else {
+            *self
         }
     }
 
@@ -170,6 +182,26 @@ impl Known {
         (self.contact && !pattern.allows_contact())
             || pattern.is_exceeded(&self.least)
             || pattern.is_fallen_short(&self.most)
+    }
+}
+
+/// Whether neither interior can have a point of the other geometry.
+fn are_beside(most: &[Dim; 9]) -> bool
+    ensures { result ≡ are_beside most.now }
+{
+    let [ii, ib, _, bi, ..] = *most;
+    (ii, ib, bi) == (Dim::Nothing, Dim::Nothing, Dim::Nothing)
+}
+
+/// That the boundaries share a point.
+fn boundaries_meet() -> Known
+    ensures { result ≡ boundaries_meet }
+{
+    let mut least = [Dim::Nothing; 9];
+    least[4] = Dim::Zero;
+    Known {
+        least,
+        ..Known::nothing()
     }
 }
 

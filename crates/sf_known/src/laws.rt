@@ -1,6 +1,6 @@
 //! Laws of patterns, predicates and what is known of a matrix, each the contract of a function that does nothing.
 
-ghost use Rattle.sf_known.specs.Known.{AnswersAreTrue, AnswersWhereAllAgree, BothHold, ContactAnswers, SettledIsEnough};
+ghost use Rattle.sf_known.specs.Known.{AnswersAreTrue, AnswersWhereAllAgree, BothHold, ContactAnswers, ContactIsPlaced, SettledIsEnough};
 ghost use Rattle.sf_known.specs.Patterns.{PatternsAreOfTheirTexts, PatternsNeedContact};
 ghost use Rattle.sf_known.specs.Predicates.{PredicatesNeedContact};
 
@@ -38,6 +38,11 @@ pub fn both_hold()
 /// Where contact is known, no pattern is matched that allows none.
 pub fn contact_answers()
     ensures { ContactAnswers }
+{}
+
+/// Where contact can be one of the boundaries alone, it is.
+pub fn contact_is_placed()
+    ensures { ContactIsPlaced }
 {}
 
 /// Where each entry has its least and no more, whatever is asked is known.

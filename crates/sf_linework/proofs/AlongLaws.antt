@@ -98,7 +98,7 @@ no-length set true d h = d.1 h
 no-length set false d h = d (point_in_segment set h)
 
 -- their ends have no length
-ends-short : (a : Geometry) → IsValid a → shape_of a ≡ Lines → HasSegment (in_boundary a) → ⊥
+pub ends-short : (a : Geometry) → IsValid a → shape_of a ≡ Lines → HasSegment (in_boundary a) → ⊥
 ends-short (LineString ps) v s = no-length (in_boundary (LineString ps)) (has_end (LineString ps)) (boundary_has_dimension (LineString ps) v)
 ends-short (MultiLineString lines) v s = no-length (in_boundary (MultiLineString lines)) (has_end (MultiLineString lines)) (boundary_has_dimension (MultiLineString lines) v)
 ends-short (Point p) v s = absurd cc
@@ -162,13 +162,13 @@ segment-along a b s t first second h =
     }
 
 -- ---- the entry of such sets
-long-entry : (set : PointSet) (d : Dim) → HasDimension set d → HasSegment set → IsAtMost dims.One d
+pub long-entry : (set : PointSet) (d : Dim) → HasDimension set d → HasSegment set → IsAtMost dims.One d
 long-entry set dims.Nothing h k = absurd (h (point_in_segment set k))
 long-entry set dims.Zero h k = absurd (h.1 k)
 long-entry set dims.One h k = refl
 long-entry set dims.Two h k = refl
 
-short-entry : (set : PointSet) (d : Dim) → HasDimension set d → ¬ (HasSegment set) → IsAtMost d dims.Zero
+pub short-entry : (set : PointSet) (d : Dim) → HasDimension set d → ¬ (HasSegment set) → IsAtMost d dims.Zero
 short-entry set dims.Nothing h n = refl
 short-entry set dims.Zero h n = refl
 short-entry set dims.One h n = absurd (n h.0)
@@ -188,14 +188,14 @@ told a b s t d along first second h r =
     }
 
 -- ---- the matrix
-no-share : (m : List Dim) → IsTrue false → IsTrue (has_contact m)
+pub no-share : (m : List Dim) → IsTrue false → IsTrue (has_contact m)
 no-share m h = absurd (both_ways false refl h)
 
 -- of entries of which nothing is known
 any-least : (ii ib ie bi bb be ei eb ee : Dim) → AreAtMost no_entries (ii ∷ ib ∷ ie ∷ bi ∷ bb ∷ be ∷ ei ∷ eb ∷ ee ∷ [])
 any-least ii ib ie bi bb be ei eb ee = (refl, (refl, (refl, (refl, (refl, (refl, (refl, (refl, (refl, refl)))))))))
 
-any-most : (ii ib ie bi bb be ei eb ee : Dim) → AreAtMost (ii ∷ ib ∷ ie ∷ bi ∷ bb ∷ be ∷ ei ∷ eb ∷ ee ∷ []) (replicate 9 dims.Two)
+pub any-most : (ii ib ie bi bb be ei eb ee : Dim) → AreAtMost (ii ∷ ib ∷ ie ∷ bi ∷ bb ∷ be ∷ ei ∷ eb ∷ ee ∷ []) (replicate 9 dims.Two)
 any-most ii ib ie bi bb be ei eb ee =
     (at-most-two ii, (at-most-two ib, (at-most-two ie, (at-most-two bi, (at-most-two bb, (at-most-two be, (at-most-two ei, (at-most-two eb, (at-most-two ee, refl)))))))))
 

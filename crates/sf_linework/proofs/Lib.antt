@@ -1,3 +1,4 @@
 pub mod EndLaws
 pub mod AlongLaws
 pub mod TurnedLaws
+pub mod BesideLaws

@@ -3,7 +3,7 @@
 ghost use Rattle.sf_linework.specs.Alongside.{AlongsideIsKnown};
 ghost use Rattle.sf_linework.specs.Ends.{EndsAreKnown};
 
-/// What the places of a line's two ends show of its matrix.
+/// What the ends of valid lines show of a matrix: the row of their boundary.
 pub fn ends_are_known()
     ensures { EndsAreKnown }
 {}

@@ -1,9 +1,11 @@
-//! What the ends of lines, and edges that run along one another, show of a matrix, without a walk.
+//! What the ends of lines, edges that run along one another, and points beside lines show of a matrix, without a walk.
 #![tactic(auto)]
 
 mod alongside;
+mod beside;
 mod ends;
 pub mod laws;
 
 pub use alongside::known_alongside;
+pub use beside::known_beside_points;
 pub use ends::known_by_ends;

@@ -12,7 +12,7 @@ use Rattle.sf_geometry.specs.declared.extent.Extent.{Extent}
 use Rattle.sf_geometry.specs.Envelope.{extent_at, extents_meet}
 use Rattle.sf_geometry.specs.Parts.{edge_of}
 use Rattle.sf_relate.specs.Contact.{in_extent}
-use Rattle.sf_crossing.specs.Meeting.{extent_of_edge}
+use Rattle.sf_edge_tree.specs.Meeting.{extent_of_edge}
 use Rattle.sf_prepared.specs.Boxes.{AreOnGrid}
 use Rattle.sf_prepared.specs.Nearby.{columns_over}
 

@@ -20,7 +20,7 @@ use Rattle.sf_plane.proofs.BoxLaws.{common_point_meets, edge_in_box}
 use Rattle.sf_polygons.proofs.SizeLaws.{few-edges}
 use Rattle.sf_validity.specs.Beside.{box_of_extent}
 use Rattle.sf_relate.proofs.CommonBoxLaws.{has-ends}
-use Rattle.sf_crossing.specs.Meeting.{ends_of_edge, extent_of_edge}
+use Rattle.sf_edge_tree.specs.Meeting.{ends_of_edge, extent_of_edge}
 use Rattle.sf_prepared.specs.Boxes.{AreEdgesOf, AreOnGrid, is_box_met, pairs_of}
 use Rattle.sf_prepared.specs.Places.{AreClear}
 

@@ -40,7 +40,7 @@ use Rattle.sf_relate.specs.Nearby.{ReachesBeyond, TellPlaces}
 use Rattle.sf_relate.specs.Places.{IsPlaceOf, shape_of}
 use Rattle.sf_relate.proofs.TestedPlaces.{tests_tell_places}
 use Rattle.sf_relate.proofs.ToldLaws.{exterior-from}
-use Rattle.sf_crossing.specs.Meeting.{extent_of_edge}
+use Rattle.sf_edge_tree.specs.Meeting.{extent_of_edge}
 use Rattle.sf_prepared.specs.Boxes.{AreEdgesOf, AreOnGrid, pairs_of}
 use Rattle.sf_prepared.specs.Nearby.{LeavingReachesBeyond, NearbyTellsPlaces, columns_over, leaves, nearby}
 use Rattle.sf_prepared.proofs.AboveLaws.{above-meets, boxed-from, boxed-sides, own-box}

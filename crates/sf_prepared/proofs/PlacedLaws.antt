@@ -32,7 +32,7 @@ use Rattle.sf_relate.specs.declared.shape.Shape.TheVariants.{Areas, Lines}
 use Rattle.sf_relate.specs.Locating.{area_place, edges_place, place_by_tests}
 use Rattle.sf_relate.specs.Matrices.{both}
 use Rattle.sf_relate.specs.Places.{IsPlaceOf, is_place, shape_of}
-use Rattle.sf_relate.specs.Told.{IsWithin, ShareNone}
+use Rattle.sf_relate.specs.ByKinds.{IsWithin, ShareNone}
 use Rattle.sf_relate.proofs.EnvelopeLaws.{lies_in_box, valid-closed}
 use Rattle.sf_polygons.proofs.TestLaws.{any-follows}
 use Rattle.sf_relate.proofs.PlaceLaws.{end-on, odd-some-count}

@@ -7,7 +7,7 @@ use Rattle.sf_geometry.specs.declared.extent.Extent.{Extent}
 use Rattle.sf_geometry.specs.declared.geometry.Geometry.{Geometry}
 use Rattle.sf_geometry.specs.Envelope.{extents_meet}
 use Rattle.sf_geometry.specs.Parts.{edge_of, edges_of}
-use Rattle.sf_crossing.specs.Meeting.{ends_of_edge, extent_of_edge}
+use Rattle.sf_edge_tree.specs.Meeting.{ends_of_edge, extent_of_edge}
 
 -- the pairs are the ends of the geometry's edges, in order
 abbrev pub AreEdgesOf : Geometry → List (Coordinates × Coordinates) → Type 0

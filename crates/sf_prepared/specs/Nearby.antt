@@ -12,7 +12,7 @@ use Rattle.sf_relate.specs.Contact.{in_extent}
 use Rattle.sf_relate.specs.Nearby.{ReachesBeyond, TellPlaces}
 use Rattle.sf_relate.specs.Places.{shape_of}
 use Rattle.sf_relate.specs.declared.shape.Shape.TheVariants.{Areas}
-use Rattle.sf_crossing.specs.Meeting.{extent_of_edge}
+use Rattle.sf_edge_tree.specs.Meeting.{extent_of_edge}
 use Rattle.sf_prepared.specs.Boxes.{AreEdgesOf, AreOnGrid}
 
 -- the box of these columns, as far up as a number of 32 bits goes

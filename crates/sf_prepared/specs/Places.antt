@@ -15,7 +15,7 @@ use Rattle.sf_relate.specs.Contact.{is_in}
 use Rattle.sf_relate.specs.declared.place.Place.TheVariants.{Exterior, Interior}
 use Rattle.sf_relate.specs.declared.shape.Shape.TheVariants.{Areas, Lines}
 use Rattle.sf_relate.specs.Places.{IsPlaceOf, shape_of}
-use Rattle.sf_relate.specs.Told.{IsWithin, ShareNone}
+use Rattle.sf_relate.specs.ByKinds.{IsWithin, ShareNone}
 
 -- no edge has a point of the box
 abbrev pub AreClear : Extent → List Line → Type 0

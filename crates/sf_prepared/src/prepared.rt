@@ -61,7 +61,7 @@ impl Prepared {
     /// where the boxes of all edges are off the box of the geometry, and there are edges.
     pub fn matrix_clear(&self, alloc: Global, geometry: &Valid, given: &Valid) -> Option<Matrix>
         requires { AreEdgesOf given.now self.now }
-        ensures told { IfSome result (λ matrix. matrix.0 ≡ matrix_of geometry.now given.now) }
+        ensures holds { IfSome result (λ matrix. matrix.0 ≡ matrix_of geometry.now given.now) }
         ensures answers { IsFalse (is_box_met (envelope_of geometry.now) self.now) → shape_of given.now ≢ Points →
             is_some result ≡ true }
     {
@@ -69,7 +69,7 @@ impl Prepared {
         if !self.is_clear(alloc, &extent) {
             return None;
         }
-        self.told_by_place(alloc, geometry, given, extent)
+        self.matrix_by_place(alloc, geometry, given, extent)
     }
 
     /// Whether no edge has a point of the box, as boxes show, or else the edges whose boxes are in the way.
@@ -100,7 +100,7 @@ impl Prepared {
 
     /// The matrix of a geometry with the one that was prepared, of which no edge has a point of the other
     /// one's box, `extent`, where that one has edges.
-    fn told_by_place(
+    fn matrix_by_place(
         &self,
         alloc: Global,
         geometry: &Valid,
@@ -111,7 +111,7 @@ impl Prepared {
         requires valid { IsValid geometry.now }
         requires extent { extent ≡ envelope_of geometry.now }
         requires clear { AreClear extent (map edge_of self.now) }
-        ensures told { IfSome result (λ matrix. matrix.0 ≡ matrix_of geometry.now given.now) }
+        ensures holds { IfSome result (λ matrix. matrix.0 ≡ matrix_of geometry.now given.now) }
         ensures answers { shape_of given.now ≢ Points → is_some result ≡ true }
     {
         match given.geometry() {
@@ -120,14 +120,14 @@ impl Prepared {
                 Some(apart_from_lines(geometry, given, extent))
             }
             Geometry::Polygon(_) | Geometry::MultiPolygon(_) => {
-                self.told_by_point(alloc, geometry, given, extent)
+                self.matrix_by_point(alloc, geometry, given, extent)
             }
         }
     }
 
     /// The matrix of a geometry with an area of which no edge has a point of its box, `extent`: the place of
     /// its first point is that of the whole box.
-    fn told_by_point(
+    fn matrix_by_point(
         &self,
         alloc: Global,
         geometry: &Valid,
@@ -140,7 +140,7 @@ impl Prepared {
         requires extent { extent ≡ envelope_of geometry.now }
         requires clear { AreClear extent (edges_of given.now) }
         requires area { shape_of given.now ≡ Areas }
-        ensures told { IfSome result (λ matrix. matrix.0 ≡ matrix_of geometry.now given.now) }
+        ensures holds { IfSome result (λ matrix. matrix.0 ≡ matrix_of geometry.now given.now) }
         ensures answers { is_some result ≡ true }
     {
         let Some(first) = geometry.geometry().vertex(0, 0, 0) else {

@@ -6,7 +6,7 @@ ghost use Rattle.sf_relate.specs.Matrices.{matrix_of};
 ghost use Rattle.sf_relate.specs.Places.{shape_of};
 
 use crate::nearby::{columns_over, walked_nearby};
-use sf_crossing::edges_meeting;
+use sf_edge_tree::edges_meeting;
 use sf_geometry::Geometry;
 use sf_relate::Matrix;
 use sf_validity::Valid;

@@ -10,8 +10,10 @@ use Rattle.sf_plane.specs.declared.dim.Dim.TheVariants.{Nothing, Two, Zero}
 use Rattle.sf_rules.specs.Validity.{IsValid}
 use Rattle.sf_known.specs.declared.known.Known.{Known}
 use Rattle.sf_known.specs.declared.matrix.Matrix.{Matrix}
+use Rattle.sf_known.proofs.KnownLaws.{both_hold}
 use Rattle.sf_known.proofs.OrderLaws.{same-at-most}
-use Rattle.sf_known.specs.Known.{AreAtMost, Holds, exactly, nothing_known}
+use Rattle.sf_known.proofs.PlacedLaws.{contact_is_placed}
+use Rattle.sf_known.specs.Known.{AreAtMost, Holds, contact_placed, exactly, known_by_both, nothing_known}
 use Rattle.sf_known.specs.Patterns.{has_contact}
 use Rattle.sf_relate.specs.declared.place.Place.{Place}
 use Rattle.sf_relate.specs.declared.place.Place.TheVariants.{Boundary, Exterior, Interior}
@@ -120,3 +122,12 @@ told-disjoint (Some has) answer ask a g b is e same h =
     (ap not (h ∙ ap (λ (x : Geometry). has_contact (matrix_of a x)) same)
     ∙ sym ((contact_is_shared a b).disjoint (dim_of_geometry a) (dim_of_geometry b))
     ∙ ap (λ (x : Ask). is_asked x a b) (sym e))
+
+-- what is known and what is shown, put together
+pub together : (known shown both placed : Known) (a b : Geometry) → both ≡ known_by_both known shown → placed ≡ contact_placed both → Holds known (matrix_of a b) → Holds shown (matrix_of a b) → Holds placed (matrix_of a b)
+together known shown both placed a b is_both is_placed h k =
+    subst (λ (k : Known). Holds k (matrix_of a b)) (sym is_placed)
+    (contact_is_placed both (matrix_of a b) refl (subst (λ (k : Known). Holds k (matrix_of a b)) (sym is_both) (both_hold known shown (matrix_of a b) h k)))
+
+pub both-known : (known shown both : Known) (m : List Dim) → both ≡ known_by_both known shown → Holds known m → Holds shown m → Holds both m
+both-known known shown both m is h k = subst (λ (k : Known). Holds k m) (sym is) (both_hold known shown m h k)

@@ -18,7 +18,7 @@ use Rattle.sf_layers.specs.WellFormed.{IsFeature, IsLayer, IsWellFormed}
 use Rattle.sf_known.specs.declared.matrix.Matrix.{Matrix}
 use Rattle.sf_relate.specs.Matrices.{IsMatrix, matrix_of}
 use Rattle.sf_known.specs.Patterns.{has_contact}
-use Rattle.sf_relate.specs.Told.{ShareNone}
+use Rattle.sf_relate.specs.ByKinds.{ShareNone}
 use Rattle.sf_known.proofs.ContactLaws.{patterns_need_contact, predicates_need_contact}
 use Rattle.sf_relate.proofs.EnvelopeLaws.{apart_has_no_contact, valid-closed}
 use Rattle.sf_relate.proofs.SetLaws.{matrices_are_over_the_plane}

@@ -1,6 +1,6 @@
 //! What shows something of the matrix of a feature's geometry with the given one, without a walk over both.
 
-ghost use Rattle.std.specs.Prelude.{◌≡◌, ◌||◌, IfSome, is_some, nat_le, option_map, true};
+ghost use Rattle.std.specs.Prelude.{◌≡◌, ◌||◌, IfSome, IsTrue, is_some, nat_le, option_map, true};
 ghost use Rattle.std.specs.List.{AllByRecursion};
 ghost use Rattle.sf_grid.specs.Plane.{Coordinates};
 ghost use Rattle.sf_geometry.specs.declared.geometry.Geometry.TheVariants.{Point};
@@ -16,7 +16,7 @@ use super::order::MANY_POINTS;
 use sf_contact::{FEW_POINTS, contact_between, known_by_sides};
 use sf_crossed::known_by_crossed_lines;
 use sf_geometry::Geometry;
-use sf_linework::{known_alongside, known_by_ends};
+use sf_linework::{known_alongside, known_beside_points, known_by_ends};
 use sf_prepared::{matrix_nearby, matrix_with_area};
 use sf_relate::{
     Dim, Known, Matrix, known_by_crossing, known_of_place, locate, matrix_alike, matrix_apart,
@@ -38,28 +38,29 @@ pub(crate) enum Evidence {
     Boxes,
     /// The place of a Point in the given geometry, or of a given Point in the feature's.
     Place,
-    /// Edges of a small geometry, one by one: whether they meet the other's.
-    Edges,
     /// First points that lie in the other geometry.
     FirstPoints,
+    /// Edges that share a point, or that none do: those of a small geometry one by one, and of two large ones those near one another.
+    Edges,
     /// A line through an edge of one of two small areas, which has them on its two sides.
     Sides,
     /// Edges of lines and areas that cross.
     Crossing,
     /// Those edges of a large area that are near a small geometry: of the feature's, or of the given one.
     Nearby,
-    /// The places of a line's ends in the other geometry.
+    /// The places of lines' ends in the other geometry, and what points leave of lines.
     Ends,
     /// Edges of a line that run along the other geometry's, or that none does.
     Along,
 }
 
 impl Evidence {
-    /// Whether it is worth a look, by what is known. What lines show beside is of use once they are known to cross: a part of the
-    /// first is then outside of the second.
+    /// Whether it is worth a look, by what is known. What lines show beside is of use once something of an entry is known. What shows
+    /// no more than contact is of none where that is known.
     pub(crate) fn pays(self, known: &Known) -> bool {
         match self {
-            Evidence::Ends | Evidence::Along => !matches!(known.least[2], Dim::Nothing),
+            Evidence::Ends | Evidence::Along => has_entry(known),
+            Evidence::FirstPoints | Evidence::Edges => !shows_contact(known),
             _ => true,
         }
     }
@@ -74,19 +75,30 @@ impl Evidence {
             Evidence::Alike => exactly(matrix_alike(geometry, given.valid)),
             Evidence::Boxes => exactly(matrix_by_boxes(geometry, given.valid, given.extent)),
             Evidence::Place => by_place(geometry, given.valid),
-            Evidence::Edges => by_edges(geometry, given.valid),
             Evidence::FirstPoints => by_first_points(geometry, given.valid),
+            Evidence::Edges => by_edges(alloc, geometry, given.valid),
             Evidence::Sides => known_by_sides(geometry, given.valid),
             Evidence::Crossing => by_crossing(alloc, geometry, given.valid),
             Evidence::Nearby => exactly(matrix_by_edges_nearby(alloc, geometry, given.valid)),
-            Evidence::Ends => known_by_ends(geometry, given.valid),
+            Evidence::Ends => by_ends(geometry, given.valid),
             Evidence::Along => known_alongside(alloc, geometry, given.valid),
         }
     }
 }
 
+/// Whether an entry is known to have something.
+fn has_entry(known: &Known) -> bool {
+    known.least.iter().any(|entry| *entry != Dim::Nothing)
+}
+
+/// Whether the geometries are known to share a point.
+fn shows_contact(known: &Known) -> bool {
+    let [ii, ib, _, bi, bb, ..] = known.least;
+    known.contact || [ii, ib, bi, bb].iter().any(|entry| *entry != Dim::Nothing)
+}
+
 /// What each kind of evidence shows of the matrix of a feature's geometry with the given one, one beside the other: clear of what
-/// was prepared, near it, alike, place, edges, first points, sides, crossing, nearby, ends, along.
+/// was prepared, near it, alike, place, first points, edges, sides, crossing, nearby, ends, along.
 pub fn shown_by_each(alloc: Global, geometry: &Valid, given: &Valid) -> [Option<Known>; 11]
     ensures { AllByRecursion (λ shown. IfSome shown (λ known. Holds known (matrix_of geometry.now given.now))) result }
 {
@@ -96,8 +108,8 @@ pub fn shown_by_each(alloc: Global, geometry: &Valid, given: &Valid) -> [Option<
         Evidence::Prepared.shown(alloc, geometry, &given),
         Evidence::Alike.shown(alloc, geometry, &given),
         Evidence::Place.shown(alloc, geometry, &given),
-        Evidence::Edges.shown(alloc, geometry, &given),
         Evidence::FirstPoints.shown(alloc, geometry, &given),
+        Evidence::Edges.shown(alloc, geometry, &given),
         Evidence::Sides.shown(alloc, geometry, &given),
         Evidence::Crossing.shown(alloc, geometry, &given),
         Evidence::Nearby.shown(alloc, geometry, &given),
@@ -158,22 +170,22 @@ fn by_given_place(geometry: &Valid, given: &Valid) -> Option<Known>
 }
 
 /// Edges that meet show contact, and the matrix where none do. Of a Point its place shows more.
-fn by_edges(geometry: &Valid, given: &Valid) -> Option<Known>
+fn by_edges(alloc: Global, geometry: &Valid, given: &Valid) -> Option<Known>
     ensures { IfSome result (λ known. Holds known (matrix_of geometry.now given.now)) }
 {
     match geometry.geometry() {
         Geometry::Point(_) => None,
-        _ => by_contact(geometry, given),
+        _ => by_contact(alloc, geometry, given),
     }
 }
 
-/// Whether two geometries have contact shows at least that, where one of them is small.
-fn by_contact(geometry: &Valid, given: &Valid) -> Option<Known>
+/// Whether two geometries have contact shows at least that.
+fn by_contact(alloc: Global, geometry: &Valid, given: &Valid) -> Option<Known>
     ensures holds { IfSome result (λ known. Holds known (matrix_of geometry.now given.now)) }
-    ensures answers { is_some result
-        ≡ (nat_le (point_count given.now) few_points || nat_le (point_count geometry.now) few_points) }
+    ensures few { IsTrue (nat_le (point_count given.now) few_points || nat_le (point_count geometry.now) few_points)
+        → is_some result ≡ true }
 {
-    let Some(has_contact) = contact_between(geometry, given) else {
+    let Some(has_contact) = contact_between(alloc, geometry, given) else {
         return None;
     };
     if has_contact {
@@ -189,6 +201,17 @@ fn by_first_points(geometry: &Valid, given: &Valid) -> Option<Known>
         ≡ (has_first_point_in geometry.now given.now || has_first_point_in given.now geometry.now) }
 {
     shares_first_point(geometry, given).then_some(sharing())
+}
+
+/// The ends of lines show what their boundary has, and a line has more than points.
+fn by_ends(geometry: &Valid, given: &Valid) -> Option<Known>
+    ensures { IfSome result (λ known. Holds known (matrix_of geometry.now given.now)) }
+{
+    let ends = known_by_ends(geometry, given)?;
+    match known_beside_points(geometry, given) {
+        Some(beside) => Some(ends.and(&beside)),
+        None => Some(ends),
+    }
 }
 
 /// That the geometries share a point.

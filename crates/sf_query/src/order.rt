@@ -16,31 +16,24 @@ pub(crate) const MANY_FEATURES: usize = 8;
 pub(crate) const MANY_FEATURES_OF_FEW_POINTS: usize = 32;
 
 /// How many points a geometry has at least for those of its edges to be picked that are near a small one: with fewer, a walk over
-/// all of them is as quick. And where a feature has so many, a walk over it and what was prepared takes more than to look for
-/// edges that cross.
+/// all of them is as quick. Where a feature has so many, a walk over it and what was prepared takes more than to look for
+/// edges that cross. And where both have so many, to prepare one of them pays for the other alone.
 pub(crate) const MANY_POINTS: usize = 32;
 
-/// Where contact is asked for by name, the first edges that meet show it, and a first point shows it where both are large. Edges
-/// that cross come after, since they have to be searched in all of both.
-static OF_CONTACT: [Evidence; 5] = [Place, Edges, FirstPoints, Crossing, Nearby];
+/// Where contact is asked for by name, a first point shows it soonest where both geometries are large, and edges that meet show it, or
+/// that there is none, of small ones and of large ones.
+static OF_CONTACT: [Evidence; 3] = [Place, FirstPoints, Edges];
 
 /// The same where the given geometry was prepared, and a feature has few points: what was prepared shows most.
-static OF_CONTACT_WITH_FEW: [Evidence; 7] = [
-    Clear,
-    Prepared,
-    Place,
-    Edges,
-    FirstPoints,
-    Crossing,
-    Nearby,
-];
+static OF_CONTACT_WITH_FEW: [Evidence; 5] = [Clear, Prepared, Place, Edges, FirstPoints];
 
 /// Where the feature has many points, a walk over those nearby comes last: it takes all of the feature's edges.
-static OF_CONTACT_WITH_MANY: [Evidence; 4] = [Clear, FirstPoints, Crossing, Prepared];
+static OF_CONTACT_WITH_MANY: [Evidence; 4] = [Clear, FirstPoints, Edges, Prepared];
 
 /// Whatever else is asked, geometries written alike show all: under a rule of a layer with itself each feature is asked with
-/// itself. Areas side by side have no interior in common, and edges that cross show most. Edges that meet show no more than that
-/// there is contact. Of lines that cross, ends and edges along the other geometry show what is left.
+/// itself. Of areas side by side all is known but how their boundaries meet, and edges that cross show most. Edges that meet show no
+/// more than that there is contact, which is of both boundaries where areas lie side by side. Of lines that cross, ends and edges along the other
+/// geometry show what is left.
 static OF_MATRIX: [Evidence; 8] = [Alike, Sides, Crossing, Place, Edges, Nearby, Ends, Along];
 
 /// The same where the given geometry was prepared, and a feature has few points.
@@ -54,15 +47,37 @@ static OF_MATRIX_WITH_MANY: [Evidence; 9] = [
 ];
 
 /// Where all entries of one feature are asked, and the given geometry has few points: edges nearby show all of them, whether or not
-/// boxes meet. For one feature nothing is prepared.
-static OF_ENTRIES_OF_FEW: [Evidence; 8] = [
-    Alike, Place, Nearby, Boxes, Crossing, Edges, Ends, Along,
+/// boxes meet. Of areas side by side nothing is left once they are known to share a point. Edges look at first points too, which are
+/// asked by themselves where that search was given up.
+static OF_ENTRIES_OF_FEW: [Evidence; 10] = [
+    Alike,
+    Place,
+    Nearby,
+    Boxes,
+    Crossing,
+    Sides,
+    Edges,
+    FirstPoints,
+    Ends,
+    Along,
 ];
 
 /// Where it has many, boxes come before.
-static OF_ENTRIES_OF_MANY: [Evidence; 8] = [
-    Alike, Boxes, Place, Nearby, Crossing, Edges, Ends, Along,
+static OF_ENTRIES_OF_MANY: [Evidence; 10] = [
+    Alike,
+    Boxes,
+    Place,
+    Nearby,
+    Crossing,
+    Sides,
+    Edges,
+    FirstPoints,
+    Ends,
+    Along,
 ];
+
+/// Where that is not enough and both have many points, one is prepared for the other alone: that takes far less than a walk over both.
+pub(crate) static OF_ENTRIES_PREPARED: [Evidence; 2] = [Clear, Prepared];
 
 /// The order for what is asked of a feature. A walk comes after all of them.
 pub(crate) fn order_of(ask: &Ask, given: &Given, geometry: &Valid) -> &'static [Evidence] {
@@ -84,4 +99,10 @@ pub(crate) fn order_of_entries(points: usize) -> &'static [Evidence] {
     } else {
         &OF_ENTRIES_OF_MANY
     }
+}
+
+/// Whether to prepare the given geometry pays for one feature.
+pub(crate) fn pays_to_prepare(geometry: &Valid, given: &Valid) -> bool {
+    geometry.geometry().point_count() >= MANY_POINTS
+        && given.geometry().point_count() >= MANY_POINTS
 }

@@ -8,7 +8,7 @@ use Rattle.std.proofs.lemmas.Bool.{and_from, and_parts, both_ways, false_from_ne
 use Rattle.std.proofs.lemmas.Int.{by_lt_z, clamps, ints}
 use Rattle.std.proofs.lemmas.List.Sums.{sum_by-cons}
 use Rattle.sf_crossing.specs.Crossing.{HaveCrossing}
-use Rattle.sf_crossing.specs.Meeting.{ends_meeting, ends_of_edge, extent_of_edge}
+use Rattle.sf_edge_tree.specs.Meeting.{ends_meeting, ends_of_edge, extent_of_edge}
 use Rattle.sf_geometry.specs.declared.extent.Extent.{Extent}
 use Rattle.sf_geometry.specs.declared.geometry.Geometry.{Geometry}
 use Rattle.sf_geometry.specs.declared.geometry.Geometry.TheVariants.{Point, LineString, Polygon, MultiPoint, MultiLineString, MultiPolygon}

@@ -27,7 +27,7 @@ use Rattle.sf_rules.specs.Validity.{IsValid}
 use Rattle.sf_validity.specs.Beside.{box_of_extent}
 use Rattle.sf_relate.specs.Contact.{SharePoint, is_in}
 use Rattle.sf_relate.specs.Matrices.{IsMatrix, both, matrix_of}
-use Rattle.sf_relate.specs.Told.{AlikeIsTold, ApartIsTold, IsToldBy, IsWithin, WithinIsTold, alike_entries, apart_entries, has_odd_end, inside_entries, is_odd_end}
+use Rattle.sf_relate.specs.ByKinds.{AlikeIsDecided, ApartIsDecided, IsDecidedBy, IsWithin, WithinIsDecided, alike_entries, apart_entries, has_odd_end, inside_entries, is_odd_end}
 use Rattle.sf_relate.proofs.EnvelopeLaws.{lies_in_box, valid-closed}
 use Rattle.sf_relate.proofs.SetLaws.{matrices_are_over_the_plane}
 
@@ -207,15 +207,15 @@ apart-matrix a b v w none = (
     off_first : (p : PlanePoint) → IsPoint p → is_in b p ≡ true → in_exterior a p ≡ true
     off_first p i h = exterior-from a p (false_from_ne_true (is_in a p) (λ t. none (record { q = p; is_point = i; in_first = t; in_second = h })))
 
-told-by : (a b : Geometry) (entries : List Dim) → IsMatrix a b entries → IsToldBy a b entries
+told-by : (a b : Geometry) (entries : List Dim) → IsMatrix a b entries → IsDecidedBy a b entries
 told-by a b entries h = record { plane = h; computed = (matrices_are_over_the_plane a b).only entries h }
 
-pub apart_is_told : ApartIsTold
-apart_is_told a b v w none = told-by a b (apart_entries a b) (apart-matrix a b v w none)
+pub apart_is_decided : ApartIsDecided
+apart_is_decided a b v w none = told-by a b (apart_entries a b) (apart-matrix a b v w none)
 
 -- ---- one in the other's interior
-pub within_is_told : WithinIsTold
-within_is_told a b v w h two =
+pub within_is_decided : WithinIsDecided
+within_is_decided a b v w h two =
     told-by a b (inside_entries a b) (
       same-dimension (in_interior a) (both (in_interior a) (in_interior b)) (kept (in_interior a) (in_interior b) (λ p i k. h.inside p i (inner a p k))) (interior_dim a) (interior_has_dimension a v),
       (
@@ -249,8 +249,8 @@ within_is_told a b v w h two =
     outside p i k = exterior-from a p (false_from_ne_true (is_in a p) (λ t. both_ways (in_boundary b p) (off_edge p i t) k))
 
 -- ---- one with itself
-pub alike_is_told : AlikeIsTold
-alike_is_told a v =
+pub alike_is_decided : AlikeIsDecided
+alike_is_decided a v =
     told-by a a (alike_entries a) (
       same-dimension (in_interior a) (both (in_interior a) (in_interior a)) (kept (in_interior a) (in_interior a) (λ p i h. h)) (interior_dim a) (interior_has_dimension a v),
       (
@@ -283,7 +283,7 @@ pub alike-entries : (a b f g : Geometry) (ia ba : Dim) → IsValid a → f ≡ g
 alike-entries a b f g ia ba v alike e h i k =
     ap (λ x. x ∷ Nothing ∷ Nothing ∷ Nothing ∷ ba ∷ Nothing ∷ Nothing ∷ Nothing ∷ Two ∷ []) i
     ∙ ap (λ x. interior_dim a ∷ Nothing ∷ Nothing ∷ Nothing ∷ x ∷ Nothing ∷ Nothing ∷ Nothing ∷ Two ∷ []) k
-    ∙ (alike_is_told a v).computed
+    ∙ (alike_is_decided a v).computed
     ∙ ap (matrix_of a) (sym e ∙ alike ∙ h)
 
 pub apart-entries : (a b f g : Geometry) (ia ba ib bb : Dim) → IsValid a → IsValid b → ¬ (SharePoint a b) → f ≡ a → g ≡ b → ia ≡ interior_dim f → ba ≡ boundary_dim f → ib ≡ interior_dim g →
@@ -293,7 +293,7 @@ apart-entries a b f g ia ba ib bb v w none e h i j k l =
     ∙ ap (λ x. Nothing ∷ Nothing ∷ interior_dim a ∷ Nothing ∷ Nothing ∷ x ∷ ib ∷ bb ∷ Two ∷ []) (j ∙ ap boundary_dim e)
     ∙ ap (λ x. Nothing ∷ Nothing ∷ interior_dim a ∷ Nothing ∷ Nothing ∷ boundary_dim a ∷ x ∷ bb ∷ Two ∷ []) (k ∙ ap interior_dim h)
     ∙ ap (λ x. Nothing ∷ Nothing ∷ interior_dim a ∷ Nothing ∷ Nothing ∷ boundary_dim a ∷ interior_dim b ∷ x ∷ Two ∷ []) (l ∙ ap boundary_dim h)
-    ∙ (apart_is_told a b v w none).computed
+    ∙ (apart_is_decided a b v w none).computed
 
 pub within-entries : (a b f g : Geometry) (ia ba ib bb : Dim) → IsValid a → IsValid b → IsWithin a b → interior_dim b ≡ Two → f ≡ a → g ≡ b → ia ≡ interior_dim f → ba ≡ boundary_dim f →
     ib ≡ interior_dim g → bb ≡ boundary_dim g → ia ∷ Nothing ∷ Nothing ∷ ba ∷ Nothing ∷ Nothing ∷ ib ∷ bb ∷ Two ∷ [] ≡ matrix_of a b
@@ -302,7 +302,7 @@ within-entries a b f g ia ba ib bb v w within two e h i j k l =
     ∙ ap (λ x. interior_dim a ∷ Nothing ∷ Nothing ∷ x ∷ Nothing ∷ Nothing ∷ ib ∷ bb ∷ Two ∷ []) (j ∙ ap boundary_dim e)
     ∙ ap (λ x. interior_dim a ∷ Nothing ∷ Nothing ∷ boundary_dim a ∷ Nothing ∷ Nothing ∷ x ∷ bb ∷ Two ∷ []) (k ∙ ap interior_dim h)
     ∙ ap (λ x. interior_dim a ∷ Nothing ∷ Nothing ∷ boundary_dim a ∷ Nothing ∷ Nothing ∷ interior_dim b ∷ x ∷ Two ∷ []) (l ∙ ap boundary_dim h)
-    ∙ (within_is_told a b v w within two).computed
+    ∙ (within_is_decided a b v w within two).computed
 
 -- boxes that share no point
 pub boxes-apart : (a b : Geometry) → IsValid a → IsValid b → extents_meet (envelope_of a) (envelope_of b) ≡ false → ¬ (SharePoint a b)

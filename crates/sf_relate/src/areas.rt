@@ -65,7 +65,7 @@ pub fn are_crossed(alloc: Global, a: &Valid, b: &Valid) -> Result<bool, AllocErr
 }
 
 /// The box that two boxes have in common. Where they share no point, no other box shares one with it.
-fn common_extent(a: &Extent, b: &Extent) -> Extent
+pub fn common_extent(a: &Extent, b: &Extent) -> Extent
     ensures { result ≡ common_extent a.now b.now }
 {
     Extent {

@@ -5,8 +5,8 @@ ghost use Rattle.sf_known.specs.Known.{Holds};
 ghost use Rattle.sf_relate.specs.Matrices.{matrix_of};
 ghost use Rattle.sf_relate.specs.Most.{boundary_most, known_of_kinds, most_entries};
 
+use super::by_kinds::boundary_dim;
 use super::shape::dimension;
-use super::told::boundary_dim;
 use sf_geometry::Geometry;
 use sf_known::{Known, lesser};
 use sf_plane::Dim;

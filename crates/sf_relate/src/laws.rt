@@ -6,7 +6,7 @@ ghost use Rattle.sf_relate.specs.Contact.{ApartHasNoContact, ContactIsShared, Fi
 ghost use Rattle.sf_relate.specs.Matrices.{MatricesAreOverThePlane};
 ghost use Rattle.sf_relate.specs.Placed.{PlacesAreKnown};
 ghost use Rattle.sf_relate.specs.Places.{CountsTellPlaces};
-ghost use Rattle.sf_relate.specs.Told.{AlikeIsTold, ApartIsTold, WithinIsTold};
+ghost use Rattle.sf_relate.specs.ByKinds.{AlikeIsDecided, ApartIsDecided, WithinIsDecided};
 
 /// The entries as they are computed are the matrix over the plane, and no others are, of all
 /// geometries.
@@ -57,18 +57,18 @@ pub fn apart_has_no_contact()
 {}
 
 /// Valid geometries that share no point have a matrix that follows from their kinds and ends.
-pub fn apart_is_told()
-    ensures { ApartIsTold }
+pub fn apart_is_decided()
+    ensures { ApartIsDecided }
 {}
 
 /// So has a valid geometry in the interior of an area that has room beside it.
-pub fn within_is_told()
-    ensures { WithinIsTold }
+pub fn within_is_decided()
+    ensures { WithinIsDecided }
 {}
 
 /// So has a valid geometry with itself.
-pub fn alike_is_told()
-    ensures { AlikeIsTold }
+pub fn alike_is_decided()
+    ensures { AlikeIsDecided }
 {}
 
 /// Valid areas overlap of which edges cross at a point that no other edge of the two has.

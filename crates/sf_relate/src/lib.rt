@@ -4,6 +4,7 @@
 mod alike;
 mod areas;
 mod at_most;
+mod by_kinds;
 mod first_points;
 mod grouping;
 pub mod laws;
@@ -14,11 +15,11 @@ mod placed;
 mod relating;
 mod shape;
 mod sink;
-mod told;
 mod walking;
 
-pub use areas::{are_crossed, are_known_to_overlap, known_by_crossing};
+pub use areas::{are_crossed, are_known_to_overlap, common_extent, known_by_crossing};
 pub use at_most::known_of_kinds;
+pub use by_kinds::{matrix_alike, matrix_apart, matrix_by_boxes, matrix_within};
 pub use first_points::shares_first_point;
 pub use locating::{is_in, locate};
 pub use nearby::relate_nearby;
@@ -29,5 +30,4 @@ pub use sf_known::{Aim, Goal, Known, Letter, Matrix, Pattern, Predicate, Refusal
 pub use sf_plane::Dim;
 pub use shape::{Shape, dimension};
 pub use sink::KnownSink;
-pub use told::{matrix_alike, matrix_apart, matrix_by_boxes, matrix_within};
 pub use walking::{meets, meets_from, walked};

@@ -11,8 +11,8 @@ ghost use Rattle.sf_relate.specs.Contact.{is_in};
 ghost use Rattle.sf_relate.specs.Locating.{edges_place, line_place, place_by_tests, point_place};
 ghost use Rattle.sf_relate.specs.Places.{IsPlaceOf};
 
+use super::by_kinds::is_odd_end;
 use super::place::Place;
-use super::told::is_odd_end;
 use sf_geometry::{EdgeTest, Geometry, Sequence, line_ends};
 use sf_grid::edges::{on_edge, orientation};
 use sf_grid::{GridPoint, Turn};

@@ -5,7 +5,7 @@ ghost use Rattle.sf_known.specs.Known.{Holds};
 ghost use Rattle.sf_relate.specs.Matrices.{IsMatrix, matrix_of};
 
 use super::areas::{are_areas, known_by_crossing, matrix_along};
-use super::told::matrix_by_boxes;
+use super::by_kinds::matrix_by_boxes;
 use super::walking::found_from;
 use sf_along::run_along;
 use sf_known::{Aim, Known, Matrix};

@@ -20,7 +20,6 @@ use Rattle.sf_rtree.specs.Subtrees.{boxes_of}
 use Rattle.sf_rtree.specs.Subtrees.{IsDistinct as AreApart}
 use Rattle.sf_rtree.proofs.Entries.{box-boxes_of, pairs, rises-boxes_of}
 use Rattle.sf_rtree.proofs.Maps.{Rises, by_order}
-use Rattle.sf_rtree.proofs.Meeting.{has_met}
 use Rattle.sf_rtree.proofs.Order.{all_map}
 
 -- ---- lists of numbers that rise
@@ -175,48 +174,3 @@ found_rising q es boxes found sorted apart view is moved up =
     (λ n. sym (list_any-IsPermutation (nat_eq n) found sorted moved) ∙ ap (list_any (nat_eq n)) at ∙ is_met q (pairs es) single n
     ∙ ap (does_meet q) (sym (box-boxes_of es n)) ∙ sym (is_met q (boxes_of es) (single-rising (boxes_of es) (rises-boxes_of es)) n))
     ∙ ap (ids_meeting q) view
-
--- ---- whether there is one
-
-met-pairs : (q : Extent) (es : List Boxed) → has_met q es ≡ list_any (λ e. extents_meet e.1 q) (pairs es)
-met-pairs q [] = refl
-met-pairs q (e ∷ es) = ap (λ b. extents_meet e.extent q || b) (met-pairs q es)
-
--- an identifier that a search finds, where a box meets
-found-one : (P : Type 0) (q : Extent) (es : Boxes) → list_any (λ e. extents_meet e.1 q) es ≡ true
-    → ((n : ℕ) → list_any (nat_eq n) (ids_meeting q es) ≡ true → P) → P
-found-one P q [] h k = absurd (true≢false (sym h))
-found-one P q (e ∷ es) h k = at (found-one P q es) (extents_meet e.1 q) h k
-  where
-    at : (list_any (λ f. extents_meet f.1 q) es ≡ true → ((n : ℕ) → list_any (nat_eq n) (ids_meeting q es) ≡ true → P) → P) → (b : Bool)
-        → (b || list_any (λ f. extents_meet f.1 q) es) ≡ true
-        → ((n : ℕ) → list_any (nat_eq n) (keys_of (cond b (e ∷ filter (λ f. extents_meet f.1 q) es) (filter (λ f. extents_meet f.1 q) es))) ≡ true → P) → P
-    at rest true h k = k e.0 (first_among e.0 (ids_meeting q es))
-    at rest false h k = rest h k
-
-one-found : (q : Extent) (n : ℕ) (es : Boxes) → list_any (nat_eq n) (ids_meeting q es) ≡ true → list_any (λ e. extents_meet e.1 q) es ≡ true
-one-found q n [] h = absurd (true≢false (sym h))
-one-found q n (e ∷ es) h = at (one-found q n es) (extents_meet e.1 q) h
-  where
-    at : (list_any (nat_eq n) (ids_meeting q es) ≡ true → list_any (λ f. extents_meet f.1 q) es ≡ true) → (b : Bool)
-        → list_any (nat_eq n) (keys_of (cond b (e ∷ filter (λ f. extents_meet f.1 q) es) (filter (λ f. extents_meet f.1 q) es))) ≡ true
-        → (b || list_any (λ f. extents_meet f.1 q) es) ≡ true
-    at rest true h = refl
-    at rest false h = rest h
-
-both_ways : (a b : Bool) → (a ≡ true → b ≡ true) → (b ≡ true → a ≡ true) → a ≡ b
-both_ways true b h k = sym (h refl)
-both_ways false true h k = k refl
-both_ways false false h k = refl
-
--- an entry's box meets just where one of the map's does
-pub met-boxes : (q : Extent) (es : List Boxed) (boxes : Boxes) → AreApart es → boxes_of es ≡ boxes → has_met q es ≡ list_any (λ e. extents_meet e.1 q) boxes
-met-boxes q es boxes apart view =
-    let same : (n : ℕ) → list_any (nat_eq n) (ids_meeting q (pairs es)) ≡ list_any (nat_eq n) (ids_meeting q (boxes_of es)) =
-    λ n. is_met q (pairs es) (single-pairs es apart) n ∙ ap (does_meet q) (sym (box-boxes_of es n))
-    ∙ sym (is_met q (boxes_of es) (single-rising (boxes_of es) (rises-boxes_of es)) n) in
-    met-pairs q es
-    ∙ both_ways _ _
-    (λ h. found-one _ q (pairs es) h (λ n f. one-found q n (boxes_of es) (sym (same n) ∙ f)))
-    (λ h. found-one _ q (boxes_of es) h (λ n f. one-found q n (pairs es) (same n ∙ f)))
-    ∙ ap (list_any (λ e. extents_meet e.1 q)) view

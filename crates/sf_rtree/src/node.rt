@@ -1,7 +1,7 @@
 //! Nodes of an R-tree.
 
 ghost use Rattle.std.specs.Prelude.{◌≡◌, ◌≤◌, ◌<◌, ◌+◌, ◌-◌, ◌*◌, ◌^◌, ◌++◌, ◌∷◌, [], length, IfOk, OnOk, MatchOption, take, drop, get_or, if◌then◌else◌};
-ghost use Rattle.std.specs.List.{AllByRecursion, insert, list_any, remove};
+ghost use Rattle.std.specs.List.{AllByRecursion, insert, remove};
 ghost use Rattle.sf_geometry.specs.Envelope.{extents_meet};
 ghost use Rattle.sf_rtree.specs.Curves.{AreInOrder, IsLast, comes_before, put, taken};
 ghost use Rattle.sf_rtree.specs.Nodes.{AreBranches, AreEntries, Covers, IsBranch, IsPlace, IsSized, entries_below, fewest_members, ids_among, inner_of, leaf_of, levels_below, most_members};
@@ -76,30 +76,6 @@ impl Node {
                     }
                 }
                 Ok(())
-            }
-        }
-    }
-
-    /// Whether there is a box that meets the given one.
-    pub fn has_meeting(&self, extent: &Extent) -> bool
-        ensures { result ≡ list_any (λ e. extents_meet e.extent extent.now) self.now.entries }
-    {
-        match &self.members {
-            Members::Leaf(entries) => {
-                for entry in entries.as_slice() {
-                    if entry.extent().meets(*extent) {
-                        return true;
-                    }
-                }
-                false
-            }
-            Members::Inner(branches) => {
-                for branch in branches.as_slice() {
-                    if branch.extent.meets(*extent) && branch.node.has_meeting(extent) {
-                        return true;
-                    }
-                }
-                false
             }
         }
     }

@@ -1,5 +1,4 @@
 ghost use Rattle.std.specs.Prelude.{◌≡◌, ℕ, ◌*◌, ◌-◌, ◌^◌, ◌<◌, ◌≤◌, [], length, IfOk};
-ghost use Rattle.std.specs.List.{list_any};
 ghost use Rattle.std.specs.List.Sorted.{IsStrictlySortedBy};
 ghost use Rattle.std.specs.Map.{keys_of};
 ghost use Rattle.std.specs.Ordering.{nat_cmp};
@@ -46,13 +45,6 @@ impl RTree {
         Ok(RTree {
             root: build(alloc, entries)?,
         })
-    }
-
-    /// Whether there is a box that shares a point with the given one. It makes no list, and so takes no memory.
-    pub fn has_meeting(&self, extent: &Extent) -> bool
-        ensures { result ≡ list_any (λ entry. extents_meet entry.1 extent.now) self.now }
-    {
-        self.root.has_meeting(extent)
     }
 
     /// How many levels there are: 1 where the root is a leaf.

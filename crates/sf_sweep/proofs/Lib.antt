@@ -38,6 +38,7 @@ pub mod NextLaws
 pub mod CrossingLaws
 pub mod EndLaws
 pub mod ColumnLaws
+pub mod ReadyLaws
 pub mod LeastLaws
 pub mod AcrossLaws
 pub mod MarksLaws

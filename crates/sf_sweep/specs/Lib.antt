@@ -3,6 +3,7 @@ pub mod Windows
 pub mod Passing
 pub mod Nearest
 pub mod Parities
+pub mod Ready
 pub mod Repairs
 pub mod Cuts
 pub mod Settled

@@ -1,15 +1,16 @@
 //! A sweep over columns that looks only at those places of a column at which something happens.
 
-ghost use Rattle.std.specs.Prelude.{◌≡◌, ◌+◌, ◌≤◌, ◌<◌, ◌++◌, ◌^◌, [], None, take, drop, length, map, vec_capacity, vec_len, IfOk};
+ghost use Rattle.std.specs.Prelude.{◌≡◌, ◌+◌, ◌≤◌, ◌<◌, ◌++◌, ◌^◌, [], None, take, drop, length, map, vec_len, IfOk};
 ghost use Rattle.std.specs.List.{All};
 ghost use Rattle.sf_strips.specs.Fronts.{AreApart, AreContacts, pieces_of};
 ghost use Rattle.sf_strips.specs.Levels.{most_onward};
 ghost use Rattle.sf_strips.specs.Vertices.{begins, pieces_with};
 ghost use Rattle.sf_cells.specs.Groups.{counts, group_count};
-ghost use Rattle.sf_sweep.specs.Cuts.{HasBenchRoom, IsBalancedWindow, KeepsBenchRoom, WasWindowHanded};
+ghost use Rattle.sf_sweep.specs.Cuts.{IsBalancedWindow, WasWindowHanded};
 ghost use Rattle.sf_sweep.specs.Fresh.{IsFresh};
 ghost use Rattle.sf_sweep.specs.Parities.{AreParities, as_count, parities, stored};
 ghost use Rattle.sf_sweep.specs.Passing.{IsLastApart};
+ghost use Rattle.sf_sweep.specs.Ready.{HasPlaces, IsReady, KeepsPlaces};
 ghost use Rattle.sf_sweep.specs.Repairs.{IsRepaired};
 ghost use Rattle.sf_sweep.specs.Settled.{WereSettled, forgotten};
 ghost use Rattle.sf_sweep.specs.Tables.{contacts_of};
@@ -80,22 +81,14 @@ impl<R: Row> ClassSweep<R> {
         requires order { All (λ e. e.piece < length groups.now) self.old.front.order.items }
         requires here { All (λ v. v.piece < length groups.now) here.now }
         requires few { vec_len self.old.front.order + length here.now < 2 ^ 30 }
-        requires wide { length areal.now ≡ R.width }
-        requires few_groups { All (λ g. g < R.width) groups.now }
-        requires few_counts { group_count groups.now ≤ R.width }
-        requires meetings { length self.old.front.meetings ≡ length groups.now }
-        requires odd { length self.old.odd ≡ length groups.now }
+        requires ready { IsReady R.width areal.now groups.now self.old.odd self.old.tallies }
         requires apart { AreApart x.now (drop from (take to self.old.front.order.items))
             (contacts_of self.old.front.meetings (drop from (take to self.old.front.order.items))) }
         requires balanced { IsBalancedWindow groups.now x.now (drop from (take to self.old.front.order.items))
             (contacts_of self.old.front.meetings (drop from (take to self.old.front.order.items))) here.now }
         requires stored { AreParities areal.now groups.now self.old.odd (counts groups.now []) (take from self.old.front.order.items) }
-        requires room { vec_len self.old.front.order + length (pieces_with begins here.now) ≤ vec_capacity self.old.front.order }
-        requires tail_room { vec_len self.old.front.order ≤ vec_capacity self.old.front.tail }
-        requires bench_room { HasBenchRoom (vec_len self.old.front.order + length here.now)
-            (vec_len self.old.front.order + length (pieces_with begins here.now)) self.old.bench }
-        requires none_on { self.old.tallies.on.items ≡ counts groups.now [] }
-        requires counted { length self.old.tallies.above.items ≡ group_count groups.now }
+        requires places { HasPlaces groups.now (vec_len self.old.front.order + length here.now)
+            (vec_len self.old.front.order + length (pieces_with begins here.now)) (vec_len self.old.front.order) self.old }
         ensures handed { WasWindowHanded x.now groups.now
             (map as_count (take (group_count groups.now) (parities areal.now (counts groups.now (pieces_of (take from self.old.front.order.items))))))
             (drop from (take to self.old.front.order.items))
@@ -110,13 +103,8 @@ impl<R: Row> ClassSweep<R> {
         ensures stored { self.new.odd ≡ stored areal.now groups.now self.old.odd
             (parities areal.now (counts groups.now (pieces_of (take from self.old.front.order.items)))) self.new.bench.order.items }
         ensures end { result ≡ from + length self.new.bench.order.items }
-        ensures none_on { self.new.tallies.on.items ≡ counts groups.now [] }
-        ensures counted { length self.new.tallies.above.items ≡ group_count groups.now }
-        ensures meetings { length self.new.front.meetings ≡ length self.old.front.meetings }
-        ensures odd { length self.new.odd ≡ length self.old.odd }
-        ensures room { vec_capacity self.old.front.order ≤ vec_capacity self.new.front.order }
-        ensures tail_room { vec_capacity self.old.front.tail ≤ vec_capacity self.new.front.tail }
-        ensures bench_room { KeepsBenchRoom self.old.bench self.new.bench }
+        ensures ready { IsReady R.width areal.now groups.now self.new.odd self.new.tallies }
+        ensures places { KeepsPlaces self.old self.new }
     {
         let (above, came) = self.front.order.as_slice().split_at(to).0.split_at(from);
         let row = last_row(areal, groups, &self.odd, above);
@@ -157,22 +145,15 @@ impl<R: Row> ClassSweep<R> {
         requires within { to ≤ vec_len self.old.front.order }
         requires order { All (λ e. e.piece < length groups.now) self.old.front.order.items }
         requires few { vec_len self.old.front.order < 2 ^ 30 }
-        requires wide { length areal.now ≡ R.width }
-        requires few_groups { All (λ g. g < R.width) groups.now }
-        requires few_counts { group_count groups.now ≤ R.width }
-        requires odd { length self.old.odd ≡ length groups.now }
+        requires ready { IsReady R.width areal.now groups.now self.old.odd self.old.tallies }
         requires apart { IsLastApart None self.old.front.meetings (drop from (take to self.old.front.order.items)) }
         requires stored { AreParities areal.now groups.now self.old.odd (counts groups.now []) (take from self.old.front.order.items) }
-        requires none_on { self.old.tallies.on.items ≡ counts groups.now [] }
-        requires counted { length self.old.tallies.above.items ≡ group_count groups.now }
         ensures repaired { IsRepaired areal.now groups.now self.old.front.meetings (drop from (take to self.old.front.order.items))
             (parities areal.now (counts groups.now (pieces_of (take from self.old.front.order.items))))
             self.old.odd self.new.odd S.after (S.content sink.old) (S.content sink.new) }
         ensures front { self.new.front ≡ self.old.front }
         ensures bench { self.new.bench ≡ self.old.bench }
-        ensures odd { length self.new.odd ≡ length self.old.odd }
-        ensures none_on { self.new.tallies.on.items ≡ counts groups.now [] }
-        ensures counted { length self.new.tallies.above.items ≡ group_count groups.now }
+        ensures ready { IsReady R.width areal.now groups.now self.new.odd self.new.tallies }
     {
         let (above, passing) = self.front.order.as_slice().split_at(to).0.split_at(from);
         let row = last_row(areal, groups, &self.odd, above);
@@ -203,28 +184,15 @@ impl<R: Row> ClassSweep<R> {
         requires at { IsAtWindow x.now groups.now areal.now self.old.front.order.items self.old.front.meetings
             self.old.odd from here.now window.now }
         requires few { vec_len self.old.front.order + length here.now < 2 ^ 30 }
-        requires wide { length areal.now ≡ R.width }
-        requires few_groups { All (λ g. g < R.width) groups.now }
-        requires few_counts { group_count groups.now ≤ R.width }
-        requires meetings { length self.old.front.meetings ≡ length groups.now }
-        requires odd { length self.old.odd ≡ length groups.now }
-        requires room { vec_len self.old.front.order + length (pieces_with begins here.now) ≤ vec_capacity self.old.front.order }
-        requires tail_room { vec_len self.old.front.order ≤ vec_capacity self.old.front.tail }
-        requires bench_room { HasBenchRoom (vec_len self.old.front.order + length here.now)
-            (vec_len self.old.front.order + length (pieces_with begins here.now)) self.old.bench }
-        requires none_on { self.old.tallies.on.items ≡ counts groups.now [] }
-        requires counted { length self.old.tallies.above.items ≡ group_count groups.now }
+        requires ready { IsReady R.width areal.now groups.now self.old.odd self.old.tallies }
+        requires places { HasPlaces groups.now (vec_len self.old.front.order + length here.now)
+            (vec_len self.old.front.order + length (pieces_with begins here.now)) (vec_len self.old.front.order) self.old }
         ensures behind { (s : IsAtWindow x.now groups.now areal.now self.old.front.order.items self.old.front.meetings
             self.old.odd from here.now window.now)
             → IsBehindWindow s self.new.front.order.items self.new.front.meetings self.new.odd result
             S.after (S.content sink.old) (S.content sink.new) }
-        ensures none_on { self.new.tallies.on.items ≡ counts groups.now [] }
-        ensures counted { length self.new.tallies.above.items ≡ group_count groups.now }
-        ensures meetings { length self.new.front.meetings ≡ length self.old.front.meetings }
-        ensures odd { length self.new.odd ≡ length self.old.odd }
-        ensures room { vec_capacity self.old.front.order ≤ vec_capacity self.new.front.order }
-        ensures tail_room { vec_capacity self.old.front.tail ≤ vec_capacity self.new.front.tail }
-        ensures bench_room { KeepsBenchRoom self.old.bench self.new.bench }
+        ensures ready { IsReady R.width areal.now groups.now self.new.odd self.new.tallies }
+        ensures places { KeepsPlaces self.old self.new }
     {
         let rest = self.front.order.as_slice().split_at(from).1;
         let lo = from + above_len(rest, &window.top);

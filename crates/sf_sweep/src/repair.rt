@@ -3,10 +3,11 @@
 ghost use Rattle.std.specs.Prelude.{◌≡◌, ◌<◌, ◌≤◌, ◌^◌, [], None, length, map, take};
 ghost use Rattle.std.specs.List.{All};
 ghost use Rattle.sf_strips.specs.Fronts.{pieces_of};
-ghost use Rattle.sf_cells.specs.Groups.{counts, group_count};
+ghost use Rattle.sf_cells.specs.Groups.{counts};
 ghost use Rattle.sf_cells.specs.Hands.{item};
 ghost use Rattle.sf_sweep.specs.Parities.{as_count};
 ghost use Rattle.sf_sweep.specs.Passing.{IsLastApart};
+ghost use Rattle.sf_sweep.specs.Ready.{IsReady};
 ghost use Rattle.sf_sweep.specs.Repairs.{IsRepaired};
 
 use crate::bundle::bundle_len;
@@ -27,20 +28,13 @@ pub fn repair<R: Row, S: CellSink>(
     table: &mut Rows<R>,
     tallies: &mut Tallies,
 )
-    requires wide { length areal.now ≡ R.width }
+    requires ready { IsReady R.width areal.now groups.now table.old tallies.old }
     requires grouped { All (λ e. e.piece < length groups.now) order.now }
-    requires few_groups { All (λ g. g < R.width) groups.now }
-    requires few_counts { group_count groups.now ≤ R.width }
     requires few { length order.now < 2 ^ 32 }
-    requires room { length table.old ≡ length groups.now }
     requires apart { IsLastApart None contacts.now order.now }
-    requires none_on { tallies.old.on.items ≡ counts groups.now [] }
-    requires counted { length tallies.old.above.items ≡ group_count groups.now }
     ensures repaired { IsRepaired areal.now groups.now contacts.now order.now (R.bits above.now)
         table.old table.new S.after (S.content sink.old) (S.content sink.new) }
-    ensures len { length table.new ≡ length table.old }
-    ensures none_on { tallies.new.on.items ≡ counts groups.now [] }
-    ensures counted { length tallies.new.above.items ≡ group_count groups.now }
+    ensures ready { IsReady R.width areal.now groups.now table.new tallies.new }
 {
     let mut rest = order;
     let mut odd = *above;

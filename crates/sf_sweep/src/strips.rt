@@ -1,15 +1,15 @@
 //! The sweep over a column, window by window, and from column to column.
 
-ghost use Rattle.std.specs.Prelude.{◌≡◌, ◌+◌, ◌≤◌, ◌<◌, ◌^◌, [], length, replicate, vec_capacity, IfNone as OnNone, IfSome};
-ghost use Rattle.std.specs.List.{All, prefix_len};
+ghost use Rattle.std.specs.Prelude.{◌≡◌, ◌+◌, ◌≤◌, ◌<◌, ◌^◌, [], length, replicate, IfNone as OnNone, IfSome};
+ghost use Rattle.std.specs.List.{prefix_len};
 ghost use Rattle.std.specs.List.Sorted.{IsPermutation, IsSortedBy};
 ghost use Rattle.sf_strips.specs.declared.contact.Contact.TheVariants.{Never};
 ghost use Rattle.sf_strips.specs.Next.{IsLeastOf, candidates, first_place as first_place_of};
 ghost use Rattle.sf_strips.specs.Vertices.{all_vertices, in_column, vertex_before};
-ghost use Rattle.sf_cells.specs.Groups.{counts, group_count};
+ghost use Rattle.sf_cells.specs.Groups.{counts};
 ghost use Rattle.sf_classes.specs.Classes.{WereHanded};
-ghost use Rattle.sf_sweep.specs.Cuts.{HasBenchRoom, KeepsBenchRoom};
 ghost use Rattle.sf_sweep.specs.Nearest.{meeting_of};
+ghost use Rattle.sf_sweep.specs.Ready.{HasPlaces, IsReady, KeepsPlaces};
 ghost use Rattle.sf_sweep.specs.Within.{IsAt, IsBehindColumn};
 
 use crate::class_sweep::ClassSweep;
@@ -33,27 +33,14 @@ impl<R: Row> ClassSweep<R> {
         requires at { IsAt x.now groups.now areal.now self.old.front.order.items self.old.front.meetings
             self.old.odd 0 vertices.now }
         requires few { length groups.now + length vertices.now < 2 ^ 30 }
-        requires wide { length areal.now ≡ R.width }
-        requires few_groups { All (λ g. g < R.width) groups.now }
-        requires few_counts { group_count groups.now ≤ R.width }
-        requires meetings { length self.old.front.meetings ≡ length groups.now }
-        requires odd { length self.old.odd ≡ length groups.now }
-        requires room { length groups.now ≤ vec_capacity self.old.front.order }
-        requires tail_room { length groups.now ≤ vec_capacity self.old.front.tail }
-        requires bench_room { HasBenchRoom (length groups.now + length vertices.now) (length groups.now) self.old.bench }
-        requires none_on { self.old.tallies.on.items ≡ counts groups.now [] }
-        requires counted { length self.old.tallies.above.items ≡ group_count groups.now }
+        requires ready { IsReady R.width areal.now groups.now self.old.odd self.old.tallies }
+        requires places { HasPlaces groups.now (length groups.now + length vertices.now) (length groups.now) (length groups.now) self.old }
         ensures behind { (s : IsAt x.now groups.now areal.now self.old.front.order.items self.old.front.meetings
             self.old.odd 0 vertices.now)
             → IsBehindColumn s self.new.front.order.items self.new.front.meetings self.new.odd
             S.after (S.content sink.old) (S.content sink.new) }
-        ensures none_on { self.new.tallies.on.items ≡ counts groups.now [] }
-        ensures counted { length self.new.tallies.above.items ≡ group_count groups.now }
-        ensures meetings { length self.new.front.meetings ≡ length self.old.front.meetings }
-        ensures odd { length self.new.odd ≡ length self.old.odd }
-        ensures room { vec_capacity self.old.front.order ≤ vec_capacity self.new.front.order }
-        ensures tail_room { vec_capacity self.old.front.tail ≤ vec_capacity self.new.front.tail }
-        ensures bench_room { KeepsBenchRoom self.old.bench self.new.bench }
+        ensures ready { IsReady R.width areal.now groups.now self.new.odd self.new.tallies }
+        ensures places { KeepsPlaces self.old self.new }
     {
         let mut from = 0;
         let mut left = vertices;
@@ -80,18 +67,12 @@ impl<R: Row> ClassSweep<R> {
         requires few { length pieces.now ≤ 65535 }
         requires few_vertices { length vertices.now ≤ 131070 }
         requires one_group_each { length groups.now ≡ length pieces.now }
-        requires wide { length areal.now ≡ R.width }
-        requires few_groups { All (λ g. g < R.width) groups.now }
-        requires few_counts { group_count groups.now ≤ R.width }
+        requires ready { IsReady R.width areal.now groups.now self.old.odd self.old.tallies }
         requires all { IsPermutation (all_vertices 0 pieces.now) vertices.now }
         requires in_order { IsSortedBy vertex_before vertices.now }
         requires no_edge { self.old.front.order.items ≡ [] }
         requires no_meeting { self.old.front.meetings ≡ replicate (length groups.now) Never }
-        requires odd { length self.old.odd ≡ length groups.now }
-        requires room { length groups.now ≤ vec_capacity self.old.front.order }
-        requires tail_room { length groups.now ≤ vec_capacity self.old.front.tail }
-        requires bench_room { HasBenchRoom (length groups.now + length vertices.now) (length groups.now) self.old.bench }
-        requires none_on { self.old.tallies.on.items ≡ counts groups.now [] }
+        requires places { HasPlaces groups.now (length groups.now + length vertices.now) (length groups.now) (length groups.now) self.old }
         requires none_above { self.old.tallies.above.items ≡ counts groups.now [] }
         ensures { WereHanded pieces.now groups.now areal.now S.after (S.content sink.old) (S.content sink.new) }
     {

@@ -39,8 +39,38 @@ impl Dice {
     }
 }
 
-/// The text of a geometry, of one of six kinds.
+/// A line of 20 points, or two lines of them.
+fn zigzag(alloc: Global, dice: &mut Dice, between: &str) -> Result<String, AllocError> {
+    let mut text = String::new(alloc);
+    for place in 0..20u32 {
+        let separator = match place {
+            0 => "",
+            10 => between,
+            _ => ", ",
+        };
+        let (x, y) = (place.saturating_mul(2), dice.coordinate());
+        text.push_str(format!(in alloc; "{separator}{x} {y}")?.as_str())?;
+    }
+    Ok(text)
+}
+
+/// The text of a geometry, of one of six small kinds; in one of sixteen it is of lines with many points.
 fn text(alloc: Global, dice: &mut Dice) -> Result<String, AllocError> {
+    match dice.below(32) {
+        0 => {
+            let points = zigzag(alloc, dice, ", ")?;
+            format!(in alloc; "LINESTRING ({points})")
+        }
+        1 => {
+            let points = zigzag(alloc, dice, "), (")?;
+            format!(in alloc; "MULTILINESTRING (({points}))")
+        }
+        _ => small_text(alloc, dice),
+    }
+}
+
+/// The text of a geometry, of one of six kinds.
+fn small_text(alloc: Global, dice: &mut Dice) -> Result<String, AllocError> {
     let kind = dice.below(6);
     let (a, b) = (dice.coordinate(), dice.coordinate());
     let (c, d) = (dice.coordinate(), dice.coordinate());

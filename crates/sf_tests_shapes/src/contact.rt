@@ -1,4 +1,4 @@
-//! Contact of small geometries of each kind with one another, beside what a walk tells.
+//! Contact of geometries of each kind with one another, small ones and large ones, beside what a walk finds.
 
 use super::made::valid;
 use sf_contact::contact_between;
@@ -53,23 +53,40 @@ const BOUND: &str =
 const LARGE: &str =
     "POLYGON ((0 0, 1 0, 2 0, 3 0, 4 0, 5 0, 6 0, 7 0, 8 0, 8 1, 8 2, 8 3, 8 4, 8 5, 8 6, 8 7, 0 0))";
 
-/// Whether contact of two geometries is told, and as a walk tells it, whichever comes first.
-fn is_told_alike(alloc: Global, first: &str, second: &str) -> Result<bool, Fail> {
+/// Geometries of at least 17 points: that polygon, one that has it, one in its box beside it, one far away, lines that touch, cross
+/// and miss it, and one in the hole of another.
+const LARGES: &[&str] = &[
+    LARGE,
+    "POLYGON ((-5 -5, 1 -5, 2 -5, 3 -5, 4 -5, 5 -5, 6 -5, 7 -5, 20 -5, 20 1, 20 2, 20 3, 20 4, 20 5, 20 6, 20 20, -5 20, -5 -5))",
+    "POLYGON ((0 1, 1 2, 2 3, 3 4, 4 5, 5 6, 6 7, 5 7, 4 7, 3 7, 2 7, 1 7, 0 7, 0 6, 0 5, 0 4, 0 3, 0 1))",
+    "POLYGON ((90 0, 91 0, 92 0, 93 0, 94 0, 95 0, 96 0, 97 0, 98 0, 98 1, 98 2, 98 3, 98 4, 98 5, 98 6, 98 7, 90 0))",
+    "LINESTRING (0 1, 1 2, 2 3, 3 4, 4 5, 5 6, 6 7, 7 8, 8 9, 9 9, 9 8, 9 7, 9 6, 9 5, 9 4, 9 3, 8 3)",
+    "LINESTRING (0 1, 1 2, 2 3, 3 4, 4 5, 5 6, 6 7, 7 8, 8 9, 9 9, 9 8, 9 7, 9 6, 9 5, 9 4, 9 3, 9 0)",
+    "LINESTRING (4 -1, 4 1, 5 1, 5 -1, 6 -1, 6 1, 7 1, 7 -1, 8 -1, 9 -1, 9 1, 9 2, 9 3, 9 4, 9 5, 9 6, 9 7)",
+    "MULTILINESTRING ((0 1, 1 2, 2 3, 3 4, 4 5, 5 6, 6 7), (9 0, 9 1, 9 2, 9 3, 9 4, 9 5), (0 -1, 1 -1, 2 -1, 3 -1, 4 -1))",
+    "POLYGON ((-9 -9, 30 -9, 30 30, -9 30, -9 -9), (-2 -2, -2 9, -1 9, 0 9, 1 9, 2 9, 3 9, 4 9, 5 9, 6 9, 7 9, 9 9, 9 -2, -2 -2))",
+];
+
+/// Whether contact of two geometries is known, and as a walk finds it, whichever comes first.
+fn is_known_alike(alloc: Global, first: &str, second: &str) -> Result<bool, Fail> {
     let a = valid(alloc, first)?;
     let b = valid(alloc, second)?;
     let goal = Predicate::Intersects.goal(dimension(a.geometry()), dimension(b.geometry()));
     let walked = meets(alloc, &goal, &a, &b)?;
-    Ok(contact_between(&a, &b) == Some(walked) && contact_between(&b, &a) == Some(walked))
+    Ok(
+        contact_between(alloc, &a, &b) == Some(walked)
+            && contact_between(alloc, &b, &a) == Some(walked),
+    )
 }
 
-/// The first of some texts that isn't told alike beside another one.
-fn told_otherwise(
+/// The first of some texts of which contact with another one isn't known alike.
+fn known_otherwise(
     alloc: Global,
     first: &str,
     texts: &[&'static str],
 ) -> Result<Option<&'static str>, Fail> {
     for second in texts {
-        if !is_told_alike(alloc, first, second)? {
+        if !is_known_alike(alloc, first, second)? {
             return Ok(Some(second));
         }
     }
@@ -77,10 +94,10 @@ fn told_otherwise(
 }
 
 #[test]
-fn contact_is_told_as_by_a_walk(rt: HostRuntime) -> Result<(), Fail> {
+fn contact_is_known_as_by_a_walk(rt: HostRuntime) -> Result<(), Fail> {
     for first in SMALL {
         assert_eq!(rt;
-            told_otherwise(rt.alloc(), first, SMALL)?,
+            known_otherwise(rt.alloc(), first, SMALL)?,
             None,
             "beside {first}"
         );
@@ -93,21 +110,30 @@ fn worked_pairs(rt: HostRuntime) -> Result<(), Fail> {
     for (first, second, wanted) in WORKED {
         let a = valid(rt.alloc(), SMALL.get(*first).ok_or("no first")?)?;
         let b = valid(rt.alloc(), SMALL.get(*second).ok_or("no second")?)?;
-        assert_eq!(rt; contact_between(&a, &b), Some(*wanted), "{first} {second}");
+        assert_eq!(rt;
+            contact_between(rt.alloc(), &a, &b),
+            Some(*wanted),
+            "{first} {second}"
+        );
     }
     Ok(())
 }
 
 #[test]
 fn one_is_small(rt: HostRuntime) -> Result<(), Fail> {
-    assert_eq!(rt; told_otherwise(rt.alloc(), LARGE, SMALL)?, None);
-    assert_eq!(rt; told_otherwise(rt.alloc(), LARGE, &[BOUND])?, None);
+    assert_eq!(rt; known_otherwise(rt.alloc(), LARGE, SMALL)?, None);
+    assert_eq!(rt; known_otherwise(rt.alloc(), LARGE, &[BOUND])?, None);
     Ok(())
 }
 
 #[test]
 fn neither_is_small(rt: HostRuntime) -> Result<(), Fail> {
-    let large = valid(rt.alloc(), LARGE)?;
-    assert_eq!(rt; contact_between(&large, &large), None);
+    for first in LARGES {
+        assert_eq!(rt;
+            known_otherwise(rt.alloc(), first, LARGES)?,
+            None,
+            "beside {first}"
+        );
+    }
     Ok(())
 }

@@ -1,7 +1,7 @@
 use Rattle.std.proofs.Common.{◌∙◌, ap}
 use Rattle.sf_geometry.specs.Envelope.{envelope_of}
 use Rattle.sf_geometry.specs.Parts.{edges_of}
-use Rattle.sf_crossing.specs.Meeting.{ends_meeting}
+use Rattle.sf_edge_tree.specs.Meeting.{ends_meeting}
 use Rattle.sf_prepared.specs.Nearby.{columns_over}
 use Rattle.sf_prepared.proofs.small.by_edges_nearby.Goals as goal
 

@@ -1,5 +1,4 @@
 use Rattle.std.proofs.Common.{◌≡◌, ◌∙◌}
-use Rattle.sf_relate.specs.Matrices.{matrix_of}
 use Rattle.sf_query.proofs.EvidenceLaws.{of-held}
 use Rattle.sf_query.proofs.evidence.shown_by_each.Goals as goal
 

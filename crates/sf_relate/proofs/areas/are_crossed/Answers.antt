@@ -1,6 +1,6 @@
 use Rattle.std.proofs.Common.{◌≡◌, ap, ◌∙◌, subst, map}
 use Rattle.sf_crossing.specs.Crossing.{HaveCrossing}
-use Rattle.sf_crossing.specs.Meeting.{ends_meeting}
+use Rattle.sf_edge_tree.specs.Meeting.{ends_meeting}
 use Rattle.sf_geometry.specs.declared.extent.Extent.{Extent}
 use Rattle.sf_geometry.specs.declared.geometry.Geometry.{Geometry}
 use Rattle.sf_geometry.specs.Envelope.{envelope_of}

@@ -2,7 +2,7 @@ use Rattle.std.proofs.Common.{◌∙◌, ap}
 use Rattle.sf_grid.specs.Plane.{grid_point}
 use Rattle.sf_geometry.specs.Lists.{ends_of}
 use Rattle.sf_geometry.specs.PointSets.{is_among}
-use Rattle.sf_relate.specs.Told.{is_odd_end}
+use Rattle.sf_relate.specs.ByKinds.{is_odd_end}
 use Rattle.sf_relate.proofs.TestedPlaces.{on-line, on-lines-by}
 use Rattle.sf_relate.proofs.locating.place_in.Goals as goal
 

@@ -1,6 +1,8 @@
 use Rattle.std.proofs.Common.{arith, false, sym, subst, ap, ◌∙◌, ◌-◌, ◌≤◌, length, rules, replicate}
+use Rattle.std.proofs.lemmas.List.{length-replicate}
 use Rattle.sf_cells.proofs.CallerLemmas.{counts_none}
 use Rattle.sf_classes.proofs.ClassLaws.{handed-walk}
+use Rattle.sf_strips.specs.declared.contact.Contact.TheVariants.{Never}
 use Rattle.sf_slabs.proofs.SweepLaws.{few-number, vertices-few}
 use Rattle.sf_sweep.proofs.MarksLaws.{groups-few, handed-row}
 use Rattle.sf_sweep.proofs.classes.sweep_in_rows.Goals as goal
@@ -26,11 +28,25 @@ run-requires-clause-few_vertices g c =
     subst (λ vs. length vs ≤ 131070) (sym c.as_slice-3.ensures.value)
     (vertices-few c.args.pieces.now c.in_ok-vertices.vertices.items c.requires.few c.in_ok-vertices.ensures.all)
 
-pub run-requires-clause-few_groups : goal.run-requires-clause-few_groups
-run-requires-clause-few_groups g c = groups-few g.R.Row.width c.args.groups.now (omega (arith, c.requires.fewer_groups))
+pub run-requires-clause-ready : goal.run-requires-clause-ready
+run-requires-clause-ready g c =
+    record {
+      wide = search rules;
+      few_groups = groups-few g.R.Row.width c.args.groups.now (omega (arith, c.requires.fewer_groups));
+      few_counts = omega (arith, c.requires.fewer_groups);
+      odd = search rules;
+      none_on = c.in_ok-sweep.ensures.none_on ∙ ap (λ n. replicate n 0) c.group_count.ensures ∙ sym (counts_none c.args.groups.now);
+      counted = ap length c.in_ok-sweep.ensures.none_above ∙ length-replicate c.group_count.result 0 ∙ c.group_count.ensures;
+    }
 
-pub run-requires-clause-none_on : goal.run-requires-clause-none_on
-run-requires-clause-none_on g c = c.in_ok-sweep.ensures.none_on ∙ ap (λ n. replicate n 0) c.group_count.ensures ∙ sym (counts_none c.args.groups.now)
+pub run-requires-clause-places : goal.run-requires-clause-places
+run-requires-clause-places g c =
+    record {
+      meetings = ap length c.in_ok-sweep.ensures.no_meeting ∙ length-replicate (length c.args.pieces.now) Never ∙ sym c.requires.one_group_each;
+      order = search rules;
+      below = search rules;
+      bench = search rules;
+    }
 
 pub run-requires-clause-none_above : goal.run-requires-clause-none_above
 run-requires-clause-none_above g c = c.in_ok-sweep.ensures.none_above ∙ ap (λ n. replicate n 0) c.group_count.ensures ∙ sym (counts_none c.args.groups.now)

@@ -1,6 +1,6 @@
-use Rattle.std.proofs.Common.{◌≡◌, ◌<◌, ◌^◌, length, []}
+use Rattle.std.proofs.Common.{◌<◌, ◌^◌, length}
 use Rattle.std.specs.List.{All}
-use Rattle.sf_cells.specs.Groups.{counts, group_count}
+use Rattle.sf_sweep.specs.Ready.{IsReady}
 use Rattle.sf_sweep.proofs.RepairLaws.{RepairedSoFar}
 use Rattle.sf_sweep.proofs.repair.repair.Given as goal
 
@@ -11,10 +11,7 @@ invariant-loop-first g l =
       so_far : RepairedSoFar l.areal l.groups l.contacts l.order (g.R.Row.bits l.above) l.fn.table l.table g.S.CellSink.after (g.S.CellSink.content l.fn.sink) (g.S.CellSink.content l.sink) (g.R.Row.bits l.odd) l.rest;
       grouped : All (λ e. e.piece < length l.groups) l.rest;
       few : length l.rest < 2 ^ 32;
-      room : length l.table ≡ length l.groups;
-      len : length l.table ≡ length l.fn.table;
-      none_on : l.tallies.on.items ≡ counts l.groups [];
-      counted : length l.tallies.above.items ≡ group_count l.groups;
+      ready : IsReady g.R.Row.width l.areal l.groups l.table l.tallies;
     }
 
 abbrev pub decreases-loop-first : goal.decreases-loop-first

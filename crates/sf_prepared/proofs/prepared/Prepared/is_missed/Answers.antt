@@ -1,7 +1,7 @@
 use Rattle.std.proofs.Common.{◌∙◌, ap, filter, map, subst}
 use Rattle.sf_geometry.specs.Envelope.{extents_meet}
 use Rattle.sf_geometry.specs.Parts.{edge_of}
-use Rattle.sf_crossing.specs.Meeting.{extent_of_edge}
+use Rattle.sf_edge_tree.specs.Meeting.{extent_of_edge}
 use Rattle.sf_prepared.specs.Places.{AreClear}
 use Rattle.sf_prepared.proofs.EdgeLaws.{met-clear}
 use Rattle.sf_prepared.proofs.prepared.Prepared.is_missed.Goals as goal

@@ -1,7 +1,7 @@
 use Rattle.std.proofs.Common.{◌≡◌, filter, subst}
 use Rattle.std.specs.Prelude.{IfOk}
 use Rattle.sf_geometry.specs.Envelope.{extents_meet}
-use Rattle.sf_crossing.specs.Meeting.{extent_of_edge}
+use Rattle.sf_edge_tree.specs.Meeting.{extent_of_edge}
 use Rattle.sf_prepared.specs.Nearby.{nearby}
 use Rattle.sf_prepared.proofs.prepared.Prepared.nearby.Goals as goal
 

@@ -13,12 +13,12 @@ returns-in-Prepared c =
 pub returns-in-Alike : goal.returns-in-Alike
 returns-in-Alike c =
     of-held c.exactly-in-Alike.result c.args.geometry.now c.given.inside.valid.now c.args.given.now c.given.view_is
-    (matrix-known c.matrix_alike.result c.exactly-in-Alike.result (matrix_of c.args.geometry.now c.given.inside.valid.now) c.exactly-in-Alike.ensures c.matrix_alike.ensures.told)
+    (matrix-known c.matrix_alike.result c.exactly-in-Alike.result (matrix_of c.args.geometry.now c.given.inside.valid.now) c.exactly-in-Alike.ensures c.matrix_alike.ensures.holds)
 
 pub returns-in-Boxes : goal.returns-in-Boxes
 returns-in-Boxes c =
     of-held c.exactly-in-Boxes.result c.args.geometry.now c.given.inside.valid.now c.args.given.now c.given.view_is
-    (matrix-known c.matrix_by_boxes.result c.exactly-in-Boxes.result (matrix_of c.args.geometry.now c.given.inside.valid.now) c.exactly-in-Boxes.ensures c.matrix_by_boxes.ensures.told)
+    (matrix-known c.matrix_by_boxes.result c.exactly-in-Boxes.result (matrix_of c.args.geometry.now c.given.inside.valid.now) c.exactly-in-Boxes.ensures c.matrix_by_boxes.ensures.holds)
 
 pub returns-in-Place : goal.returns-in-Place
 returns-in-Place c =
@@ -47,7 +47,7 @@ returns-in-Nearby c =
 
 pub returns-in-Ends : goal.returns-in-Ends
 returns-in-Ends c =
-    of-held c.known_by_ends.result c.args.geometry.now c.given.inside.valid.now c.args.given.now c.given.view_is c.known_by_ends.ensures.holds
+    of-held c.by_ends.result c.args.geometry.now c.given.inside.valid.now c.args.given.now c.given.view_is c.by_ends.ensures
 
 pub returns-in-Along : goal.returns-in-Along
 returns-in-Along c =

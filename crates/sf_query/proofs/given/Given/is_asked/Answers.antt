@@ -2,11 +2,12 @@ use Rattle.std.proofs.Common.{◌∙◌, ap, subst, sym}
 use Rattle.sf_geometry.specs.declared.geometry.Geometry.{Geometry}
 use Rattle.sf_known.specs.declared.known.Known.{Known}
 use Rattle.sf_known.specs.Known.{Holds}
-use Rattle.sf_known.proofs.KnownLaws.{answers_are_true, both_hold}
+use Rattle.sf_known.proofs.KnownLaws.{answers_are_true}
 use Rattle.sf_relate.specs.Matrices.{matrix_of}
 use Rattle.sf_relate.proofs.FoundLaws.{nothing-holds}
 use Rattle.sf_relate.proofs.ResultLaws.{answered}
 use Rattle.sf_query.specs.Answers.{is_answered, is_asked}
+use Rattle.sf_query.proofs.EvidenceLaws.{together}
 use Rattle.sf_query.proofs.given.Given.is_asked.Goals as goal
 
 pub loop-evidence-init : goal.loop-evidence-init
@@ -23,10 +24,21 @@ returns-in-Some-answer c =
     ∙ c.goal-goal.ensures m
     ∙ ap (λ (g : Geometry). is_answered c.args.ask.now a g m) c.self.view_is
 
+pub returns-in-Some-answer-2 : goal.returns-in-Some-answer-2
+returns-in-Some-answer-2 c =
+    let a = c.args.geometry.now in
+    let b = c.args.self.now in
+    let m = matrix_of a b in
+    let holds : Holds c.with_contact_placed-known.result m =
+    together c.loop-evidence.known c.in-Some-shown.shown c.and.result c.with_contact_placed-known.result a b c.and.ensures c.with_contact_placed-known.ensures c.loop-evidence.invariant c.in-Some-shown.ensures in
+    answers_are_true c.with_contact_placed-known.result c.goal-goal.result m c.in-Some-answer-2.answer holds (sym c.answer-in-loop-evidence.ensures ∙ c.in-Some-answer-2.is)
+    ∙ c.goal-goal.ensures m
+    ∙ ap (λ (g : Geometry). is_answered c.args.ask.now a g m) c.self.view_is
+
 pub loop-evidence-preserved : goal.loop-evidence-preserved
 loop-evidence-preserved c =
-    let m = matrix_of c.args.geometry.now c.args.self.now in
-    subst (λ (k : Known). Holds k m) (sym c.and-known.ensures) (both_hold c.loop-evidence.known c.in-Some-shown.shown m c.loop-evidence.invariant c.in-Some-shown.ensures)
+    together c.loop-evidence.known c.in-Some-shown.shown c.and.result c.with_contact_placed-known.result c.args.geometry.now c.args.self.now c.and.ensures c.with_contact_placed-known.ensures c.loop-evidence.invariant
+    c.in-Some-shown.ensures
 
 pub meets_from-requires : goal.meets_from-requires
 meets_from-requires c = subst (λ (g : Geometry). Holds c.loop-evidence.known (matrix_of c.args.geometry.now g)) (sym c.self.view_is) c.loop-evidence.invariant

@@ -1,9 +1,9 @@
 use Rattle.std.proofs.Common.{sym, subst, ◌∙◌, arith, ◌+◌, length, vec_len}
 use Rattle.sf_strips.specs.Vertices.{begins, pieces_with}
 use Rattle.sf_sweep.specs.declared.front.Front.{Front}
-use Rattle.sf_sweep.specs.Cuts.{HasBenchRoom}
 use Rattle.sf_sweep.specs.Within.{IsBehindColumn}
 use Rattle.sf_sweep.proofs.ColumnLaws.{at-since, bench-fewer, column-both, end-apart, end-column, place-edges, place-few, place-stored, place-within, since-nothing, turn-begun, turn-since, turn-smaller, turn-window, window-fits}
+use Rattle.sf_sweep.proofs.ReadyLaws.{places-both, places-passed, places-same}
 use Rattle.sf_sweep.proofs.class_sweep.ClassSweep.column.Goals as goal
 
 pub loop-window-init : goal.loop-window-init
@@ -12,13 +12,8 @@ loop-window-init g c =
     record {
       since = λ s. since-nothing c.args.x.now c.args.groups.now c.args.areal.now q.front.order.items q.front.meetings q.odd 0 c.args.vertices.now s g.S.CellSink.after (g.S.CellSink.content c.args.sink.now);
       fewer = omega arith;
-      meetings = c.requires.meetings;
-      odd = c.requires.odd;
-      room = omega arith;
-      tail_room = omega arith;
-      bench_room = λ levels edges r. r;
-      none_on = c.requires.none_on;
-      counted = c.requires.counted;
+      places = places-same q;
+      ready = c.requires.ready;
     }
 
 pub split_at-requires : goal.split_at-requires
@@ -42,35 +37,25 @@ advance-from-requires-clause-few g c =
     g.S.CellSink.after (g.S.CellSink.content c.args.sink.now) (g.S.CellSink.content l.sink) (l.invariant.since c.requires.at)) in
     omega (arith, few, c.requires.few, l.invariant.fewer, c.split_at.ensures.front_len, c.split_at.ensures.back_len)
 
-pub advance-from-requires-clause-room : goal.advance-from-requires-clause-room
-advance-from-requires-clause-room g c =
+pub advance-from-requires-clause-places : goal.advance-from-requires-clause-places
+advance-from-requires-clause-places g c =
     let q = c.args.self.now in
     let l = c.loop-window in
     let begun = turn-begun c.args.x.now c.args.groups.now c.args.areal.now q.front.order.items q.front.meetings q.odd 0 c.args.vertices.now c.requires.at l.self.front.order.items l.self.front.meetings l.self.odd l.from l.left.now
     g.S.CellSink.after (g.S.CellSink.content c.args.sink.now) (g.S.CellSink.content l.sink) (l.invariant.since c.requires.at) c.first.result c.in-Some.window c.first.ensures.some c.first.ensures.none
     (sym c.next_window.ensures ∙ c.in-Some.is) c.split_at.result.0.now c.split_at.ensures.front in
-    omega (arith, begun, c.requires.room, l.invariant.room)
-
-pub advance-from-requires-clause-tail_room : goal.advance-from-requires-clause-tail_room
-advance-from-requires-clause-tail_room g c =
-    let q = c.args.self.now in
-    let l = c.loop-window in
-    let begun = turn-begun c.args.x.now c.args.groups.now c.args.areal.now q.front.order.items q.front.meetings q.odd 0 c.args.vertices.now c.requires.at l.self.front.order.items l.self.front.meetings l.self.odd l.from l.left.now
-    g.S.CellSink.after (g.S.CellSink.content c.args.sink.now) (g.S.CellSink.content l.sink) (l.invariant.since c.requires.at) c.first.result c.in-Some.window c.first.ensures.some c.first.ensures.none
-    (sym c.next_window.ensures ∙ c.in-Some.is) c.split_at.result.0.now c.split_at.ensures.front in
-    omega (arith, begun, c.requires.tail_room, l.invariant.tail_room)
-
-pub advance-from-requires-clause-bench_room : goal.advance-from-requires-clause-bench_room
-advance-from-requires-clause-bench_room g c =
-    let q = c.args.self.now in
-    let l = c.loop-window in
-    let begun = turn-begun c.args.x.now c.args.groups.now c.args.areal.now q.front.order.items q.front.meetings q.odd 0 c.args.vertices.now c.requires.at l.self.front.order.items l.self.front.meetings l.self.odd l.from l.left.now
-    g.S.CellSink.after (g.S.CellSink.content c.args.sink.now) (g.S.CellSink.content l.sink) (l.invariant.since c.requires.at) c.first.result c.in-Some.window c.first.ensures.some c.first.ensures.none
-    (sym c.next_window.ensures ∙ c.in-Some.is) c.split_at.result.0.now c.split_at.ensures.front in
-    bench-fewer (length c.args.groups.now + length c.args.vertices.now) (vec_len l.self.front.order + length c.split_at.result.0.now) (length c.args.groups.now)
-    (vec_len l.self.front.order + length (pieces_with begins c.split_at.result.0.now)) l.self.bench
-    (omega (arith, begun, l.invariant.fewer, c.split_at.ensures.front_len, c.split_at.ensures.back_len)) (omega (arith, begun))
-    (l.invariant.bench_room (length c.args.groups.now + length c.args.vertices.now) (length c.args.groups.now) c.requires.bench_room)
+    let h = c.requires.places in
+    let i = l.invariant.places in
+    let n = length c.args.groups.now in
+    record {
+      meetings = i.meetings ∙ h.meetings;
+      order = omega (arith, begun, h.order, i.order);
+      below = omega (arith, begun, h.below, i.below);
+      bench = bench-fewer (n + length c.args.vertices.now) (vec_len l.self.front.order + length c.split_at.result.0.now) n
+          (vec_len l.self.front.order + length (pieces_with begins c.split_at.result.0.now)) l.self.bench
+          (omega (arith, begun, l.invariant.fewer, c.split_at.ensures.front_len, c.split_at.ensures.back_len)) (omega (arith, begun))
+          (i.bench (n + length c.args.vertices.now) n h.bench);
+    }
 
 pub loop-window-smaller : goal.loop-window-smaller
 loop-window-smaller g c =
@@ -94,13 +79,8 @@ loop-window-preserved g c =
           (sym c.next_window.ensures ∙ c.in-Some.is) c.split_at.result.0.now c.split_at.ensures.front
           m.front.order.items m.front.meetings m.odd c.advance-from.result c.split_at.result.1.now (g.S.CellSink.content c.advance-from.new.sink) c.split_at.ensures.back c.advance-from.ensures.behind;
       fewer = omega (arith, l.invariant.fewer, c.split_at.ensures.back_len);
-      meetings = c.advance-from.ensures.meetings ∙ l.invariant.meetings;
-      odd = c.advance-from.ensures.odd ∙ l.invariant.odd;
-      room = omega (arith, c.advance-from.ensures.room, l.invariant.room);
-      tail_room = omega (arith, c.advance-from.ensures.tail_room, l.invariant.tail_room);
-      bench_room = λ levels edges r. c.advance-from.ensures.bench_room levels edges (l.invariant.bench_room levels edges r);
-      none_on = c.advance-from.ensures.none_on;
-      counted = c.advance-from.ensures.counted;
+      places = places-both q l.self m l.invariant.places c.advance-from.ensures.places;
+      ready = c.advance-from.ensures.ready;
     }
 
 pub pass-requires-clause-in_turn : goal.pass-requires-clause-in_turn
@@ -161,10 +141,12 @@ returns-clause-behind g c s =
     let place = at-since x groups areal q.front.order.items q.front.meetings q.odd 0 c.args.vertices.now s l.self.front.order.items l.self.front.meetings l.self.odd l.from l.left.now after old mid t in
     let end : IsBehindColumn place l.self.front.order.items l.self.front.meetings c.pass.new.self.odd after mid new =
     end-column x groups areal l.self.front.order.items l.self.front.meetings l.self.odd l.from l.left.now c.first.result place c.first.ensures.some c.first.ensures.none
-    (sym c.next_window.ensures ∙ c.in_default.is) c.len-end.result c.pass.new.self.odd after mid new (omega (arith, c.len-end.ensures)) l.invariant.odd c.pass.ensures.repaired in
+    (sym c.next_window.ensures ∙ c.in_default.is) c.len-end.result c.pass.new.self.odd after mid new (omega (arith, c.len-end.ensures)) l.invariant.ready.odd c.pass.ensures.repaired in
     column-both x groups areal q.front.order.items q.front.meetings q.odd 0 c.args.vertices.now s l.self.front.order.items l.self.front.meetings l.self.odd l.from l.left.now
     c.pass.new.self.front.order.items c.pass.new.self.front.meetings c.pass.new.self.odd after old mid new t
     (subst (λ (f : Front). IsBehindColumn place f.order.items f.meetings c.pass.new.self.odd after mid new) (sym c.pass.ensures.front) end)
 
-pub returns-clause-bench_room : goal.returns-clause-bench_room
-returns-clause-bench_room g c levels edges r = subst (HasBenchRoom levels edges) (sym c.pass.ensures.bench) (c.loop-window.invariant.bench_room levels edges r)
+pub returns-clause-places : goal.returns-clause-places
+returns-clause-places g c =
+    let l = c.loop-window in
+    places-both c.args.self.now l.self c.pass.new.self l.invariant.places (places-passed l.self c.pass.new.self c.pass.ensures.front c.pass.ensures.bench)

@@ -14,13 +14,13 @@ pub exchange-requires-clause-room : goal.exchange-requires-clause-room
 exchange-requires-clause-room g c =
     let h = c.hand_window.ensures.handed in
     let few = onward-few c.split_at-2.result.1.now c.args.here.now c.hand_window.new.bench.order.items h.levels h.cut.onward in
-    omega (arith, few, ap length c.as_slice-went.ensures.value, c.requires.room, c.requires.in_turn, c.requires.within, c.split_at-2.ensures.back_len, c.split_at.ensures.front_len)
+    omega (arith, few, ap length c.as_slice-went.ensures.value, c.requires.places.order, c.requires.in_turn, c.requires.within, c.split_at-2.ensures.back_len, c.split_at.ensures.front_len)
 
 pub exchange-requires-clause-went : goal.exchange-requires-clause-went
 exchange-requires-clause-went g c =
     let h = c.hand_window.ensures.handed in
     let came : All (λ e. e.piece < length c.args.groups.now) c.split_at-2.result.1.now = search rules in
-    subst (λ n. All (λ e. e.piece < n) c.as_slice-went.result.now) (sym c.requires.meetings)
+    subst (λ n. All (λ e. e.piece < n) c.as_slice-went.result.now) (sym c.requires.places.meetings)
     (subst (All (λ e. e.piece < length c.args.groups.now)) (sym c.as_slice-went.ensures.value)
     (onward-below (length c.args.groups.now) c.split_at-2.result.1.now c.args.here.now c.hand_window.new.bench.order.items h.levels came c.requires.here h.cut.onward))
 
@@ -31,11 +31,17 @@ store-requires-clause-grouped g c =
     subst (All (λ e. e.piece < length c.args.groups.now)) (sym c.as_slice-went.ensures.value)
     (onward-below (length c.args.groups.now) c.split_at-2.result.1.now c.args.here.now c.hand_window.new.bench.order.items h.levels came c.requires.here h.cut.onward)
 
-pub returns-clause-bench_room : goal.returns-clause-bench_room
-returns-clause-bench_room g c levels edges room =
-    c.hand_window.ensures.room levels edges
-    (record {
-      cut = room.cut;
-      order = room.order;
-      contacts = omega (arith, c.gather.ensures.room, room.contacts);
-    })
+pub returns-clause-places : goal.returns-clause-places
+returns-clause-places g c =
+    record {
+      meetings = c.exchange.ensures.len;
+      order = c.exchange.ensures.room;
+      below = c.exchange.ensures.tail_room;
+      bench = λ levels edges room.
+          c.hand_window.ensures.room levels edges
+          (record {
+            cut = room.cut;
+            order = room.order;
+            contacts = omega (arith, c.gather.ensures.room, room.contacts);
+          });
+    }

@@ -1,15 +1,13 @@
 use Rattle.std.proofs.Common.{◌≡◌, ap, sym, subst, ◌∙◌, arith, [], ◌+◌, ◌<◌, length}
-use Rattle.std.proofs.lemmas.List.{length-replicate}
-use Rattle.sf_strips.specs.declared.contact.Contact.TheVariants.{Never}
 use Rattle.sf_cells.specs.Hands.{item}
 use Rattle.sf_cells.specs.Groups.{counts}
-use Rattle.sf_cells.proofs.TallyLaws.{length-counts}
 use Rattle.sf_slabs.proofs.RemainingLaws.{left}
 use Rattle.sf_slabs.proofs.RunLaws.{IsComingNext, Stands, StandsBefore, first-stands}
 use Rattle.sf_sweep.specs.Tables.{contacts_of}
 use Rattle.sf_sweep.proofs.AcrossLaws.{HaveHanded, at-column, fewer-behind, first-handed, first-kept, handed-all, handed-behind, handed-full, kept-behind, stands-behind}
 use Rattle.sf_sweep.proofs.ColumnLaws.{bench-fewer}
 use Rattle.sf_sweep.proofs.LeastLaws.{next-of_first}
+use Rattle.sf_sweep.proofs.ReadyLaws.{places-both, places-same}
 use Rattle.sf_sweep.proofs.class_sweep.ClassSweep.run.Goals as goal
 
 pub loop-next-init : goal.loop-next-init
@@ -29,7 +27,7 @@ loop-next-init g c =
     next-of_first table order c.first.result next vs kept.never kept.alone c.first.ensures.some c.first.ensures.none c.next_place-next.ensures.some c.next_place-next.ensures.none in
     let handed : new ≡ g.S.CellSink.after old (item 2 (counts groups []) (counts groups [])) =
     c.cell.ensures
-    ∙ ap (λ ns. g.S.CellSink.after old (item 2 ns c.deref-2.result.now)) (c.deref.ensures.value ∙ c.requires.none_on)
+    ∙ ap (λ ns. g.S.CellSink.after old (item 2 ns c.deref-2.result.now)) (c.deref.ensures.value ∙ c.requires.ready.none_on)
     ∙ ap (λ ns. g.S.CellSink.after old (item 2 (counts groups []) ns)) (c.deref-2.ensures.value ∙ c.requires.none_above) in
     record {
       stands = first-stands pieces next order (contacts_of table order) vs c.requires.no_edge (ap (contacts_of table) c.requires.no_edge) c.requires.all c.requires.in_order
@@ -37,13 +35,8 @@ loop-next-init g c =
       kept = kept;
       handed = first-handed pieces groups areal order table next vs g.S.CellSink.after old new c.requires.no_edge c.requires.all c.requires.in_order coming handed;
       fewer = omega arith;
-      meetings = ap length c.requires.no_meeting ∙ length-replicate (length groups) Never;
-      odd = c.requires.odd;
-      room = omega arith;
-      tail_room = omega arith;
-      bench_room = λ levels edges r. r;
-      none_on = c.requires.none_on;
-      counted = ap length c.requires.none_above ∙ length-counts groups [];
+      places = places-same q;
+      ready = c.requires.ready;
     }
 
 pub column-requires-clause-at : goal.column-requires-clause-at
@@ -63,18 +56,19 @@ pub column-requires-clause-few : goal.column-requires-clause-few
 column-requires-clause-few g c =
     omega (arith, c.requires.few, c.requires.few_vertices, c.requires.one_group_each, c.loop-next.invariant.fewer, c.split_at.ensures.front_len, c.column_len.ensures.bound)
 
-pub column-requires-clause-room : goal.column-requires-clause-room
-column-requires-clause-room g c = omega (arith, c.requires.room, c.loop-next.invariant.room)
-
-pub column-requires-clause-tail_room : goal.column-requires-clause-tail_room
-column-requires-clause-tail_room g c = omega (arith, c.requires.tail_room, c.loop-next.invariant.tail_room)
-
-pub column-requires-clause-bench_room : goal.column-requires-clause-bench_room
-column-requires-clause-bench_room g c =
+pub column-requires-clause-places : goal.column-requires-clause-places
+column-requires-clause-places g c =
     let n = length c.args.groups.now in
-    bench-fewer (n + length c.args.vertices.now) (n + length c.split_at.result.0.now) n n c.loop-next.self.bench
-    (omega (arith, c.loop-next.invariant.fewer, c.split_at.ensures.front_len, c.column_len.ensures.bound)) (omega arith)
-    (c.loop-next.invariant.bench_room (n + length c.args.vertices.now) n c.requires.bench_room)
+    let h = c.requires.places in
+    let i = c.loop-next.invariant.places in
+    record {
+      meetings = i.meetings ∙ h.meetings;
+      order = omega (arith, h.order, i.order);
+      below = omega (arith, h.below, i.below);
+      bench = bench-fewer (n + length c.args.vertices.now) (n + length c.split_at.result.0.now) n n c.loop-next.self.bench
+          (omega (arith, c.loop-next.invariant.fewer, c.split_at.ensures.front_len, c.column_len.ensures.bound)) (omega arith)
+          (i.bench (n + length c.args.vertices.now) n h.bench);
+    }
 
 pub loop-next-smaller : goal.loop-next-smaller
 loop-next-smaller g c =
@@ -136,13 +130,8 @@ loop-next-preserved g c =
           c.split_at.result.1.now c.split_at.ensures.back m.front.order.items m.front.meetings m.odd g.S.CellSink.after old mid new b next coming
           (subst (λ o. HaveHanded pieces groups areal order table o g.S.CellSink.after old mid) c.in-Some.is l.invariant.handed);
       fewer = omega (arith, l.invariant.fewer, c.split_at.ensures.back_len);
-      meetings = c.column.ensures.meetings ∙ l.invariant.meetings;
-      odd = c.column.ensures.odd ∙ l.invariant.odd;
-      room = omega (arith, c.column.ensures.room, l.invariant.room);
-      tail_room = omega (arith, c.column.ensures.tail_room, l.invariant.tail_room);
-      bench_room = λ levels edges r. c.column.ensures.bench_room levels edges (l.invariant.bench_room levels edges r);
-      none_on = c.column.ensures.none_on;
-      counted = c.column.ensures.counted;
+      places = places-both c.args.self.now l.self m l.invariant.places c.column.ensures.places;
+      ready = c.column.ensures.ready;
     }
 
 pub returns-then-is_full : goal.returns-then-is_full

@@ -1,8 +1,7 @@
-use Rattle.std.proofs.Common.{◌≡◌, ◌≤◌, [], length, vec_capacity}
-use Rattle.sf_cells.specs.Groups.{counts, group_count}
+use Rattle.std.proofs.Common.{◌≤◌, length}
 use Rattle.sf_slabs.proofs.RemainingLaws.{left}
 use Rattle.sf_slabs.proofs.RunLaws.{Stands}
-use Rattle.sf_sweep.specs.Cuts.{KeepsBenchRoom}
+use Rattle.sf_sweep.specs.Ready.{IsReady, KeepsPlaces}
 use Rattle.sf_sweep.specs.Tables.{contacts_of}
 use Rattle.sf_sweep.proofs.AcrossLaws.{HaveHanded, IsKept}
 use Rattle.sf_sweep.proofs.class_sweep.ClassSweep.run.Given as goal
@@ -15,13 +14,8 @@ invariant-loop-next g l =
       kept : IsKept l.groups l.areal l.self.front.order.items l.self.front.meetings l.self.odd;
       handed : HaveHanded l.pieces l.groups l.areal l.self.front.order.items l.self.front.meetings l.next g.S.CellSink.after (g.S.CellSink.content l.fn.sink) (g.S.CellSink.content l.sink);
       fewer : length l.ahead ≤ length l.vertices;
-      meetings : length l.self.front.meetings ≡ length l.groups;
-      odd : length l.self.odd ≡ length l.groups;
-      room : vec_capacity l.fn.self.front.order ≤ vec_capacity l.self.front.order;
-      tail_room : vec_capacity l.fn.self.front.tail ≤ vec_capacity l.self.front.tail;
-      bench_room : KeepsBenchRoom l.fn.self.bench l.self.bench;
-      none_on : l.self.tallies.on.items ≡ counts l.groups [];
-      counted : length l.self.tallies.above.items ≡ group_count l.groups;
+      places : KeepsPlaces l.fn.self l.self;
+      ready : IsReady g.R.Row.width l.areal l.groups l.self.odd l.self.tallies;
     }
 
 abbrev pub decreases-loop-next : goal.decreases-loop-next

@@ -1,0 +1,5 @@
+use Rattle.sf_relate.proofs.ToldLaws.{within_is_decided as law}
+use Rattle.sf_relate.proofs.laws.within_is_decided.Goals as goal
+
+pub returns : goal.returns
+returns c = law
