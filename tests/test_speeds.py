@@ -396,6 +396,26 @@ class Speeds(unittest.TestCase):
         asked = [f"relate a {k} POINT ({TANGLE[0][0]} {TANGLE[0][1]})" for k in range(1, 21)] * 10
         self.check(Claim(["layer add a linestring", *known], [*asked, "layers"], 0.3, b"a linestring"))
 
+    def test_lines_that_lie_in_another_take_no_walk(self) -> None:
+        """Refuses walks over a line that crosses itself a million times: with a part of it, with one that differs in an edge,
+        and with points on it. And a walk over a star for a line that runs along half of its border."""
+        half, nearly = TANGLE[: len(TANGLE) * 3 // 4], [*TANGLE[:-1], (1, 1)]
+        points = f"MULTIPOINT ({', '.join(f'{x} {y}' for x, y in TANGLE[::2])})"
+        border = star()
+        lines = ["layer add a linestring", *[f"add a {text('LINESTRING', TANGLE)}"] * 20]
+        areas = ["layer add a polygon", *[f"add a {text('POLYGON', border)}"] * 20]
+        asked = {
+            "a part": (lines, [f"relate a {k} {text('LINESTRING', half)}" for k in range(1, 21)], 24.0, 10.0),
+            "contains": (lines, [f"query a contains {text('LINESTRING', half)}"], 23.0, 10.0),
+            "nearly": (lines, [f"relate a {k} {text('LINESTRING', nearly)}" for k in range(1, 21)], 40.0, 10.0),
+            "points": (lines, [f"relate a {k} {points}" for k in range(1, 21)], 1.7, 10.0),
+            "along": (areas, [f"relate a {k} {text('LINESTRING', border[:2_000])}" for k in range(1, 21)], 0.4, 4.0),
+        }
+        for name, (known, questions, needed, times) in asked.items():
+            with self.subTest(name):
+                last = known[0].removeprefix("layer add ").encode()
+                self.check(Claim(known, [*questions, "layers"], needed, last, times))
+
     def test_large_geometries_beside_one_another_take_no_walk(self) -> None:
         """Refuses walks of two large geometries whose boxes meet and which share no point, or of which one lies in the other. So few
         are asked about that nothing is prepared for all of them."""

@@ -61,7 +61,7 @@ lengths-of-lists : (lists : List (List Coordinates)) → HaveLength (flat_map ed
 lengths-of-lists [] = tt
 lengths-of-lists (ps ∷ lists) = both-lengths (edges_of_list ps) (flat_map edges_of_list lists) (lengths-between (tight ps) (tight-differ ps)) (lengths-of-lists lists)
 
-lengths : (geometry : Geometry) → HaveLength (edges_of geometry)
+pub lengths : (geometry : Geometry) → HaveLength (edges_of geometry)
 lengths (Point p) = tt
 lengths (LineString ps) = lengths-of-lists (ps ∷ [])
 lengths (Polygon rings) = lengths-of-lists rings

@@ -8,3 +8,4 @@ pub mod OrderLaws
 pub mod NearLaws
 pub mod MarkLaws
 pub mod PairLaws
+pub mod CoverLaws

@@ -48,10 +48,10 @@ share-swapped e f s = record {
 }
 
 -- the edge between two points, and the one from the earlier to the later
-abbrev forward : Coordinates × Coordinates → Line
+abbrev pub forward : Coordinates × Coordinates → Line
 forward pair = edge_between (earlier_of pair.0 pair.1) (later_of pair.0 pair.1)
 
-same-points : (a b : Coordinates) (p : PlanePoint) (t : Bool) → on_edge (edge_between (cond t b a) (cond t a b)) p ≡ on_edge (edge_between a b) p
+pub same-points : (a b : Coordinates) (p : PlanePoint) (t : Bool) → on_edge (edge_between (cond t b a) (cond t a b)) p ≡ on_edge (edge_between a b) p
 same-points a b p true = on_edge-swap b a p
 same-points a b p false = refl
 
@@ -63,16 +63,16 @@ forward-back pair p h = sym (same-points pair.0 pair.1 p (comes_before pair.1 pa
 
 -- ---- members of lists
 -- where a member of a list's image comes from
-record ComesFrom {X Y : Type 0} (f : X → Y) (xs : List X) (y : Y) : Type 0 where
-  from : X
-  among : Contains xs from
-  is : f from ≡ y
+pub record ComesFrom {X Y : Type 0} (f : X → Y) (xs : List X) (y : Y) : Type 0 where
+  pub from : X
+  pub among : Contains xs from
+  pub is : f from ≡ y
 
-image : {X Y : Type 0} (f : X → Y) (xs : List X) (y : Y) → Contains (map f xs) y → ComesFrom f xs y
+pub image : {X Y : Type 0} (f : X → Y) (xs : List X) (y : Y) → Contains (map f xs) y → ComesFrom f xs y
 image f xs y c =
     All-contains (ComesFrom f xs) (map f xs) y (All-map (ComesFrom f xs) f xs (λ k d l. record { from = get_or xs k d; among = All-contains_itself xs k d l; is = refl })) c
 
-image-has : {X Y : Type 0} (f : X → Y) (xs : List X) (x : X) → Contains xs x → Contains (map f xs) (f x)
+pub image-has : {X Y : Type 0} (f : X → Y) (xs : List X) (x : X) → Contains xs x → Contains (map f xs) (f x)
 image-has f xs x c = (c.0, subst (λ n. c.0 < n) (sym (length-map xs f)) c.1, get_or-map f xs c.0 x (f x) c.1 ∙ ap f c.2)
 
 -- ---- two runs that go together

@@ -5,10 +5,11 @@ ghost use Rattle.sf_grid.specs.Bounds.{IsCoordinate, coordinate_bound, differenc
 ghost use Rattle.sf_grid.specs.Edge.{edge_between};
 ghost use Rattle.sf_grid.specs.Sharing.{comes_before as comes_before_of};
 ghost use Rattle.sf_plane.specs.Laws.{ShareTwoPoints};
+ghost use Rattle.sf_along.specs.Covers.{edge_of_run, has_edge};
 ghost use Rattle.sf_along.specs.Marks.{place_of};
 ghost use Rattle.sf_along.specs.Runs.{AreInOrder, GoTogether, HasPartner, IsRun, height_of, key_of, offset_of, reaches as reaches_of, run_of, slope_of};
 
-use sf_grid::edges::meet;
+use sf_grid::edges::{meet, on_edge};
 use sf_grid::{GridPoint, Meet};
 
 /// Slopes are counted in parts of 2^-38: the steepest, of 2^24 - 1 grid steps on one, is less than 2^62 of them.
@@ -28,7 +29,7 @@ pub(crate) const PLACES: usize = 1 << 15;
 pub(crate) struct Run {
     slope: i64,
     height: i64,
-    left: GridPoint,
+    pub(crate) left: GridPoint,
     right: GridPoint,
     pub(crate) is_first: bool,
 }
@@ -59,6 +60,17 @@ impl Run {
         (self.slope, self.height, self.left.x(), self.left.y())
     }
 
+    /// By what runs are sorted where those of the second geometry stand before those of the first with the same first point.
+    pub(crate) fn key_behind_second(&self) -> (i64, i64, i32, i32, bool) {
+        (
+            self.slope,
+            self.height,
+            self.left.x(),
+            self.left.y(),
+            self.is_first,
+        )
+    }
+
     /// The place of its line in a table: lines with the same numbers have one place, and now and then others have it too. A
     /// height counts by its parts and by its whole steps, since those of level lines have no parts.
     pub(crate) fn place(&self) -> usize
@@ -77,6 +89,20 @@ impl Run {
         self.slope == other.slope
             && self.height == other.height
             && comes_before(other.left, self.right)
+    }
+
+    /// Whether another run has the same numbers, and ends no later.
+    pub(crate) fn ends_behind(&self, other: &Run) -> bool {
+        self.slope == other.slope
+            && self.height == other.height
+            && !comes_before(self.right, other.right)
+    }
+
+    /// Whether all of another run lies in this one.
+    pub(crate) fn has(&self, other: &Run) -> bool
+        ensures { result ≡ has_edge (edge_of_run self.now) (edge_of_run other.now) }
+    {
+        on_edge(other.left, self.left, self.right) && on_edge(other.right, self.left, self.right)
     }
 
     /// Whether another run is of the other geometry and has two points in common with this one.

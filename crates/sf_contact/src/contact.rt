@@ -11,6 +11,7 @@ use super::edges::edges_meet;
 use super::starts::has_start_in;
 use sf_crossing::find_sharing;
 use sf_edge_tree::Outcome;
+use sf_geometry::{Geometry, Sequence};
 use sf_relate::common_extent;
 use sf_validity::Valid;
 use std::alloc::Global;
@@ -19,9 +20,14 @@ use std::alloc::Global;
 /// more, trees of edges, or a walk, find contact sooner.
 pub const FEW_POINTS: usize = 16;
 
+/// How many parts each of two geometries has at most for the first point of each part to be looked for in the other: that
+/// takes a pass over the other for each part, and with more of them a walk takes less.
+const FEW_PARTS: usize = 64;
+
 /// Whether two geometries have contact, as `intersects` asks and `disjoint` denies it. Where one of the two is small each
 /// of its edges is tried with those of the other near it, which takes no memory. Where both have more points, trees of
-/// their edges find two that share a point; `None` where that search takes long, or finds no memory.
+/// their edges find two that share a point; `None` where that search takes long, or finds no memory, and where no edges
+/// share a point and one of the two has many parts.
 pub fn contact_between(alloc: Global, a: &Valid, b: &Valid) -> Option<bool>
     ensures holds { IfSome result (λ answer. answer ≡ has_contact (matrix_of a.now b.now)) }
     ensures few { IsTrue (nat_le (point_count b.now) few_points || nat_le (point_count a.now) few_points) → is_some result ≡ true }
@@ -43,11 +49,29 @@ fn contact_of_many(alloc: Global, a: &Valid, b: &Valid) -> Option<bool>
     let first = a.geometry();
     let second = b.geometry();
     let common = common_extent(&first.envelope(), &second.envelope());
+    let are_few = has_few_parts(first) && has_few_parts(second);
     match find_sharing(alloc, first, second, &common) {
         Ok(Outcome::Found) => Some(true),
-        Ok(Outcome::Absent) => Some(has_any_start(a, b)),
-        Ok(Outcome::GaveUp) | Err(_) => None,
+        Ok(Outcome::Absent) if are_few => Some(has_any_start(a, b)),
+        Ok(_) | Err(_) => None,
     }
+}
+
+/// Whether a geometry is of at most [`FEW_PARTS`] points, lines or polygons, and each polygon of as many rings.
+fn has_few_parts(geometry: &Geometry) -> bool {
+    match geometry {
+        Geometry::Point(_) | Geometry::LineString(_) => true,
+        Geometry::MultiPoint(points) => is_few(points),
+        Geometry::MultiLineString(lines) => is_few(lines),
+        Geometry::Polygon(rings) => is_few(rings),
+        Geometry::MultiPolygon(polygons) => is_few(polygons)
+            && polygons.as_slice().iter().all(is_few),
+    }
+}
+
+/// Whether a list is of at most [`FEW_PARTS`] parts.
+fn is_few<T>(parts: &Sequence<T>) -> bool {
+    parts.as_slice().len() <= FEW_PARTS
 }
 
 /// Whether a part of either geometry begins in the other.

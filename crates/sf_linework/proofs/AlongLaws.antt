@@ -1,17 +1,24 @@
 -- Edges of two lines, or of a line and an area, run along one another just where the line's interior and the other one's, or the
 -- area's boundary, have a length in common.
-use Rattle.std.proofs.Common.{◌≡◌, refl, ap, sym, ◌∙◌, subst, Bool, true, false, not, List, [], ◌∷◌}
+use Rattle.std.proofs.Common.{◌≡◌, ◌≢◌, refl, ap, sym, ◌∙◌, subst, Bool, true, false, not, List, [], ◌∷◌, inl, inr, map, zero, suc, take, ℤ, pos, ◌*ℤ◌, arith}
 use Rattle.std.specs.Prelude.{◌↔◌, ◌≤◌, IsTrue, Option, Some, replicate, unwrap_or, ℕ, if◌then◌else◌}
 use Rattle.std.specs.List.{Any, list_any}
 use Rattle.std.proofs.Math.Bool.{or-false}
 use Rattle.std.proofs.lemmas.Bool.{and_from, and_parts, both_ways, false_from_ne_true}
 use Rattle.sf_along.specs.Along.{RunAlong}
+use Rattle.sf_along.specs.Covers.{has_edge}
+use Rattle.sf_along.proofs.EdgeLaws.{lengths}
 use Rattle.sf_geometry.specs.declared.geometry.Geometry.{Geometry}
 use Rattle.sf_geometry.specs.declared.geometry.Geometry.TheVariants.{LineString, MultiLineString, MultiPoint, MultiPolygon, Point, Polygon}
-use Rattle.sf_geometry.specs.Parts.{edges_of}
+use Rattle.sf_geometry.specs.Parts.{edge_of, edges_of}
 use Rattle.sf_geometry.specs.PointSets.{in_boundary, in_interior, on_line, on_polygon}
 use Rattle.sf_grid.specs.Edge.{Edge as Line, on_edge}
-use Rattle.sf_grid.specs.Plane.{Point as PlanePoint}
+use Rattle.std.specs.Ordering.{int_eq}
+use Rattle.std.proofs.lemmas.Int.{ints}
+use Rattle.sf_grid.specs.Plane.{Coordinates, Point as PlanePoint, grid_point, same_point}
+use Rattle.sf_grid.proofs.CallerLemmas.{eq_from_test, on_edge-swap, same_coordinates}
+use Rattle.sf_interiors.proofs.DimensionLaws.{is_grid}
+use Rattle.sf_plane.proofs.CombineLaws.{start_on_edge}
 use Rattle.sf_interiors.proofs.DimensionLaws.{boundary_has_dimension}
 use Rattle.sf_interiors.proofs.ParityLaws.{on-edges}
 use Rattle.sf_interiors.specs.Dimensions.{has_end}
@@ -36,7 +43,7 @@ use Rattle.sf_relate.specs.Matrices.{IsMatrix, both, matrix_of}
 use Rattle.sf_relate.specs.Places.{shape_of}
 use Rattle.sf_relate.specs.declared.shape.Shape.{Shape}
 use Rattle.sf_relate.specs.declared.shape.Shape.TheVariants.{Areas, Lines, Points}
-use Rattle.sf_rules.proofs.MemberLaws.{any-one, in_map, one-any}
+use Rattle.sf_rules.proofs.MemberLaws.{any-one, each-in, in_map, one-any}
 use Rattle.sf_rules.specs.Validity.{IsValid}
 use Rattle.sf_strips.specs.declared.piece.Piece.{Piece}
 use Rattle.sf_strips.specs.declared.piece.Piece.TheVariants.{Edge}
@@ -45,7 +52,7 @@ use Rattle.sf_linework.specs.Alongside.{AlongsideIsKnown, IsKnownAlong, entry_al
 
 -- ---- the edges of a geometry
 -- q is on one of them
-abbrev on_edges : Geometry → PlanePoint → Bool
+abbrev pub on_edges : Geometry → PlanePoint → Bool
 on_edges a q = list_any (λ e. on_edge e q) (edges_of a)
 
 -- they are among its pieces
@@ -75,7 +82,7 @@ record IsOfEdges (all : List Piece) (a : Geometry) (set : PointSet) : Type 0 whe
   full : (some : Any (IsAlong a) (samples all)) → set some.1.point ≡ true
 
 -- of lines that is the interior
-line-on : (a : Geometry) (q : PlanePoint) → shape_of a ≡ Lines → in_interior a q ≡ true → on_edges a q ≡ true
+pub line-on : (a : Geometry) (q : PlanePoint) → shape_of a ≡ Lines → in_interior a q ≡ true → on_edges a q ≡ true
 line-on (LineString ps) q s h =
     on-edges (ps ∷ []) q ∙ or-false (on_line ps q) ∙ (and_parts (on_line ps q) (not (in_boundary (LineString ps) q)) h).0
 line-on (MultiLineString lines) q s h = on-edges lines q ∙ (and_parts (on_polygon lines q) (not (in_boundary (MultiLineString lines) q)) h).0
@@ -292,3 +299,51 @@ known-along a b f g h i s t entry along known is_f is_g is_h is_i of_s of_t e r 
 
 pub along-holds : (a b : Geometry) (known : Known) → IsValid a → IsValid b → IsKnownAlong a b known → Holds known (matrix_of a b)
 along-holds a b known v w is = subst (λ (k : Known). Holds k (matrix_of a b)) (sym is.same) (alongside_is_known a b is.along v w is.told)
+
+-- ---- an edge that lies in another runs along it
+-- what one of the first of a list is, one of the list is
+pub in-take : {A : Type 0} (k : ℕ) (xs : List A) (x : A) → IsIn (take k xs) x → IsIn xs x
+in-take zero [] x i = absurd i
+in-take zero (y ∷ ys) x i = absurd i
+in-take (suc k) [] x i = absurd i
+in-take (suc k) (y ∷ ys) x (inl e) = inl e
+in-take (suc k) (y ∷ ys) x (inr i) = inr (in-take k ys x i)
+
+-- different points of the grid are different points of the plane
+grid-differ : (u v : Coordinates) → u ≢ v → same_point (grid_point u) (grid_point v) ≡ false
+grid-differ u v n =
+    false_from_ne_true (same_point (grid_point u) (grid_point v))
+    (λ t.
+    let parts = and_parts (int_eq (u.x *ℤ pos 1) (v.x *ℤ pos 1)) (int_eq (u.y *ℤ pos 1) (v.y *ℤ pos 1)) t in
+    n (same_coordinates u v (once u.x v.x (eq_from_test _ _ parts.0)) (once u.y v.y (eq_from_test _ _ parts.1))))
+  where
+    once : (x y : ℤ) → x *ℤ pos 1 ≡ y *ℤ pos 1 → x ≡ y
+    once x y e = omega (arith, ints)
+
+abbrev has-pair : Coordinates × Coordinates → Coordinates × Coordinates → Bool
+has-pair e f = has_edge (edge_of f) (edge_of e)
+
+pub within-along : (a b : Geometry) (first second slice others : List (Coordinates × Coordinates)) (k : ℕ) → map edge_of first ≡ edges_of a → map edge_of second ≡ edges_of b →
+    slice ≡ first → others ≡ second → list_any (λ (e : Coordinates × Coordinates). list_any (has-pair e) others) (take k slice) ≡ true → RunAlong a b
+within-along a b first second slice others k is_first is_second same all h =
+    let e = any-one (λ (x : Coordinates × Coordinates). list_any (has-pair x) others) (take k slice) h in
+    let f = any-one (has-pair e.one) others e.passes in
+    let i = subst (λ es. IsIn es (edge_of e.one)) is_first (in_map edge_of first e.one (subst (λ (es : List (Coordinates × Coordinates)). IsIn es e.one) same (in-take k slice e.one e.among))) in
+    let j = subst (λ es. IsIn es (edge_of f.one)) is_second (in_map edge_of second f.one (subst (λ (es : List (Coordinates × Coordinates)). IsIn es f.one) all f.among)) in
+    let ends = and_parts (on_edge (edge_of f.one) (grid_point e.one.0)) (on_edge (edge_of f.one) (grid_point e.one.1)) f.passes in
+    record {
+      first = edge_of e.one;
+      second = edge_of f.one;
+      of_first = contains (edges_of a) (edge_of e.one) i;
+      of_second = contains (edges_of b) (edge_of f.one) j;
+      share =
+          record {
+            first = grid_point e.one.0;
+            second = grid_point e.one.1;
+            is_first = is_grid e.one.0;
+            is_second = is_grid e.one.1;
+            differ = grid-differ e.one.0 e.one.1 (each-in (λ (g : Line). g.a ≢ g.b) (edges_of a) (lengths a) (edge_of e.one) i);
+            first_on_both = (start_on_edge e.one.0 e.one.1, ends.0);
+            second_on_both = (on_edge-swap e.one.0 e.one.1 (grid_point e.one.1) ∙ start_on_edge e.one.1 e.one.0, ends.1);
+          };
+    }

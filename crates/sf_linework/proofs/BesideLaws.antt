@@ -1,8 +1,9 @@
 -- Points have no length, so what a length of lines has of a cell is off them: the interior of lines and the exterior of points share
--- a segment. The exteriors share a triangle beyond both.
-use Rattle.std.proofs.Common.{◌≡◌, refl, ap, sym, ◌∙◌, subst, true, false, ◌||◌, List, [], ◌∷◌}
+-- a segment. Lines have no width, so an area has a triangle off them. The exteriors share a triangle beyond both.
+use Rattle.std.proofs.Common.{◌≡◌, refl, ap, sym, ◌∙◌, subst, Bool, true, false, ◌&&◌, ◌||◌, List, [], ◌∷◌}
 use Rattle.std.specs.Prelude.{Option, Some, unwrap_or, ℕ}
-use Rattle.std.proofs.lemmas.Bool.{and_from, false_from_ne_true}
+use Rattle.std.proofs.lemmas.Bool.{and_from, both_ways, false_from_ne_true}
+use Rattle.sf_crossed.proofs.PartLaws.{area-outside}
 use Rattle.sf_geometry.specs.declared.geometry.Geometry.{Geometry}
 use Rattle.sf_geometry.specs.declared.geometry.Geometry.TheVariants.{LineString, MultiLineString, MultiPoint, MultiPolygon, Point, Polygon}
 use Rattle.sf_geometry.specs.PointSets.{in_boundary, in_exterior, in_interior}
@@ -26,12 +27,12 @@ use Rattle.sf_relate.specs.declared.shape.Shape.{Shape}
 use Rattle.sf_relate.specs.declared.shape.Shape.TheVariants.{Areas, Lines, Points}
 use Rattle.sf_rules.specs.Validity.{IsValid}
 use Rattle.sf_strips.specs.declared.piece.Piece.{Piece}
-use Rattle.sf_linework.specs.Beside.{entry_beside, known_beside_points, known_of_rest}
+use Rattle.sf_linework.specs.Beside.{entry_beside, has_lines, known_beside, known_of_rest}
 use Rattle.sf_linework.proofs.AlongLaws.{any-most, long-entry, no-share}
 
 -- ---- a length of lines that is off points
 -- the interior of lines has a length
-line-long : (a : Geometry) → IsValid a → shape_of a ≡ Lines → HasSegment (in_interior a)
+pub line-long : (a : Geometry) → IsValid a → shape_of a ≡ Lines → HasSegment (in_interior a)
 line-long (LineString ps) v s = (interior_has_dimension (LineString ps) v).0
 line-long (MultiLineString lines) v s = (interior_has_dimension (MultiLineString lines) v).0
 line-long (Point p) v s = absurd cc
@@ -84,23 +85,41 @@ wide-entry set dims.Zero h k = absurd (h.1 (segment_in_triangle set k))
 wide-entry set dims.One h k = absurd (h.1 k)
 wide-entry set dims.Two h k = refl
 
-at-ei : (ii ib ie bi bb be ei eb ee : Dim) → IsAtMost dims.One ei → IsAtMost dims.Two ee → Holds (known_of_rest 6) (ii ∷ ib ∷ ie ∷ bi ∷ bb ∷ be ∷ ei ∷ eb ∷ ee ∷ [])
-at-ei ii ib ie bi bb be ei eb ee long wide =
+at-ei : (rest ii ib ie bi bb be ei eb ee : Dim) → IsAtMost rest ei → IsAtMost dims.Two ee → Holds (known_of_rest 6 rest) (ii ∷ ib ∷ ie ∷ bi ∷ bb ∷ be ∷ ei ∷ eb ∷ ee ∷ [])
+at-ei rest ii ib ie bi bb be ei eb ee left wide =
     record {
-      least = (refl, (refl, (refl, (refl, (refl, (refl, (long, (refl, (wide, refl)))))))));
+      least = (refl, (refl, (refl, (refl, (refl, (refl, (left, (refl, (wide, refl)))))))));
       most = any-most ii ib ie bi bb be ei eb ee;
       contact = no-share (ii ∷ ib ∷ ie ∷ bi ∷ bb ∷ be ∷ ei ∷ eb ∷ ee ∷ []);
     }
 
-at-ie : (ii ib ie bi bb be ei eb ee : Dim) → IsAtMost dims.One ie → IsAtMost dims.Two ee → Holds (known_of_rest 2) (ii ∷ ib ∷ ie ∷ bi ∷ bb ∷ be ∷ ei ∷ eb ∷ ee ∷ [])
-at-ie ii ib ie bi bb be ei eb ee long wide =
+at-ie : (rest ii ib ie bi bb be ei eb ee : Dim) → IsAtMost rest ie → IsAtMost dims.Two ee → Holds (known_of_rest 2 rest) (ii ∷ ib ∷ ie ∷ bi ∷ bb ∷ be ∷ ei ∷ eb ∷ ee ∷ [])
+at-ie rest ii ib ie bi bb be ei eb ee left wide =
     record {
-      least = (refl, (refl, (long, (refl, (refl, (refl, (refl, (refl, (wide, refl)))))))));
+      least = (refl, (refl, (left, (refl, (refl, (refl, (refl, (refl, (wide, refl)))))))));
       most = any-most ii ib ie bi bb be ei eb ee;
       contact = no-share (ii ∷ ib ∷ ie ∷ bi ∷ bb ∷ be ∷ ei ∷ eb ∷ ee ∷ []);
     }
 
-beside_is_known : (a b : Geometry) → IsValid a → IsValid b → Holds (known_beside_points (shape_of a) (shape_of b)) (matrix_of a b)
+at-ee : (ii ib ie bi bb be ei eb ee : Dim) → IsAtMost dims.Two ee → Holds (known_of_rest 8 dims.Two) (ii ∷ ib ∷ ie ∷ bi ∷ bb ∷ be ∷ ei ∷ eb ∷ ee ∷ [])
+at-ee ii ib ie bi bb be ei eb ee wide =
+    record {
+      least = (refl, (refl, (refl, (refl, (refl, (refl, (refl, (refl, (wide, refl)))))))));
+      most = any-most ii ib ie bi bb be ei eb ee;
+      contact = no-share (ii ∷ ib ∷ ie ∷ bi ∷ bb ∷ be ∷ ei ∷ eb ∷ ee ∷ []);
+    }
+
+-- what an area has off a line, where the area comes first
+area-off-line : (a b : Geometry) → shape_of a ≡ Areas → shape_of b ≡ Lines → IsValid a → IsValid b → HasTriangle (both (in_interior a) (in_exterior b))
+area-off-line a b s t v w = let h = area-outside b a t s w v in
+    record { a = h.a; b = h.b; c = h.c; is_a = h.is_a; is_b = h.is_b; is_c = h.is_c; wide = h.wide; has = λ q i k. turned (in_exterior b q) (in_interior a q) (h.has q i k) }
+  where
+    turned : (x y : Bool) → (x && y) ≡ true → (y && x) ≡ true
+    turned true true h = refl
+    turned true false h = h
+    turned false y h = absurd (both_ways false refl h)
+
+beside_is_known : (a b : Geometry) → IsValid a → IsValid b → Holds (known_beside (shape_of a) (shape_of b)) (matrix_of a b)
 beside_is_known a b v w = by_shapes (shape_of a) refl (shape_of b) refl
   where
     m : IsMatrix a b (matrix_of a b)
@@ -109,35 +128,54 @@ beside_is_known a b v w = by_shapes (shape_of a) refl (shape_of b) refl
     wide : IsAtMost dims.Two (dimension_by_samples (all_pieces a b) (both (in_exterior a) (in_exterior b)))
     wide = wide-entry (both (in_exterior a) (in_exterior b)) _ m.1.1.1.1.1.1.1.1.0 (outside-both a b v w)
 
-    by_shapes : (s : Shape) → shape_of a ≡ s → (t : Shape) → shape_of b ≡ t → Holds (known_beside_points s t) (matrix_of a b)
+    by_shapes : (s : Shape) → shape_of a ≡ s → (t : Shape) → shape_of b ≡ t → Holds (known_beside s t) (matrix_of a b)
     by_shapes Points e Lines f =
-        at-ei _ _ _ _ _ _ _ _ _ (long-entry (both (in_exterior a) (in_interior b)) _ m.1.1.1.1.1.1.0 (line-off (all_pieces a b) a b (first_has a b) (second_has a b) v w e f).off_first) wide
+        at-ei dims.One _ _ _ _ _ _ _ _ _ (long-entry (both (in_exterior a) (in_interior b)) _ m.1.1.1.1.1.1.0 (line-off (all_pieces a b) a b (first_has a b) (second_has a b) v w e f).off_first) wide
     by_shapes Lines e Points f =
-        at-ie _ _ _ _ _ _ _ _ _ (long-entry (both (in_interior a) (in_exterior b)) _ m.1.1.0 (line-off (all_pieces a b) b a (second_has a b) (first_has a b) w v f e).off_second) wide
-    by_shapes Lines e Lines f = nothing-holds a b
-    by_shapes Lines e Areas f = nothing-holds a b
-    by_shapes Areas e Lines f = nothing-holds a b
+        at-ie dims.One _ _ _ _ _ _ _ _ _ (long-entry (both (in_interior a) (in_exterior b)) _ m.1.1.0 (line-off (all_pieces a b) b a (second_has a b) (first_has a b) w v f e).off_second) wide
+    by_shapes Lines e Lines f = at-ee _ _ _ _ _ _ _ _ _ wide
+    by_shapes Lines e Areas f = at-ei dims.Two _ _ _ _ _ _ _ _ _ (wide-entry (both (in_exterior a) (in_interior b)) _ m.1.1.1.1.1.1.0 (area-outside a b e f v w)) wide
+    by_shapes Areas e Lines f = at-ie dims.Two _ _ _ _ _ _ _ _ _ (wide-entry (both (in_interior a) (in_exterior b)) _ m.1.1.0 (area-off-line a b e f v w)) wide
     by_shapes Areas e Areas f = nothing-holds a b
     by_shapes Areas e Points f = nothing-holds a b
     by_shapes Points e Areas f = nothing-holds a b
     by_shapes Points e Points f = nothing-holds a b
 
 -- ---- as it is called
-of-entry : (s t : Shape) (entry : ℕ) → ◌≡◌ {A = Option ℕ} (Some entry) (entry_beside s t) → known_of_rest entry ≡ known_beside_points s t
-of-entry Points Lines entry h = ap (λ o. known_of_rest (unwrap_or o 0)) h
-of-entry Lines Points entry h = ap (λ o. known_of_rest (unwrap_or o 0)) h
-of-entry Lines Lines entry h = absurd cc
-of-entry Lines Areas entry h = absurd cc
-of-entry Areas Lines entry h = absurd cc
-of-entry Areas Areas entry h = absurd cc
-of-entry Areas Points entry h = absurd cc
-of-entry Points Areas entry h = absurd cc
-of-entry Points Points entry h = absurd cc
+abbrev of-rest : ℕ × Dim → Known
+of-rest e = known_of_rest e.0 e.1
 
-pub known-beside : (a b f g : Geometry) (s t : Shape) (entry : ℕ) (known : Known) → f ≡ a → g ≡ b → s ≡ shape_of f → t ≡ shape_of g → ◌≡◌ {A = Option ℕ} (Some entry) (entry_beside s t)
-    → known ≡ known_of_rest entry → known ≡ known_beside_points (shape_of a) (shape_of b)
-known-beside a b f g s t entry known is_f is_g of_s of_t e same =
-    same ∙ of-entry s t entry e ∙ ap (λ x. known_beside_points x t) (of_s ∙ ap shape_of is_f) ∙ ap (known_beside_points (shape_of a)) (of_t ∙ ap shape_of is_g)
+of-entry : (s t : Shape) (e : ℕ × Dim) → ◌≡◌ {A = Option (ℕ × Dim)} (Some e) (entry_beside s t) → of-rest e ≡ known_beside s t
+of-entry Points Lines e h = ap (λ o. of-rest (unwrap_or o (0, dims.One))) h
+of-entry Lines Points e h = ap (λ o. of-rest (unwrap_or o (0, dims.One))) h
+of-entry Lines Lines e h = ap (λ o. of-rest (unwrap_or o (0, dims.One))) h
+of-entry Lines Areas e h = ap (λ o. of-rest (unwrap_or o (0, dims.One))) h
+of-entry Areas Lines e h = ap (λ o. of-rest (unwrap_or o (0, dims.One))) h
+of-entry Areas Areas e h = absurd cc
+of-entry Areas Points e h = absurd cc
+of-entry Points Areas e h = absurd cc
+of-entry Points Points e h = absurd cc
 
-pub beside-holds : (a b : Geometry) (known : Known) → IsValid a → IsValid b → known ≡ known_beside_points (shape_of a) (shape_of b) → Holds known (matrix_of a b)
+pub known-beside : (a b f g : Geometry) (s t : Shape) (e : ℕ × Dim) (known : Known) → f ≡ a → g ≡ b → s ≡ shape_of f → t ≡ shape_of g → ◌≡◌ {A = Option (ℕ × Dim)} (Some e) (entry_beside s t)
+    → known ≡ known_of_rest e.0 e.1 → known ≡ known_beside (shape_of a) (shape_of b)
+known-beside a b f g s t e known is_f is_g of_s of_t h same =
+    same ∙ of-entry s t e h ∙ ap (λ x. known_beside x t) (of_s ∙ ap shape_of is_f) ∙ ap (known_beside (shape_of a)) (of_t ∙ ap shape_of is_g)
+
+pub beside-holds : (a b : Geometry) (known : Known) → IsValid a → IsValid b → known ≡ known_beside (shape_of a) (shape_of b) → Holds known (matrix_of a b)
 beside-holds a b known v w is = subst (λ (k : Known). Holds k (matrix_of a b)) (sym is) (beside_is_known a b v w)
+
+-- something is given exactly where one of the two is lines
+has-entry : (s t : Shape) (e : ℕ × Dim) → ◌≡◌ {A = Option (ℕ × Dim)} (Some e) (entry_beside s t) → true ≡ has_lines s t
+has-entry Points Lines e h = refl
+has-entry Lines Points e h = refl
+has-entry Lines Lines e h = refl
+has-entry Lines Areas e h = refl
+has-entry Areas Lines e h = refl
+has-entry Areas Areas e h = absurd cc
+has-entry Areas Points e h = absurd cc
+has-entry Points Areas e h = absurd cc
+has-entry Points Points e h = absurd cc
+
+pub beside-answers : (a b f g : Geometry) (s t : Shape) (e : ℕ × Dim) → f ≡ a → g ≡ b → s ≡ shape_of f → t ≡ shape_of g → ◌≡◌ {A = Option (ℕ × Dim)} (Some e) (entry_beside s t)
+    → true ≡ has_lines (shape_of a) (shape_of b)
+beside-answers a b f g s t e is_f is_g of_s of_t h = has-entry s t e h ∙ ap (λ x. has_lines x t) (of_s ∙ ap shape_of is_f) ∙ ap (has_lines (shape_of a)) (of_t ∙ ap shape_of is_g)

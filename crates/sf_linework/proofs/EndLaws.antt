@@ -59,10 +59,10 @@ odd-any {A} t xs h = by_test (list_any t xs) refl
         ∙ none xs))
         h)
 
-abbrev IsEnd : List Coordinates → PlanePoint → Type 0
+abbrev pub IsEnd : List Coordinates → PlanePoint → Type 0
 IsEnd ps q = HasOne (λ p. same_point (grid_point p) q) ps
 
-end-of : (a : Geometry) (q : PlanePoint) → is_lines a ≡ true → in_boundary a q ≡ true → IsEnd (ends_of a) q
+pub end-of : (a : Geometry) (q : PlanePoint) → is_lines a ≡ true → in_boundary a q ≡ true → IsEnd (ends_of a) q
 end-of (LineString ps) q s h =
     let end = any-one (λ p. same_point (grid_point p) q) (ends_of_line ps) h in
     record { one = end.one; among = in_append_left (ends_of_line ps) [] end.one end.among; passes = end.passes }
@@ -77,7 +77,7 @@ end-of (MultiPolygon polygons) q s h = absurd (both_ways false refl s)
 
 -- ---- of the boundary a union of cells has a point just where it has one of the ends
 -- of the set an end is as each point that is the same
-as-end : (all : List Piece) (set : PointSet) (p : Coordinates) (q : PlanePoint) → IsUnionOfCells all set → IsPoint q → same_point (grid_point p) q ≡ true → set (grid_point p) ≡ set q
+pub as-end : (all : List Piece) (set : PointSet) (p : Coordinates) (q : PlanePoint) → IsUnionOfCells all set → IsPoint q → same_point (grid_point p) q ≡ true → set (grid_point p) ≡ set q
 as-end all set p q u i s = u (grid_point p) q (is_grid p) i (one_cell all (grid_point p) q (is_grid p) i s)
 
 at-ends : (all : List Piece) (a : Geometry) (set : PointSet) (d : Dim) → is_lines a ≡ true → IsUnionOfCells all (in_boundary a) → IsUnionOfCells all set
@@ -97,7 +97,7 @@ at-ends all a set d s edge u h = same_tests (is_filled d) (list_any (λ p. both 
         fills (both (in_boundary a) set) d h (record { point = grid_point end.one; is_point = is_grid end.one; has = end.passes })
 
 -- ---- an entry of the row
-are-lines : (a : Geometry) → is_lines a ≡ true → shape_of a ≡ Lines
+pub are-lines : (a : Geometry) → is_lines a ≡ true → shape_of a ≡ Lines
 are-lines (LineString ps) s = refl
 are-lines (MultiLineString lines) s = refl
 are-lines (Point p) s = absurd (both_ways false refl s)
@@ -111,7 +111,7 @@ part-short a set v s h =
     ends-short a v (are-lines a s)
     (record { a = h.a; b = h.b; is_a = h.is_a; is_b = h.is_b; differ = h.differ; has = λ p i j. (and_parts (in_boundary a p) (set p) (h.has p i j)).0 })
 
-of-point : (b : Bool) (d : Dim) → is_filled d ≡ b → IsAtMost d dims.Zero → if_seen b ≡ d
+pub of-point : (b : Bool) (d : Dim) → is_filled d ≡ b → IsAtMost d dims.Zero → if_seen b ≡ d
 of-point true dims.Nothing h k = absurd (both_ways false refl h)
 of-point false dims.Nothing h k = refl
 of-point true dims.Zero h k = refl

@@ -2,3 +2,5 @@ pub mod EndLaws
 pub mod AlongLaws
 pub mod TurnedLaws
 pub mod BesideLaws
+pub mod CoverLaws
+pub mod PointsLaws

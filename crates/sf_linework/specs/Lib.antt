@@ -1,3 +1,5 @@
 pub mod Ends
 pub mod Alongside
 pub mod Beside
+pub mod Cover
+pub mod Points

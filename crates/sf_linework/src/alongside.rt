@@ -28,7 +28,7 @@ pub fn known_alongside(alloc: Global, a: &Valid, b: &Valid) -> Option<Known>
 }
 
 /// The entry that edges tell which run along one another, of two lines or of a line and an area.
-fn entry_alongside(a: Shape, b: Shape) -> Option<usize>
+pub(crate) fn entry_alongside(a: Shape, b: Shape) -> Option<usize>
     ensures place { result ≡ entry_alongside a b }
     ensures bound { IfSome result (λ entry. entry < 9) }
 {
@@ -41,7 +41,7 @@ fn entry_alongside(a: Shape, b: Shape) -> Option<usize>
 }
 
 /// What is known of an entry by whether it has a length.
-fn known_of_length(entry: usize, along: bool) -> Known
+pub(crate) fn known_of_length(entry: usize, along: bool) -> Known
     requires { entry < 9 }
     ensures { result ≡ known_of_length entry along }
 {

@@ -29,7 +29,7 @@ pub fn known_by_ends(a: &Valid, b: &Valid) -> Option<Known>
 }
 
 /// Whether the geometry is one line or several.
-fn is_lines(geometry: &Valid) -> bool
+pub(crate) fn is_lines(geometry: &Valid) -> bool
     ensures { result ≡ is_lines geometry.now }
 {
     matches!(
@@ -53,15 +53,15 @@ fn known_by_own_ends(lines: &Valid, other: &Valid) -> Known
 
 /// In which places of another geometry ends were seen.
 #[derive(Clone, Copy)]
-struct Seen {
-    interior: bool,
-    boundary: bool,
-    exterior: bool,
+pub(crate) struct Seen {
+    pub(crate) interior: bool,
+    pub(crate) boundary: bool,
+    pub(crate) exterior: bool,
 }
 
 impl Seen {
     /// In none.
-    fn none() -> Seen
+    pub(crate) fn none() -> Seen
         ensures { result ≡ none_seen }
     {
         Seen {
@@ -72,7 +72,7 @@ impl Seen {
     }
 
     /// In this one.
-    fn at(place: Place) -> Seen
+    pub(crate) fn at(place: Place) -> Seen
         ensures { result ≡ seen_at place }
     {
         match place {
@@ -92,7 +92,7 @@ impl Seen {
     }
 
     /// In those of both.
-    fn or(self, other: Seen) -> Seen
+    pub(crate) fn or(self, other: Seen) -> Seen
         ensures { result ≡ seen_or self other }
     {
         Seen {
@@ -103,7 +103,7 @@ impl Seen {
     }
 
     /// Whether in all, so that no further end tells more.
-    fn is_all(self) -> bool
+    pub(crate) fn is_all(self) -> bool
         ensures { result ≡ is_all self }
     {
         self.interior && self.boundary && self.exterior
@@ -161,7 +161,7 @@ fn known_of_seen(seen: Seen) -> Known
 }
 
 /// The dimension of ends, if there are some.
-fn if_seen(seen: bool) -> Dim
+pub(crate) fn if_seen(seen: bool) -> Dim
     ensures { result ≡ if_seen seen }
 {
     if seen { Zero } else { Nothing }

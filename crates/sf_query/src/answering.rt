@@ -45,6 +45,7 @@ impl Given<'_> {
         }
         let goal = ask.goal(geometry, self.valid);
         let mut known = Known::nothing();
+        let mut is_first = true;
         for evidence in order_of(ask, self, geometry) {
             if !evidence.pays(&known) {
                 continue;
@@ -56,9 +57,18 @@ impl Given<'_> {
                 return Ok(answer);
             }
             known = known.and(&shown).with_contact_placed();
+            // What the first one shows has been asked by itself.
+            if is_first {
+                is_first = false;
+                continue;
+            }
             if let Some(answer) = known.answer(&goal) {
                 return Ok(answer);
             }
+        }
+        if self.prepared.is_none() && pays_to_prepare(geometry, self.valid) {
+            let known = self.known_prepared(alloc, geometry, &known);
+            return meets_from(alloc, &goal, geometry, self.valid, &known);
         }
         meets_from(alloc, &goal, geometry, self.valid, &known)
     }

@@ -12,15 +12,15 @@ ghost use Rattle.sf_relate.specs.Matrices.{matrix_of};
 ghost use Rattle.sf_contact.specs.Few.{few_points};
 
 use super::given::Given;
-use super::order::MANY_POINTS;
+use super::order::{COVER_POINTS, MANY_POINTS};
 use sf_contact::{FEW_POINTS, contact_between, known_by_sides};
 use sf_crossed::known_by_crossed_lines;
 use sf_geometry::Geometry;
-use sf_linework::{known_alongside, known_beside_points, known_by_ends};
+use sf_linework::{known_alongside, known_beside, known_by_cover, known_by_ends, known_by_points};
 use sf_prepared::{matrix_nearby, matrix_with_area};
 use sf_relate::{
-    Dim, Known, Matrix, known_by_crossing, known_of_place, locate, matrix_alike, matrix_apart,
-    matrix_by_boxes, shares_first_point,
+    Dim, Known, Matrix, known_by_crossing, known_of_kinds, known_of_place, locate, matrix_alike,
+    matrix_apart, matrix_by_boxes, shares_first_point,
 };
 use sf_validity::Valid;
 use std::alloc::Global;
@@ -38,6 +38,8 @@ pub(crate) enum Evidence {
     Boxes,
     /// The place of a Point in the given geometry, or of a given Point in the feature's.
     Place,
+    /// The places of a MultiPoint's points in lines.
+    Points,
     /// First points that lie in the other geometry.
     FirstPoints,
     /// Edges that share a point, or that none do: those of a small geometry one by one, and of two large ones those near one another.
@@ -48,17 +50,21 @@ pub(crate) enum Evidence {
     Crossing,
     /// Those edges of a large area that are near a small geometry: of the feature's, or of the given one.
     Nearby,
-    /// The places of lines' ends in the other geometry, and what points leave of lines.
+    /// Whether all edges of lines lie in edges of another line or of an area's border, and all edges of the border in those of lines, or some
+    /// end off them.
+    Cover,
+    /// The places of lines' ends in the other geometry, and what is left beside lines or points.
     Ends,
     /// Edges of a line that run along the other geometry's, or that none does.
     Along,
 }
 
 impl Evidence {
-    /// Whether it is worth a look, by what is known. What lines show beside is of use once something of an entry is known. What shows
-    /// no more than contact is of none where that is known.
+    /// Whether it is worth a look, by what is known. What lines show beside is of use once something of an entry is known, and whether
+    /// they cover one another where no edges were found that cross. What shows no more than contact is of no use where that is known.
     pub(crate) fn pays(self, known: &Known) -> bool {
         match self {
+            Evidence::Cover => !has_entry(known),
             Evidence::Ends | Evidence::Along => has_entry(known),
             Evidence::FirstPoints | Evidence::Edges => !shows_contact(known),
             _ => true,
@@ -75,11 +81,13 @@ impl Evidence {
             Evidence::Alike => exactly(matrix_alike(geometry, given.valid)),
             Evidence::Boxes => exactly(matrix_by_boxes(geometry, given.valid, given.extent)),
             Evidence::Place => by_place(geometry, given.valid),
+            Evidence::Points => known_by_points(alloc, geometry, given.valid),
             Evidence::FirstPoints => by_first_points(geometry, given.valid),
             Evidence::Edges => by_edges(alloc, geometry, given.valid),
             Evidence::Sides => known_by_sides(geometry, given.valid),
             Evidence::Crossing => by_crossing(alloc, geometry, given.valid),
             Evidence::Nearby => exactly(matrix_by_edges_nearby(alloc, geometry, given.valid)),
+            Evidence::Cover => by_cover(alloc, geometry, given.valid),
             Evidence::Ends => by_ends(geometry, given.valid),
             Evidence::Along => known_alongside(alloc, geometry, given.valid),
         }
@@ -98,8 +106,8 @@ fn shows_contact(known: &Known) -> bool {
 }
 
 /// What each kind of evidence shows of the matrix of a feature's geometry with the given one, one beside the other: clear of what
-/// was prepared, near it, alike, place, first points, edges, sides, crossing, nearby, ends, along.
-pub fn shown_by_each(alloc: Global, geometry: &Valid, given: &Valid) -> [Option<Known>; 11]
+/// was prepared, near it, alike, place, points, first points, edges, sides, crossing, nearby, cover, ends, along.
+pub fn shown_by_each(alloc: Global, geometry: &Valid, given: &Valid) -> [Option<Known>; 13]
     ensures { AllByRecursion (λ shown. IfSome shown (λ known. Holds known (matrix_of geometry.now given.now))) result }
 {
     let given = Given::new(given).prepared(alloc);
@@ -108,11 +116,13 @@ pub fn shown_by_each(alloc: Global, geometry: &Valid, given: &Valid) -> [Option<
         Evidence::Prepared.shown(alloc, geometry, &given),
         Evidence::Alike.shown(alloc, geometry, &given),
         Evidence::Place.shown(alloc, geometry, &given),
+        Evidence::Points.shown(alloc, geometry, &given),
         Evidence::FirstPoints.shown(alloc, geometry, &given),
         Evidence::Edges.shown(alloc, geometry, &given),
         Evidence::Sides.shown(alloc, geometry, &given),
         Evidence::Crossing.shown(alloc, geometry, &given),
         Evidence::Nearby.shown(alloc, geometry, &given),
+        Evidence::Cover.shown(alloc, geometry, &given),
         Evidence::Ends.shown(alloc, geometry, &given),
         Evidence::Along.shown(alloc, geometry, &given),
     ]
@@ -203,15 +213,25 @@ fn by_first_points(geometry: &Valid, given: &Valid) -> Option<Known>
     shares_first_point(geometry, given).then_some(sharing())
 }
 
-/// The ends of lines show what their boundary has, and a line has more than points.
+/// Whether edges lie in edges shows what lines leave of one another or of a border. Of small geometries a walk shows it as soon.
+fn by_cover(alloc: Global, geometry: &Valid, given: &Valid) -> Option<Known>
+    ensures { IfSome result (λ known. Holds known (matrix_of geometry.now given.now)) }
+{
+    let points = geometry.geometry().point_count();
+    if points < COVER_POINTS && given.geometry().point_count() < COVER_POINTS {
+        return None;
+    }
+    known_by_cover(alloc, geometry, given)
+}
+
+/// The ends of lines show what their boundary has. A line has more than points, and an area more than lines; and no entry has more
+/// than the kinds allow.
 fn by_ends(geometry: &Valid, given: &Valid) -> Option<Known>
     ensures { IfSome result (λ known. Holds known (matrix_of geometry.now given.now)) }
 {
     let ends = known_by_ends(geometry, given)?;
-    match known_beside_points(geometry, given) {
-        Some(beside) => Some(ends.and(&beside)),
-        None => Some(ends),
-    }
+    let beside = known_beside(geometry, given)?;
+    Some(ends.and(&beside).and(&known_of_kinds(geometry, given)))
 }
 
 /// That the geometries share a point.

@@ -2,8 +2,8 @@
 
 use super::ask::Ask;
 use super::evidence::Evidence::{
-    self, Alike, Along, Boxes, Clear, Crossing, Edges, Ends, FirstPoints, Nearby, Place, Prepared,
-    Sides,
+    self, Alike, Along, Boxes, Clear, Cover, Crossing, Edges, Ends, FirstPoints, Nearby, Place,
+    Points, Prepared, Sides,
 };
 use super::given::Given;
 use sf_contact::FEW_POINTS;
@@ -20,58 +20,68 @@ pub(crate) const MANY_FEATURES_OF_FEW_POINTS: usize = 32;
 /// edges that cross. And where both have so many, to prepare one of them pays for the other alone.
 pub(crate) const MANY_POINTS: usize = 32;
 
+/// How many points one of two geometries has at least for their edges to be sorted, to see whether they cover one another. A walk over
+/// fewer takes as little.
+pub(crate) const COVER_POINTS: usize = 64;
+
 /// Where contact is asked for by name, a first point shows it soonest where both geometries are large, and edges that meet show it, or
 /// that there is none, of small ones and of large ones.
-static OF_CONTACT: [Evidence; 3] = [Place, FirstPoints, Edges];
+static OF_CONTACT: [Evidence; 4] = [Place, Points, FirstPoints, Edges];
 
 /// The same where the given geometry was prepared, and a feature has few points: what was prepared shows most.
-static OF_CONTACT_WITH_FEW: [Evidence; 5] = [Clear, Prepared, Place, Edges, FirstPoints];
+static OF_CONTACT_WITH_FEW: [Evidence; 6] = [Clear, Prepared, Place, Points, Edges, FirstPoints];
 
 /// Where the feature has many points, a walk over those nearby comes last: it takes all of the feature's edges.
-static OF_CONTACT_WITH_MANY: [Evidence; 4] = [Clear, FirstPoints, Edges, Prepared];
+static OF_CONTACT_WITH_MANY: [Evidence; 5] = [Clear, Points, FirstPoints, Edges, Prepared];
 
 /// Whatever else is asked, geometries written alike show all: under a rule of a layer with itself each feature is asked with
 /// itself. Of areas side by side all is known but how their boundaries meet, and edges that cross show most. Edges that meet show no
 /// more than that there is contact, which is of both boundaries where areas lie side by side. Of lines that cross, ends and edges along the other
-/// geometry show what is left.
-static OF_MATRIX: [Evidence; 8] = [Alike, Sides, Crossing, Place, Edges, Nearby, Ends, Along];
+/// geometry show what is left; of lines that only have contact, first of all whether they cover one another.
+static OF_MATRIX: [Evidence; 10] = [
+    Alike, Sides, Crossing, Place, Points, Edges, Nearby, Cover, Ends, Along,
+];
 
 /// The same where the given geometry was prepared, and a feature has few points.
-static OF_MATRIX_WITH_FEW: [Evidence; 10] = [
-    Clear, Prepared, Alike, Sides, Crossing, Place, Edges, Nearby, Ends, Along,
+static OF_MATRIX_WITH_FEW: [Evidence; 12] = [
+    Clear, Prepared, Alike, Sides, Crossing, Place, Points, Edges, Nearby, Cover, Ends, Along,
 ];
 
 /// Where the feature has many points.
-static OF_MATRIX_WITH_MANY: [Evidence; 9] = [
-    Clear, Alike, Sides, Crossing, Prepared, Edges, Nearby, Ends, Along,
+static OF_MATRIX_WITH_MANY: [Evidence; 11] = [
+    Clear, Alike, Sides, Crossing, Points, Prepared, Edges, Nearby, Cover, Ends, Along,
 ];
 
 /// Where all entries of one feature are asked, and the given geometry has few points: edges nearby show all of them, whether or not
 /// boxes meet. Of areas side by side nothing is left once they are known to share a point. Edges look at first points too, which are
 /// asked by themselves where that search was given up.
-static OF_ENTRIES_OF_FEW: [Evidence; 10] = [
+static OF_ENTRIES_OF_FEW: [Evidence; 12] = [
     Alike,
     Place,
+    Points,
     Nearby,
     Boxes,
     Crossing,
     Sides,
     Edges,
     FirstPoints,
+    Cover,
     Ends,
     Along,
 ];
 
 /// Where it has many, boxes come before.
-static OF_ENTRIES_OF_MANY: [Evidence; 10] = [
+static OF_ENTRIES_OF_MANY: [Evidence; 12] = [
     Alike,
     Boxes,
     Place,
+    Points,
     Nearby,
     Crossing,
     Sides,
     Edges,
     FirstPoints,
+    Cover,
     Ends,
     Along,
 ];

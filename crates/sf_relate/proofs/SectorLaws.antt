@@ -6,7 +6,7 @@ use Rattle.std.specs.Prelude.{int_lt}
 use Rattle.std.specs.List.{AllByRecursion, count_by}
 use Rattle.std.specs.Ordering.{int_eq}
 use Rattle.std.proofs.lemmas.Bool.{and_from, and_parts, both_ways, false_from_ne_true, or_cases}
-use Rattle.std.proofs.lemmas.Int.{ints}
+use Rattle.std.proofs.lemmas.Int.{by_lt_z, ints}
 use Rattle.std.proofs.lemmas.List.Sums.{sum_by-cons}
 use native.Mathlib.Nat.{mul-lt-mul_of_pos_right}
 use Rattle.sf_grid.specs.Edge.{Edge as Line, IsOnEdge, cross, edge_above, on_edge}
@@ -23,9 +23,9 @@ use Rattle.sf_plane.specs.Dimension.{HasSegment, HasTriangle, PointSet, area, me
 use Rattle.sf_rules.proofs.MemberLaws.{count-same, each-from_in, each-in}
 use Rattle.sf_interiors.proofs.AlongLaws.{along-on, rise_to, run_to}
 use Rattle.sf_interiors.proofs.ChainLaws.{IsBalanced}
-use Rattle.sf_interiors.proofs.InsideLaws.{IsOff, each-fine, stays-off, swerves}
-use Rattle.sf_interiors.proofs.NudgeLaws.{IsFine, swerve}
-use Rattle.sf_interiors.proofs.SideLaws.{differ}
+use Rattle.sf_interiors.proofs.InsideLaws.{IsOff, balanced-off, each-fine, stays-off, swerves}
+use Rattle.sf_interiors.proofs.NudgeLaws.{IsFine, above-left, above-right, swerve}
+use Rattle.sf_interiors.proofs.SideLaws.{differ, edge_above_left}
 use Rattle.sf_crossing.specs.Crossing.{HaveCrossing, are_parted}
 use Rattle.sf_relate.proofs.CornerLaws.{HasAlone, IsAmid, IsSided, sided, stepped}
 
@@ -637,3 +637,72 @@ module _ (es fs : List Line) (h : HaveCrossing es fs) where
       has q i
       (told es h.first h.point h.is_point (differ s.base odd_first) q i r s odd_first refl)
       (told fs h.second h.point h.is_point (differ t.base odd_second) q i o t odd_second refl))
+
+-- ---- beside a point that is off a list's edges
+-- all small steps from it lead to points that have as many edges above them, up to an even number
+stays-at : (es : List Line) (p : Point) (i j : ℤ) (k : ℕ) → IsPoint p → IsBalanced es p → AllByRecursion (IsFine i j k) es → IsOff p es →
+    is_odd (edges_above (nudged k i j p) es) ≡ is_odd (edges_above p es)
+stays-at es p i j k o b f h =
+    by_lt_z i (pos 0)
+    (λ l.
+    ap is_odd
+    (count-same (λ e. edge_above e (nudged k i j p)) (λ e. edge_above_left e p) es
+    (each-both (IsFine i j k) (λ e. on_edge e p ≡ false) (λ e. edge_above e (nudged k i j p) ≡ edge_above_left e p) es (λ e g t. above-left e p i j k o g l t) f h))
+    ∙ balanced-off es p b h)
+    (λ l.
+    ap is_odd
+    (count-same (λ e. edge_above e (nudged k i j p)) (λ e. edge_above e p) es
+    (each-both (IsFine i j k) (λ e. on_edge e p ≡ false) (λ e. edge_above e (nudged k i j p) ≡ edge_above e p) es (λ e g t. above-right e p i j k o g l t) f h)))
+
+-- the point is one to which a small step leads
+record IsStepped (fs : List Line) (p z : Point) : Type 0 where
+  i : ℤ
+  j : ℤ
+  k : ℕ
+  fine : AllByRecursion (IsFine i j k) fs
+  is_point : IsPoint (nudged k i j p)
+  same : IsSamePoint z (nudged k i j p)
+
+-- the edge on which the point is has a piece of such points
+piece-near : (e : Line) (c : Coordinates) (p : Point) (fs : List Line) (set : PointSet) → IsPoint p → IsOnEdge e p → IsOnEdge e (grid_point c) →
+    (run_to c p ≡ pos 0 → rise_to c p ≡ pos 0 → ⊥) → ((q : Point) → IsPoint q → IsOnEdge e q → IsStepped fs p q → set q ≡ true) → HasSegment set
+piece-near e c p fs set is_p on there apart has =
+    let i = run_to c p in
+    let j = rise_to c p in
+    let l : ℕ = suc (swerves i j fs + swerves (pos 0) (pos 0) fs) in
+    segment-near e c p l set is_p (omega arith) on there apart
+    (λ z u v w is_z on_z u_some v_some w_some same.
+    has z is_z on_z
+    (record {
+      i = step i (pos 0) v w;
+      j = step j (pos 0) v w;
+      k = factor (l + 1) u v w;
+      fine =
+          each-both (IsFine i j (l + 1)) (IsFine (pos 0) (pos 0) (l + 1)) (IsFine (step i (pos 0) v w) (step j (pos 0) v w) (factor (l + 1) u v w)) fs
+          (λ g f h. fine-mean i j (pos 0) (pos 0) (l + 1) u v w g u_some f h)
+          (each-fine i j fs (l + 1) (omega arith)) (each-fine (pos 0) (pos 0) fs (l + 1) (omega arith));
+      is_point = nudged-point (factor (l + 1) u v w) (step i (pos 0) v w) (step j (pos 0) v w) p (more u ((l + 1) * v) ((l + 1) * w) u_some) is_p;
+      same = same;
+    }))
+  where
+    more : (u x y : ℕ) → 0 < u → 0 < u + x + y
+    more u x y h = omega (arith, h)
+
+-- these are off the list's edges
+pub piece-off : (e : Line) (c : Coordinates) (p : Point) (fs : List Line) (set : PointSet) → IsPoint p → IsOnEdge e p → IsOnEdge e (grid_point c) →
+    (run_to c p ≡ pos 0 → rise_to c p ≡ pos 0 → ⊥) → IsOff p fs → ((q : Point) → IsPoint q → IsOnEdge e q → IsOff q fs → set q ≡ true) → HasSegment set
+piece-off e c p fs set is_p on there apart off has =
+    piece-near e c p fs set is_p on there apart
+    (λ z is_z on_z r. has z is_z on_z (off-same fs z (nudged r.k r.i r.j p) is_z r.is_point r.same (stays-off fs p r.i r.j r.k r.fine off)))
+
+-- and where the list is balanced they have its parity too
+pub piece-at : (e : Line) (c : Coordinates) (p : Point) (fs : List Line) (odd : Bool) (set : PointSet) → IsPoint p → IsOnEdge e p → IsOnEdge e (grid_point c) →
+    (run_to c p ≡ pos 0 → rise_to c p ≡ pos 0 → ⊥) → IsBalanced fs p → IsAt fs odd p → ((q : Point) → IsPoint q → IsOnEdge e q → IsAt fs odd q → set q ≡ true) → HasSegment set
+piece-at e c p fs odd set is_p on there apart balanced at has =
+    piece-near e c p fs set is_p on there apart
+    (λ z is_z on_z r.
+    has z is_z on_z
+    (record {
+      off = off-same fs z (nudged r.k r.i r.j p) is_z r.is_point r.same (stays-off fs p r.i r.j r.k r.fine at.off);
+      parity = odd-same fs z (nudged r.k r.i r.j p) is_z r.is_point r.same ∙ stays-at fs p r.i r.j r.k is_p balanced r.fine at.off ∙ at.parity;
+    }))

@@ -15,7 +15,7 @@ const TOWN: &str =
     "MULTIPOLYGON (((-40 -40, -21 -40, -20 -16, -18 -40, 10 -40, 10 -40, 10 -30, 25 -30, 40 -40, 33 -7, 40 0, 12 3, 40 11, 30 30, 40 40, 0 40, -1 22, -2 40, -40 40, -40 11, -24 10, -40 9, -40 -40), (-10 10, -10 20, -5 15, 0 20, 0 10, -5 12, -10 10)), ((-7 14, -5 13, -3 14, -5 14, -7 14)))";
 
 /// Of how many pairs each kind of evidence shows something.
-type Counts = [u32; 11];
+type Counts = [u32; 13];
 
 /// Numbers that look random (Knuth's and Lewis's generator modulo 2^32).
 #[derive(Drop)]
@@ -39,16 +39,16 @@ impl Dice {
     }
 }
 
-/// A line of 20 points, or two lines of them.
+/// A line of 64 points, or two lines of them.
 fn zigzag(alloc: Global, dice: &mut Dice, between: &str) -> Result<String, AllocError> {
     let mut text = String::new(alloc);
-    for place in 0..20u32 {
+    for place in 0..64u32 {
         let separator = match place {
             0 => "",
-            10 => between,
+            32 => between,
             _ => ", ",
         };
-        let (x, y) = (place.saturating_mul(2), dice.coordinate());
+        let (x, y) = (place, dice.coordinate());
         text.push_str(format!(in alloc; "{separator}{x} {y}")?.as_str())?;
     }
     Ok(text)
@@ -112,7 +112,7 @@ fn count(alloc: Global, a: &Valid, b: &Valid, counts: &mut Counts) -> Result<(),
     let first = dimension(a.geometry());
     let second = dimension(b.geometry());
     let shown = shown_by_each(alloc, a, b);
-    for kind in 0..11 {
+    for kind in 0..13 {
         if let Some(shown) = shown[kind] {
             if !is_so(&shown, first, second, &matrix) {
                 return Err("shown otherwise".into());
@@ -126,7 +126,7 @@ fn count(alloc: Global, a: &Valid, b: &Valid, counts: &mut Counts) -> Result<(),
 /// The counts of all pairs.
 fn counted(alloc: Global) -> Result<Counts, Fail> {
     let mut dice = Dice { state: 17 };
-    let mut counts = [0; 11];
+    let mut counts = [0; 13];
     for _ in 0..PAIRS {
         if let (Some(a), Some(b)) = (made(alloc, &mut dice)?, made(alloc, &mut dice)?) {
             count(alloc, &a, &b, &mut counts)?;

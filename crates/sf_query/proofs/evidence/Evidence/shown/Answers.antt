@@ -52,3 +52,11 @@ returns-in-Ends c =
 pub returns-in-Along : goal.returns-in-Along
 returns-in-Along c =
     of-held c.known_alongside.result c.args.geometry.now c.given.inside.valid.now c.args.given.now c.given.view_is c.known_alongside.ensures.holds
+
+pub returns-in-Cover : goal.returns-in-Cover
+returns-in-Cover c =
+    of-held c.by_cover.result c.args.geometry.now c.given.inside.valid.now c.args.given.now c.given.view_is c.by_cover.ensures
+
+pub returns-in-Points : goal.returns-in-Points
+returns-in-Points c =
+    of-held c.known_by_points.result c.args.geometry.now c.given.inside.valid.now c.args.given.now c.given.view_is c.known_by_points.ensures.holds
