@@ -13,8 +13,8 @@ from pathlib import Path
 
 TOP = Path(__file__).resolve().parent.parent
 NAMES = re.compile(r"ghost use [^;]*\{([^}]*)\}")
-# What a machine takes some seven minutes for. Fewer are wanted, and 340 million were enough before `sf_linework` stood on `sf_crossed`.
-STEPS = 400_000_000
+# What a machine takes some six minutes for. Fewer are wanted.
+STEPS = 340_000_000
 
 
 def below() -> dict[str, list[str]]:

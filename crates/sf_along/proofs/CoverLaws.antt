@@ -16,7 +16,7 @@ use Rattle.sf_geometry.specs.declared.geometry.Geometry.{Geometry}
 use Rattle.sf_geometry.specs.Parts.{edge_of, edges_of}
 use Rattle.sf_along.specs.declared.run.Run.{Run}
 use Rattle.sf_along.specs.Covers.{AreCovered, IsEnd, IsLeft, LieAlong, edge_of_run, has_cover, has_edge, is_in, lies_in_one}
-use Rattle.sf_along.specs.Runs.{run_of}
+use Rattle.sf_along.specs.Runs.{run_of, runs_of}
 use Rattle.sf_along.proofs.PairLaws.{ComesFrom, forward, image, image-has, same-points}
 
 -- ---- the walk
@@ -80,10 +80,6 @@ earlier-is a b true = inr refl
 earlier-is a b false = inl refl
 
 -- ---- the runs of two geometries
--- those of the edges between the points of two lists of pairs
-abbrev pub runs_of : List (Coordinates × Coordinates) → List (Coordinates × Coordinates) → List Run
-runs_of first second = map (run_of true) first ++ map (run_of false) second
-
 module _ (first second : List (Coordinates × Coordinates)) (runs : List Run) (permuted : IsPermutation (runs_of first second) runs) where
   -- each run comes from a pair of one of the lists
   from-runs : (r : Run) → Contains runs r → ComesFrom (run_of true) first r ⊎ ComesFrom (run_of false) second r

@@ -1,6 +1,6 @@
 -- The ends of each edge of a geometry differ, so the runs of its edges are runs.
 use Rattle.std.proofs.Common.{◌≡◌, ◌≢◌, refl, sym, subst, Bool, true, false, List, [], ◌∷◌, ◌++◌, map}
-use Rattle.std.specs.Prelude.{if◌then◌else◌}
+use Rattle.std.specs.Prelude.{None, Option, Some, fold, if◌then◌else◌}
 use Rattle.std.specs.List.{All, AllByRecursion, flat_map}
 use Rattle.std.proofs.lemmas.Bool.{and_from, both_ways}
 use Rattle.std.proofs.lemmas.List.Elements.{All-append, All-filter, All-from_recursion, All-map}
@@ -8,12 +8,15 @@ use Rattle.sf_grid.specs.Plane.{Coordinates}
 use Rattle.sf_grid.specs.Edge.{Edge as Line}
 use Rattle.sf_grid.proofs.CallerLemmas.{test_from_eq}
 use Rattle.sf_grid.proofs.PieceLaws.{sorted}
+use Rattle.sf_geometry.specs.declared.extent.Extent.{Extent}
 use Rattle.sf_geometry.specs.declared.geometry.Geometry.{Geometry}
 use Rattle.sf_geometry.specs.declared.geometry.Geometry.TheVariants.{Point, LineString, Polygon, MultiPoint, MultiLineString, MultiPolygon}
+use Rattle.sf_geometry.specs.Envelope.{extents_meet, grown}
 use Rattle.sf_geometry.specs.Lists.{before_tight, edges_between, edges_from, edges_of as edges_of_list, is_same, tight}
-use Rattle.sf_geometry.specs.Parts.{edge_of, edges_of, joined}
-use Rattle.sf_along.specs.Near.{extent_of_edges, is_near, near}
-use Rattle.sf_along.specs.Runs.{IsRun, near_runs, run_of}
+use Rattle.sf_geometry.specs.Parts.{edges_of, joined, points_of}
+use Rattle.sf_edge_tree.specs.Meeting.{ends_meeting, ends_of_edge, extent_of_edge}
+use Rattle.sf_along.specs.Near.{edges_near, near_edges}
+use Rattle.sf_along.specs.Runs.{IsRun, run_of, runs_of}
 
 -- ---- neighbours of a tight list differ
 -- no point of the list is the one after it
@@ -73,16 +76,18 @@ lengths (MultiPolygon polygons) = lengths-of-lists (joined polygons)
 run-is : (is_first : Bool) (pair : Coordinates × Coordinates) → pair.0 ≢ pair.1 → IsRun (run_of is_first pair)
 run-is is_first pair n = record { forward = sorted pair.0 pair.1 n; slope = refl; height = refl }
 
-each-run : (is_first : Bool) (pairs : List (Coordinates × Coordinates)) → HaveLength (map edge_of pairs) → AllByRecursion (λ pair. IsRun (run_of is_first pair)) pairs
+each-run : (is_first : Bool) (es : List Line) → HaveLength es → AllByRecursion (λ pair. IsRun (run_of is_first pair)) (map ends_of_edge es)
 each-run is_first [] h = tt
-each-run is_first (pair ∷ pairs) h = (run-is is_first pair h.0, each-run is_first pairs h.1)
+each-run is_first (e ∷ es) h = (run-is is_first (ends_of_edge e) h.0, each-run is_first es h.1)
 
-runs-of : (is_first : Bool) (others pairs : List (Coordinates × Coordinates)) (geometry : Geometry) → map edge_of pairs ≡ edges_of geometry → All IsRun (map (run_of is_first) (near others pairs))
-runs-of is_first others pairs geometry e =
-    All-map IsRun (run_of is_first) (near others pairs)
-    (All-filter (is_near (extent_of_edges others)) (λ pair. IsRun (run_of is_first pair)) pairs
-    (All-from_recursion (λ pair. IsRun (run_of is_first pair)) pairs (each-run is_first pairs (subst HaveLength (sym e) (lengths geometry)))))
+runs-of : (is_first : Bool) (box : Option Extent) (geometry : Geometry) → All IsRun (map (run_of is_first) (edges_near box geometry))
+runs-of is_first None geometry = All-from_recursion IsRun [] tt
+runs-of is_first (Some box) geometry =
+    All-map IsRun (run_of is_first) (ends_meeting box (edges_of geometry))
+    (All-filter (λ pair. extents_meet (extent_of_edge pair) box) (λ pair. IsRun (run_of is_first pair)) (map ends_of_edge (edges_of geometry))
+    (All-from_recursion (λ pair. IsRun (run_of is_first pair)) (map ends_of_edge (edges_of geometry)) (each-run is_first (edges_of geometry) (lengths geometry))))
 
-pub all-runs : (first second : List (Coordinates × Coordinates)) (a b : Geometry) → map edge_of first ≡ edges_of a → map edge_of second ≡ edges_of b → All IsRun (near_runs first second)
-all-runs first second a b e f =
-    All-append IsRun (map (run_of true) (near second first)) (map (run_of false) (near first second)) (runs-of true second first a e) (runs-of false first second b f)
+pub all-runs : (a b : Geometry) → All IsRun (runs_of (near_edges a b) (near_edges b a))
+all-runs a b =
+    All-append IsRun (map (run_of true) (near_edges a b)) (map (run_of false) (near_edges b a))
+    (runs-of true (fold grown None (points_of b)) a) (runs-of false (fold grown None (points_of a)) b)

@@ -1,20 +1,26 @@
--- An edge that shares a point with one of some others is near them.
-use Rattle.std.proofs.Common.{◌≡◌, sym, ◌∙◌, ap, subst, zero, suc, ℤ, pos, ◌*ℤ◌, ◌≤ℤ◌, arith, Bool, true, false, cond, ◌&&◌, ◌⊎◌, inl, inr, List, [], ◌∷◌, fold}
-use Rattle.std.specs.Prelude.{int_le}
+-- An edge that shares a point with an edge of a geometry is near it: its box meets that of the geometry.
+use Rattle.std.proofs.Common.{◌≡◌, sym, ◌∙◌, ap, subst, zero, suc, ℤ, pos, ◌*ℤ◌, ◌≤ℤ◌, arith, Bool, true, false, cond, ◌&&◌, ◌⊎◌, inl, inr, refl, List, [], ◌∷◌, fold, map}
+use Rattle.std.specs.Prelude.{None, Option, Some, int_le}
 use Rattle.std.specs.Int.{int_max, int_min}
-use Rattle.std.specs.List.{Contains, filter}
+use Rattle.std.specs.List.{AllByRecursion, Contains, filter}
 use Rattle.std.proofs.lemmas.Bool.{and_from}
 use Rattle.std.proofs.lemmas.Int.{clamps, ints}
-use Rattle.std.proofs.lemmas.List.Elements.{All-contains, All-contains_itself, All-filter}
-use Rattle.sf_grid.specs.Plane.{Coordinates, IsPoint, Point, grid_point}
-use Rattle.sf_grid.specs.Edge.{IsOnEdge}
+use Rattle.std.proofs.lemmas.List.Elements.{All-contains, All-contains_itself, All-filter, All-from_recursion}
+use Rattle.sf_grid.specs.Plane.{Coordinates, IsPoint, Point}
+use Rattle.sf_grid.specs.Edge.{Edge as Line, IsOnEdge}
 use Rattle.sf_grid.proofs.CallerLemmas.{test_from_le}
 use Rattle.sf_geometry.specs.declared.extent.Extent.{Extent}
-use Rattle.sf_geometry.specs.Envelope.{extent_at, extent_with}
-use Rattle.sf_geometry.specs.Parts.{edge_of}
-use Rattle.sf_plane.specs.Boxes.{Box, in_box}
+use Rattle.sf_geometry.specs.declared.geometry.Geometry.{Geometry}
+use Rattle.sf_geometry.specs.Envelope.{envelope_of, extent_of, extents_meet, grown}
+use Rattle.sf_geometry.specs.Parts.{edge_of, edges_of, points_of}
+use Rattle.sf_geometry.proofs.ListLaws.{grown-all}
+use Rattle.sf_plane.specs.Boxes.{Box, HasEnds, in_box}
 use Rattle.sf_plane.proofs.BoxLaws.{common_point_meets, edge_in_box}
-use Rattle.sf_along.specs.Near.{extent_of_edge, extent_of_edges, extent_with_edge, is_near}
+use Rattle.sf_edge_tree.specs.Boxes.{covers}
+use Rattle.sf_edge_tree.specs.Meeting.{ends_of_edge, extent_of_edge}
+use Rattle.sf_edge_tree.proofs.BoxLaws.{hits, meet-turned}
+use Rattle.sf_edge_tree.proofs.EnvelopeLaws.{OfEnds, edges-covered, ends-of-edges}
+use Rattle.sf_along.specs.Near.{edges_near, near_edges}
 
 -- ---- members of lists
 abbrev pub IsAmong : {X : Type 0} → List X → X → Type 0
@@ -47,74 +53,65 @@ filter-has p xs x h c = contained (filter p xs) x (kept p xs x h (among xs x c))
 pub filter-from : {X : Type 0} (p : X → Bool) (xs : List X) (x : X) → Contains (filter p xs) x → Contains xs x
 filter-from p xs x c = All-contains (Contains xs) (filter p xs) x (All-filter p (Contains xs) xs (All-contains_itself xs)) c
 
--- ---- the box of edges has their ends
-record HasPoint (e : Extent) (p : Coordinates) : Type 0 where
-  left : e.min_x ≤ℤ p.x
-  right : p.x ≤ℤ e.max_x
-  low : e.min_y ≤ℤ p.y
-  high : p.y ≤ℤ e.max_y
-
-at-own : (p : Coordinates) → HasPoint (extent_at p) p
-at-own p = record { left = omega (arith, ints); right = omega (arith, ints); low = omega (arith, ints); high = omega (arith, ints) }
-
-with-own : (e : Extent) (p : Coordinates) → HasPoint (extent_with e p) p
-with-own e p = record { left = omega (arith, ints, clamps); right = omega (arith, ints, clamps); low = omega (arith, ints, clamps); high = omega (arith, ints, clamps) }
-
-with-keeps : (e : Extent) (p q : Coordinates) → HasPoint e p → HasPoint (extent_with e q) p
-with-keeps e p q h = record {
-  left = lesser e.min_x q.x p.x h.left;
-  right = greater e.max_x q.x p.x h.right;
-  low = lesser e.min_y q.y p.y h.low;
-  high = greater e.max_y q.y p.y h.high;
-}
-  where
-    lesser : (m n z : ℤ) → m ≤ℤ z → int_min m n ≤ℤ z
-    lesser m n z h = omega (arith, ints, clamps)
-
-    greater : (m n z : ℤ) → z ≤ℤ m → z ≤ℤ int_max m n
-    greater m n z h = omega (arith, ints, clamps)
-
-abbrev HasBoth : Extent → Coordinates × Coordinates → Type 0
-HasBoth e pair = HasPoint e pair.0 × HasPoint e pair.1
-
-own-has : (pair : Coordinates × Coordinates) → HasBoth (extent_of_edge pair) pair
-own-has pair = (with-keeps (extent_at pair.0) pair.0 pair.1 (at-own pair.0), with-own (extent_at pair.0) pair.1)
-
-edge-has : (e : Extent) (pair : Coordinates × Coordinates) → HasBoth (extent_with_edge e pair) pair
-edge-has e pair = (with-keeps (extent_with e pair.0) pair.0 pair.1 (with-own e pair.0), with-own (extent_with e pair.0) pair.1)
-
-fold-keeps : (e : Extent) (pairs : List (Coordinates × Coordinates)) (p : Coordinates) → HasPoint e p → HasPoint (fold extent_with_edge e pairs) p
-fold-keeps e [] p h = h
-fold-keeps e (pair ∷ pairs) p h = fold-keeps (extent_with_edge e pair) pairs p (with-keeps (extent_with e pair.0) p pair.1 (with-keeps e p pair.0 h))
-
-fold-has : (e : Extent) (pairs : List (Coordinates × Coordinates)) (own : Coordinates × Coordinates) → IsAmong pairs own ⊎ HasBoth e own → HasBoth (fold extent_with_edge e pairs) own
-fold-has e [] own (inl i) = absurd i
-fold-has e (pair ∷ pairs) own (inl (inl is)) = fold-has (extent_with_edge e pair) pairs own (inr (subst (HasBoth (extent_with_edge e pair)) is (edge-has e pair)))
-fold-has e (pair ∷ pairs) own (inl (inr i)) = fold-has (extent_with_edge e pair) pairs own (inl i)
-fold-has e pairs own (inr h) = (fold-keeps e pairs own.0 h.0, fold-keeps e pairs own.1 h.1)
-
--- ---- and so the points of those edges
+-- ---- an edge that shares a point with an edge of a geometry has a box that meets the geometry's
 abbrev box_of : Extent → Box
 box_of e = record { min_x = e.min_x; min_y = e.min_y; max_x = e.max_x; max_y = e.max_y }
 
-end-in : (e : Extent) (p : Coordinates) → HasPoint e p → in_box (box_of e) (grid_point p) ≡ true
-end-in e p h = and_from _ _ (within e.min_x e.max_x p.x h.left h.right) (within e.min_y e.max_y p.y h.low h.high)
+-- the box of an edge has its ends, and so its points
+pub has-ends : (pair : Coordinates × Coordinates) → HasEnds (box_of (extent_of_edge pair)) (edge_of pair)
+has-ends pair = (
+  and_from _ _ (between _ _ _ (low pair.0.x pair.1.x) (high pair.0.x pair.1.x)) (between _ _ _ (low pair.0.y pair.1.y) (high pair.0.y pair.1.y)),
+  and_from _ _ (between _ _ _ (other_low pair.0.x pair.1.x) (other_high pair.0.x pair.1.x)) (between _ _ _ (other_low pair.0.y pair.1.y) (other_high pair.0.y pair.1.y)),
+)
   where
-    within : (m n z : ℤ) → m ≤ℤ z → z ≤ℤ n → (int_le (m *ℤ pos 1) z && int_le z (n *ℤ pos 1)) ≡ true
-    within m n z h k = and_from _ _ (test_from_le (m *ℤ pos 1) z (omega (arith, ints))) (test_from_le z (n *ℤ pos 1) (omega (arith, ints)))
+    low : (m n : ℤ) → int_min m n ≤ℤ m
+    low m n = omega (arith, ints, clamps)
 
-point-in : (e : Extent) (pair : Coordinates × Coordinates) (q : Point) → HasBoth e pair → IsPoint q → IsOnEdge (edge_of pair) q → in_box (box_of e) q ≡ true
-point-in e pair q h i on = edge_in_box (box_of e) (edge_of pair) q (end-in e pair.0 h.0, end-in e pair.1 h.1) i on
+    high : (m n : ℤ) → m ≤ℤ int_max m n
+    high m n = omega (arith, ints, clamps)
 
-pub shared-near : (pair other : Coordinates × Coordinates) (others : List (Coordinates × Coordinates)) (q : Point) → IsPoint q → IsOnEdge (edge_of pair) q → IsOnEdge (edge_of other) q → IsAmong others other →
-    is_near (extent_of_edges others) pair ≡ true
-shared-near pair other [] q point on_edge on_other i = absurd i
-shared-near pair other (first ∷ others) q point on_edge on_other i =
-    let extent = fold extent_with_edge (extent_of_edge first) others in
-    common_point_meets (box_of (extent_of_edge pair)) (box_of extent) q point
-    (point-in (extent_of_edge pair) pair q (own-has pair) point on_edge)
-    (point-in extent other q (fold-has (extent_of_edge first) others other (from i)) point on_other)
+    other_low : (m n : ℤ) → int_min m n ≤ℤ n
+    other_low m n = omega (arith, ints, clamps)
+
+    other_high : (m n : ℤ) → n ≤ℤ int_max m n
+    other_high m n = omega (arith, ints, clamps)
+
+    between : (m n z : ℤ) → m ≤ℤ z → z ≤ℤ n → (int_le (m *ℤ pos 1) z && int_le z (n *ℤ pos 1)) ≡ true
+    between m n z h k = and_from _ _ (test_from_le (m *ℤ pos 1) z (omega (arith, ints))) (test_from_le z (n *ℤ pos 1) (omega (arith, ints)))
+
+point-in : (pair : Coordinates × Coordinates) (q : Point) → IsPoint q → IsOnEdge (edge_of pair) q → in_box (box_of (extent_of_edge pair)) q ≡ true
+point-in pair q i on = edge_in_box (box_of (extent_of_edge pair)) (edge_of pair) q (has-ends pair) i on
+
+shared-near : (pair other : Coordinates × Coordinates) (geometry : Geometry) (q : Point) → IsPoint q → IsOnEdge (edge_of pair) q → IsOnEdge (edge_of other) q → Contains (edges_of geometry) (edge_of other) →
+    extents_meet (extent_of_edge pair) (envelope_of geometry) ≡ true
+shared-near pair other geometry q point on_edge on_other among =
+    let P = λ (e : Line). covers (envelope_of geometry) (extent_of_edge (ends_of_edge e)) ≡ true in
+    let covered = All-contains P (edges_of geometry) (edge_of other) (All-from_recursion P (edges_of geometry) (edges-covered geometry)) among in
+    let met =
+    common_point_meets (box_of (extent_of_edge other)) (box_of (extent_of_edge pair)) q point (point-in other q point on_other) (point-in pair q point on_edge) in
+    meet-turned (envelope_of geometry) (extent_of_edge pair) (hits (envelope_of geometry) (extent_of_edge other) (extent_of_edge pair) covered met)
+
+-- so it is among those near it, and these are among all of them
+abbrev pairs_of : Geometry → List (Coordinates × Coordinates)
+pairs_of a = map ends_of_edge (edges_of a)
+
+pub near-has : (a b : Geometry) (pair other : Coordinates × Coordinates) (q : Point) → IsPoint q → IsOnEdge (edge_of pair) q → IsOnEdge (edge_of other) q →
+    Contains (edges_of b) (edge_of other) → Contains (pairs_of a) pair → Contains (near_edges a b) pair
+near-has a b pair other q point on_edge on_other among c = by_points (points_of b) refl
   where
-    from : IsAmong (first ∷ others) other → IsAmong others other ⊎ HasBoth (extent_of_edge first) other
-    from (inl is) = inr (subst (HasBoth (extent_of_edge first)) is (own-has first))
-    from (inr j) = inl j
+    by_points : (ps : List Coordinates) → points_of b ≡ ps → Contains (edges_near (fold grown None ps) a) pair
+    by_points [] e =
+        let Never = λ (p : Coordinates). ⊥ in
+        absurd
+        (All-contains (OfEnds Never) (edges_of b) (edge_of other) (All-from_recursion (OfEnds Never) (edges_of b) (ends-of-edges Never b (subst (AllByRecursion Never) (sym e) tt))) among).0
+    by_points (p ∷ ps) e =
+        subst (λ box. Contains (edges_near box a) pair) (sym (grown-all p ps))
+        (filter-has (λ edge. extents_meet (extent_of_edge edge) (extent_of (p ∷ ps))) (pairs_of a) pair
+        (subst (λ qs. extents_meet (extent_of_edge pair) (extent_of qs) ≡ true) e (shared-near pair other b q point on_edge on_other among)) c)
+
+pub near-from : (a b : Geometry) (pair : Coordinates × Coordinates) → Contains (near_edges a b) pair → Contains (pairs_of a) pair
+near-from a b pair c = by_box (fold grown None (points_of b)) c
+  where
+    by_box : (box : Option Extent) → Contains (edges_near box a) pair → Contains (pairs_of a) pair
+    by_box None i = absurd (among [] pair i)
+    by_box (Some box) i = filter-from (λ edge. extents_meet (extent_of_edge edge) box) (pairs_of a) pair i

@@ -14,12 +14,13 @@ use Rattle.sf_grid.proofs.CallerLemmas.{on_edge-swap}
 use Rattle.sf_geometry.specs.declared.geometry.Geometry.{Geometry}
 use Rattle.sf_geometry.specs.Parts.{edge_of, edges_of}
 use Rattle.sf_plane.specs.Laws.{ShareTwoPoints}
+use Rattle.sf_edge_tree.specs.Meeting.{ends_of_edge}
 use Rattle.sf_along.specs.declared.run.Run.{Run}
 use Rattle.sf_along.specs.Along.{RunAlong}
-use Rattle.sf_along.specs.Near.{extent_of_edges, is_near, near}
 use Rattle.sf_along.specs.Marks.{KeepPairs}
-use Rattle.sf_along.specs.Runs.{GoTogether, HasPartner, HavePair, IsRun, near_runs, run_of}
-use Rattle.sf_along.proofs.NearLaws.{IsAmong, among, contained, filter-from, filter-has, shared-near}
+use Rattle.sf_along.specs.Runs.{GoTogether, HasPartner, HavePair, IsRun, run_of, runs_of}
+use Rattle.sf_along.specs.Near.{near_edges}
+use Rattle.sf_along.proofs.NearLaws.{IsAmong, among, contained, near-from, near-has}
 
 -- ---- edges that have the same points
 abbrev HavePointsOf : Line → Line → Type 0
@@ -119,7 +120,27 @@ have-pair r s (x ∷ xs) (inr i) (inl f) g = inl (has-partner x r xs i (subst (�
 have-pair r s (x ∷ xs) (inr i) (inr j) g = inr (have-pair r s xs i j g)
 
 -- ---- runs of two geometries
-module _ (first second : List (Coordinates × Coordinates)) (a b : Geometry) (are_first : map edge_of first ≡ edges_of a) (are_second : map edge_of second ≡ edges_of b) where
+edges-back : (es : List Line) → map edge_of (map ends_of_edge es) ≡ es
+edges-back [] = refl
+edges-back (e ∷ es) = ap (λ fs. e ∷ fs) (edges-back es)
+
+-- the runs of the edges of each geometry that are near the other one
+abbrev pub near_runs : Geometry → Geometry → List Run
+near_runs a b = runs_of (near_edges a b) (near_edges b a)
+
+module _ (a b : Geometry) where
+  abbrev first : List (Coordinates × Coordinates)
+  first = map ends_of_edge (edges_of a)
+
+  abbrev second : List (Coordinates × Coordinates)
+  second = map ends_of_edge (edges_of b)
+
+  are_first : map edge_of first ≡ edges_of a
+  are_first = edges-back (edges_of a)
+
+  are_second : map edge_of second ≡ edges_of b
+  are_second = edges-back (edges_of b)
+
   along : (p q : Coordinates × Coordinates) → Contains first p → Contains second q → ShareTwoPoints (forward p) (forward q) → RunAlong a b
   along p q i j s = record {
     first = edge_of p;
@@ -138,19 +159,19 @@ module _ (first second : List (Coordinates × Coordinates)) (a b : Geometry) (ar
   both-of-one is_first pairs r s i j g = g.differ (ap (λ (t : Run). t.is_first) (sym i.is) ∙ ap (λ (t : Run). t.is_first) j.is)
 
   -- the runs are those of edges of the lists
-  from-near : (is_first : Bool) (others pairs : List (Coordinates × Coordinates)) (r : Run) → Contains (map (run_of is_first) (near others pairs)) r → ComesFrom (run_of is_first) pairs r
-  from-near is_first others pairs r c =
-      let i = image (run_of is_first) (near others pairs) r c in
-      record { from = i.from; among = filter-from (is_near (extent_of_edges others)) pairs i.from i.among; is = i.is }
+  from-near : (is_first : Bool) (f g : Geometry) (r : Run) → Contains (map (run_of is_first) (near_edges f g)) r → ComesFrom (run_of is_first) (map ends_of_edge (edges_of f)) r
+  from-near is_first f g r c =
+      let i = image (run_of is_first) (near_edges f g) r c in
+      record { from = i.from; among = near-from f g i.from i.among; is = i.is }
 
-  from-runs : (r : Run) → Contains (near_runs first second) r → ComesFrom (run_of true) first r ⊎ ComesFrom (run_of false) second r
+  from-runs : (r : Run) → Contains (near_runs a b) r → ComesFrom (run_of true) first r ⊎ ComesFrom (run_of false) second r
   from-runs r c =
-      elim (Contains-append_cases (map (run_of true) (near second first)) (map (run_of false) (near first second)) r c) [
-        | inl i ↦ inl (from-near true second first r i)
-        | inr i ↦ inr (from-near false first second r i)
+      elim (Contains-append_cases (map (run_of true) (near_edges a b)) (map (run_of false) (near_edges b a)) r c) [
+        | inl i ↦ inl (from-near true a b r i)
+        | inr i ↦ inr (from-near false b a r i)
       ]
 
-  told : (r s : Run) → Contains (near_runs first second) r → Contains (near_runs first second) s → GoTogether r s → RunAlong a b
+  told : (r s : Run) → Contains (near_runs a b) r → Contains (near_runs a b) s → GoTogether r s → RunAlong a b
   told r s i j g = by_lists (from-runs r i) (from-runs s j)
     where
       by_lists : ComesFrom (run_of true) first r ⊎ ComesFrom (run_of false) second r → ComesFrom (run_of true) first s ⊎ ComesFrom (run_of false) second s → RunAlong a b
@@ -161,17 +182,17 @@ module _ (first second : List (Coordinates × Coordinates)) (a b : Geometry) (ar
 
   -- edges that share two points are near, so their runs are there
   module _ (p q : Coordinates × Coordinates) (i : Contains first p) (j : Contains second q) (s : ShareTwoPoints (edge_of p) (edge_of q)) where
-    first-run : Contains (near_runs first second) (run_of true p)
+    first-run : Contains (near_runs a b) (run_of true p)
     first-run =
-        Contains-append_left (map (run_of true) (near second first)) (map (run_of false) (near first second)) (run_of true p)
-        (image-has (run_of true) (near second first) p
-        (filter-has (is_near (extent_of_edges second)) first p (shared-near p q second s.first s.is_first s.first_on_both.0 s.first_on_both.1 (among second q j)) i))
+        Contains-append_left (map (run_of true) (near_edges a b)) (map (run_of false) (near_edges b a)) (run_of true p)
+        (image-has (run_of true) (near_edges a b) p
+        (near-has a b p q s.first s.is_first s.first_on_both.0 s.first_on_both.1 (subst (λ es. Contains es (edge_of q)) are_second (image-has edge_of second q j)) i))
 
-    second-run : Contains (near_runs first second) (run_of false q)
+    second-run : Contains (near_runs a b) (run_of false q)
     second-run =
-        Contains-append_right (map (run_of true) (near second first)) (map (run_of false) (near first second)) (run_of false q)
-        (image-has (run_of false) (near first second) q
-        (filter-has (is_near (extent_of_edges first)) second q (shared-near q p first s.first s.is_first s.first_on_both.1 s.first_on_both.0 (among first p i)) j))
+        Contains-append_right (map (run_of true) (near_edges a b)) (map (run_of false) (near_edges b a)) (run_of false q)
+        (image-has (run_of false) (near_edges b a) q
+        (near-has b a q p s.first s.is_first s.first_on_both.1 s.first_on_both.0 (subst (λ es. Contains es (edge_of p)) are_first (image-has edge_of first p i)) j))
 
     together : GoTogether (run_of true p) (run_of false q)
     together = record {
@@ -179,7 +200,7 @@ module _ (first second : List (Coordinates × Coordinates)) (a b : Geometry) (ar
       share = share-moved (edge_of p) (edge_of q) (forward p) (forward q) (forward-has p) (forward-has q) s;
     }
 
-  pub pair-tells : (kept runs : List Run) → All IsRun (near_runs first second) → KeepPairs (near_runs first second) kept → IsPermutation kept runs → HavePair runs ↔ RunAlong a b
+  pub pair-tells : (kept runs : List Run) → All IsRun (near_runs a b) → KeepPairs (near_runs a b) kept → IsPermutation kept runs → HavePair runs ↔ RunAlong a b
   pair-tells kept runs all pairs permuted = (
     λ h.
         let p = pair runs h in
@@ -194,6 +215,6 @@ module _ (first second : List (Coordinates × Coordinates)) (a b : Geometry) (ar
         let i = first-run p.from q.from p.among q.among s in
         let j = second-run p.from q.from p.among q.among s in
         let g = together p.from q.from p.among q.among s in
-        let both = pairs.has r t (All-contains IsRun (near_runs first second) r all i) (All-contains IsRun (near_runs first second) t all j) i j g in
+        let both = pairs.has r t (All-contains IsRun (near_runs a b) r all i) (All-contains IsRun (near_runs a b) t all j) i j g in
         have-pair r t runs (among runs r (Contains-permutation kept runs r permuted both.0)) (among runs t (Contains-permutation kept runs t permuted both.1)) g,
   )

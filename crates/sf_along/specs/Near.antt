@@ -1,29 +1,18 @@
 -- Internal: who wants to trust the program need not read this file.
--- The edges of one list that are near those of another: whose box shares a point with the box of all of them.
-use Rattle.std.specs.Prelude.{Bool, false, List, [], ◌∷◌, Option, None, Some}
-use Rattle.std.specs.List.{filter, fold}
+-- The edges of one geometry that are near another one: whose box shares a point with the box of that one's points.
+use Rattle.std.specs.Prelude.{List, [], None, Option, Some, fold}
 use Rattle.sf_grid.specs.Plane.{Coordinates}
 use Rattle.sf_geometry.specs.declared.extent.Extent.{Extent}
-use Rattle.sf_geometry.specs.Envelope.{extent_at, extent_with, extents_meet}
+use Rattle.sf_geometry.specs.declared.geometry.Geometry.{Geometry}
+use Rattle.sf_geometry.specs.Envelope.{grown}
+use Rattle.sf_geometry.specs.Parts.{edges_of, points_of}
+use Rattle.sf_edge_tree.specs.Meeting.{ends_meeting}
 
--- the box of an edge, by its ends
-abbrev pub extent_of_edge : Coordinates × Coordinates → Extent
-extent_of_edge pair = extent_with (extent_at pair.0) pair.1
+-- those whose boxes share a point with a box, by their ends, in order; with no box none
+abbrev pub edges_near : Option Extent → Geometry → List (Coordinates × Coordinates)
+edges_near None a = []
+edges_near (Some box) a = ends_meeting box (edges_of a)
 
--- the least box that has an edge beside those of a box
-abbrev pub extent_with_edge : Extent → Coordinates × Coordinates → Extent
-extent_with_edge extent pair = extent_with (extent_with extent pair.0) pair.1
-
--- the box of all of them; of none there is no box
-abbrev pub extent_of_edges : List (Coordinates × Coordinates) → Option Extent
-extent_of_edges [] = None
-extent_of_edges (pair ∷ pairs) = Some (fold extent_with_edge (extent_of_edge pair) pairs)
-
--- there is a box, and the edge's box shares a point with it
-abbrev pub is_near : Option Extent → Coordinates × Coordinates → Bool
-is_near None pair = false
-is_near (Some extent) pair = extents_meet (extent_of_edge pair) extent
-
--- those near the box of the others, in order
-abbrev pub near : List (Coordinates × Coordinates) → List (Coordinates × Coordinates) → List (Coordinates × Coordinates)
-near others pairs = filter (is_near (extent_of_edges others)) pairs
+-- those of a near b, which has a box where it has points
+abbrev pub near_edges : Geometry → Geometry → List (Coordinates × Coordinates)
+near_edges a b = edges_near (fold grown None (points_of b)) a

@@ -10,7 +10,6 @@ use Rattle.sf_grid.specs.Edge.{edge_between}
 use Rattle.sf_grid.specs.Sharing.{comes_before, earlier_of, later_of}
 use Rattle.sf_plane.specs.Laws.{ShareTwoPoints}
 use Rattle.sf_along.specs.declared.run.Run.{Run}
-use Rattle.sf_along.specs.Near.{near}
 
 -- ---- the numbers of the line through the points u and v
 -- how far v is right of u, and above it
@@ -40,9 +39,9 @@ run_between is_first u v = record { slope = slope_of u v; height = height_of u v
 abbrev pub run_of : Bool → Coordinates × Coordinates → Run
 run_of is_first pair = run_between is_first (earlier_of pair.0 pair.1) (later_of pair.0 pair.1)
 
--- those of the edges of two geometries that are near the other's edges
-abbrev pub near_runs : List (Coordinates × Coordinates) → List (Coordinates × Coordinates) → List Run
-near_runs first second = map (run_of true) (near second first) ++ map (run_of false) (near first second)
+-- those of the edges of two geometries, of the first one ahead
+abbrev pub runs_of : List (Coordinates × Coordinates) → List (Coordinates × Coordinates) → List Run
+runs_of first second = map (run_of true) first ++ map (run_of false) second
 
 -- its ends differ, and its numbers are those of its line
 pub record IsRun (r : Run) : Type 0 where

@@ -1,11 +1,10 @@
 //! Whether each edge of one geometry lies in an edge of another, found by sorting the edges of both.
 
-ghost use Rattle.std.specs.Prelude.{◌≡◌, ◌⊎◌, ◌++◌, [], IfOk, Some, false, map, true};
+ghost use Rattle.std.specs.Prelude.{◌≡◌, ◌⊎◌, [], IfOk, Some};
 ghost use Rattle.std.specs.List.{AllByRecursion};
 ghost use Rattle.sf_along.specs.Covers.{AreCovered, IsEnd, IsLeft, LieAlong, is_in};
-ghost use Rattle.sf_along.specs.Runs.{run_of};
 
-use crate::run::Run;
+use crate::run::{Run, all_runs};
 use sf_geometry::Geometry;
 use sf_grid::GridPoint;
 use std::alloc::{AllocError, Global};
@@ -29,21 +28,6 @@ pub fn uncovered_ends(
     let mut runs = all_runs(alloc, first.as_slice(), second.as_slice())?;
     runs.sort_unstable_by_key(Run::key_behind_second);
     uncovered_lefts(alloc, runs.as_slice())
-}
-
-/// The runs of the edges of both geometries.
-fn all_runs(
-    alloc: Global,
-    first: &[(GridPoint, GridPoint)],
-    second: &[(GridPoint, GridPoint)],
-) -> Result<Vec<Run>, AllocError>
-    ensures { IfOk result (λ runs. runs.items ≡ map (run_of true) first.now ++ map (run_of false) second.now) }
-{
-    first
-        .iter()
-        .map(|edge| Run::of(edge, true))
-        .chain(second.iter().map(|edge| Run::of(edge, false)))
-        .collect(alloc)
 }
 
 /// The earlier end of each run of the first geometry that isn't in that run of the second one which, of all that began before it on its

@@ -1,16 +1,16 @@
 //! Edges as runs, numbered by the lines on which they lie.
 
-ghost use Rattle.std.specs.Prelude.{◌≡◌, ◌≢◌, ◌↔◌, ◌∷◌, ◌*◌, ◌-ℤ◌, ◌*ℤ◌, ◌<◌, ◌≤◌, IsTrue, unsigned_abs};
+ghost use Rattle.std.specs.Prelude.{◌≡◌, ◌≢◌, ◌↔◌, ◌∷◌, ◌*◌, ◌-ℤ◌, ◌*ℤ◌, ◌<◌, ◌≤◌, IfOk, IsTrue, unsigned_abs};
 ghost use Rattle.sf_grid.specs.Bounds.{IsCoordinate, coordinate_bound, difference_bound};
 ghost use Rattle.sf_grid.specs.Edge.{edge_between};
-ghost use Rattle.sf_grid.specs.Sharing.{comes_before as comes_before_of};
 ghost use Rattle.sf_plane.specs.Laws.{ShareTwoPoints};
 ghost use Rattle.sf_along.specs.Covers.{edge_of_run, has_edge};
 ghost use Rattle.sf_along.specs.Marks.{place_of};
-ghost use Rattle.sf_along.specs.Runs.{AreInOrder, GoTogether, HasPartner, IsRun, height_of, key_of, offset_of, reaches as reaches_of, run_of, slope_of};
+ghost use Rattle.sf_along.specs.Runs.{AreInOrder, GoTogether, HasPartner, IsRun, height_of, key_of, offset_of, reaches as reaches_of, run_of, runs_of, slope_of};
 
-use sf_grid::edges::{meet, on_edge};
+use sf_grid::edges::{comes_before, meet, on_edge};
 use sf_grid::{GridPoint, Meet};
+use std::alloc::{AllocError, Global};
 
 /// Slopes are counted in parts of 2^-38: the steepest, of 2^24 - 1 grid steps on one, is less than 2^62 of them.
 const SLOPE_STEPS: i64 = 1 << 38;
@@ -132,6 +132,21 @@ impl Run {
     }
 }
 
+/// The runs of the edges of both geometries, those of the first one ahead.
+pub(crate) fn all_runs(
+    alloc: Global,
+    first: &[(GridPoint, GridPoint)],
+    second: &[(GridPoint, GridPoint)],
+) -> Result<Vec<Run>, AllocError>
+    ensures { IfOk result (λ runs. runs.items ≡ runs_of first.now second.now) }
+{
+    first
+        .iter()
+        .map(|edge| Run::of(edge, true))
+        .chain(second.iter().map(|edge| Run::of(edge, false)))
+        .collect(alloc)
+}
+
 /// The slope of the line through two points of which `right` is the later one: the greatest number for an upright line.
 fn slope(left: GridPoint, right: GridPoint) -> i64
     ensures { result ≡ slope_of left right }
@@ -195,11 +210,4 @@ fn do_share(e: (GridPoint, GridPoint), f: (GridPoint, GridPoint)) -> bool
         Meet::Apart | Meet::At(_) => false,
         Meet::Along(..) => true,
     }
-}
-
-/// Whether `a` comes before `b` by x and then y.
-fn comes_before(a: GridPoint, b: GridPoint) -> bool
-    ensures { result ≡ comes_before_of a b }
-{
-    a.x() < b.x() || (a.x() == b.x() && a.y() < b.y())
 }

@@ -13,52 +13,20 @@ use Rattle.sf_edge_tree.specs.declared.outcome.Outcome.{Outcome}
 use Rattle.sf_edge_tree.specs.declared.outcome.Outcome.TheVariants.{Absent, Found}
 use Rattle.sf_geometry.specs.declared.extent.Extent.{Extent}
 use Rattle.sf_geometry.specs.declared.geometry.Geometry.{Geometry}
-use Rattle.sf_geometry.specs.Envelope.{envelope_of, extents_meet}
+use Rattle.sf_geometry.specs.Envelope.{common_extent, envelope_of, extents_meet}
 use Rattle.sf_geometry.specs.Parts.{edge_of, edges_of}
 use Rattle.sf_grid.specs.Edge.{Edge, on_edge, within}
 use Rattle.sf_grid.specs.Plane.{IsPoint, Point as PlanePoint, x_of, y_of}
 use Rattle.sf_plane.proofs.BoxLaws.{common_point_meets, edge_in_box}
 use Rattle.sf_rules.specs.Validity.{IsValid}
 use Rattle.sf_validity.specs.Beside.{box_of_extent}
-use Rattle.sf_relate.specs.Areas.{common_extent}
 use Rattle.sf_relate.specs.Contact.{in_extent}
-use Rattle.sf_relate.proofs.CommonBoxLaws.{has-ends}
+use Rattle.sf_relate.proofs.CommonBoxLaws.{has-ends, in-common}
 use Rattle.sf_relate.proofs.EnvelopeLaws.{lies_in_box, valid-closed}
 use Rattle.sf_contact.specs.Absence.{has_start_in, on_edges}
 use Rattle.sf_contact.specs.EdgeContact.{Share}
 use Rattle.sf_contact.proofs.PairLaws.{edges-in}
 use Rattle.sf_contact.proofs.StartLaws.{IsContact, contact-by-any, contact-by-shared}
-
--- ---- a point of two boxes is in their common one
--- what holds of two numbers holds of the greater one, and of the lesser one
-of-greater : (t : ℤ → Bool) (m n : ℤ) → t m ≡ true → t n ≡ true → t (int_max m n) ≡ true
-of-greater t m n h k =
-    by_lt_z m n
-    (λ l. let e : int_max m n ≡ n = omega (arith, ints, clamps) in ap t e ∙ k)
-    (λ l. let e : int_max m n ≡ m = omega (arith, ints, clamps) in ap t e ∙ h)
-
-of-lesser : (t : ℤ → Bool) (m n : ℤ) → t m ≡ true → t n ≡ true → t (int_min m n) ≡ true
-of-lesser t m n h k =
-    by_lt_z m n
-    (λ l. let e : int_min m n ≡ m = omega (arith, ints, clamps) in ap t e ∙ h)
-    (λ l. let e : int_min m n ≡ n = omega (arith, ints, clamps) in ap t e ∙ k)
-
-in-common : (e f : Extent) (q : PlanePoint) → in_extent e q ≡ true → in_extent f q ≡ true → in_extent (common_extent e f) q ≡ true
-in-common e f q h k =
-    let first = and_parts (within e.min_x e.max_x (x_of q)) (within e.min_y e.max_y (y_of q)) h in
-    let second = and_parts (within f.min_x f.max_x (x_of q)) (within f.min_y f.max_y (y_of q)) k in
-    and_from _ _
-    (between e.min_x e.max_x f.min_x f.max_x q.x first.0 second.0)
-    (between e.min_y e.max_y f.min_y f.max_y q.y first.1 second.1)
-  where
-    between : (m n s t z : ℤ) → (int_le (m *ℤ pos q.d) z && int_le z (n *ℤ pos q.d)) ≡ true → (int_le (s *ℤ pos q.d) z && int_le z (t *ℤ pos q.d)) ≡ true →
-        (int_le (int_max m s *ℤ pos q.d) z && int_le z (int_min n t *ℤ pos q.d)) ≡ true
-    between m n s t z here there =
-        let first = and_parts (int_le (m *ℤ pos q.d) z) (int_le z (n *ℤ pos q.d)) here in
-        let second = and_parts (int_le (s *ℤ pos q.d) z) (int_le z (t *ℤ pos q.d)) there in
-        and_from _ _
-        (of-greater (λ x. int_le (x *ℤ pos q.d) z) m s first.0 second.0)
-        (of-lesser (λ x. int_le z (x *ℤ pos q.d)) n t first.1 second.1)
 
 -- ---- the edges whose boxes meet a box
 abbrev near : Extent → List Edge → List Edge

@@ -12,7 +12,6 @@ use super::starts::has_start_in;
 use sf_crossing::find_sharing;
 use sf_edge_tree::Outcome;
 use sf_geometry::{Geometry, Sequence};
-use sf_relate::common_extent;
 use sf_validity::Valid;
 use std::alloc::Global;
 
@@ -48,7 +47,7 @@ fn contact_of_many(alloc: Global, a: &Valid, b: &Valid) -> Option<bool>
 {
     let first = a.geometry();
     let second = b.geometry();
-    let common = common_extent(&first.envelope(), &second.envelope());
+    let common = first.envelope().common(second.envelope());
     let are_few = has_few_parts(first) && has_few_parts(second);
     match find_sharing(alloc, first, second, &common) {
         Ok(Outcome::Found) => Some(true),

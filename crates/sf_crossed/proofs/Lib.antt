@@ -1,3 +1,4 @@
+pub mod CallerLemmas
 pub mod EndLaws
 pub mod PartLaws
 pub mod CrossedLaws

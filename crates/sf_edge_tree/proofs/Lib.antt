@@ -5,3 +5,4 @@ pub mod NearLaws
 pub mod PairLaws
 pub mod SearchLaws
 pub mod MeetingLaws
+pub mod EnvelopeLaws

@@ -4,20 +4,13 @@
 ghost use Rattle.std.specs.Prelude.{◌≡◌, ◌+◌, ◌<◌, ◌<ℤ◌, IsTrue, length, pos};
 ghost use Rattle.sf_grid.specs.Edge.{cross};
 ghost use Rattle.sf_grid.specs.Plane.{grid_point};
-ghost use Rattle.sf_grid.specs.Sharing.{comes_before as comes_before_of, earlier_of, later_of};
+ghost use Rattle.sf_grid.specs.Sharing.{earlier_of, later_of};
 ghost use Rattle.sf_first_meeting.specs.Numbered.{point_of};
 ghost use Rattle.sf_first_meeting.specs.Sheared.{rising};
 ghost use Rattle.sf_first_meeting.specs.Sweeps.{IsOver, IsUnder};
 
-use sf_grid::edges::orientation;
+use sf_grid::edges::{comes_before, orientation};
 use sf_grid::{GridPoint, Turn};
-
-/// Whether `a` comes before `b` by x and then y.
-pub(crate) fn comes_before(a: GridPoint, b: GridPoint) -> bool
-    ensures { result ≡ comes_before_of a b }
-{
-    a.x() < b.x() || (a.x() == b.x() && a.y() < b.y())
-}
 
 /// The ends of an edge, from the left.
 pub(crate) fn ends(points: &[GridPoint], edge: usize) -> (GridPoint, GridPoint)

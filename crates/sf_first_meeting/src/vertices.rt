@@ -5,8 +5,8 @@ ghost use Rattle.std.specs.List.Sorted.{IsPermutation};
 ghost use Rattle.sf_first_meeting.specs.declared.vertices.Vertex.{Vertex};
 ghost use Rattle.sf_first_meeting.specs.Tables.{Ascend, IsCount, IsNumbering, LieOnGrid};
 
-use crate::sides::comes_before;
 use sf_grid::GridPoint;
+use sf_grid::edges::comes_before;
 use std::alloc::{AllocError, Global};
 use std::cmp::Ordering;
 

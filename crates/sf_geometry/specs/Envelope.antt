@@ -47,3 +47,8 @@ abbrev pub extents_meet : Extent → Extent → Bool
 extents_meet a b =
     int_le (int_max a.min_x b.min_x) (int_min a.max_x b.max_x)
     && int_le (int_max a.min_y b.min_y) (int_min a.max_y b.max_y)
+
+-- the box that two boxes have in common; where they share no point, no other box shares one with it
+abbrev pub common_extent : Extent → Extent → Extent
+common_extent e f =
+    record { min_x = int_max e.min_x f.min_x; min_y = int_max e.min_y f.min_y; max_x = int_min e.max_x f.max_x; max_y = int_min e.max_y f.max_y }

@@ -20,7 +20,7 @@ impl Geometry {
     }
 
     /// The least box that has all points of the geometry, or None where it has none.
-    fn extent(&self) -> Option<Extent>
+    pub fn extent(&self) -> Option<Extent>
         ensures { result ≡ fold grown_to None (points_of self.now) }
     {
         match self {

@@ -1,6 +1,6 @@
 ghost use Rattle.std.specs.Prelude.{◌≡◌, int_le};
 ghost use Rattle.std.specs.Int.{int_max, int_min};
-ghost use Rattle.sf_geometry.specs.Envelope.{extent_at, extent_with, extents_meet};
+ghost use Rattle.sf_geometry.specs.Envelope.{common_extent, extent_at, extent_with, extents_meet};
 
 use sf_grid::GridPoint;
 
@@ -43,6 +43,18 @@ impl Extent {
         ensures { result ≡ extents_meet self other }
     {
         self.meets_in_x(other) && self.meets_in_y(other)
+    }
+
+    /// The box that both have in common. Where they share no point, no other box shares one with it.
+    pub fn common(self, other: Extent) -> Extent
+        ensures { result ≡ common_extent self other }
+    {
+        Extent {
+            min_x: greater(self.min_x, other.min_x),
+            min_y: greater(self.min_y, other.min_y),
+            max_x: lesser(self.max_x, other.max_x),
+            max_y: lesser(self.max_y, other.max_y),
+        }
     }
 
     /// Whether some x is in both.

@@ -16,3 +16,4 @@ pub mod PointLaws
 pub mod SameLaws
 pub mod OrderLaws
 pub mod BetweenLaws
+pub mod ColumnLaws

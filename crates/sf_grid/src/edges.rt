@@ -1,12 +1,12 @@
-//! Edges, the straight pieces between two grid points: turns, points on edges, what two edges
-//! share, and which of two edges is lower.
+//! Edges, the straight pieces between two grid points: turns, points on edges and below them, what two
+//! edges share, and which of two edges is lower.
 
-ghost use Rattle.std.specs.Prelude.{◌≡◌, ◌≢◌, ◌↔◌, ◌<◌, ◌≤◌, ◌+◌, ◌||◌, ◌&&◌, ◌-ℤ◌, pos, int_lt, unsigned_abs, IsFalse, IsTrue};
+ghost use Rattle.std.specs.Prelude.{◌≡◌, ◌≢◌, ◌↔◌, ◌<◌, ◌≤◌, ◌+◌, ◌||◌, ◌&&◌, ◌-ℤ◌, pos, int_le, int_lt, unsigned_abs, IsFalse, IsTrue};
 ghost use Rattle.std.specs.Int.{int_max, int_min};
 ghost use Rattle.sf_grid.specs.Bounds.{cross_bound, denominator_end};
 ghost use Rattle.sf_grid.specs.Fraction.{fraction_cmp, whole};
 ghost use Rattle.sf_grid.specs.Plane.{grid_point};
-ghost use Rattle.sf_grid.specs.Edge.{cross as cross_of, within, IsOnEdge, edge_between, height_at, in_box, is_vertical, left_end, reaches, right_end};
+ghost use Rattle.sf_grid.specs.Edge.{cross as cross_of, within, IsOnEdge, below_rightward, edge_above, edge_between, height_at, in_box, is_vertical, left_end, reaches, right_end};
 ghost use Rattle.sf_grid.specs.Sharing.{IsSharing, comes_before as comes_before_of, earlier_of, later_of, turn_of, weighted_point as weighted_point_of};
 
 use crate::exact::{cross, weighted_sum};
@@ -47,6 +47,35 @@ fn is_between(a: i32, b: i32, z: i32) -> bool
     ensures { result ≡ within (int_min a b) (int_max a b) (whole z) }
 {
     a.min(b) <= z && z <= a.max(b)
+}
+
+/// Whether the edge between `a` and `b` is strictly above `p`. The column of its left end belongs to it and that of its right
+/// end doesn't, so a path that passes the column of `p` at a vertex counts there once. An upright edge is above nothing.
+pub fn is_above(a: GridPoint, b: GridPoint, p: GridPoint) -> bool
+    ensures { result ≡ edge_above (edge_between a b) (grid_point p) }
+{
+    is_above_from_left(a, b, p) || is_above_from_left(b, a, p)
+}
+
+/// Whether `left` is the left end of the edge, and it is above `p`.
+fn is_above_from_left(left: GridPoint, right: GridPoint, p: GridPoint) -> bool
+    ensures { result ≡ below_rightward left right (grid_point p) }
+{
+    is_in_columns(left, right, p) && is_to_the_right(left, right, p)
+}
+
+/// Whether `p` is in the columns from that of `left` to the one before that of `right`.
+fn is_in_columns(left: GridPoint, right: GridPoint, p: GridPoint) -> bool
+    ensures { result ≡ (int_le left.x p.x && int_lt p.x right.x) }
+{
+    left.x() <= p.x() && p.x() < right.x()
+}
+
+/// Whether `p` is to the right of the way from `a` to `b`.
+fn is_to_the_right(a: GridPoint, b: GridPoint, p: GridPoint) -> bool
+    ensures { result ≡ int_lt (cross_of a b (grid_point p)) (pos 0) }
+{
+    cross(a, b, p) < 0
 }
 
 /// What the closed edges `e` and `f` share.
@@ -152,7 +181,7 @@ fn later(a: GridPoint, b: GridPoint) -> GridPoint
 }
 
 /// Whether `a` comes before `b` by x and then y.
-fn comes_before(a: GridPoint, b: GridPoint) -> bool
+pub fn comes_before(a: GridPoint, b: GridPoint) -> bool
     ensures { result ≡ comes_before_of a b }
 {
     a.x() < b.x() || (a.x() == b.x() && a.y() < b.y())

@@ -32,7 +32,7 @@ use Rattle.sf_plane.specs.declared.dim.Dim.{Dim}
 use Rattle.sf_plane.specs.declared.dim.Dim.TheVariants as dims
 use Rattle.sf_plane.specs.Dimension.{HasDimension, HasPoint, HasSegment, PointSet}
 use Rattle.sf_plane.specs.Unions.{IsUnionOfCells}
-use Rattle.sf_prepared.proofs.EdgeLaws.{none-said, off-box}
+use Rattle.sf_crossed.proofs.CallerLemmas.{none-said, off-box}
 use Rattle.sf_relate.proofs.CommonBoxLaws.{edge-is-in}
 use Rattle.sf_relate.proofs.NeighbourLaws.{same-on-grid}
 use Rattle.sf_relate.proofs.SetLaws.{boundary_union, exterior_union, interior_union, matrices_are_over_the_plane, second_has}

@@ -15,3 +15,4 @@ pub use beside::known_beside;
 pub use cover::known_by_cover;
 pub use ends::known_by_ends;
 pub use points::known_by_points;
+pub use sf_crossed::known_by_crossed_lines;

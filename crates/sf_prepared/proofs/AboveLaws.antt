@@ -1,5 +1,5 @@
 -- The edges above a point of a box are among those whose boxes are in the columns over it, from its lower side up.
-use Rattle.std.proofs.Common.{◌≡◌, ℕ, ◌<◌, arith, refl, ℤ, pos, ◌+ℤ◌, ◌-ℤ◌, ◌*ℤ◌, ◌<ℤ◌, ◌≤ℤ◌, Bool, true, ◌&&◌, [], ◌∷◌, inl, inr}
+use Rattle.std.proofs.Common.{◌≡◌, ◌∙◌, ap, sym, ℕ, ◌<◌, arith, refl, ℤ, pos, ◌+ℤ◌, ◌-ℤ◌, ◌*ℤ◌, ◌<ℤ◌, ◌≤ℤ◌, Bool, true, ◌&&◌, [], ◌∷◌, inl, inr}
 use Rattle.std.specs.Prelude.{◌^◌, ◌-◌, int_le, int_lt}
 use Rattle.std.specs.Int.{int_max, int_min}
 use Rattle.std.proofs.lemmas.Bool.{and_from, and_parts, or_cases}
@@ -8,6 +8,7 @@ use Rattle.sf_grid.specs.Bounds.{grid_max}
 use Rattle.sf_grid.specs.Plane.{Coordinates, IsOnGrid, IsPoint, Point, grid_point, x_of, y_of}
 use Rattle.sf_grid.specs.Edge.{below_rightward, cross, edge_above, within}
 use Rattle.sf_grid.proofs.CallerLemmas.{dif, le_from_mul, le_from_test, lt_from_mul, lt_from_test, mul, mul_lt, mul_nonneg-nonneg, mul_pos-pos, ring, sum, test_from_le, var}
+use Rattle.sf_grid.proofs.ColumnLaws.{times-one}
 use Rattle.sf_geometry.specs.declared.extent.Extent.{Extent}
 use Rattle.sf_geometry.specs.Envelope.{extent_at, extents_meet}
 use Rattle.sf_geometry.specs.Parts.{edge_of}
@@ -35,6 +36,21 @@ boxed-from e q b =
     and_from (within e.min_x e.max_x (x_of q)) (within e.min_y e.max_y (y_of q))
     (and_from (int_le (e.min_x *ℤ pos q.d) q.x) (int_le q.x (e.max_x *ℤ pos q.d)) (test_from_le _ _ b.left) (test_from_le _ _ b.right))
     (and_from (int_le (e.min_y *ℤ pos q.d) q.y) (int_le q.y (e.max_y *ℤ pos q.d)) (test_from_le _ _ b.bottom) (test_from_le _ _ b.top))
+
+-- a grid point is in a box just where the two meet
+pub meets-at : (p : Coordinates) (e : Extent) → extents_meet (extent_at p) e ≡ in_extent e (grid_point p)
+meets-at p e =
+    ap (λ b. b && int_le (int_max p.y e.min_y) (int_min p.y e.max_y)) (between e.min_x e.max_x p.x)
+    ∙ ap (λ b. within e.min_x e.max_x (x_of (grid_point p)) && b) (between e.min_y e.max_y p.y)
+  where
+    one : (m n z : ℤ) → int_le (int_max z m) (int_min z n) ≡ (int_le m z && int_le z n)
+    one m n z = grind (arith, ints)
+
+    between : (m n z : ℤ) → int_le (int_max z m) (int_min z n) ≡ (int_le (m *ℤ pos 1) z && int_le z (n *ℤ pos 1))
+    between m n z =
+        one m n z
+        ∙ ap (λ k. int_le k z && int_le z n) (sym (times-one m))
+        ∙ ap (λ k. int_le (m *ℤ pos 1) z && int_le z k) (sym (times-one n))
 
 -- ---- the box of an edge above a point of a box is in the columns over it
 -- the side of a point is a mean of how far it is above the ends

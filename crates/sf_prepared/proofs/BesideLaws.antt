@@ -1,10 +1,18 @@
 -- An edge has no point of a box that lies on one side of it; where each of some edges has none, the box is clear of them.
 use Rattle.std.proofs.Common.{◌≡◌, ℕ, ◌+◌, ◌<◌, ◌≤◌, arith, refl, ap, sym, ◌∙◌, subst, get_or, ℤ, pos, ◌+ℤ◌, ◌-ℤ◌, ◌*ℤ◌, ◌<ℤ◌, ◌≤ℤ◌, true, List, [], ◌∷◌, drop, length, map}
+use Rattle.std.specs.Prelude.{int_lt}
+use Rattle.std.specs.Ordering.{int_cmp}
+use Rattle.std.specs.declared.cmp.Ordering.{Ordering}
+use Rattle.std.specs.declared.cmp.Ordering.TheVariants.{Equal, Greater, Less}
 use Rattle.std.proofs.lemmas.Int.{by_lt_z, ints}
 use Rattle.std.proofs.lemmas.List.{drop_all, drop_more}
 use Rattle.sf_grid.specs.Plane.{Coordinates, IsPoint, Point, grid_point}
 use Rattle.sf_grid.specs.Edge.{cross, edge_between}
-use Rattle.sf_grid.proofs.CallerLemmas.{dif, lies, lt_from_test, mul, mul_nonneg-nonneg, mul_pos, num, ring, sum, var}
+use Rattle.sf_grid.specs.Sharing.{turn_by, turn_of}
+use Rattle.sf_grid.specs.declared.turn.Turn.{Turn}
+use Rattle.sf_grid.specs.declared.turn.Turn.TheVariants.{Left}
+use Rattle.sf_grid.proofs.CallerLemmas.{dif, lies, lt_from_test, mul, mul_nonneg-nonneg, mul_pos, num, ring, sum, test_from_lt, var}
+use Rattle.sf_grid.proofs.OrderLaws.{less_is}
 use Rattle.sf_geometry.specs.declared.extent.Extent.{Extent}
 use Rattle.sf_geometry.specs.Parts.{edge_of}
 use Rattle.sf_paths.specs.Paths.{IsOffBox}
@@ -14,6 +22,17 @@ use Rattle.sf_prepared.specs.Places.{AreClear, IsBoxLeft, IsLeft}
 use Rattle.sf_prepared.proofs.AboveLaws.{boxed-sides}
 
 -- ---- on one side
+-- to the left of a way is what the turn to it says
+less-from : (o : Ordering) → turn_by o ≡ Left → o ≡ Less
+less-from Less h = refl
+less-from Equal h = cc
+less-from Greater h = cc
+
+pub corner-left : (a b corner : Coordinates) (x y : ℤ) (turn : Turn) → corner ≡ record { x = x; y = y } → turn ≡ turn_of a b corner → turn ≡ Left → IsLeft a b x y
+corner-left a b corner x y turn at is left =
+    subst (λ (p : Coordinates). int_lt (pos 0) (cross a b (grid_point p)) ≡ true) at
+    (test_from_lt (pos 0) (cross a b (grid_point corner)) (less_is (pos 0) (cross a b (grid_point corner)) (less-from _ (sym is ∙ left))))
+
 -- the side of a point, by that of a corner
 from-corner : (a b : Coordinates) (p : Point) (x y : ℤ) →
     cross a b p ≡ cross a b (grid_point (record { x = x; y = y })) *ℤ pos p.d +ℤ ((b.x -ℤ a.x) *ℤ (p.y -ℤ y *ℤ pos p.d) +ℤ (a.y -ℤ b.y) *ℤ (p.x -ℤ x *ℤ pos p.d))

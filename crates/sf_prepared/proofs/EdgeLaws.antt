@@ -21,6 +21,7 @@ use Rattle.sf_polygons.proofs.SizeLaws.{few-edges}
 use Rattle.sf_validity.specs.Beside.{box_of_extent}
 use Rattle.sf_relate.proofs.CommonBoxLaws.{has-ends}
 use Rattle.sf_edge_tree.specs.Meeting.{ends_of_edge, extent_of_edge}
+use Rattle.sf_edge_tree.proofs.EnvelopeLaws.{OfEnds, ends-of-edges}
 use Rattle.sf_prepared.specs.Boxes.{AreEdgesOf, AreOnGrid, is_box_met, pairs_of}
 use Rattle.sf_prepared.specs.Places.{AreClear}
 
@@ -78,33 +79,12 @@ few-pairs geometry found pairs sized is edges =
     bound m n h k = omega (arith, h, k)
 
 -- ---- the edges of a geometry on the grid
-on-grid_from : (p : Coordinates) (ps : List Coordinates) → AllByRecursion IsOnGrid (p ∷ ps) → AllByRecursion AreOnGrid (map ends_of_edge (edges_of_list (p ∷ ps)))
-on-grid_from p [] h = tt
-on-grid_from p (q ∷ qs) h = subst (λ es. AllByRecursion AreOnGrid (map ends_of_edge es)) (sym (edges-step p q qs)) (by_same (is_same p q) (on-grid_from q qs h.1))
-  where
-    by_same : (t : Bool) → AllByRecursion AreOnGrid (map ends_of_edge (edges_of_list (q ∷ qs))) →
-        AllByRecursion AreOnGrid (map ends_of_edge (if t then edges_of_list (q ∷ qs) else edge_between p q ∷ edges_of_list (q ∷ qs)))
-    by_same true k = k
-    by_same false k = ((h.0, h.1.0), k)
-
-on-grid_list : (ps : List Coordinates) → AllByRecursion IsOnGrid ps → AllByRecursion AreOnGrid (map ends_of_edge (edges_of_list ps))
-on-grid_list [] h = tt
-on-grid_list (p ∷ ps) h = on-grid_from p ps h
-
-on-grid_lists : (lists : List (List Coordinates)) → AllByRecursion IsOnGrid (joined lists) → AllByRecursion AreOnGrid (map ends_of_edge (flat_map edges_of_list lists))
-on-grid_lists [] h = tt
-on-grid_lists (ps ∷ lists) h =
-    let parts = each-parts IsOnGrid ps (joined lists) h in
-    subst (AllByRecursion AreOnGrid) (sym (map-append ends_of_edge (edges_of_list ps) (flat_map edges_of_list lists)))
-    (each-append AreOnGrid (map ends_of_edge (edges_of_list ps)) (map ends_of_edge (flat_map edges_of_list lists)) (on-grid_list ps parts.0) (on-grid_lists lists parts.1))
-
 pub pairs-on-grid : (g : Geometry) → LiesOnGrid g → AllByRecursion AreOnGrid (pairs_of g)
-pairs-on-grid (OnePoint p) h = tt
-pairs-on-grid (MultiPoint ps) h = tt
-pairs-on-grid (LineString ps) h = on-grid_lists (ps ∷ []) h
-pairs-on-grid (MultiLineString lines) h = on-grid_lists lines h
-pairs-on-grid (Polygon rings) h = on-grid_lists rings h
-pairs-on-grid (MultiPolygon polygons) h = on-grid_lists (joined polygons) h
+pairs-on-grid g h = each (edges_of g) (ends-of-edges IsOnGrid g h)
+  where
+    each : (es : List Line) → AllByRecursion (OfEnds IsOnGrid) es → AllByRecursion AreOnGrid (map ends_of_edge es)
+    each [] h = tt
+    each (e ∷ es) h = (h.0, each es h.1)
 
 pub pairs-edges : (es : List Line) → map edge_of (map ends_of_edge es) ≡ es
 pairs-edges [] = refl

@@ -1,8 +1,6 @@
 //! Edges that have no point of a box though their own boxes are in its way: the box lies on one side of them.
 
-ghost use Rattle.std.specs.Prelude.{◌≡◌, map, int_lt, pos, IsTrue};
-ghost use Rattle.sf_grid.specs.Edge.{cross as cross_of};
-ghost use Rattle.sf_grid.specs.Plane.{grid_point};
+ghost use Rattle.std.specs.Prelude.{map, IsTrue};
 ghost use Rattle.sf_geometry.specs.Parts.{edge_of};
 ghost use Rattle.sf_paths.specs.Paths.{IsOffBox};
 ghost use Rattle.sf_validity.specs.Beside.{box_of_extent};
@@ -51,17 +49,7 @@ fn is_left(a: GridPoint, b: GridPoint, x: i32, y: i32) -> bool
     ensures { IsTrue result → IsLeft a b x y }
 {
     match GridPoint::new(x, y) {
-        Some(corner) => is_to_the_left(a, b, corner),
+        Some(corner) => matches!(orientation(a, b, corner), Turn::Left),
         None => false,
-    }
-}
-
-/// Whether the point is to the left of the way from `a` to `b`.
-fn is_to_the_left(a: GridPoint, b: GridPoint, point: GridPoint) -> bool
-    ensures { result ≡ int_lt (pos 0) (cross_of a b (grid_point point)) }
-{
-    match orientation(a, b, point) {
-        Turn::Left => true,
-        Turn::Right | Turn::Straight => false,
     }
 }

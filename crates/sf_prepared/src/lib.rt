@@ -2,7 +2,6 @@
 //! also of an area beside a small geometry.
 #![tactic(auto)]
 
-mod above;
 mod beside;
 pub mod laws;
 mod nearby;

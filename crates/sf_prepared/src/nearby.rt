@@ -1,12 +1,13 @@
-//! The edges of an area that can be on a point of a box or above one, and the matrix by a walk over these
-//! alone.
+//! The edges of an area that can be on a point of a box or above one, how many are above a point, and the matrix by a walk
+//! over these alone.
 
-ghost use Rattle.std.specs.Prelude.{◌≡◌, IfSome};
-ghost use Rattle.std.specs.List.{list_any};
-ghost use Rattle.sf_grid.specs.Edge.{within};
-ghost use Rattle.sf_grid.specs.Fraction.{whole};
+ghost use Rattle.std.specs.Prelude.{◌≡◌, IfSome, map};
+ghost use Rattle.std.specs.List.{count_by, list_any};
+ghost use Rattle.sf_grid.specs.Edge.{edge_above};
+ghost use Rattle.sf_grid.specs.EvenOdd.{edges_above, is_odd};
 ghost use Rattle.sf_grid.specs.Plane.{grid_point};
 ghost use Rattle.sf_geometry.specs.Envelope.{envelope_of};
+ghost use Rattle.sf_geometry.specs.Parts.{edge_of};
 ghost use Rattle.sf_validity.specs.Held.{IsHeld};
 ghost use Rattle.sf_relate.specs.Contact.{in_extent};
 ghost use Rattle.sf_relate.specs.declared.shape.Shape.TheVariants.{Areas};
@@ -17,6 +18,7 @@ ghost use Rattle.sf_prepared.specs.Nearby.{columns_over, leaves, nearby};
 
 use sf_geometry::Extent;
 use sf_grid::GridPoint;
+use sf_grid::edges::is_above;
 use sf_relate::{Matrix, relate_nearby};
 use sf_validity::Valid;
 use std::alloc::Global;
@@ -82,13 +84,22 @@ fn leaves(edge: &(GridPoint, GridPoint), extent: &Extent) -> bool
 fn is_in(point: GridPoint, extent: &Extent) -> bool
     ensures { result ≡ in_extent extent.now (grid_point point) }
 {
-    is_from_to(point.x(), extent.min_x, extent.max_x)
-        && is_from_to(point.y(), extent.min_y, extent.max_y)
+    Extent::at(point).meets(*extent)
 }
 
-/// Whether the number is in the range, its ends included.
-fn is_from_to(number: i32, low: i32, high: i32) -> bool
-    ensures { result ≡ within low high (whole number) }
+/// Whether an odd number of the edges is above a point.
+pub(crate) fn has_odd_above(edges: &[(GridPoint, GridPoint)], point: GridPoint) -> bool
+    ensures { result ≡ is_odd (edges_above (grid_point point) (map edge_of edges.now)) }
 {
-    low <= number && number <= high
+    count_above(edges, point) % 2 == 1
+}
+
+/// How many of the edges are above a point.
+fn count_above(edges: &[(GridPoint, GridPoint)], point: GridPoint) -> usize
+    ensures { result ≡ count_by (λ edge. edge_above (edge_of edge) (grid_point point)) edges.now }
+{
+    edges
+        .iter()
+        .filter(|edge| is_above(edge.0, edge.1, point))
+        .count()
 }

@@ -16,9 +16,8 @@ ghost use Rattle.sf_prepared.specs.Boxes.{AreEdgesOf, AreOnGrid, is_box_met};
 ghost use Rattle.sf_prepared.specs.Nearby.{nearby};
 ghost use Rattle.sf_prepared.specs.Places.{AreClear};
 
-use crate::above::has_odd_above;
 use crate::beside::all_miss;
-use crate::nearby::{columns_over, walked_nearby};
+use crate::nearby::{columns_over, has_odd_above, walked_nearby};
 use sf_edge_tree::EdgeTree;
 use sf_geometry::{Extent, Geometry};
 use sf_grid::GridPoint;

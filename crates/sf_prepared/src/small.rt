@@ -18,9 +18,7 @@ use std::alloc::Global;
 pub fn matrix_nearby(alloc: Global, area: &Valid, small: &Valid) -> Option<Matrix>
     ensures { IfSome result (λ matrix. matrix.0 ≡ matrix_of area.now small.now) }
 {
-    let Some(matrix) = matrix_with_area(alloc, small, area) else {
-        return None;
-    };
+    let matrix = matrix_with_area(alloc, small, area)?;
     Some(matrix.transposed())
 }
 

@@ -10,7 +10,7 @@ use super::evidence::Evidence;
 use super::given::Given;
 use super::order::{OF_ENTRIES_PREPARED, order_of, order_of_entries, pays_to_prepare};
 use sf_contact::{FEW_POINTS, contact_between};
-use sf_geometry::{Extent, Geometry};
+use sf_geometry::Geometry;
 use sf_relate::{Aim, Known, Matrix, Predicate, matrix_by_boxes, meets_from, relate_from};
 use sf_validity::Valid;
 use std::alloc::{AllocError, Global};
@@ -44,6 +44,9 @@ impl Given<'_> {
             return Ok(answer);
         }
         let goal = ask.goal(geometry, self.valid);
+        if let Some(matrix) = self.matrix_clear(alloc, geometry) {
+            return Ok(goal.is_met(&matrix));
+        }
         let mut known = Known::nothing();
         let mut is_first = true;
         for evidence in order_of(ask, self, geometry) {
@@ -66,10 +69,7 @@ impl Given<'_> {
                 return Ok(answer);
             }
         }
-        if self.prepared.is_none() && pays_to_prepare(geometry, self.valid) {
-            let known = self.known_prepared(alloc, geometry, &known);
-            return meets_from(alloc, &goal, geometry, self.valid, &known);
-        }
+        let known = self.known_prepared(alloc, geometry, &known);
         meets_from(alloc, &goal, geometry, self.valid, &known)
     }
 
@@ -78,7 +78,7 @@ impl Given<'_> {
     fn answer_by_contact(&self, alloc: Global, ask: &Ask, geometry: &Valid) -> Option<bool>
         ensures { IfSome result (λ answer. answer ≡ is_asked ask.now geometry.now self.now) }
     {
-        if self.prepared.is_some() || has_place_or_many(geometry, self.valid) {
+        if self.prepared.is_some() || self.has_place_or_many(geometry) {
             return None;
         }
         match ask {
@@ -90,27 +90,38 @@ impl Given<'_> {
         }
     }
 
+    /// Whether a feature is a Point, or neither it nor this geometry is small.
+    fn has_place_or_many(&self, geometry: &Valid) -> bool {
+        match geometry.geometry() {
+            Geometry::Point(_) => true,
+            geometry => !self.is_small && geometry.point_count() > FEW_POINTS,
+        }
+    }
+
     /// The matrix of a feature's geometry with this one. How the boundaries of two areas share points is left to edges that
     /// run along one another.
     pub(crate) fn matrix_with(&self, alloc: Global, geometry: &Valid) -> Result<Matrix, AllocError>
         ensures { IfOk result (λ matrix. matrix.0 ≡ matrix_of geometry.now self.now) }
     {
-        let order = order_of_entries(self.valid.geometry().point_count());
+        let order = order_of_entries(self.is_small);
         let known = self.known_by(alloc, geometry, order, &Known::nothing());
-        if known.is_enough(&Aim::ButBoundaries) || !pays_to_prepare(geometry, self.valid) {
+        if known.is_enough(&Aim::ButBoundaries) {
             return relate_from(alloc, geometry, self.valid, &known);
         }
         let known = self.known_prepared(alloc, geometry, &known);
         relate_from(alloc, geometry, self.valid, &known)
     }
 
-    /// What is known once one of the two is prepared for the other alone: the feature's geometry where its box has all of this one's,
-    /// which then lies in it or near its border, and else this one.
+    /// What is known once one of the two is prepared for the other alone, where nothing was prepared yet and that pays: the feature's
+    /// geometry where its box has all of this one's, which then lies in it or near its border, and else this one.
     fn known_prepared(&self, alloc: Global, geometry: &Valid, from: &Known) -> Known
         requires { Holds from.now (matrix_of geometry.now self.now) }
         ensures { Holds result (matrix_of geometry.now self.now) }
     {
-        if covers(&geometry.geometry().envelope(), &self.extent) {
+        if self.prepared.is_some() || !pays_to_prepare(geometry, self.valid) {
+            return *from;
+        }
+        if geometry.geometry().envelope().common(self.extent) == self.extent {
             let prepared = Given::new(geometry).prepared(alloc);
             let turned = from.transposed();
             let known = prepared.known_by(alloc, self.valid, &OF_ENTRIES_PREPARED, &turned);
@@ -140,22 +151,4 @@ impl Given<'_> {
         }
         known
     }
-}
-
-/// Whether a feature is a Point, or neither of two geometries is small.
-fn has_place_or_many(geometry: &Valid, given: &Valid) -> bool {
-    match geometry.geometry() {
-        Geometry::Point(_) => true,
-        geometry => {
-            geometry.point_count() > FEW_POINTS && given.geometry().point_count() > FEW_POINTS
-        }
-    }
-}
-
-/// Whether a box has all of another one.
-fn covers(extent: &Extent, other: &Extent) -> bool {
-    extent.min_x <= other.min_x
-        && extent.min_y <= other.min_y
-        && other.max_x <= extent.max_x
-        && other.max_y <= extent.max_y
 }

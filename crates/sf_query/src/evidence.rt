@@ -14,9 +14,11 @@ ghost use Rattle.sf_contact.specs.Few.{few_points};
 use super::given::Given;
 use super::order::{COVER_POINTS, MANY_POINTS};
 use sf_contact::{FEW_POINTS, contact_between, known_by_sides};
-use sf_crossed::known_by_crossed_lines;
 use sf_geometry::Geometry;
-use sf_linework::{known_alongside, known_beside, known_by_cover, known_by_ends, known_by_points};
+use sf_linework::{
+    known_alongside, known_beside, known_by_cover, known_by_crossed_lines, known_by_ends,
+    known_by_points,
+};
 use sf_prepared::{matrix_nearby, matrix_with_area};
 use sf_relate::{
     Dim, Known, Matrix, known_by_crossing, known_of_kinds, known_of_place, locate, matrix_alike,
@@ -41,7 +43,7 @@ pub(crate) enum Evidence {
     /// The places of a MultiPoint's points in lines.
     Points,
     /// First points that lie in the other geometry.
-    FirstPoints,
+    Starts,
     /// Edges that share a point, or that none do: those of a small geometry one by one, and of two large ones those near one another.
     Edges,
     /// A line through an edge of one of two small areas, which has them on its two sides.
@@ -60,13 +62,15 @@ pub(crate) enum Evidence {
 }
 
 impl Evidence {
-    /// Whether it is worth a look, by what is known. What lines show beside is of use once something of an entry is known, and whether
-    /// they cover one another where no edges were found that cross. What shows no more than contact is of no use where that is known.
+    /// Whether it is worth a look, by what is known. Edges can't cross where interiors share nothing. What lines show beside is of use once
+    /// something of an entry is known, and whether they cover one another where no edges were found that cross. What shows no more
+    /// than contact is of no use where that is known.
     pub(crate) fn pays(self, known: &Known) -> bool {
         match self {
+            Evidence::Crossing => known.most[0] != Dim::Nothing,
             Evidence::Cover => !has_entry(known),
             Evidence::Ends | Evidence::Along => has_entry(known),
-            Evidence::FirstPoints | Evidence::Edges => !shows_contact(known),
+            Evidence::Starts | Evidence::Edges => !shows_contact(known),
             _ => true,
         }
     }
@@ -82,7 +86,7 @@ impl Evidence {
             Evidence::Boxes => exactly(matrix_by_boxes(geometry, given.valid, given.extent)),
             Evidence::Place => by_place(geometry, given.valid),
             Evidence::Points => known_by_points(alloc, geometry, given.valid),
-            Evidence::FirstPoints => by_first_points(geometry, given.valid),
+            Evidence::Starts => by_starts(geometry, given.valid),
             Evidence::Edges => by_edges(alloc, geometry, given.valid),
             Evidence::Sides => known_by_sides(geometry, given.valid),
             Evidence::Crossing => by_crossing(alloc, geometry, given.valid),
@@ -117,7 +121,7 @@ pub fn shown_by_each(alloc: Global, geometry: &Valid, given: &Valid) -> [Option<
         Evidence::Alike.shown(alloc, geometry, &given),
         Evidence::Place.shown(alloc, geometry, &given),
         Evidence::Points.shown(alloc, geometry, &given),
-        Evidence::FirstPoints.shown(alloc, geometry, &given),
+        Evidence::Starts.shown(alloc, geometry, &given),
         Evidence::Edges.shown(alloc, geometry, &given),
         Evidence::Sides.shown(alloc, geometry, &given),
         Evidence::Crossing.shown(alloc, geometry, &given),
@@ -195,9 +199,7 @@ fn by_contact(alloc: Global, geometry: &Valid, given: &Valid) -> Option<Known>
     ensures few { IsTrue (nat_le (point_count given.now) few_points || nat_le (point_count geometry.now) few_points)
         → is_some result ≡ true }
 {
-    let Some(has_contact) = contact_between(alloc, geometry, given) else {
-        return None;
-    };
+    let has_contact = contact_between(alloc, geometry, given)?;
     if has_contact {
         return Some(sharing());
     }
@@ -205,7 +207,7 @@ fn by_contact(alloc: Global, geometry: &Valid, given: &Valid) -> Option<Known>
 }
 
 /// First points that lie in the other geometry show contact.
-fn by_first_points(geometry: &Valid, given: &Valid) -> Option<Known>
+fn by_starts(geometry: &Valid, given: &Valid) -> Option<Known>
     ensures holds { IfSome result (λ known. Holds known (matrix_of geometry.now given.now)) }
     ensures answers { is_some result
         ≡ (has_first_point_in geometry.now given.now || has_first_point_in given.now geometry.now) }
@@ -248,8 +250,5 @@ fn sharing() -> Known
 fn exactly(matrix: Option<Matrix>) -> Option<Known>
     ensures { result ≡ option_map (λ matrix. exactly matrix.0) matrix }
 {
-    match matrix {
-        Some(matrix) => Some(Known::exactly(&matrix)),
-        None => None,
-    }
+    matrix.map(|matrix| Known::exactly(&matrix))
 }

@@ -23,6 +23,8 @@ use std::marker::Model;
 pub(crate) struct Given<'a> {
     pub(crate) valid: &'a Valid,
     pub(crate) extent: Extent,
+    /// Whether it has so few points that its edges are tried one by one.
+    pub(crate) is_small: bool,
     pub(crate) prepared: Option<Prepared>,
 }
 
@@ -49,6 +51,7 @@ impl<'a> Given<'a> {
         Given {
             valid,
             extent: valid.geometry().envelope(),
+            is_small: valid.geometry().point_count() <= FEW_POINTS,
             prepared: None,
         }
     }
@@ -57,13 +60,8 @@ impl<'a> Given<'a> {
     pub(crate) fn prepared(self, alloc: Global) -> Given<'a>
         ensures { result ≡ self.entry }
     {
-        let Given { valid, extent, .. } = self;
-        let prepared = Prepared::new(alloc, valid).ok();
-        Given {
-            valid,
-            extent,
-            prepared,
-        }
+        let prepared = Prepared::new(alloc, self.valid).ok();
+        Given { prepared, ..self }
     }
 
     /// The same, prepared where so many features are asked about it that this pays. Of a small one its own edges show contact as
@@ -71,15 +69,13 @@ impl<'a> Given<'a> {
     pub(crate) fn prepared_for(self, alloc: Global, ask: &Ask, features: usize) -> Given<'a>
         ensures { result ≡ self.entry }
     {
-        let geometry = self.valid.geometry();
-        let is_point = matches!(geometry, Geometry::Point(_));
-        let is_small = geometry.point_count() <= FEW_POINTS;
-        let many = if is_small {
+        let is_point = matches!(self.valid.geometry(), Geometry::Point(_));
+        let many = if self.is_small {
             MANY_FEATURES_OF_FEW_POINTS
         } else {
             MANY_FEATURES
         };
-        if features < many || is_point || (is_small && ask.is_of_contact()) {
+        if features < many || is_point || (self.is_small && ask.is_of_contact()) {
             return self;
         }
         self.prepared(alloc)

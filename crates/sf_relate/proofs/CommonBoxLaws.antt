@@ -12,7 +12,7 @@ use Rattle.sf_edge_tree.specs.Meeting.{ends_meeting, ends_of_edge, extent_of_edg
 use Rattle.sf_geometry.specs.declared.extent.Extent.{Extent}
 use Rattle.sf_geometry.specs.declared.geometry.Geometry.{Geometry}
 use Rattle.sf_geometry.specs.declared.geometry.Geometry.TheVariants.{Point, LineString, Polygon, MultiPoint, MultiLineString, MultiPolygon}
-use Rattle.sf_geometry.specs.Envelope.{envelope_of, extents_meet}
+use Rattle.sf_geometry.specs.Envelope.{common_extent, envelope_of, extents_meet}
 use Rattle.sf_geometry.specs.Lists.{edges_of as edges_of_list}
 use Rattle.sf_geometry.specs.Parts.{edge_of, edges_of}
 use Rattle.sf_geometry.specs.PointSets.{in_boundary, in_interior, on_line}
@@ -27,26 +27,12 @@ use Rattle.sf_plane.specs.Boxes.{HasEnds}
 use Rattle.sf_rules.proofs.MemberLaws.{one-any}
 use Rattle.sf_rules.specs.Validity.{IsValid}
 use Rattle.sf_validity.specs.Beside.{box_of_extent}
-use Rattle.sf_relate.specs.Areas.{common_extent}
 use Rattle.sf_relate.specs.Contact.{in_extent, is_in}
 use Rattle.sf_relate.proofs.AreasLaws.{any-flat}
 use Rattle.sf_relate.proofs.EnvelopeLaws.{lies_in_box, valid-closed}
 use Rattle.sf_relate.proofs.OverlapLaws.{on-boundary}
-
 -- ---- the box of an edge has its ends
-pub has-ends : (pair : Coordinates × Coordinates) → HasEnds (box_of_extent (extent_of_edge pair)) (edge_of pair)
-has-ends pair = (
-  and_from (within (int_min pair.0.x pair.1.x) (int_max pair.0.x pair.1.x) (x_of (grid_point pair.0))) (within (int_min pair.0.y pair.1.y) (int_max pair.0.y pair.1.y) (y_of (grid_point pair.0)))
-      (first pair.0.x pair.1.x) (first pair.0.y pair.1.y),
-  and_from (within (int_min pair.0.x pair.1.x) (int_max pair.0.x pair.1.x) (x_of (grid_point pair.1))) (within (int_min pair.0.y pair.1.y) (int_max pair.0.y pair.1.y) (y_of (grid_point pair.1)))
-      (second pair.0.x pair.1.x) (second pair.0.y pair.1.y),
-)
-  where
-    first : (s t : ℤ) → (int_le (int_min s t *ℤ pos 1) s && int_le s (int_max s t *ℤ pos 1)) ≡ true
-    first s t = and_from (int_le (int_min s t *ℤ pos 1) s) (int_le s (int_max s t *ℤ pos 1)) (test_from_le (int_min s t *ℤ pos 1) s (omega (arith, ints, clamps))) (test_from_le s (int_max s t *ℤ pos 1) (omega (arith, ints, clamps)))
-
-    second : (s t : ℤ) → (int_le (int_min s t *ℤ pos 1) t && int_le t (int_max s t *ℤ pos 1)) ≡ true
-    second s t = and_from (int_le (int_min s t *ℤ pos 1) t) (int_le t (int_max s t *ℤ pos 1)) (test_from_le (int_min s t *ℤ pos 1) t (omega (arith, ints, clamps))) (test_from_le t (int_max s t *ℤ pos 1) (omega (arith, ints, clamps)))
+pub use Rattle.sf_along.proofs.NearLaws.{has-ends}
 
 -- ---- a point of two boxes is in their common one
 between : (m n s t x : ℤ) (d : ℕ) → (int_le (m *ℤ pos d) x && int_le x (n *ℤ pos d)) ≡ true → (int_le (s *ℤ pos d) x && int_le x (t *ℤ pos d)) ≡ true →
@@ -69,7 +55,7 @@ between m n s t x d h k =
     lesser a b (inl e) f g = ap (λ z. int_le x (z *ℤ pos d)) e.1 ∙ g
     lesser a b (inr e) f g = ap (λ z. int_le x (z *ℤ pos d)) e.1 ∙ f
 
-in-common : (e f : Extent) (q : PlanePoint) → in_extent e q ≡ true → in_extent f q ≡ true → in_extent (common_extent e f) q ≡ true
+pub in-common : (e f : Extent) (q : PlanePoint) → in_extent e q ≡ true → in_extent f q ≡ true → in_extent (common_extent e f) q ≡ true
 in-common e f q h k =
     let first = and_parts (within e.min_x e.max_x (x_of q)) (within e.min_y e.max_y (y_of q)) h in
     let second = and_parts (within f.min_x f.max_x (x_of q)) (within f.min_y f.max_y (y_of q)) k in

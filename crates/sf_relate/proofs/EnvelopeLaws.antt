@@ -26,6 +26,7 @@ use Rattle.sf_rules.proofs.MemberLaws.{each-of_flat, each-of_map}
 use Rattle.sf_interiors.proofs.RingLaws.{ring-chain}
 use Rattle.sf_strands.proofs.EndLaws.{start-same-on}
 use Rattle.sf_polygons.proofs.TestLaws.{any-follows}
+use Rattle.sf_edge_tree.proofs.EnvelopeLaws.{HasPoint, points-in as points-within}
 use Rattle.sf_validity.specs.Beside.{box_of_extent}
 use Rattle.sf_relate.specs.Contact.{ApartHasNoContact, LiesInBox}
 use Rattle.sf_relate.specs.Matrices.{matrix_of}
@@ -33,43 +34,6 @@ use Rattle.sf_known.specs.Patterns.{has_contact}
 use Rattle.sf_geometry.proofs.ListLaws.{not-false}
 use Rattle.sf_relate.proofs.PlaceLaws.{end-on, odd-some-count}
 use Rattle.sf_relate.proofs.SharedLaws.{contact_is_shared}
-
--- ---- the least and the greatest
-least-first : (n : ℤ) (ns : List ℤ) → fold int_min n ns ≤ℤ n
-least-first n [] = omega (arith, ints)
-least-first n (m ∷ ns) = chain (fold int_min (int_min n m) ns) (least-first (int_min n m) ns)
-  where
-    chain : (l : ℤ) → l ≤ℤ int_min n m → l ≤ℤ n
-    chain l h = omega (arith, ints, clamps)
-
-least-each : (n : ℤ) (ns : List ℤ) → AllByRecursion (λ m. fold int_min n ns ≤ℤ m) ns
-least-each n [] = tt
-least-each n (m ∷ ns) = (chain (fold int_min (int_min n m) ns) (least-first (int_min n m) ns), least-each (int_min n m) ns)
-  where
-    chain : (l : ℤ) → l ≤ℤ int_min n m → l ≤ℤ m
-    chain l h = omega (arith, ints, clamps)
-
-least-is : (ns : List ℤ) → AllByRecursion (λ m. least ns ≤ℤ m) ns
-least-is [] = tt
-least-is (n ∷ ns) = (least-first n ns, least-each n ns)
-
-greatest-first : (n : ℤ) (ns : List ℤ) → n ≤ℤ fold int_max n ns
-greatest-first n [] = omega (arith, ints)
-greatest-first n (m ∷ ns) = chain (fold int_max (int_max n m) ns) (greatest-first (int_max n m) ns)
-  where
-    chain : (l : ℤ) → int_max n m ≤ℤ l → n ≤ℤ l
-    chain l h = omega (arith, ints, clamps)
-
-greatest-each : (n : ℤ) (ns : List ℤ) → AllByRecursion (λ m. m ≤ℤ fold int_max n ns) ns
-greatest-each n [] = tt
-greatest-each n (m ∷ ns) = (chain (fold int_max (int_max n m) ns) (greatest-first (int_max n m) ns), greatest-each (int_max n m) ns)
-  where
-    chain : (l : ℤ) → int_max n m ≤ℤ l → m ≤ℤ l
-    chain l h = omega (arith, ints, clamps)
-
-greatest-is : (ns : List ℤ) → AllByRecursion (λ m. m ≤ℤ greatest ns) ns
-greatest-is [] = tt
-greatest-is (n ∷ ns) = (greatest-first n ns, greatest-each n ns)
 
 -- ---- the points of a geometry are in its box
 abbrev box_of : Geometry → Box
@@ -80,16 +44,9 @@ AreIn box ps = AllByRecursion (λ p. in_box box (grid_point p) ≡ true) ps
 
 points-in : (a : Geometry) → AreIn (box_of a) (points_of a)
 points-in a =
-    let ps = points_of a in
-    let box = box_of a in
-    let across = each-both (λ (p : Coordinates). box.min_x ≤ℤ p.x) (λ (p : Coordinates). p.x ≤ℤ box.max_x) (λ (p : Coordinates). (box.min_x ≤ℤ p.x) × (p.x ≤ℤ box.max_x)) ps (λ p h k. (h, k))
-    (each-of_map (λ m. box.min_x ≤ℤ m) (λ (p : Coordinates). p.x) ps (least-is (map (λ (p : Coordinates). p.x) ps)))
-    (each-of_map (λ m. m ≤ℤ box.max_x) (λ (p : Coordinates). p.x) ps (greatest-is (map (λ (p : Coordinates). p.x) ps))) in
-    let up = each-both (λ (p : Coordinates). box.min_y ≤ℤ p.y) (λ (p : Coordinates). p.y ≤ℤ box.max_y) (λ (p : Coordinates). (box.min_y ≤ℤ p.y) × (p.y ≤ℤ box.max_y)) ps (λ p h k. (h, k))
-    (each-of_map (λ m. box.min_y ≤ℤ m) (λ (p : Coordinates). p.y) ps (least-is (map (λ (p : Coordinates). p.y) ps)))
-    (each-of_map (λ m. m ≤ℤ box.max_y) (λ (p : Coordinates). p.y) ps (greatest-is (map (λ (p : Coordinates). p.y) ps))) in
-    each-both (λ (p : Coordinates). (box.min_x ≤ℤ p.x) × (p.x ≤ℤ box.max_x)) (λ (p : Coordinates). (box.min_y ≤ℤ p.y) × (p.y ≤ℤ box.max_y)) (λ p. in_box box (grid_point p) ≡ true) ps
-    (λ p h k. and_from _ _ (within box.min_x box.max_x p.x h.0 h.1) (within box.min_y box.max_y p.y k.0 k.1)) across up
+    each-map (HasPoint (envelope_of a)) (λ p. in_box (box_of a) (grid_point p) ≡ true) (points_of a)
+    (λ p h. and_from _ _ (within (envelope_of a).min_x (envelope_of a).max_x p.x h.left h.right) (within (envelope_of a).min_y (envelope_of a).max_y p.y h.low h.high))
+    (points-within a)
   where
     within : (m n z : ℤ) → m ≤ℤ z → z ≤ℤ n → (int_le (m *ℤ pos 1) z && int_le z (n *ℤ pos 1)) ≡ true
     within m n z h k = and_from _ _ (test_from_le (m *ℤ pos 1) z (omega (arith, ints))) (test_from_le z (n *ℤ pos 1) (omega (arith, ints)))

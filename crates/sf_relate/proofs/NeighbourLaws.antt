@@ -1,5 +1,7 @@
 -- Where a point lies by the edges of a list, from one neighbour to the next.
 use Rattle.std.proofs.Common.{◌≡◌, refl, ap, sym, ◌∙◌, ℤ, pos, ◌*ℤ◌, ◌+◌, ℕ, arith, Bool, true, false, cond, ◌&&◌, ◌||◌, not, List, [], ◌∷◌, ◌++◌}
+use Rattle.std.specs.Bool.{beq}
+use Rattle.std.proofs.lemmas.Bool.{false≢true}
 use Rattle.std.specs.Prelude.{int_le, int_lt, if◌then◌else◌}
 use Rattle.std.specs.Ordering.{int_eq}
 use Rattle.std.specs.List.{list_any}
@@ -11,7 +13,7 @@ use Rattle.sf_grid.specs.EvenOdd.{edges_above, is_odd}
 use Rattle.sf_geometry.specs.Lists.{edges_of, is_same}
 use Rattle.sf_geometry.proofs.ListLaws.{edges-step, same-is}
 use Rattle.sf_polygons.proofs.TestLaws.{or-none, xor}
-use Rattle.sf_strands.proofs.EndLaws.{times-one}
+use Rattle.sf_grid.proofs.ColumnLaws.{columns-on-grid, times-one}
 use Rattle.sf_relate.specs.declared.place.Place.{Place}
 use Rattle.sf_relate.specs.declared.place.Place.TheVariants.{Interior, Boundary, Exterior}
 use Rattle.sf_relate.specs.Locating.{area_place, edges_place, in_one_alone}
@@ -24,20 +26,27 @@ same-on-grid a b =
     ∙ ap (λ z. int_eq (a.x *ℤ pos 1) (b.x *ℤ pos 1) && int_eq z b.y) (sym (times-one a.y))
     ∙ ap (λ z. int_eq (a.x *ℤ pos 1) (b.x *ℤ pos 1) && int_eq (a.y *ℤ pos 1) z) (sym (times-one b.y))
 
--- the columns of an edge that goes to the right
-pub columns-on-grid : (u v p : Coordinates) → (int_le u.x p.x && int_lt p.x v.x) ≡ (int_le (u.x *ℤ pos 1) p.x && int_lt p.x (v.x *ℤ pos 1))
-columns-on-grid u v p =
-    ap (λ z. int_le z p.x && int_lt p.x v.x) (sym (times-one u.x)) ∙ ap (λ z. int_le (u.x *ℤ pos 1) p.x && int_lt p.x z) (sym (times-one v.x))
+-- an edge of which both ends are in columns on one side of a point isn't above it
+none-between : (m n z : ℤ) → int_le m z ≡ int_le n z → (int_le m z && int_lt z n) ≡ false
+none-between m n z h = grind (arith, ints)
 
-pub above-in : (u v p : Coordinates) (columns right : Bool) → columns ≡ (int_le u.x p.x && int_lt p.x v.x) → columns ≡ true →
-    right ≡ int_lt (cross u v (grid_point p)) (pos 0) → right ≡ below_rightward u v (grid_point p)
-above-in u v p columns right is t r =
-    r ∙ ap (λ b. b && int_lt (cross u v (grid_point p)) (pos 0)) (sym t ∙ is ∙ columns-on-grid u v p)
+alike : (s t : Bool) → not (beq s t) ≡ false → s ≡ t
+alike true true h = refl
+alike true false h = absurd (false≢true (sym h))
+alike false true h = absurd (false≢true (sym h))
+alike false false h = refl
 
-pub above-out : (u v p : Coordinates) (columns : Bool) → columns ≡ (int_le u.x p.x && int_lt p.x v.x) → columns ≡ false →
-    columns ≡ below_rightward u v (grid_point p)
-above-out u v p columns is f =
-    f ∙ ap (λ b. b && int_lt (cross u v (grid_point p)) (pos 0)) (sym f ∙ is ∙ columns-on-grid u v p)
+pub beside-columns : (u v p : Coordinates) (a b c d : ℤ) → a ≡ u.x → b ≡ p.x → c ≡ v.x → d ≡ p.x → not (beq (int_le a b) (int_le c d)) ≡ false →
+    edge_above (edge_between u v) (grid_point p) ≡ false
+beside-columns u v p a b c d first here second there h =
+    ap (λ t. t || below_rightward v u (grid_point p)) (beside u v same) ∙ beside v u (sym same)
+  where
+    same : int_le u.x p.x ≡ int_le v.x p.x
+    same =
+        sym (ap (λ z. int_le z p.x) first) ∙ sym (ap (int_le a) here) ∙ alike (int_le a b) (int_le c d) h ∙ ap (λ z. int_le z d) second ∙ ap (int_le v.x) there
+
+    beside : (u v : Coordinates) → int_le u.x p.x ≡ int_le v.x p.x → below_rightward u v (grid_point p) ≡ false
+    beside u v e = ap (λ t. t && int_lt (cross u v (grid_point p)) (pos 0)) (sym (columns-on-grid u v p) ∙ none-between u.x v.x p.x e)
 
 -- ---- one edge, or none
 no-column : (a b : ℤ) → (int_le a b && int_lt b a) ≡ false

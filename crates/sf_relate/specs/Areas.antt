@@ -2,9 +2,7 @@
 -- The matrix of two areas, told before all their cells were handed out, or with no cells at all: once each entry has the most
 -- that areas allow, but that of the two boundaries, of which it is known that they share a point.
 use Rattle.std.specs.Prelude.{◌≡◌, Bool, false, true, List, [], ◌∷◌, slice_set, if◌then◌else◌}
-use Rattle.std.specs.Int.{int_max, int_min}
 use Rattle.sf_crossing.specs.Crossing.{HaveCrossing}
-use Rattle.sf_geometry.specs.declared.extent.Extent.{Extent}
 use Rattle.sf_geometry.specs.declared.geometry.Geometry.{Geometry}
 use Rattle.sf_geometry.specs.Parts.{edges_of}
 use Rattle.sf_known.specs.declared.known.Known.{Known}
@@ -39,8 +37,3 @@ pub record Overlap (a b : Geometry) : Type 0 where
 abbrev pub CrossingAreasOverlap : Type 0
 CrossingAreasOverlap =
     (a b : Geometry) → IsValid a → IsValid b → shape_of a ≡ Areas → shape_of b ≡ Areas → HaveCrossing (edges_of a) (edges_of b) → Overlap a b
-
--- the box that two boxes have in common; where they share no point, no other box shares one with it
-abbrev pub common_extent : Extent → Extent → Extent
-common_extent e f =
-    record { min_x = int_max e.min_x f.min_x; min_y = int_max e.min_y f.min_y; max_x = int_min e.max_x f.max_x; max_y = int_min e.max_y f.max_y }

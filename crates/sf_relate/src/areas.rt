@@ -6,7 +6,7 @@ ghost use Rattle.std.specs.Prelude.{◌≡◌, IfOk, IfSome, IsTrue};
 ghost use Rattle.sf_crossing.specs.Crossing.{HaveCrossing};
 ghost use Rattle.sf_geometry.specs.Parts.{edges_of};
 ghost use Rattle.sf_known.specs.Known.{Holds};
-ghost use Rattle.sf_relate.specs.Areas.{Overlap, common_extent, known_overlapping, overlapping_entries, with_boundaries};
+ghost use Rattle.sf_relate.specs.Areas.{Overlap, known_overlapping, overlapping_entries, with_boundaries};
 ghost use Rattle.sf_relate.specs.Matrices.{matrix_of};
 ghost use Rattle.sf_relate.specs.Places.{shape_of};
 ghost use Rattle.sf_relate.specs.declared.shape.Shape.TheVariants.{Areas};
@@ -14,7 +14,6 @@ ghost use Rattle.sf_validity.specs.Held.{IsHeld};
 
 use super::shape::Shape;
 use sf_crossing::have_crossing;
-use sf_geometry::Extent;
 use sf_known::{Known, Matrix};
 use sf_plane::Dim::{self, One, Two, Zero};
 use sf_validity::Valid;
@@ -56,23 +55,11 @@ pub fn are_crossed(alloc: Global, a: &Valid, b: &Valid) -> Result<bool, AllocErr
 {
     let first = a.geometry();
     let second = b.geometry();
-    let common = common_extent(&first.envelope(), &second.envelope());
+    let common = first.envelope().common(second.envelope());
     if second.point_count() <= first.point_count() {
         have_crossing(alloc, first, second, &common)
     } else {
         have_crossing(alloc, second, first, &common)
-    }
-}
-
-/// The box that two boxes have in common. Where they share no point, no other box shares one with it.
-pub fn common_extent(a: &Extent, b: &Extent) -> Extent
-    ensures { result ≡ common_extent a.now b.now }
-{
-    Extent {
-        min_x: a.min_x.max(b.min_x),
-        min_y: a.min_y.max(b.min_y),
-        max_x: a.max_x.min(b.max_x),
-        max_y: a.max_y.min(b.max_y),
     }
 }
 

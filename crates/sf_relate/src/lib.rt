@@ -17,7 +17,7 @@ mod shape;
 mod sink;
 mod walking;
 
-pub use areas::{are_crossed, are_known_to_overlap, common_extent, known_by_crossing};
+pub use areas::{are_crossed, are_known_to_overlap, known_by_crossing};
 pub use at_most::known_of_kinds;
 pub use by_kinds::{matrix_alike, matrix_apart, matrix_by_boxes, matrix_within};
 pub use first_points::shares_first_point;

@@ -1,8 +1,8 @@
 //! Where a point of the grid lies in a geometry, by one pass over its edges.
 
-ghost use Rattle.std.specs.Prelude.{◌≡◌, ◌∷◌, ◌&&◌, [], pos, int_lt, int_le};
+ghost use Rattle.std.specs.Prelude.{◌≡◌, ◌∷◌, []};
 ghost use Rattle.std.specs.List.{flat_map, list_any};
-ghost use Rattle.sf_grid.specs.Edge.{below_rightward, cross as cross_of, edge_above, edge_between, on_edge};
+ghost use Rattle.sf_grid.specs.Edge.{edge_above, edge_between, on_edge};
 ghost use Rattle.sf_grid.specs.Plane.{grid_point, same_point};
 ghost use Rattle.sf_geometry.specs.Lists.{edges_of as edges_of_list, ends_of};
 ghost use Rattle.sf_geometry.specs.Parts.{edges_of, joined};
@@ -14,8 +14,8 @@ ghost use Rattle.sf_relate.specs.Places.{IsPlaceOf};
 use super::by_kinds::is_odd_end;
 use super::place::Place;
 use sf_geometry::{EdgeTest, Geometry, Sequence, line_ends};
-use sf_grid::edges::{on_edge, orientation};
-use sf_grid::{GridPoint, Turn};
+use sf_grid::GridPoint;
+use sf_grid::edges::{is_above, on_edge};
 use sf_validity::Valid;
 
 /// Where a point of the grid lies in a geometry. One pass over its edges, with no memory.
@@ -177,39 +177,18 @@ fn place_by_neighbours(from: GridPoint, to: GridPoint, point: GridPoint) -> Plac
 {
     if is_on_neighbours(from, to, point) {
         Place::Boundary
-    } else if is_above(from, to, point) {
+    } else if is_below_neighbours(from, to, point) {
         Place::Interior
     } else {
         Place::Exterior
     }
 }
 
-/// Whether the edge between `a` and `b` is strictly above the point. The column of its left end
-/// belongs to it and that of its right end doesn't, so a path that passes the point's column at a
-/// vertex counts there once. An upright edge is above nothing.
-fn is_above(a: GridPoint, b: GridPoint, point: GridPoint) -> bool
-    ensures { result ≡ edge_above (edge_between a b) (grid_point point) }
+/// Whether the edge between two neighbours is above the point. Most edges lie in columns beside it, which is told soonest.
+fn is_below_neighbours(from: GridPoint, to: GridPoint, point: GridPoint) -> bool
+    ensures { result ≡ edge_above (edge_between from to) (grid_point point) }
 {
-    is_above_from_left(a, b, point) || is_above_from_left(b, a, point)
-}
-
-/// Whether `left` is the left end of the edge, and it is above the point.
-fn is_above_from_left(left: GridPoint, right: GridPoint, point: GridPoint) -> bool
-    ensures { result ≡ below_rightward left right (grid_point point) }
-{
-    is_in_columns(left, right, point) && is_to_the_right(left, right, point)
-}
-
-/// Whether the point is in the columns from that of `left` to the one before that of `right`.
-fn is_in_columns(left: GridPoint, right: GridPoint, point: GridPoint) -> bool
-    ensures { result ≡ (int_le left.x point.x && int_lt point.x right.x) }
-{
-    left.x() <= point.x() && point.x() < right.x()
-}
-
-/// Whether the point is to the right of the way from `a` to `b`.
-fn is_to_the_right(a: GridPoint, b: GridPoint, point: GridPoint) -> bool
-    ensures { result ≡ int_lt (cross_of a b (grid_point point)) (pos 0) }
-{
-    matches!(orientation(a, b, point), Turn::Right)
+    let begins_left = from.x() <= point.x();
+    let ends_left = to.x() <= point.x();
+    begins_left != ends_left && is_above(from, to, point)
 }

@@ -5,6 +5,7 @@ use Rattle.std.proofs.lemmas.Int.{ints}
 use Rattle.sf_grid.specs.Plane.{Coordinates, IsPoint, Point, grid_point, same_point}
 use Rattle.sf_grid.specs.Edge.{Edge, IsOnEdge, edge_between, on_edge}
 use Rattle.sf_grid.proofs.CallerLemmas.{eq_from_test, num, on_edge-mean, on_edge-same, ring, same_point_is_equivalence, sum, mul, test_from_eq, var}
+use Rattle.sf_grid.proofs.ColumnLaws.{times-one}
 use Rattle.sf_geometry.specs.Lists.{is_same}
 use Rattle.sf_strands.proofs.ChainLaws.{bit}
 
@@ -46,9 +47,6 @@ pub end-same-on : (a b : Coordinates) (p : Point) → IsPoint p → same_point (
 end-same-on a b p o h = same-on (edge_between a b) (grid_point b) p (grid-IsPoint b) o (end-on a b) h
 
 -- two grid points that are both one point are equal
-pub times-one : (z : ℤ) → z *ℤ pos 1 ≡ z
-times-one z = ring (z ∷ []) (mul (var 0) (num (pos 1))) (var 0) refl
-
 pub both-same : (a b : Coordinates) (p : Point) → IsPoint p → same_point (grid_point a) p ≡ true → same_point (grid_point b) p ≡ true → is_same a b ≡ true
 both-same a b p o h k =
     let along = same_point_is_equivalence.transitive (grid_point a) p (grid_point b) o h (same_point_is_equivalence.symmetric (grid_point b) p k) in

@@ -4,7 +4,8 @@ use Rattle.std.specs.List.Sorted.{IsPermutation}
 use Rattle.std.proofs.lemmas.Result.{IfOk-weaker}
 use Rattle.sf_geometry.specs.Parts.{edge_of, edges_of}
 use Rattle.sf_along.specs.Covers.{AreCovered, IsEnd, IsLeft, LieAlong}
-use Rattle.sf_along.proofs.CoverLaws.{are-ends, lie-along, runs_of}
+use Rattle.sf_along.specs.Runs.{runs_of}
+use Rattle.sf_along.proofs.CoverLaws.{are-ends, lie-along}
 use Rattle.sf_along.proofs.cover.uncovered_ends.Goals as goal
 use Rattle.sf_along.proofs.cover.uncovered_ends.Goals.{After-as_slice-3}
 

@@ -28,9 +28,9 @@ pub returns-in-Edges : goal.returns-in-Edges
 returns-in-Edges c =
     of-held c.by_edges.result c.args.geometry.now c.given.inside.valid.now c.args.given.now c.given.view_is c.by_edges.ensures
 
-pub returns-in-FirstPoints : goal.returns-in-FirstPoints
-returns-in-FirstPoints c =
-    of-held c.by_first_points.result c.args.geometry.now c.given.inside.valid.now c.args.given.now c.given.view_is c.by_first_points.ensures.holds
+pub returns-in-Starts : goal.returns-in-Starts
+returns-in-Starts c =
+    of-held c.by_starts.result c.args.geometry.now c.given.inside.valid.now c.args.given.now c.given.view_is c.by_starts.ensures.holds
 
 pub returns-in-Sides : goal.returns-in-Sides
 returns-in-Sides c =

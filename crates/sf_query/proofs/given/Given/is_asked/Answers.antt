@@ -49,15 +49,7 @@ pub meets_from-requires : goal.meets_from-requires
 meets_from-requires c =
     subst (λ (g : Geometry). Holds c.known_prepared-known.result (matrix_of c.args.geometry.now g)) (sym c.self.view_is) c.known_prepared-known.ensures
 
-pub meets_from-requires-2 : goal.meets_from-requires-2
-meets_from-requires-2 c = subst (λ (g : Geometry). Holds c.loop-evidence.known (matrix_of c.args.geometry.now g)) (sym c.self.view_is) c.loop-evidence.invariant
-
-pub returns-then-pays_to_prepare : goal.returns-then-pays_to_prepare
-returns-then-pays_to_prepare c =
-    let a = c.args.geometry.now in
-    answered c.meets_from.result (λ answer is. is ∙ c.goal-goal.ensures (matrix_of a c.self.inside.valid.now) ∙ ap (λ (g : Geometry). is_asked c.args.ask.now a g) c.self.view_is) c.meets_from.ensures
-
 pub returns : goal.returns
 returns c =
     let a = c.args.geometry.now in
-    answered c.meets_from-2.result (λ answer is. is ∙ c.goal-goal.ensures (matrix_of a c.self.inside.valid.now) ∙ ap (λ (g : Geometry). is_asked c.args.ask.now a g) c.self.view_is) c.meets_from-2.ensures
+    answered c.meets_from.result (λ answer is. is ∙ c.goal-goal.ensures (matrix_of a c.self.inside.valid.now) ∙ ap (λ (g : Geometry). is_asked c.args.ask.now a g) c.self.view_is) c.meets_from.ensures

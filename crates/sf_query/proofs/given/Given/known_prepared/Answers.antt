@@ -12,8 +12,8 @@ known_by-known-requires c =
     (subst (λ (g : Geometry). Holds c.transposed-turned.result (matrix_of g c.args.geometry.now)) (sym c.self.view_is)
     (subst (λ (k : Known). Holds k (matrix_of c.args.self.now c.args.geometry.now)) (sym c.transposed-turned.ensures) (turned c.args.self.now c.args.geometry.now c.args.from.now c.requires)))
 
-pub returns-then-covers : goal.returns-then-covers
-returns-then-covers c =
+pub returns-then-eq : goal.returns-then-eq
+returns-then-eq c =
     let a = c.args.geometry.now in
     let b = c.args.self.now in
     let k = c.known_by-known.result in

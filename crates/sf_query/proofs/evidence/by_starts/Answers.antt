@@ -1,5 +1,5 @@
 use Rattle.sf_query.proofs.EvidenceLaws.{told-sharing}
-use Rattle.sf_query.proofs.evidence.by_first_points.Goals as goal
+use Rattle.sf_query.proofs.evidence.by_starts.Goals as goal
 
 pub returns-clause-holds : goal.returns-clause-holds
 returns-clause-holds c =
