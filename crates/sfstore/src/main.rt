@@ -7,10 +7,15 @@ mod ending;
 mod storing;
 mod system_files;
 
+ghost use Rattle.std.specs.Prelude.{IfErr, OnOk, option_map, string_bytes};
+ghost use Rattle.sf_run.specs.Files.{EndsBy, IsSaved};
+
 use ending::Ending;
 use sf_options::{Options, OptionsFault, options};
-use sf_run::run_between;
+use sf_run::{FilesFault, RunFiles, run_between};
+use std::alloc::Global;
 use std::fs::File;
+use std::io::{Read, Write};
 use std::process::ExitCode;
 use std::rt::{Env, Files};
 use std::{env, io};
@@ -43,6 +48,26 @@ fn asked(rt: &(impl Env + AllocGlobal)) -> Result<Options, Ending> {
     options::asked(alloc, words.as_slice()).map_err(Ending::Words)
 }
 
+/// The run between the files that the words of the command line name: one to load, and one to save to.
+fn run_files<F: RunFiles, R: Read, W: Write>(
+    alloc: Global,
+    files: &mut F,
+    asked: &Options,
+    input: &mut R,
+    output: &mut W,
+) -> Result<(), FilesFault>
+    ensures ok { OnOk result (IsSaved (option_map string_bytes asked.now.load) (option_map string_bytes asked.now.save)
+        (F.calls files.old) (F.calls files.new)
+        (R.remaining input.old) (R.remaining input.new) (W.contents output.old) (W.contents output.new)) }
+    ensures fault { IfErr result (λ fault. EndsBy fault (option_map string_bytes asked.now.load) (option_map string_bytes asked.now.save)
+        (F.calls files.old) (F.calls files.new)
+        (R.remaining input.old) (R.remaining input.new) (W.contents output.old) (W.contents output.new)) }
+{
+    let load = asked.load.as_deref();
+    let save = asked.save.as_deref();
+    run_between(alloc, files, load, save, input, output)
+}
+
 /// The whole run.
 fn run(
     rt: &(impl Files<File = File> + Env + Input + Print + Eprint + AllocGlobal),
@@ -52,11 +77,10 @@ fn run(
         if asked.keep {
             return Err(Ending::Options);
         }
-        return run_between(
+        return run_files(
             rt.alloc(),
             &mut SystemFiles::new(rt, rt.alloc()),
-            asked.load.as_deref(),
-            asked.save.as_deref(),
+            &asked,
             &mut rt.reader(),
             &mut io::writer(rt),
         )
