@@ -384,6 +384,12 @@ class Speeds(unittest.TestCase):
             with self.subTest(name):
                 self.check(Claim(["layer add a linestring", *known], lines * 5, needed, last))
 
+    def test_short_lines_that_cross_take_no_walk(self) -> None:
+        """The same of lines that have too few points to be sorted: edges that cross are all that spares a walk."""
+        upright, across = (text("LINESTRING", high_zigzag(20, turned)) for turned in (False, True))
+        known = ["layer add a linestring", *[f"add a {upright}"] * 1_000]
+        self.check(Claim(known, [f"query a crosses {across}", f"query a overlaps {across}"], 2.0, b"rows 0"))
+
     def test_several_lines_that_cross_take_no_walk(self) -> None:
         """Refuses walks over a million crossings of several lines: their ends tell where the boundary lies."""
         known = [f"add a {parted(UPRIGHT)}"] * 20
@@ -422,14 +428,15 @@ class Speeds(unittest.TestCase):
         known = [f"add a {ring(4_000, 0, 0, (9_000, 8_990))}"] * 7
         beside, within = ring(40, 8_500, 8_500, (90, 80)), ring(40, 0, 0, (90, 80))
         asked = {
-            "contact beside": [f"query a intersects {beside}"],
-            "touch beside": [f"query a touches {beside}"],
-            "matrix beside": [f"relate a {k} {beside}" for k in range(1, 8)],
-            "matrix within": [f"relate a {k} {within}" for k in range(1, 8)],
+            # That no edges meet is known in less than half of the time in which one of the two is prepared for the other.
+            "contact beside": ([f"query a intersects {beside}"], 1.6, 1.8),
+            "touch beside": ([f"query a touches {beside}"], 1.6, 1.8),
+            "matrix beside": ([f"relate a {k} {beside}" for k in range(1, 8)], 3.0, 10),
+            "matrix within": ([f"relate a {k} {within}" for k in range(1, 8)], 3.0, 10),
         }
-        for name, lines in asked.items():
+        for name, (lines, needed, times) in asked.items():
             with self.subTest(name):
-                self.check(Claim(["layer add a polygon", *known], [*lines * 40, "layers"], 3.0, b"a polygon"))
+                self.check(Claim(["layer add a polygon", *known], [*lines * 40, "layers"], needed, b"a polygon", times))
 
     def test_runs_are_tried_with_those_that_they_reach(self) -> None:
         """Refuses a search for edges along one another that tries all pairs of thousands on one line."""
