@@ -488,10 +488,11 @@ class Speeds(unittest.TestCase):
 
     def test_a_layer_is_asked_about_itself_in_pairs(self) -> None:
         """Refuses a rule of a layer with itself that asks for each pair from either side: for rings whose boxes meet, and which are
-        apart, each ask is a walk."""
+        apart, each ask looks at the edges of both."""
         places = [(300 * x + 150 * (y % 2), 130 * y) for x in range(100) for y in range(100)]
         known = [f"add a {ring(24, x, y, (90, 80))}" for x, y in places]
-        self.check(Claim(["layer add a polygon", *known], ["rule add r never a T******** a"], 8, b"ok", 1.5))
+        rules = [f"rule add r{k} never a T******** a" for k in range(8)]
+        self.check(Claim(["layer add a polygon", *known], rules, 8, b"ok", 1.65))
 
     def test_a_given_point_is_placed_without_a_walk(self) -> None:
         """Refuses walks of rings with a point that is given: its place in each tells."""
