@@ -4,11 +4,12 @@
     bench/kept.py                        tries all of them, some thirty seconds of a processor for each
     bench/kept.py sf_query sf_edits      those of these crates
     bench/kept.py --jobs 4 NAME ..       so many at once
+    bench/kept.py --checked FOLDER       over the libraries of a checkout whose crates `rt check` or `rt ci` has proved there
 
 `bench/plants.py` does the same by `rt must-fail`, which proves each crate first. Here the prover looks at the functions of
 the files alone that a plant changes, and at the whole crate where these are proved with it. The libraries of the crates
-below are those of the last `rt ci` that has passed them: run it first. The rows and the status are those of
-`bench/plants.py`; behind a row stands what the prover said first.
+below are those of the last `rt ci` that has passed them: run it first. A kit whose `rt ci` keeps nothing leaves them in the
+checkout: name that. The rows and the status are those of `bench/plants.py`; behind a row stands what the prover said first.
 """
 
 from __future__ import annotations
@@ -63,6 +64,12 @@ def unpack(folder: Path) -> None:
                 place = folder / path.removeprefix("rlib/")
                 place.parent.mkdir(parents=True, exist_ok=True)
                 shutil.copyfile(record.parent / str(number), place)
+
+
+def gather(checkout: Path, folder: Path) -> None:
+    """Puts the libraries that checks left in a checkout into a folder."""
+    for library in checkout.glob("crates/*/out/rlib/*.rlib"):
+        shutil.copytree(library, folder / library.name)
 
 
 def below(crate: str) -> list[str]:
@@ -143,6 +150,7 @@ def main(arguments: Sequence[str]) -> int:
     parser = argparse.ArgumentParser(description="tries wrong bodies of bench/plants over kept libraries")
     parser.add_argument("names", nargs="*", help="crates, or names of plants; none for all")
     parser.add_argument("--jobs", type=int, default=2, help="how many are tried at once")
+    parser.add_argument("--checked", type=Path, help="a checkout that has the libraries; none for those that were kept")
     asked = parser.parse_args(arguments)
     wanted = [plant for plant in plants() if not plant.test]
     chosen = [plant for plant in wanted if not asked.names or {plant.crate, plant.name} & set(asked.names)]
@@ -150,7 +158,10 @@ def main(arguments: Sequence[str]) -> int:
         parser.error("no such plant that a contract has to refuse")
     status = 0
     with tempfile.TemporaryDirectory(prefix="sfstore-libraries-") as name, ThreadPoolExecutor(asked.jobs) as pool:
-        unpack(Path(name))
+        if asked.checked:
+            gather(asked.checked, Path(name))
+        else:
+            unpack(Path(name))
         for outcome in pool.map(partial(tried, Path(name)), chosen):
             line = row(outcome.plant, outcome.found)
             status |= line.startswith("!")

@@ -19,7 +19,7 @@ CRATES = TOP / "crates"
 PAGES = [*sorted(TOP.glob("*.md")), *sorted((TOP / "docs").rglob("*.md"))]
 
 # What is named and made only by a build, or stands for a name.
-NOT_THERE = {"out/costs.md", "out/programs/sfstore", "crates/sfstore/out/sfstore", "crates/*/out/rlib", "crates/NAME"}
+NOT_THERE = {"out/costs.md", "out/programs/sfstore", "crates/sfstore/out/sfstore", "crates/*/out/rlib", "out/rlib", "crates/NAME"}
 
 
 def crates() -> dict[str, list[str]]:

@@ -3,6 +3,7 @@
 from __future__ import annotations
 
 import sys
+import tempfile
 import unittest
 from pathlib import Path
 
@@ -79,6 +80,18 @@ class Plants(unittest.TestCase):
         named = {plant.name: plant for plant in self.plants}
         self.assertEqual(kept.modules(named["sf_query-looked_counts_all"]), ["queries"])
         self.assertEqual(kept.below("sf_edge_tree"), ["sf_grid", "sf_geometry"])
+
+    def test_libraries_of_a_checkout_are_gathered(self) -> None:
+        with tempfile.TemporaryDirectory() as name:
+            checkout, found = Path(name) / "checkout", Path(name) / "found"
+            for crate in ("sf_low", "sf_high"):
+                library = checkout / "crates" / crate / "out" / "rlib" / f"{crate}.rlib"
+                library.mkdir(parents=True)
+                library.joinpath("interface").write_text(crate)
+            found.mkdir()
+            kept.gather(checkout, found)
+            texts = {path.parent.name: path.read_text() for path in found.glob("*/interface")}
+        self.assertEqual(texts, {"sf_low.rlib": "sf_low", "sf_high.rlib": "sf_high"})
 
     def test_a_row_is_marked_where_something_else_came(self) -> None:
         plant = next(plant for plant in self.plants if plant.expected.startswith("proved"))

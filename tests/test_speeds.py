@@ -481,6 +481,12 @@ class Speeds(unittest.TestCase):
         asked = [f"rule add {name} never a T******** a" for name in ("r", "s", "t")]
         self.check(Claim(["layer add a polygon", *known], asked, 2, b"ok", 2.5))
 
+    def test_what_can_not_be_is_answered_at_once(self) -> None:
+        """Refuses evidence, and walks, on whether areas overlap a line: by their kinds no area and line do."""
+        line = [(1_000 * (k // 100), 990 * (k % 100 if k // 100 % 2 == 0 else 99 - k % 100) // 2) for k in range(4_000)]
+        asked = [f"query a overlaps {text('LINESTRING', line)}"] * 8
+        self.check(Claim(rings_apart(), [*asked, "layers"], 0.5, b"a polygon"))
+
     def test_geometries_written_alike_are_known_without_a_walk(self) -> None:
         """Refuses walks of rings with rings that are written alike, as a map that is brought in twice has them."""
         asked = [f"query a overlaps {ring(24, x, y, (90, 80))}" for x, y in APART]

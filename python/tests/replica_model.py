@@ -6,6 +6,7 @@ import contextlib
 import os
 import random
 import resource
+import select
 import signal
 import socket
 import subprocess
@@ -119,8 +120,7 @@ class Listening:
 
     def break_off(self) -> None:
         """Kills the replica's program."""
-        children = Path(f"/proc/{self._process.pid}/task/{self._process.pid}/children").read_text()
-        os.kill(int(children.split()[0]), signal.SIGKILL)
+        os.kill(self._programs()[0], signal.SIGKILL)
 
     def close(self) -> None:
         """Ends it in order, where it has not ended."""
@@ -131,11 +131,25 @@ class Listening:
             raise self._lost()
 
     def kill(self) -> None:
-        """Ends it at once, if it has not ended, and forgets what it has said."""
+        """Ends it and its program at once, if it has not ended, and forgets what it has said. A program that went on would save
+        into a folder that is being removed."""
         self._peer.close()
+        programs = [os.pidfd_open(program) for program in self._programs()]
         self._process.kill()
         self._process.wait()
+        for program in programs:
+            with contextlib.suppress(ProcessLookupError):
+                signal.pidfd_send_signal(program, signal.SIGKILL)
+            select.select([program], [], [], SECONDS)
+            os.close(program)
         self._said.close()
+
+    def _programs(self) -> list[int]:
+        """The numbers of the processes that it has started and that are there: its program's."""
+        if self._process.poll() is not None:
+            return []
+        children = Path(f"/proc/{self._process.pid}/task/{self._process.pid}/children").read_text()
+        return [int(child) for child in children.split()]
 
     def _first_peer(self) -> socket.socket:
         """A connection, when the replica has begun."""

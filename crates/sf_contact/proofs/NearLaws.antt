@@ -1,11 +1,9 @@
 -- A point that edges of two geometries share lies in the box that both geometries have in common, so those edges decide
 -- whose boxes meet it.
-use Rattle.std.proofs.Common.{◌≡◌, ap, sym, subst, ◌∙◌, arith, ℤ, pos, ◌*ℤ◌, Bool, true, false, ◌&&◌, ◌||◌, List, [], ◌∷◌, map, ⊎_elim}
-use Rattle.std.specs.Prelude.{if◌then◌else◌, int_le}
-use Rattle.std.specs.Int.{int_max, int_min}
+use Rattle.std.proofs.Common.{◌≡◌, ap, sym, subst, ◌∙◌, Bool, true, false, ◌||◌, List, [], ◌∷◌, map, ⊎_elim}
+use Rattle.std.specs.Prelude.{if◌then◌else◌}
 use Rattle.std.specs.List.{list_any}
-use Rattle.std.proofs.lemmas.Bool.{and_from, and_parts, or_cases, or_left, or_right}
-use Rattle.std.proofs.lemmas.Int.{by_lt_z, clamps, ints}
+use Rattle.std.proofs.lemmas.Bool.{or_cases, or_left, or_right}
 use Rattle.sf_crossing.specs.Sharing.{ShareOne}
 use Rattle.sf_edge_tree.specs.Meeting.{ends_meeting, ends_of_edge, extent_of_edge}
 use Rattle.sf_edge_tree.specs.Searches.{Answers}
@@ -15,8 +13,8 @@ use Rattle.sf_geometry.specs.declared.extent.Extent.{Extent}
 use Rattle.sf_geometry.specs.declared.geometry.Geometry.{Geometry}
 use Rattle.sf_geometry.specs.Envelope.{common_extent, envelope_of, extents_meet}
 use Rattle.sf_geometry.specs.Parts.{edge_of, edges_of}
-use Rattle.sf_grid.specs.Edge.{Edge, on_edge, within}
-use Rattle.sf_grid.specs.Plane.{IsPoint, Point as PlanePoint, x_of, y_of}
+use Rattle.sf_grid.specs.Edge.{Edge, on_edge}
+use Rattle.sf_grid.specs.Plane.{IsPoint, Point as PlanePoint}
 use Rattle.sf_plane.proofs.BoxLaws.{common_point_meets, edge_in_box}
 use Rattle.sf_rules.specs.Validity.{IsValid}
 use Rattle.sf_validity.specs.Beside.{box_of_extent}

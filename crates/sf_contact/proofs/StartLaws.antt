@@ -1,7 +1,7 @@
 -- A part that begins in the other geometry is contact; where none does, the edges decide.
-use Rattle.std.proofs.Common.{◌≡◌, refl, ap, sym, ◌∙◌, arith, ℕ, Bool, true, false, ◌||◌, List, [], ◌∷◌, ◌++◌, length, nat_lt, ⊎_elim}
+use Rattle.std.proofs.Common.{subst, ◌≡◌, refl, ap, sym, ◌∙◌, arith, ℕ, Bool, true, false, ◌||◌, List, [], ◌∷◌, ◌++◌, length, nat_lt, ⊎_elim}
 use Rattle.std.specs.List.{AllByRecursion, flat_map, list_any}
-use Rattle.std.proofs.lemmas.Bool.{both_ways, false_from_ne_true, or_cases, or_left, or_right}
+use Rattle.std.proofs.lemmas.Bool.{both_ways, false_from_ne_true, or_cases, or_left, or_parts, or_right}
 use Rattle.std.proofs.lemmas.List.Folds.{list_any-append}
 use Rattle.sf_grid.specs.Plane.{Coordinates, grid_point, same_point}
 use Rattle.sf_grid.specs.Edge.{on_edge}
@@ -152,6 +152,20 @@ contact-by-edges a b true va vb first second s = contact-by-shared a b s
 contact-by-edges a b false va vb first second apart =
     none a b (absence_is_decided a b va vb apart (ap (λ t. t || has_start_in b a) first ∙ second))
 
+-- where a part of either begins in the other
+pub contact-by-starts : (a b : Geometry) → IsValid a → IsValid b → (has_start_in a b || has_start_in b a) ≡ true → IsContact true a b
+contact-by-starts a b va vb any = by_first (has_start_in a b) refl any
+  where
+    by_first : (first : Bool) → has_start_in a b ≡ first → (first || has_start_in b a) ≡ true → IsContact true a b
+    by_first true is h = contact-by-start a b va is
+    by_first false is h = contact-by-other a b vb h
+
+-- where no part of either begins in the other
+pub contact-without-starts : (a b : Geometry) (told : Bool) → IsValid a → IsValid b → (has_start_in a b || has_start_in b a) ≡ false → Tells told (on_edges a) (on_edges b) → IsContact told a b
+contact-without-starts a b told va vb off tells =
+    let parts = or_parts (has_start_in a b) (has_start_in b a) off in
+    contact-by-edges a b told va vb parts.0 parts.1 tells
+
 -- where no point is on an edge of each
 pub contact-by-any : (a b : Geometry) → IsValid a → IsValid b → ¬ (Share (on_edges a) (on_edges b)) → IsContact (has_start_in a b || has_start_in b a) a b
 contact-by-any a b va vb apart = by_starts (has_start_in a b) (has_start_in b a) refl refl
@@ -160,6 +174,15 @@ contact-by-any a b va vb apart = by_starts (has_start_in a b) (has_start_in b a)
     by_starts true second is_first is_second = contact-by-start a b va is_first
     by_starts false true is_first is_second = contact-by-other a b vb is_second
     by_starts false false is_first is_second = contact-by-edges a b false va vb is_first is_second apart
+
+-- whether edges share a point, and whether a part begins in the other where they don't
+pub contact-by-met : (a b : Geometry) (met told : Bool) → Tells met (on_edges a) (on_edges b) → met ≡ true → told ≡ met → IsContact told a b
+contact-by-met a b true told shares h is = subst (λ (t : Bool). IsContact t a b) (sym is) (contact-by-shared a b shares)
+contact-by-met a b false told apart h is = absurd (both_ways false refl h)
+
+pub contact-without-met : (a b : Geometry) (met starts told : Bool) → IsValid a → IsValid b → Tells met (on_edges a) (on_edges b) → met ≡ false → starts ≡ (has_start_in a b || has_start_in b a) → told ≡ starts → IsContact told a b
+contact-without-met a b true starts told va vb shares h by is = absurd (both_ways true h refl)
+contact-without-met a b false starts told va vb apart h by is = subst (λ (t : Bool). IsContact t a b) (sym (is ∙ by)) (contact-by-any a b va vb apart)
 
 pub any-joined : {X : Type 0} (test : X → Bool) (lists : List (List X)) → list_any (λ xs. list_any test xs) lists ≡ list_any test (joined lists)
 any-joined test [] = refl

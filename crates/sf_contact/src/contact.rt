@@ -12,6 +12,8 @@ use super::starts::has_start_in;
 use sf_crossing::find_sharing;
 use sf_edge_tree::Outcome;
 use sf_geometry::{Geometry, Sequence};
+use sf_plane::Dim;
+use sf_relate::dimension;
 use sf_validity::Valid;
 use std::alloc::Global;
 
@@ -81,7 +83,7 @@ fn has_any_start(a: &Valid, b: &Valid) -> bool
 }
 
 /// Whether two geometries have contact, of which the second is small: a part of either begins in the other, or an edge of
-/// each shares a point.
+/// each shares a point. Lines that have contact mostly cross, so of these edges are looked at first.
 fn have_contact(a: &Valid, b: &Valid) -> bool
     requires { IsTrue (nat_le (point_count b.now) few_points) }
     ensures first { result ≡ has_contact (matrix_of a.now b.now) }
@@ -89,11 +91,8 @@ fn have_contact(a: &Valid, b: &Valid) -> bool
 {
     let first = a.geometry();
     let second = b.geometry();
-    if has_start_in(a, b) {
-        return true;
+    if dimension(first) == Dim::One && dimension(second) == Dim::One {
+        return edges_meet(first, second) || has_any_start(a, b);
     }
-    if has_start_in(b, a) {
-        return true;
-    }
-    edges_meet(first, second)
+    has_any_start(a, b) || edges_meet(first, second)
 }

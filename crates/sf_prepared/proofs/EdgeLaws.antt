@@ -3,18 +3,16 @@ use Rattle.std.proofs.Common.{◌≡◌, ℕ, ◌≤◌, arith, refl, ap, sym, �
 use Rattle.std.specs.Prelude.{if◌then◌else◌}
 use Rattle.std.specs.List.{AllByRecursion, flat_map}
 use Rattle.std.proofs.lemmas.Bool.{both_ways, or_parts}
-use Rattle.std.proofs.lemmas.List.{length-append, length-map, map-append}
+use Rattle.std.proofs.lemmas.List.{length-append, length-map}
 use Rattle.sf_grid.specs.Plane.{Coordinates, IsOnGrid}
-use Rattle.sf_grid.specs.Edge.{Edge as Line, edge_between}
-use Rattle.sf_slabs.proofs.CallerLemmas.{each-append, each-parts}
+use Rattle.sf_grid.specs.Edge.{Edge as Line}
 use Rattle.sf_geometry.specs.declared.extent.Extent.{Extent}
 use Rattle.sf_geometry.specs.declared.geometry.Geometry.{Geometry}
 use Rattle.sf_geometry.specs.declared.geometry.Geometry.TheVariants.{LineString, MultiLineString, MultiPoint, MultiPolygon, Point as OnePoint, Polygon}
 use Rattle.sf_geometry.specs.Envelope.{extents_meet}
-use Rattle.sf_geometry.specs.Lists.{edges_of as edges_of_list, is_same}
+use Rattle.sf_geometry.specs.Lists.{edges_of as edges_of_list}
 use Rattle.sf_geometry.specs.Parts.{LiesOnGrid, edge_of, edges_of, joined, points_of}
 use Rattle.sf_geometry.specs.Size.{IsSized}
-use Rattle.sf_geometry.proofs.ListLaws.{edges-step}
 use Rattle.sf_paths.specs.Paths.{IsOffBox}
 use Rattle.sf_plane.proofs.BoxLaws.{common_point_meets, edge_in_box}
 use Rattle.sf_polygons.proofs.SizeLaws.{few-edges}

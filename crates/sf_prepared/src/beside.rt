@@ -1,7 +1,9 @@
-//! Edges that have no point of a box though their own boxes are in its way: the box lies on one side of them.
+//! Edges that have no point of a box: their own boxes are apart from it, or it lies on one side of them.
 
-ghost use Rattle.std.specs.Prelude.{map, IsTrue};
+ghost use Rattle.std.specs.Prelude.{◌≡◌, map, not, IsTrue};
+ghost use Rattle.sf_geometry.specs.Envelope.{extents_meet};
 ghost use Rattle.sf_geometry.specs.Parts.{edge_of};
+ghost use Rattle.sf_edge_tree.specs.Boxes.{extent_of_edge};
 ghost use Rattle.sf_paths.specs.Paths.{IsOffBox};
 ghost use Rattle.sf_validity.specs.Beside.{box_of_extent};
 ghost use Rattle.sf_prepared.specs.Places.{AreClear, IsBoxLeft, IsLeft};
@@ -10,7 +12,7 @@ use sf_geometry::Extent;
 use sf_grid::edges::orientation;
 use sf_grid::{GridPoint, Turn};
 
-/// Whether the box lies on one side of each edge.
+/// Whether each edge's own box is apart from the box, or the box lies on one side of the edge.
 pub(crate) fn all_miss(edges: &[(GridPoint, GridPoint)], extent: &Extent) -> bool
     ensures { IsTrue result → AreClear extent.now (map edge_of edges.now) }
 {
@@ -22,8 +24,22 @@ pub(crate) fn all_miss(edges: &[(GridPoint, GridPoint)], extent: &Extent) -> boo
     true
 }
 
-/// Whether the box lies on one side of the edge.
+/// Whether the edge's own box is apart from the box, or the box lies on one side of the edge.
 fn misses(edge: &(GridPoint, GridPoint), extent: &Extent) -> bool
+    ensures { IsTrue result → IsOffBox (box_of_extent extent.now) (edge_of edge.now) }
+{
+    is_apart(edge, extent) || is_beside(edge, extent)
+}
+
+/// Whether the edge's own box is apart from the box.
+fn is_apart(edge: &(GridPoint, GridPoint), extent: &Extent) -> bool
+    ensures { result ≡ not (extents_meet (extent_of_edge edge.now) extent.now) }
+{
+    !Extent::at(edge.0).with(edge.1).meets(*extent)
+}
+
+/// Whether the box lies on one side of the edge.
+fn is_beside(edge: &(GridPoint, GridPoint), extent: &Extent) -> bool
     ensures { IsTrue result → IsOffBox (box_of_extent extent.now) (edge_of edge.now) }
 {
     let (a, b) = edge;

@@ -26,7 +26,7 @@ use sf_validity::Valid;
 use std::alloc::{AllocError, Global};
 use std::marker::Model;
 
-/// How many edges there are at most where none are left out: nothing is saved by a walk over those nearby.
+/// How many edges there are at most where none are left out: to pick those nearby saves nothing.
 const FEW_EDGES: usize = 16;
 
 /// What is made once of a geometry that many others are asked about: its edges, with boxes over runs of them.
@@ -91,6 +91,10 @@ impl Prepared {
     fn is_missed(&self, alloc: Global, extent: &Extent) -> bool
         ensures { IsTrue result → AreClear extent.now (map edge_of self.now) }
     {
+        let edges = self.edges.edges();
+        if edges.len() <= FEW_EDGES {
+            return all_miss(edges, extent);
+        }
         match self.edges.near(alloc, *extent) {
             Ok(near) => all_miss(near.as_slice(), extent),
             Err(_) => false,
@@ -175,6 +179,10 @@ impl Prepared {
         ensures { IfOk result (λ odd.
             odd ≡ is_odd (edges_above (grid_point point) (map edge_of self.now))) }
     {
+        let edges = self.edges.edges();
+        if edges.len() <= FEW_EDGES {
+            return Ok(has_odd_above(edges, point));
+        }
         let near = self.nearby(alloc, &Extent::at(point))?;
         Ok(has_odd_above(near.as_slice(), point))
     }

@@ -12,7 +12,6 @@ ghost use Rattle.sf_relate.specs.Matrices.{matrix_of};
 ghost use Rattle.sf_contact.specs.Few.{few_points};
 
 use super::given::Given;
-use super::order::{COVER_POINTS, MANY_POINTS};
 use sf_contact::{FEW_POINTS, contact_between, known_by_sides};
 use sf_geometry::Geometry;
 use sf_linework::{
@@ -21,7 +20,7 @@ use sf_linework::{
 };
 use sf_prepared::{matrix_nearby, matrix_with_area};
 use sf_relate::{
-    Dim, Known, Matrix, known_by_crossing, known_of_kinds, known_of_place, locate, matrix_alike,
+    Known, Matrix, known_by_crossing, known_of_kinds, known_of_place, locate, matrix_alike,
     matrix_apart, matrix_by_boxes, shares_first_point,
 };
 use sf_validity::Valid;
@@ -62,19 +61,6 @@ pub(crate) enum Evidence {
 }
 
 impl Evidence {
-    /// Whether it is worth a look, by what is known. Edges can't cross where interiors share nothing. What lines show beside is of use once
-    /// something of an entry is known, and whether they cover one another where no edges were found that cross. What shows no more
-    /// than contact is of no use where that is known.
-    pub(crate) fn pays(self, known: &Known) -> bool {
-        match self {
-            Evidence::Crossing => known.most[0] != Dim::Nothing,
-            Evidence::Cover => !has_entry(known),
-            Evidence::Ends | Evidence::Along => has_entry(known),
-            Evidence::Starts | Evidence::Edges => !shows_contact(known),
-            _ => true,
-        }
-    }
-
     /// What the evidence shows of the matrix, if anything.
     pub(crate) fn shown(self, alloc: Global, geometry: &Valid, given: &Given) -> Option<Known>
         ensures { IfSome result (λ known. Holds known (matrix_of geometry.now given.now)) }
@@ -87,26 +73,18 @@ impl Evidence {
             Evidence::Place => by_place(geometry, given.valid),
             Evidence::Points => known_by_points(alloc, geometry, given.valid),
             Evidence::Starts => by_starts(geometry, given.valid),
-            Evidence::Edges => by_edges(alloc, geometry, given.valid),
+            Evidence::Edges => by_contact(alloc, geometry, given.valid),
             Evidence::Sides => known_by_sides(geometry, given.valid),
             Evidence::Crossing => by_crossing(alloc, geometry, given.valid),
-            Evidence::Nearby => exactly(matrix_by_edges_nearby(alloc, geometry, given.valid)),
-            Evidence::Cover => by_cover(alloc, geometry, given.valid),
+            Evidence::Nearby if given.points <= FEW_POINTS => {
+                exactly(matrix_nearby(alloc, geometry, given.valid))
+            }
+            Evidence::Nearby => exactly(matrix_with_area(alloc, geometry, given.valid)),
+            Evidence::Cover => known_by_cover(alloc, geometry, given.valid),
             Evidence::Ends => by_ends(geometry, given.valid),
             Evidence::Along => known_alongside(alloc, geometry, given.valid),
         }
     }
-}
-
-/// Whether an entry is known to have something.
-fn has_entry(known: &Known) -> bool {
-    known.least.iter().any(|entry| *entry != Dim::Nothing)
-}
-
-/// Whether the geometries are known to share a point.
-fn shows_contact(known: &Known) -> bool {
-    let [ii, ib, _, bi, bb, ..] = known.least;
-    known.contact || [ii, ib, bi, bb].iter().any(|entry| *entry != Dim::Nothing)
 }
 
 /// What each kind of evidence shows of the matrix of a feature's geometry with the given one, one beside the other: clear of what
@@ -142,22 +120,6 @@ fn by_crossing(alloc: Global, geometry: &Valid, given: &Valid) -> Option<Known>
     }
 }
 
-/// The matrix of two geometries of which one is small and the other has many points, where those edges of the large one show it that
-/// are near the small one.
-fn matrix_by_edges_nearby(alloc: Global, geometry: &Valid, given: &Valid) -> Option<Matrix>
-    ensures { IfSome result (λ matrix. matrix.0 ≡ matrix_of geometry.now given.now) }
-{
-    let points = geometry.geometry().point_count();
-    let given_points = given.geometry().point_count();
-    if given_points <= FEW_POINTS && points >= MANY_POINTS {
-        return matrix_nearby(alloc, geometry, given);
-    }
-    if points <= FEW_POINTS && given_points >= MANY_POINTS {
-        return matrix_with_area(alloc, geometry, given);
-    }
-    None
-}
-
 /// A Point's place shows its row, and that of a given Point its column.
 fn by_place(geometry: &Valid, given: &Valid) -> Option<Known>
     requires { IsValid given.now }
@@ -183,17 +145,7 @@ fn by_given_place(geometry: &Valid, given: &Valid) -> Option<Known>
     }
 }
 
-/// Edges that meet show contact, and the matrix where none do. Of a Point its place shows more.
-fn by_edges(alloc: Global, geometry: &Valid, given: &Valid) -> Option<Known>
-    ensures { IfSome result (λ known. Holds known (matrix_of geometry.now given.now)) }
-{
-    match geometry.geometry() {
-        Geometry::Point(_) => None,
-        _ => by_contact(alloc, geometry, given),
-    }
-}
-
-/// Whether two geometries have contact shows at least that.
+/// Edges that meet show contact, and the matrix where none do.
 fn by_contact(alloc: Global, geometry: &Valid, given: &Valid) -> Option<Known>
     ensures holds { IfSome result (λ known. Holds known (matrix_of geometry.now given.now)) }
     ensures few { IsTrue (nat_le (point_count given.now) few_points || nat_le (point_count geometry.now) few_points)
@@ -213,17 +165,6 @@ fn by_starts(geometry: &Valid, given: &Valid) -> Option<Known>
         ≡ (has_first_point_in geometry.now given.now || has_first_point_in given.now geometry.now) }
 {
     shares_first_point(geometry, given).then_some(sharing())
-}
-
-/// Whether edges lie in edges shows what lines leave of one another or of a border. Of small geometries a walk shows it as soon.
-fn by_cover(alloc: Global, geometry: &Valid, given: &Valid) -> Option<Known>
-    ensures { IfSome result (λ known. Holds known (matrix_of geometry.now given.now)) }
-{
-    let points = geometry.geometry().point_count();
-    if points < COVER_POINTS && given.geometry().point_count() < COVER_POINTS {
-        return None;
-    }
-    known_by_cover(alloc, geometry, given)
 }
 
 /// The ends of lines show what their boundary has. A line has more than points, and an area more than lines; and no entry has more

@@ -6,10 +6,7 @@ ghost use Rattle.sf_rtree.specs.Indexes.{ids_meeting};
 ghost use Rattle.sf_rules.specs.Validity.{IsValid};
 ghost use Rattle.sf_relate.specs.Matrices.{matrix_of};
 
-use super::ask::Ask;
-use super::order::{MANY_FEATURES, MANY_FEATURES_OF_FEW_POINTS};
-use sf_contact::FEW_POINTS;
-use sf_geometry::{Extent, Geometry};
+use sf_geometry::Extent;
 use sf_prepared::Prepared;
 use sf_relate::Matrix;
 use sf_rtree::{RTree, SpatialIndex};
@@ -23,8 +20,8 @@ use std::marker::Model;
 pub(crate) struct Given<'a> {
     pub(crate) valid: &'a Valid,
     pub(crate) extent: Extent,
-    /// Whether it has so few points that its edges are tried one by one.
-    pub(crate) is_small: bool,
+    /// How many points it has.
+    pub(crate) points: usize,
     pub(crate) prepared: Option<Prepared>,
 }
 
@@ -51,7 +48,7 @@ impl<'a> Given<'a> {
         Given {
             valid,
             extent: valid.geometry().envelope(),
-            is_small: valid.geometry().point_count() <= FEW_POINTS,
+            points: valid.geometry().point_count(),
             prepared: None,
         }
     }
@@ -62,23 +59,6 @@ impl<'a> Given<'a> {
     {
         let prepared = Prepared::new(alloc, self.valid).ok();
         Given { prepared, ..self }
-    }
-
-    /// The same, prepared where so many features are asked about it that this pays. Of a small one its own edges show contact as
-    /// soon, and of a Point its place shows more.
-    pub(crate) fn prepared_for(self, alloc: Global, ask: &Ask, features: usize) -> Given<'a>
-        ensures { result ≡ self.entry }
-    {
-        let is_point = matches!(self.valid.geometry(), Geometry::Point(_));
-        let many = if self.is_small {
-            MANY_FEATURES_OF_FEW_POINTS
-        } else {
-            MANY_FEATURES
-        };
-        if features < many || is_point || (self.is_small && ask.is_of_contact()) {
-            return self;
-        }
-        self.prepared(alloc)
     }
 
     /// The matrix of a feature's geometry with it, where it was prepared and no edge of it has a point of the feature's box.

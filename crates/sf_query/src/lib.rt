@@ -1,7 +1,6 @@
 //! Spatial queries over a layer.
 #![tactic(auto)]
 
-mod answering;
 mod ask;
 mod evidence;
 mod found;

@@ -17,13 +17,11 @@ use Rattle.sf_geometry.specs.Lists.{edges_of as edges_of_list}
 use Rattle.sf_geometry.specs.Parts.{edge_of, edges_of}
 use Rattle.sf_geometry.specs.PointSets.{in_boundary, in_interior, on_line}
 use Rattle.sf_grid.specs.Edge.{Edge as Line, IsOnEdge, on_edge, within}
-use Rattle.sf_grid.specs.Plane.{Coordinates, IsPoint, Point as PlanePoint, grid_point, x_of, y_of}
-use Rattle.sf_grid.proofs.CallerLemmas.{test_from_le}
+use Rattle.sf_grid.specs.Plane.{IsPoint, Point as PlanePoint, x_of, y_of}
 use Rattle.sf_plane.proofs.BoxLaws.{common_point_meets, edge_in_box}
 use Rattle.sf_plane.proofs.CoverLaws.{contains}
 use Rattle.sf_plane.proofs.PlaceLaws.{IsIn}
 use Rattle.sf_plane.proofs.ShareLaws.{in_from_contains}
-use Rattle.sf_plane.specs.Boxes.{HasEnds}
 use Rattle.sf_rules.proofs.MemberLaws.{one-any}
 use Rattle.sf_rules.specs.Validity.{IsValid}
 use Rattle.sf_validity.specs.Beside.{box_of_extent}

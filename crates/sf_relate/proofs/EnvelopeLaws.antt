@@ -1,10 +1,9 @@
 -- What is in a geometry with closed rings is in its envelope; so where two envelopes share no point there is no contact.
-use Rattle.std.proofs.Common.{◌≡◌, refl, ℤ, pos, ◌*ℤ◌, ◌≤ℤ◌, arith, Bool, true, false, ◌&&◌, not, List, [], ◌∷◌, ◌++◌, map, fold, inl, inr}
+use Rattle.std.proofs.Common.{◌≡◌, refl, ℤ, pos, ◌*ℤ◌, ◌≤ℤ◌, arith, Bool, true, false, ◌&&◌, not, List, [], ◌∷◌, ◌++◌, inl, inr}
 use Rattle.std.specs.Prelude.{if◌then◌else◌, int_le}
-use Rattle.std.specs.Int.{int_max, int_min}
 use Rattle.std.specs.List.{AllByRecursion, count_by, flat_map, list_any}
 use Rattle.std.proofs.lemmas.Bool.{and_from, and_parts, both_ways, false_from_ne_true, or_cases}
-use Rattle.std.proofs.lemmas.Int.{clamps, ints}
+use Rattle.std.proofs.lemmas.Int.{ints}
 use Rattle.std.proofs.lemmas.List.Elements.{All-from_recursion}
 use Rattle.sf_grid.specs.Plane.{Coordinates, IsPoint, Point as PlanePoint, grid_point, same_point}
 use Rattle.sf_grid.specs.Edge.{edge_above, edge_between, on_edge}
@@ -13,7 +12,7 @@ use Rattle.sf_grid.proofs.CallerLemmas.{test_from_le}
 use Rattle.sf_slabs.proofs.CallerLemmas.{each-both, each-map, each-parts}
 use Rattle.sf_geometry.specs.declared.geometry.Geometry.{Geometry}
 use Rattle.sf_geometry.specs.declared.geometry.Geometry.TheVariants.{Point, LineString, Polygon, MultiPoint, MultiLineString, MultiPolygon}
-use Rattle.sf_geometry.specs.Envelope.{envelope_of, extents_meet, greatest, least}
+use Rattle.sf_geometry.specs.Envelope.{envelope_of, extents_meet}
 use Rattle.sf_geometry.specs.Lists.{before_tight, edges_between, edges_from, edges_of as edges_of_list, ends_of as ends_of_line, is_closed, is_same, tight}
 use Rattle.sf_geometry.specs.Parts.{HasClosedRings, lines_of, lists_of, points_of, polygons_of, rings_of}
 use Rattle.sf_geometry.specs.PointSets.{in_boundary, in_interior, in_polygon, in_ring, is_among, on_line, on_polygon, within_ring}
@@ -22,7 +21,7 @@ use Rattle.sf_plane.proofs.BoxLaws.{common_point_meets, edge_in_box, ring_in_box
 use Rattle.sf_rules.specs.Conditions.{Applies}
 use Rattle.sf_rules.specs.Rules.{Rule, line_rules, polygon_rules, ring_rules}
 use Rattle.sf_rules.specs.Validity.{IsValid}
-use Rattle.sf_rules.proofs.MemberLaws.{each-of_flat, each-of_map}
+use Rattle.sf_rules.proofs.MemberLaws.{each-of_flat}
 use Rattle.sf_interiors.proofs.RingLaws.{ring-chain}
 use Rattle.sf_strands.proofs.EndLaws.{start-same-on}
 use Rattle.sf_polygons.proofs.TestLaws.{any-follows}

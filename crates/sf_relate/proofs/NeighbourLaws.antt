@@ -1,14 +1,13 @@
 -- Where a point lies by the edges of a list, from one neighbour to the next.
 use Rattle.std.proofs.Common.{◌≡◌, refl, ap, sym, ◌∙◌, ℤ, pos, ◌*ℤ◌, ◌+◌, ℕ, arith, Bool, true, false, cond, ◌&&◌, ◌||◌, not, List, [], ◌∷◌, ◌++◌}
-use Rattle.std.specs.Bool.{beq}
-use Rattle.std.proofs.lemmas.Bool.{false≢true}
 use Rattle.std.specs.Prelude.{int_le, int_lt, if◌then◌else◌}
+use Rattle.std.specs.Int.{int_max, int_min}
 use Rattle.std.specs.Ordering.{int_eq}
 use Rattle.std.specs.List.{list_any}
 use Rattle.std.proofs.lemmas.Int.{ints}
 use Rattle.std.proofs.lemmas.List.Sums.{sum_by-cons}
-use Rattle.sf_grid.specs.Plane.{Coordinates, Point as PlanePoint, grid_point, same_point}
-use Rattle.sf_grid.specs.Edge.{Edge, below_rightward, cross, edge_above, edge_between, on_edge}
+use Rattle.sf_grid.specs.Plane.{Coordinates, Point as PlanePoint, grid_point, same_point, y_of}
+use Rattle.sf_grid.specs.Edge.{Edge, below_rightward, cross, edge_above, edge_between, in_box, on_edge, within}
 use Rattle.sf_grid.specs.EvenOdd.{edges_above, is_odd}
 use Rattle.sf_geometry.specs.Lists.{edges_of, is_same}
 use Rattle.sf_geometry.proofs.ListLaws.{edges-step, same-is}
@@ -25,28 +24,6 @@ same-on-grid a b =
     ∙ ap (λ z. int_eq (a.x *ℤ pos 1) z && int_eq a.y b.y) (sym (times-one b.x))
     ∙ ap (λ z. int_eq (a.x *ℤ pos 1) (b.x *ℤ pos 1) && int_eq z b.y) (sym (times-one a.y))
     ∙ ap (λ z. int_eq (a.x *ℤ pos 1) (b.x *ℤ pos 1) && int_eq (a.y *ℤ pos 1) z) (sym (times-one b.y))
-
--- an edge of which both ends are in columns on one side of a point isn't above it
-none-between : (m n z : ℤ) → int_le m z ≡ int_le n z → (int_le m z && int_lt z n) ≡ false
-none-between m n z h = grind (arith, ints)
-
-alike : (s t : Bool) → not (beq s t) ≡ false → s ≡ t
-alike true true h = refl
-alike true false h = absurd (false≢true (sym h))
-alike false true h = absurd (false≢true (sym h))
-alike false false h = refl
-
-pub beside-columns : (u v p : Coordinates) (a b c d : ℤ) → a ≡ u.x → b ≡ p.x → c ≡ v.x → d ≡ p.x → not (beq (int_le a b) (int_le c d)) ≡ false →
-    edge_above (edge_between u v) (grid_point p) ≡ false
-beside-columns u v p a b c d first here second there h =
-    ap (λ t. t || below_rightward v u (grid_point p)) (beside u v same) ∙ beside v u (sym same)
-  where
-    same : int_le u.x p.x ≡ int_le v.x p.x
-    same =
-        sym (ap (λ z. int_le z p.x) first) ∙ sym (ap (int_le a) here) ∙ alike (int_le a b) (int_le c d) h ∙ ap (λ z. int_le z d) second ∙ ap (int_le v.x) there
-
-    beside : (u v : Coordinates) → int_le u.x p.x ≡ int_le v.x p.x → below_rightward u v (grid_point p) ≡ false
-    beside u v e = ap (λ t. t && int_lt (cross u v (grid_point p)) (pos 0)) (sym (columns-on-grid u v p) ∙ none-between u.x v.x p.x e)
 
 -- ---- one edge, or none
 no-column : (a b : ℤ) → (int_le a b && int_lt b a) ≡ false
@@ -114,6 +91,46 @@ edges-append (e ∷ es) fs q =
     ∙ ap (in_one_alone (area_place (on_edge e q) (edge_above e q))) (edges-append es fs q)
     ∙ alone-more (area_place (on_edge e q) (edge_above e q)) (edges_place es q) (edges_place fs q)
     ∙ ap (λ p. in_one_alone p (edges_place fs q)) (sym (edges-cons e es q))
+
+-- ---- an edge of which both ends are in columns on one side of a point neither has the point nor is above it
+none-within : (low high z : ℤ) → (int_lt high z || int_lt z low) ≡ true → (int_le (low *ℤ pos 1) z && int_le z (high *ℤ pos 1)) ≡ false
+none-within low high z h =
+    ap (λ n. int_le n z && int_le z (high *ℤ pos 1)) (times-one low) ∙ ap (λ n. int_le low z && int_le z n) (times-one high) ∙ off low high z h
+  where
+    off : (m n z : ℤ) → (int_lt n z || int_lt z m) ≡ true → (int_le m z && int_le z n) ≡ false
+    off m n z h = grind (arith, ints)
+
+none-between : (a b z : ℤ) → (int_lt (int_max a b) z || int_lt z (int_min a b)) ≡ true → (int_le a z && int_lt z b) ≡ false
+none-between a b z h = grind (arith, ints)
+
+none-back : (a b z : ℤ) → (int_lt (int_max a b) z || int_lt z (int_min a b)) ≡ true → (int_le b z && int_lt z a) ≡ false
+none-back a b z h = grind (arith, ints)
+
+never-and : (s t : Bool) → t ≡ false → (s && t) ≡ false
+never-and true t h = h
+never-and false t h = refl
+
+beside-off : (u v p : Coordinates) → (int_lt (int_max u.x v.x) p.x || int_lt p.x (int_min u.x v.x)) ≡ true → on_edge (edge_between u v) (grid_point p) ≡ false
+beside-off u v p h =
+    never-and (int_eq (cross u v (grid_point p)) (pos 0)) (in_box (edge_between u v) (grid_point p))
+    (ap (λ b. b && within (int_min u.y v.y) (int_max u.y v.y) (y_of (grid_point p))) (none-within (int_min u.x v.x) (int_max u.x v.x) p.x h))
+
+beside-not-above : (u v p : Coordinates) → (int_lt (int_max u.x v.x) p.x || int_lt p.x (int_min u.x v.x)) ≡ true → edge_above (edge_between u v) (grid_point p) ≡ false
+beside-not-above u v p h =
+    ap (λ b. b || below_rightward v u (grid_point p)) (columns u v (none-between u.x v.x p.x h)) ∙ columns v u (none-back u.x v.x p.x h)
+  where
+    columns : (u v : Coordinates) → (int_le u.x p.x && int_lt p.x v.x) ≡ false → below_rightward u v (grid_point p) ≡ false
+    columns u v e = ap (λ t. t && int_lt (cross u v (grid_point p)) (pos 0)) (sym (columns-on-grid u v p) ∙ e)
+
+pub beside-outside : (u v p : Coordinates) (beside : Bool) → beside ≡ (int_lt (int_max u.x v.x) p.x || int_lt p.x (int_min u.x v.x)) → beside ≡ true → Exterior ≡ edges_place (edges_of (u ∷ v ∷ [])) (grid_point p)
+beside-outside u v p beside is h = sym (ap (λ es. edges_place es (grid_point p)) (edges-step u v []) ∙ by (is_same u v))
+  where
+    by : (b : Bool) → edges_place (if b then edges_of (v ∷ []) else edge_between u v ∷ edges_of (v ∷ [])) (grid_point p) ≡ Exterior
+    by true = refl
+    by false =
+        edges-cons (edge_between u v) [] (grid_point p)
+        ∙ ap (λ on. in_one_alone (area_place on (edge_above (edge_between u v) (grid_point p))) (edges_place [] (grid_point p))) (beside-off u v p (sym is ∙ h))
+        ∙ ap (λ above. in_one_alone (area_place false above) (edges_place [] (grid_point p))) (beside-not-above u v p (sym is ∙ h))
 
 -- ---- from one neighbour to the next
 neighbours : (p r : Coordinates) (rs : List Coordinates) → edges_of (p ∷ r ∷ rs) ≡ edges_of (p ∷ r ∷ []) ++ edges_of (r ∷ rs)

@@ -1,8 +1,9 @@
 //! Where a point of the grid lies in a geometry, by one pass over its edges.
 
-ghost use Rattle.std.specs.Prelude.{◌≡◌, ◌∷◌, []};
+ghost use Rattle.std.specs.Prelude.{◌≡◌, ◌||◌, ◌∷◌, [], int_lt};
+ghost use Rattle.std.specs.Int.{int_max, int_min};
 ghost use Rattle.std.specs.List.{flat_map, list_any};
-ghost use Rattle.sf_grid.specs.Edge.{edge_above, edge_between, on_edge};
+ghost use Rattle.sf_grid.specs.Edge.{on_edge};
 ghost use Rattle.sf_grid.specs.Plane.{grid_point, same_point};
 ghost use Rattle.sf_geometry.specs.Lists.{edges_of as edges_of_list, ends_of};
 ghost use Rattle.sf_geometry.specs.Parts.{edges_of, joined};
@@ -171,24 +172,24 @@ fn place_in_ring(ring: &[GridPoint], point: GridPoint) -> Place
 }
 
 /// What the edge between two neighbours says of the place: that the point is on it, or below it.
-/// Equal ones have no edge.
+/// Equal ones have no edge. Most edges lie in columns beside it, which is told soonest.
 fn place_by_neighbours(from: GridPoint, to: GridPoint, point: GridPoint) -> Place
     ensures { result ≡ edges_place (edges_of_list (from ∷ to ∷ [])) (grid_point point) }
 {
-    if is_on_neighbours(from, to, point) {
+    if are_beside(from, to, point) {
+        Place::Exterior
+    } else if is_on_neighbours(from, to, point) {
         Place::Boundary
-    } else if is_below_neighbours(from, to, point) {
+    } else if is_above(from, to, point) {
         Place::Interior
     } else {
         Place::Exterior
     }
 }
 
-/// Whether the edge between two neighbours is above the point. Most edges lie in columns beside it, which is told soonest.
-fn is_below_neighbours(from: GridPoint, to: GridPoint, point: GridPoint) -> bool
-    ensures { result ≡ edge_above (edge_between from to) (grid_point point) }
+/// Whether two points are both in columns on the left of a point's, or both on the right.
+fn are_beside(a: GridPoint, b: GridPoint, point: GridPoint) -> bool
+    ensures { result ≡ (int_lt (int_max a.x b.x) point.x || int_lt point.x (int_min a.x b.x)) }
 {
-    let begins_left = from.x() <= point.x();
-    let ends_left = to.x() <= point.x();
-    begins_left != ends_left && is_above(from, to, point)
+    a.x().max(b.x()) < point.x() || point.x() < a.x().min(b.x())
 }

@@ -1,33 +1,53 @@
-use Rattle.std.proofs.Common.{◌≡◌, ◌∙◌, sym, subst, false}
-use Rattle.sf_contact.specs.Absence.{has_start_in, on_edges}
+use Rattle.std.proofs.Common.{◌≡◌, ◌∙◌, Bool, sym, subst}
+use Rattle.sf_geometry.specs.declared.geometry.Geometry.{Geometry}
+use Rattle.sf_contact.specs.Absence.{on_edges}
 use Rattle.sf_contact.specs.Pairs.{Tells}
-use Rattle.sf_contact.proofs.StartLaws.{IsContact, contact-by-edges, contact-by-other, contact-by-start}
+use Rattle.sf_contact.proofs.StartLaws.{contact-by-met, contact-by-starts, contact-without-met, contact-without-starts}
 use Rattle.sf_contact.proofs.contact.have_contact.Goals as goal
-use Rattle.sf_contact.proofs.contact.have_contact.Goals.{After-edges_meet}
+use Rattle.sf_contact.proofs.contact.have_contact.Goals.{then-edges_meet, else-edges_meet}
 
-pub returns-then-has_start_in-clause-first : goal.returns-then-has_start_in-clause-first
-returns-then-has_start_in-clause-first c = (contact-by-start c.args.a.now c.args.b.now c.geometry-first.ensures.valid.valid (sym c.has_start_in.ensures ∙ c.if-has_start_in.true)).first
+-- what edges tell of the geometries that are read
+tells : (a b f g : Geometry) (met : Bool) → f ≡ a → g ≡ b → Tells met (on_edges f) (on_edges g) → Tells met (on_edges a) (on_edges b)
+tells a b f g met first second told = subst (λ x. Tells met (on_edges a) (on_edges x)) second (subst (λ x. Tells met (on_edges x) (on_edges g)) first told)
 
-pub returns-then-has_start_in-clause-second : goal.returns-then-has_start_in-clause-second
-returns-then-has_start_in-clause-second c = (contact-by-start c.args.a.now c.args.b.now c.geometry-first.ensures.valid.valid (sym c.has_start_in.ensures ∙ c.if-has_start_in.true)).second
+pub returns-then-eq-2-clause-first : goal.returns-then-eq-2-clause-first
+returns-then-eq-2-clause-first c =
+    let a = c.args.a.now in
+    let b = c.args.b.now in
+    let told = tells a b c.geometry-first.result.now c.geometry-second.result.now c.edges_meet.result c.geometry-first.ensures.same c.geometry-second.ensures.same c.edges_meet.ensures in
+    elim c.if-edges_meet.branch [
+      | then-edges_meet w ↦ (contact-by-met a b c.edges_meet.result c.if-edges_meet.result told w.if-edges_meet.true w.result-is).first
+      | else-edges_meet w ↦
+          (contact-without-met a b c.edges_meet.result w.has_any_start.result c.if-edges_meet.result c.geometry-first.ensures.valid.valid c.geometry-second.ensures.valid.valid told w.if-edges_meet.false w.has_any_start.ensures w.result-is).first
+    ]
 
-pub returns-then-has_start_in-2-clause-first : goal.returns-then-has_start_in-2-clause-first
-returns-then-has_start_in-2-clause-first c = (contact-by-other c.args.a.now c.args.b.now c.geometry-second.ensures.valid.valid (sym c.has_start_in-2.ensures ∙ c.if-has_start_in-2.true)).first
+pub returns-then-eq-2-clause-second : goal.returns-then-eq-2-clause-second
+returns-then-eq-2-clause-second c =
+    let a = c.args.a.now in
+    let b = c.args.b.now in
+    let told = tells a b c.geometry-first.result.now c.geometry-second.result.now c.edges_meet.result c.geometry-first.ensures.same c.geometry-second.ensures.same c.edges_meet.ensures in
+    elim c.if-edges_meet.branch [
+      | then-edges_meet w ↦ (contact-by-met a b c.edges_meet.result c.if-edges_meet.result told w.if-edges_meet.true w.result-is).second
+      | else-edges_meet w ↦
+          (contact-without-met a b c.edges_meet.result w.has_any_start.result c.if-edges_meet.result c.geometry-first.ensures.valid.valid c.geometry-second.ensures.valid.valid told w.if-edges_meet.false w.has_any_start.ensures w.result-is).second
+    ]
 
-pub returns-then-has_start_in-2-clause-second : goal.returns-then-has_start_in-2-clause-second
-returns-then-has_start_in-2-clause-second c = (contact-by-other c.args.a.now c.args.b.now c.geometry-second.ensures.valid.valid (sym c.has_start_in-2.ensures ∙ c.if-has_start_in-2.true)).second
+pub returns-then-has_any_start-clause-first : goal.returns-then-has_any_start-clause-first
+returns-then-has_any_start-clause-first c =
+    c.if-has_any_start.true
+    ∙ (contact-by-starts c.args.a.now c.args.b.now c.geometry-first.ensures.valid.valid c.geometry-second.ensures.valid.valid (sym c.has_any_start-2.ensures ∙ c.if-has_any_start.true)).first
 
--- what the edges tell
-told : (c : After-edges_meet) → IsContact c.edges_meet.result c.args.a.now c.args.b.now
-told c =
-    let first : has_start_in c.args.a.now c.args.b.now ≡ false = sym c.has_start_in.ensures ∙ c.if-has_start_in.false in
-    let second : has_start_in c.args.b.now c.args.a.now ≡ false = sym c.has_start_in-2.ensures ∙ c.if-has_start_in-2.false in
-    contact-by-edges c.args.a.now c.args.b.now c.edges_meet.result c.geometry-first.ensures.valid.valid c.geometry-second.ensures.valid.valid first second
-    (subst (λ g. Tells c.edges_meet.result (on_edges c.args.a.now) (on_edges g)) c.geometry-second.ensures.same
-    (subst (λ g. Tells c.edges_meet.result (on_edges g) (on_edges c.geometry-second.result.now)) c.geometry-first.ensures.same c.edges_meet.ensures))
+pub returns-then-has_any_start-clause-second : goal.returns-then-has_any_start-clause-second
+returns-then-has_any_start-clause-second c =
+    c.if-has_any_start.true
+    ∙ (contact-by-starts c.args.a.now c.args.b.now c.geometry-first.ensures.valid.valid c.geometry-second.ensures.valid.valid (sym c.has_any_start-2.ensures ∙ c.if-has_any_start.true)).second
 
-pub returns-clause-first : goal.returns-clause-first
-returns-clause-first c = (told c).first
+pub returns-else-has_any_start-clause-first : goal.returns-else-has_any_start-clause-first
+returns-else-has_any_start-clause-first c =
+    (contact-without-starts c.args.a.now c.args.b.now c.edges_meet-else-has_any_start.result c.geometry-first.ensures.valid.valid c.geometry-second.ensures.valid.valid (sym c.has_any_start-2.ensures ∙ c.if-has_any_start.false)
+    (tells c.args.a.now c.args.b.now c.geometry-first.result.now c.geometry-second.result.now c.edges_meet-else-has_any_start.result c.geometry-first.ensures.same c.geometry-second.ensures.same c.edges_meet-else-has_any_start.ensures)).first
 
-pub returns-clause-second : goal.returns-clause-second
-returns-clause-second c = (told c).second
+pub returns-else-has_any_start-clause-second : goal.returns-else-has_any_start-clause-second
+returns-else-has_any_start-clause-second c =
+    (contact-without-starts c.args.a.now c.args.b.now c.edges_meet-else-has_any_start.result c.geometry-first.ensures.valid.valid c.geometry-second.ensures.valid.valid (sym c.has_any_start-2.ensures ∙ c.if-has_any_start.false)
+    (tells c.args.a.now c.args.b.now c.geometry-first.result.now c.geometry-second.result.now c.edges_meet-else-has_any_start.result c.geometry-first.ensures.same c.geometry-second.ensures.same c.edges_meet-else-has_any_start.ensures)).second

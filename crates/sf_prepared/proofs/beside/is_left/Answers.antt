@@ -1,6 +1,5 @@
 use Rattle.std.proofs.Common.{◌≡◌, SFits, rules, w32}
 use Rattle.std.proofs.lemmas.Int.{to_z-of_z}
-use Rattle.sf_grid.specs.Plane.{Coordinates}
 use Rattle.sf_prepared.proofs.BesideLaws.{corner-left}
 use Rattle.sf_prepared.proofs.beside.is_left.Goals as goal
 

@@ -1,8 +1,9 @@
-use Rattle.sf_prepared.proofs.BesideLaws.{misses-left, misses-right}
+use Rattle.std.proofs.Common.{◌∙◌, sym}
+use Rattle.sf_prepared.proofs.EdgeLaws.{none-said, off-box}
 use Rattle.sf_prepared.proofs.beside.misses.Goals as goal
 
-pub returns-then-is_box_left : goal.returns-then-is_box_left
-returns-then-is_box_left c said = misses-left c.args.edge.now.0 c.args.edge.now.1 c.args.extent.now (c.is_box_left.ensures said)
+pub returns-then-is_apart : goal.returns-then-is_apart
+returns-then-is_apart c said = off-box c.args.extent.now c.args.edge.now (none-said _ (sym c.is_apart.ensures ∙ said))
 
-pub returns-else-is_box_left : goal.returns-else-is_box_left
-returns-else-is_box_left c said = misses-right c.args.edge.now.0 c.args.edge.now.1 c.args.extent.now (c.is_box_left-else-is_box_left.ensures said)
+pub returns-else-is_apart : goal.returns-else-is_apart
+returns-else-is_apart c said = c.is_beside.ensures said

@@ -11,4 +11,4 @@ returns-in-Ok c missed =
     met-clear c.args.extent.now c.args.self.now
     (subst (λ pairs. AreClear c.args.extent.now (map edge_of pairs))
     (c.as_slice.ensures.value ∙ c.in-Ok.ensures ∙ ap (filter (λ pair. extents_meet (extent_of_edge pair) c.args.extent.now)) c.self.view_is)
-    (c.all_miss.ensures missed))
+    (c.all_miss-in-Ok.ensures missed))

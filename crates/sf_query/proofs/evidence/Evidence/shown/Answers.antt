@@ -26,7 +26,7 @@ returns-in-Place c =
 
 pub returns-in-Edges : goal.returns-in-Edges
 returns-in-Edges c =
-    of-held c.by_edges.result c.args.geometry.now c.given.inside.valid.now c.args.given.now c.given.view_is c.by_edges.ensures
+    of-held c.by_contact.result c.args.geometry.now c.given.inside.valid.now c.args.given.now c.given.view_is c.by_contact.ensures.holds
 
 pub returns-in-Starts : goal.returns-in-Starts
 returns-in-Starts c =
@@ -43,7 +43,12 @@ returns-in-Crossing c =
 pub returns-in-Nearby : goal.returns-in-Nearby
 returns-in-Nearby c =
     of-held c.exactly-in-Nearby.result c.args.geometry.now c.given.inside.valid.now c.args.given.now c.given.view_is
-    (matrix-known c.matrix_by_edges_nearby.result c.exactly-in-Nearby.result (matrix_of c.args.geometry.now c.given.inside.valid.now) c.exactly-in-Nearby.ensures c.matrix_by_edges_nearby.ensures)
+    (matrix-known c.matrix_nearby.result c.exactly-in-Nearby.result (matrix_of c.args.geometry.now c.given.inside.valid.now) c.exactly-in-Nearby.ensures c.matrix_nearby.ensures)
+
+pub returns-in-Nearby-2 : goal.returns-in-Nearby-2
+returns-in-Nearby-2 c =
+    of-held c.exactly-in-Nearby-2.result c.args.geometry.now c.given.inside.valid.now c.args.given.now c.given.view_is
+    (matrix-known c.matrix_with_area.result c.exactly-in-Nearby-2.result (matrix_of c.args.geometry.now c.given.inside.valid.now) c.exactly-in-Nearby-2.ensures c.matrix_with_area.ensures)
 
 pub returns-in-Ends : goal.returns-in-Ends
 returns-in-Ends c =
@@ -55,7 +60,7 @@ returns-in-Along c =
 
 pub returns-in-Cover : goal.returns-in-Cover
 returns-in-Cover c =
-    of-held c.by_cover.result c.args.geometry.now c.given.inside.valid.now c.args.given.now c.given.view_is c.by_cover.ensures
+    of-held c.known_by_cover.result c.args.geometry.now c.given.inside.valid.now c.args.given.now c.given.view_is c.known_by_cover.ensures.holds
 
 pub returns-in-Points : goal.returns-in-Points
 returns-in-Points c =
