@@ -4,50 +4,9 @@ from __future__ import annotations
 
 import unittest
 
-from preloaded import PICTURE, STORE, Preloaded
+from preloaded import FAILING, MANY_BYTES, ONE_BYTE, PICTURE, STORE, Preloaded
 
 from growths import Call, Ended, met_runs, sent
-
-# A read or a write that fails, or a write that takes nothing, the calls counted from 1. It fails once: who takes it
-# for nothing and goes on ends well.
-FAILING = r"""
-static long reads, writes, takes, step;
-
-__attribute__((constructor)) static void begin(void) {
-    reads = number("READ_FAILS");
-    writes = number("WRITE_FAILS");
-    takes = number("WRITE_TAKES_NONE");
-    step = number("STEP");
-}
-
-static int is_now(long *left) {
-    return *left > 0 && --*left == 0 && met();
-}
-
-static size_t part(size_t count) {
-    return step && count > (size_t)step ? (size_t)step : count;
-}
-
-ssize_t read(int file, void *bytes, size_t count) {
-    if (is_now(&reads)) {
-        errno = EIO;
-        return -1;
-    }
-    return syscall(SYS_read, file, bytes, part(count));
-}
-
-ssize_t write(int file, const void *bytes, size_t count) {
-    if (is_now(&writes)) {
-        errno = EIO;
-        return -1;
-    }
-    if (is_now(&takes)) return 0;
-    return syscall(SYS_write, file, bytes, part(count));
-}
-
-ssize_t __read(int file, void *bytes, size_t count) { return read(file, bytes, count); }
-ssize_t __write(int file, const void *bytes, size_t count) { return write(file, bytes, count); }
-"""
 
 # Each line with its answer.
 DIALOG = {
@@ -61,8 +20,6 @@ DIALOG = {
 LINES = list(DIALOG)
 ANSWERS = "".join(DIALOG.values()).encode()
 WRITES = ("WRITE_FAILS", "WRITE_TAKES_NONE")
-MANY_BYTES: dict[str, str] = {}
-ONE_BYTE = {"STEP": "1"}
 
 
 def answered(read: bytes) -> bytes:
