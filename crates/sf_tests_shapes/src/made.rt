@@ -2,15 +2,11 @@
 
 use sf_validity::{Valid, validate};
 use std::alloc::Global;
-use std::test::Fail;
 
-/// The geometry of a text.
-pub(crate) fn valid(alloc: Global, text: &str) -> Result<Valid, Fail> {
-    let Ok(geometry) = sf_wkt::read(alloc, text) else {
-        return Err("no geometry".into());
-    };
-    let Ok(valid) = validate(alloc, geometry) else {
-        return Err("not valid".into());
-    };
-    Ok(valid)
+/// The geometry of a text, or nothing where it is none or is not valid.
+pub(crate) fn valid(alloc: Global, text: &str) -> Option<Valid> {
+    match sf_wkt::read(alloc, text) {
+        Ok(geometry) => validate(alloc, geometry).ok(),
+        Err(_) => None,
+    }
 }
