@@ -13,11 +13,11 @@ Before and behind it, where memory is ample, the program asks what only the libr
 - A growth refused alone never leaves a layer without: the line that loses the index builds it anew itself.
 - A tree of 30 boxes from which some are removed one after another is gone or whole after a growth that was refused,
   and one built anew has the boxes left.
-- Queries look at as many features as they have to, and an index of thousands is kept.
 - A column of 30 values is dropped, taken back and dropped again: an undo refused leaves rows, columns and depths, and
   the next one gives the rows from before.
 
-Memory is scarce in one line of a run alone.
+Memory is scarce in one line of a run alone. Where it is ample all the time, queries look at just the features that they have to, and
+an index of thousands is kept.
 """
 
 from __future__ import annotations

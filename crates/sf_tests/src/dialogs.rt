@@ -18,7 +18,7 @@ const LINES: [&str; 5] = [
 
 const ANSWERS: &[u8] = b"ok\nok 1\nrefused 18 NoLayer\nrows 1\n1 POINT (1 1)\nok\n";
 
-/// A line that is cut off, as the reader fails behind it.
+/// A session whose last line is cut off: it has no answer, so the reader fails behind it.
 const CUT: [&str; 3] = [
     "layer add w point\n",
     "add w POINT (1 1)\n",
@@ -46,24 +46,25 @@ fn put(buf: &mut [u8], bytes: &[u8]) -> usize
     count
 }
 
-/// A reader that gives its next line only where each line before it has an answer that was flushed. Behind its lines it ends or fails.
+/// A reader that gives its next line, or its end, only where each line before it has an answer that was flushed.
 #[derive(Drop)]
 struct Asker<'a> {
     lines: &'a [&'a str],
     asked: usize,
     flushed: &'a Cell<usize>,
-    ends: bool,
 }
 
 impl Read for Asker<'_> {
     fn read(&mut self, buf: &mut [u8]) -> io::Result<usize> {
+        if self.flushed.get() != self.asked {
+            return Err(io::Error::from(ErrorKind::Other));
+        }
         match self.lines.get(self.asked) {
-            Some(line) if self.flushed.get() == self.asked => {
+            Some(line) => {
                 self.asked += 1;
                 Ok(put(buf, line.as_bytes()))
             }
-            None if self.ends => Ok(0),
-            _ => Err(io::Error::from(ErrorKind::Other)),
+            None => Ok(0),
         }
     }
 }
@@ -96,7 +97,6 @@ fn served(
     alloc: Global,
     editor: &mut Editor,
     lines: &[&str],
-    ends: bool,
     flushes: usize,
 ) -> (&'static str, Option<usize>) {
     let flushed = Cell::new(0);
@@ -104,7 +104,6 @@ fn served(
         lines,
         asked: 0,
         flushed: &flushed,
-        ends,
     };
     let mut listener = Listener {
         bytes: Vec::new(alloc),
@@ -119,15 +118,10 @@ fn served(
     (end, is_front.then_some(listener.bytes.len()))
 }
 
-/// The same over a new store, and how many steps can be undone and redone.
-fn served_anew(
-    alloc: Global,
-    lines: &[&str],
-    ends: bool,
-    flushes: usize,
-) -> (&'static str, Option<usize>, usize) {
+/// The same of the session over a new store, and how many steps can be undone.
+fn served_anew(alloc: Global, flushes: usize) -> (&'static str, Option<usize>, usize) {
     let mut editor = Editor::new(alloc);
-    let (end, count) = served(alloc, &mut editor, lines, ends, flushes);
+    let (end, count) = served(alloc, &mut editor, &LINES, flushes);
     (end, count, editor.depths().past)
 }
 
@@ -136,7 +130,7 @@ fn served_anew(
 fn each_line_is_answered_before_the_next_is_read(rt: HostRuntime) {
     for (flushes, end, count, past) in FLUSHED {
         assert!(rt;
-            served_anew(rt.alloc(), &LINES, true, flushes) == (end, Some(count), past),
+            served_anew(rt.alloc(), flushes) == (end, Some(count), past),
             "{flushes}"
         );
     }
@@ -146,9 +140,10 @@ fn each_line_is_answered_before_the_next_is_read(rt: HostRuntime) {
 #[test]
 fn editor_goes_on_after_a_fault(rt: HostRuntime) {
     let mut editor = Editor::new(rt.alloc());
-    assert!(rt; served(rt.alloc(), &mut editor, &CUT, false, 9) == ("Read", Some(8)));
+    assert!(rt; served(rt.alloc(), &mut editor, &CUT, 9) == ("Read", Some(8)));
     assert!(rt; editor.depths() == Depths { past: 2, future: 0 });
     assert!(rt; editor.undo_as(rt.alloc(), 7) == Err(Refusal::NotYours(0)));
     assert!(rt; editor.undo(rt.alloc()) == Ok(()));
     assert!(rt; editor.depths() == Depths { past: 1, future: 1 });
+    assert!(rt; editor.redo(rt.alloc()) == Ok(()));
 }

@@ -3,6 +3,7 @@
 
 use super::made::valid;
 use sf_contact::contact_between;
+use sf_relate::{Predicate, dimension, meets};
 use sf_validity::Valid;
 use std::alloc::Global;
 
@@ -20,12 +21,22 @@ const LARGES: [&str; 9] = [
     "POLYGON ((-9 -9, 30 -9, 30 30, -9 30, -9 -9), (-2 -2, -2 9, -1 9, 0 9, 1 9, 2 9, 3 9, 4 9, 5 9, 6 9, 7 9, 9 9, 9 -2, -2 -2))",
 ];
 
-/// Whether contact of a geometry with that of a text is known, whichever comes first.
+/// Whether contact of two geometries is known, and as a walk finds it, whichever comes first.
+fn is_known_alike(alloc: Global, a: &Valid, b: &Valid) -> bool {
+    let goal = Predicate::Intersects.goal(dimension(a.geometry()), dimension(b.geometry()));
+    match meets(alloc, &goal, a, b) {
+        Ok(walked) => {
+            contact_between(alloc, a, b) == Some(walked)
+                && contact_between(alloc, b, a) == Some(walked)
+        }
+        Err(_) => false,
+    }
+}
+
+/// The same of a geometry and that of a text.
 fn is_known(alloc: Global, a: &Valid, text: &str) -> bool {
     match valid(alloc, text) {
-        Some(b) => {
-            contact_between(alloc, a, &b).is_some() && contact_between(alloc, &b, a).is_some()
-        }
+        Some(b) => is_known_alike(alloc, a, &b),
         None => false,
     }
 }
@@ -44,7 +55,7 @@ fn count_known(alloc: Global, text: &str) -> usize {
 }
 
 #[test]
-fn contact_of_large_geometries_is_known(rt: HostRuntime) {
+fn contact_is_known_as_by_a_walk(rt: HostRuntime) {
     for text in LARGES {
         assert!(rt; count_known(rt.alloc(), text) == 9, "beside {text}");
     }

@@ -1,6 +1,6 @@
 //! Each kind of evidence shows something of some pair of geometries. What it shows is so of their matrix, by the contract.
 
-use super::made::valid;
+use super::made::{Pair, pair_of};
 use sf_query::shown_by_each;
 use std::alloc::Global;
 
@@ -74,14 +74,19 @@ const SHOWN: [(usize, &str, &str, bool); 21] = [
     (12, "LINESTRING (-5 0, 5 0)", SQUARE, true),
 ];
 
-/// Whether evidence of a kind shows anything of two geometries, or nothing where one is not valid.
-fn shows(alloc: Global, kind: usize, first: &str, second: &str) -> Option<bool> {
-    match (valid(alloc, first), valid(alloc, second)) {
-        (Some(a), Some(b)) => match shown_by_each(alloc, &a, &b).get(kind) {
-            Some(shown) => Some(shown.is_some()),
-            None => None,
-        },
-        _ => None,
+/// Whether evidence of a kind shows anything of two geometries.
+fn shows(alloc: Global, kind: usize, pair: &Pair) -> Option<bool> {
+    match shown_by_each(alloc, &pair.first, &pair.second).get(kind) {
+        Some(shown) => Some(shown.is_some()),
+        None => None,
+    }
+}
+
+/// The same of those of two texts, or nothing where one is not valid.
+fn shows_of(alloc: Global, kind: usize, first: &str, second: &str) -> Option<bool> {
+    match pair_of(alloc, first, second) {
+        Some(pair) => shows(alloc, kind, &pair),
+        None => None,
     }
 }
 
@@ -89,7 +94,7 @@ fn shows(alloc: Global, kind: usize, first: &str, second: &str) -> Option<bool> 
 fn each_evidence_shows_something(rt: HostRuntime) {
     for (kind, first, second, wanted) in SHOWN {
         assert!(rt;
-            shows(rt.alloc(), kind, first, second) == Some(wanted),
+            shows_of(rt.alloc(), kind, first, second) == Some(wanted),
             "{kind}"
         );
     }

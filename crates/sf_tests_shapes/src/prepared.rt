@@ -1,6 +1,6 @@
 //! The matrix of an area of 52 edges with small geometries, by the edges nearby. By the contract it is the one that a walk finds.
 
-use super::made::valid;
+use super::made::{pair_of, valid};
 use sf_prepared::{Prepared, matrix_nearby};
 use sf_validity::Valid;
 use std::alloc::Global;
@@ -38,17 +38,25 @@ const AROUND: &str = "POLYGON ((-10 -10, 210 -10, 210 110, -10 110, -10 -10))";
 
 const LINE: &str = "LINESTRING (0 0, 10 0)";
 
-/// Whether the matrix of an area with a small geometry is known from the edges nearby: by itself, and once the area was prepared.
+/// Whether the matrix of a small geometry with an area that was prepared is known from the edges nearby.
+fn is_known_prepared(alloc: Global, area: &Valid, small: &Valid) -> bool {
+    match Prepared::new(alloc, area) {
+        Ok(prepared) => {
+            prepared.matrix_clear(alloc, small, area).is_some()
+                || prepared.matrix_nearby(alloc, small, area).is_some()
+        }
+        Err(_) => false,
+    }
+}
+
+/// Whether the matrix of an area with a small geometry is known so: by itself, and once the area was prepared.
 fn is_known(alloc: Global, area: &Valid, text: &str) -> bool {
-    let Some(small) = valid(alloc, text) else {
-        return false;
-    };
-    let Ok(prepared) = Prepared::new(alloc, area) else {
-        return false;
-    };
-    matrix_nearby(alloc, area, &small).is_some()
-        && (prepared.matrix_clear(alloc, &small, area).is_some()
-            || prepared.matrix_nearby(alloc, &small, area).is_some())
+    match valid(alloc, text) {
+        Some(small) => {
+            matrix_nearby(alloc, area, &small).is_some() && is_known_prepared(alloc, area, &small)
+        }
+        None => false,
+    }
 }
 
 /// Of how many small geometries the matrix with the area of a text is known so.
@@ -66,9 +74,9 @@ fn count_known(alloc: Global, text: &str) -> usize {
 
 /// Whether a geometry that is asked about another one by its edges nearby shows nothing.
 fn is_unknown(alloc: Global, first: &str, second: &str) -> bool {
-    match (valid(alloc, first), valid(alloc, second)) {
-        (Some(a), Some(b)) => matrix_nearby(alloc, &a, &b).is_none(),
-        _ => false,
+    match pair_of(alloc, first, second) {
+        Some(pair) => matrix_nearby(alloc, &pair.first, &pair.second).is_none(),
+        None => false,
     }
 }
 

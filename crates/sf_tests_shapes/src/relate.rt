@@ -1,7 +1,7 @@
 //! What decides matrices before a walk is over: full sinks, areas that overlap, places of points. What is shown of whole pairs, of
 //! patterns and of places is asked of the program (`tests/test_shapes.py`).
 
-use super::made::valid;
+use super::made::{Pair, pair_of};
 use sf_pieces::CellSink;
 use sf_relate::{
     Aim, Dim, KnownSink, Matrix, Place, Predicate, Shape, are_known_to_overlap, known_of_kinds,
@@ -78,15 +78,19 @@ fn is_full_at_last(sink: &mut KnownSink, cells: &str) -> bool {
     sink.is_full() && !is_early
 }
 
-/// A sink of two geometries, or nothing where one is not valid.
-fn sink_of(alloc: Global, first: &str, second: &str) -> Option<KnownSink> {
-    match (valid(alloc, first), valid(alloc, second)) {
-        (Some(a), Some(b)) => {
-            let shapes = (Shape::of(a.geometry()), Shape::of(b.geometry()));
-            let known = known_of_kinds(&a, &b);
-            Some(KnownSink::new(shapes.0, shapes.1, Aim::Entries, known))
-        }
-        _ => None,
+/// A sink of two geometries.
+fn sink_of(pair: &Pair) -> KnownSink {
+    let first = Shape::of(pair.first.geometry());
+    let second = Shape::of(pair.second.geometry());
+    let known = known_of_kinds(&pair.first, &pair.second);
+    KnownSink::new(first, second, Aim::Entries, known)
+}
+
+/// The same of those of two texts, or nothing where one is not valid.
+fn sink_of_texts(alloc: Global, first: &str, second: &str) -> Option<KnownSink> {
+    match pair_of(alloc, first, second) {
+        Some(pair) => Some(sink_of(&pair)),
+        None => None,
     }
 }
 
@@ -97,7 +101,7 @@ fn has_found(sink: &KnownSink, matrix: &str) -> bool {
 
 /// Whether a sink of two geometries is full at the last of the cells, has found the matrix then, and finds no other behind it.
 fn is_filled(alloc: Global, first: &str, second: &str, cells: &str, matrix: &str) -> bool {
-    let Some(mut sink) = sink_of(alloc, first, second) else {
+    let Some(mut sink) = sink_of_texts(alloc, first, second) else {
         return false;
     };
     let is_full = is_full_at_last(&mut sink, cells) && has_found(&sink, matrix);
@@ -132,9 +136,9 @@ const CROSSED: [(&str, &str, bool); 5] = [
 
 /// Whether the first geometry is known to overlap the second, or nothing where one is not valid.
 fn overlap(alloc: Global, first: &str, second: &str) -> Option<bool> {
-    match (valid(alloc, first), valid(alloc, second)) {
-        (Some(a), Some(b)) => are_known_to_overlap(alloc, &a, &b).ok(),
-        _ => None,
+    match pair_of(alloc, first, second) {
+        Some(pair) => are_known_to_overlap(alloc, &pair.first, &pair.second).ok(),
+        None => None,
     }
 }
 
