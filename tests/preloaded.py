@@ -19,15 +19,19 @@ STORE = TOP / "crates" / "sfstore" / "out" / "sfstore"
 PICTURE = TOP / "crates" / "sfmap" / "out" / "sfmap"
 
 # A read or a write that fails, or a write that takes nothing, the calls counted from 1. It fails once: who takes it
-# for nothing and goes on ends well. With a step, a call takes at most so many bytes.
+# for nothing and goes on ends well. Or all calls for the same file fail from then on. Who reads a file again that could not
+# be read ends with a status of its own. With a step, a call takes at most so many bytes.
 FAILING = r"""
-static long reads, writes, takes, step;
+static long reads, writes, takes, step, interrupts, lasts;
+static int unread = -1, unwritten = -1;
 
 __attribute__((constructor)) static void begin(void) {
     reads = number("READ_FAILS");
     writes = number("WRITE_FAILS");
     takes = number("WRITE_TAKES_NONE");
     step = number("STEP");
+    interrupts = number("INTERRUPTS");
+    lasts = number("FOR_GOOD");
 }
 
 static int is_now(long *left) {
@@ -38,20 +42,26 @@ static size_t part(size_t count) {
     return step && count > (size_t)step ? (size_t)step : count;
 }
 
+static ssize_t failed(void) {
+    errno = interrupts ? EINTR : EIO;
+    return -1;
+}
+
 ssize_t read(int file, void *bytes, size_t count) {
+    if (file == unread) _exit(99);
     if (is_now(&reads)) {
-        errno = EIO;
-        return -1;
+        unread = file;
+        return failed();
     }
     return syscall(SYS_read, file, bytes, part(count));
 }
 
 ssize_t write(int file, const void *bytes, size_t count) {
-    if (is_now(&writes)) {
-        errno = EIO;
-        return -1;
-    }
-    if (is_now(&takes)) return 0;
+    int lasting = lasts && file == unwritten;
+    int fails = is_now(&writes), none = is_now(&takes);
+    if (fails || none) unwritten = file;
+    if (none || (lasting && !number("WRITE_FAILS"))) return 0;
+    if (fails || lasting) return failed();
     return syscall(SYS_write, file, bytes, part(count));
 }
 

@@ -40,6 +40,60 @@ PATHS = {
 }
 
 
+# A layer with one point, and what its picture of 200 pixels has before and behind its style.
+WELLS = b"layer add wells point\nadd wells POINT (3 4)\n"
+HEAD = b"""\
+<svg xmlns='http://www.w3.org/2000/svg' width='200' height='260' viewBox='0 0 200 260'>
+<style>"""
+MAP = b"""\
+</style>
+<rect class='background' width='100%' height='100%'/>
+<svg class='map' width='200' height='200' viewBox='0 0 2 2' data-corner='2 5'>
+<g transform='scale(1 -1)'>
+<g id='wells' class='layer tint-0'>
+<path id='wells-1' class='feature point' d='M1 -1h0'/>
+</g>
+</g>
+</svg>
+<rect class='frame' width='200' height='200'/>
+<g class='scale' transform='translate(10 215)'><path d='M0 0v6h100v-6'/><text x='108' y='8'>1 grid step</text></g>
+<g class='entry tint-0' transform='translate(10 235)'><rect class='swatch' width='14' height='14'/><text x='22' y='12'>wells</text></g>
+</svg>
+"""
+
+# A window and a width, and what follows: the map's corner and sides in grid steps, the height of the map and of the picture in pixels,
+# the steps of the bar and its pixels.
+VIEWS = {
+    ("-10 -20 90 30", 500): ([-10, 30, 100, 50], 250, 310, "20 grid steps", 100),
+    ("5 5 5 5", 800): ([5, 5, 1, 1], 800, 860, "1 grid step", 800),
+    ("-8388608 0 8388607 1", 1_000): ([-8388608, 1, 16_777_215, 1], 1, 61, "2000000 grid steps", 119),
+}
+
+# Words, and whether they show the point.
+CHOICES = {
+    "": True,
+    "--layer wells": True,
+    "--layer parcels --layer wells": True,
+    "--layer=wells --layer=parcels": True,
+    "--layer parcels": False,
+    "--window 3 0 9 4": True,
+    "--window 4 0 9 4": False,
+    "--window -5 0 7 9 --layer=parcels": False,
+    "--window -5 0 7 9 --layer=wells": True,
+}
+
+# Words that are refused with a text of usage.
+NO_WORDS = """\
+a
+--width 0
+--width 100001
+--width wide
+--layer
+--window 0 0 9
+--window 0 0 9 x
+""".splitlines()
+
+
 def file_of(lines: bytes) -> bytes:
     """The file of the store that these lines make."""
     with tempfile.TemporaryDirectory() as folder:
@@ -112,6 +166,30 @@ class Pictures(unittest.TestCase):
 
     def test_each_kind_is_drawn_with_its_points_in_order(self):
         self.assertEqual(list(paths(picture(self.file)).items()), list(PATHS.items()))
+
+    def test_the_text_of_a_picture(self):
+        drawn = subprocess.run([PROGRAM, "--width", "200"], input=file_of(WELLS), check=True, capture_output=True).stdout
+        self.assertEqual((drawn[: len(HEAD)], drawn[-len(MAP) :]), (HEAD, MAP))
+
+    def test_views_of_windows(self):
+        for (window, width), (box, map_height, height, bar, pixels) in VIEWS.items():
+            words = ("--window", *window.split(), "--width", str(width))
+            root = picture(file_of(WELLS), *words)
+            with self.subTest(window):
+                found, shown_width, shown_height = self.box(*words)
+                self.assertEqual((found, shown_width, shown_height), (box, width, map_height))
+                self.assertEqual((int(root.get("width")), int(root.get("height"))), (width, height))
+                [scale] = [part for part in root.iter(f"{SVG}g") if part.get("class") == "scale"]
+                self.assertEqual((scale[0].get("d"), scale[1].text), (f"M0 0v6h{pixels}v-6", bar))
+
+    def test_layers_and_windows_choose(self):
+        file = file_of(b"layer add parcels polygon\n" + WELLS)
+        for words, is_shown in CHOICES.items():
+            self.assertEqual(list(paths(picture(file, *words.split()))), ["wells-1"] if is_shown else [], words)
+
+    def test_widths(self):
+        for words, width in (((), 800), (("--layer", "wells", "--layer", "shapes"), 800), (("--width", "100000"), 100_000)):
+            self.assertEqual(int(picture(self.file, *words).get("width")), width)
 
     def test_layers_stand_in_drawing_order(self):
         for lines, names in ((b"", ["shapes", "wells"]), (b"layer move wells 0\n", ["wells", "shapes"])):
@@ -239,9 +317,11 @@ class Pictures(unittest.TestCase):
             (b"SFSTORE2\0\0\0\0", (), 3, b"fault load BadFile 8 "),
             (b"", (), 3, b"fault load BadFile 0 "),
             (self.file, ("--layer", "streets"), 2, b"fault words NoLayer streets\n"),
+            (self.file, ("--layer", "wells", "--layer", "parcels", "--layer", "streets"), 2, b"fault words NoLayer parcels\n"),
             (self.file, ("--window", "5", "0", "4", "0"), 2, b"fault words EmptyWindow\n"),
+            (self.file, ("--window", "5", "0", "4", "9"), 2, b"fault words EmptyWindow\n"),
             (self.file, ("--window", "5", "0", "4"), 2, b"error: "),
-            (self.file, ("--width", "0"), 2, b"error: "),
+            *((self.file, tuple(words.split()), 2, b"error: ") for words in NO_WORDS),
             (self.file, ("map.sfs",), 2, b"error: "),
         )
         for file, words, status, front in cases:

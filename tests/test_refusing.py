@@ -16,7 +16,8 @@ Before and behind it, where memory is ample, the program asks what only the libr
 - A column of 30 values is dropped, taken back and dropped again: an undo refused leaves rows, columns and depths, and
   the next one gives the rows from before.
 
-Memory is scarce in one line of a run alone.
+Memory is scarce in one line of a run alone. Where it is ample all the time, queries look at just the features that they have to, and
+an index of thousands is kept.
 """
 
 from __future__ import annotations
@@ -26,7 +27,7 @@ import unittest
 
 from preloaded import Preloaded
 
-from growths import REFUSED
+from growths import REFUSED, answers, sent
 from refusing import (
     COLUMNS,
     MARKED,
@@ -36,6 +37,7 @@ from refusing import (
     Wanted,
     dropping_trials,
     growing_trials,
+    is_accepted,
     moving_trials,
     naming_trials,
     removal_ends,
@@ -98,6 +100,80 @@ class Refusing(Preloaded):
                 for line in (COLUMNS, ROWS):
                     self.assertEqual(told.looks[2].told[line], dropped.told[line])
                     self.assertEqual(told.looks[3].told[line], whole.told[line])
+
+
+SQUARE = "POLYGON ((0 0, 10 0, 10 10, 0 10, 0 0))"
+# Seven shapes whose boxes meet that of the square, one of them beside it and around two of its sides, and one far away.
+SHAPES = (
+    SQUARE,
+    "POLYGON ((10 0, 20 0, 20 10, 10 10, 10 0))",
+    "POLYGON ((5 5, 15 5, 15 15, 5 15, 5 5))",
+    "POLYGON ((2 2, 4 2, 4 4, 2 4, 2 2))",
+    "POLYGON ((-10 -10, 20 -10, 20 20, -10 20, -10 -10))",
+    "POLYGON ((30 30, 40 30, 40 40, 30 40, 30 30))",
+    "POLYGON ((-20 -20, 40 -20, 40 -15, -15 -15, -15 40, -20 40, -20 -20))",
+    "LINESTRING (-5 5, 15 5)",
+)
+# What each predicate finds there, behind how many features it looks at.
+LOOKED = {
+    "equals": "7 of 1",
+    "disjoint": "8 of 6 7",
+    "intersects": "7 of 1 2 3 4 5 8",
+    "touches": "7 of 2",
+    "within": "7 of 1 4",
+    "contains": "7 of 1 5",
+    "crosses": "7 of 8",
+    "overlaps": "7 of 3",
+}
+AMONG_POINTS = "POLYGON ((5 5, 9 5, 9 9, 5 9, 5 5))"
+# A window over two points of each of two rows of 100, and what it has behind edits, undo and redo.
+WINDOW = "POLYGON ((98 10, 101 10, 101 11, 98 11, 98 10))"
+THOUSANDS = {
+    "delete w 1100": "3 of 1099 1199 1200",
+    "undo": "4 of 1099 1100 1199 1200",
+    "redo": "3 of 1099 1199 1200",
+    "add w POINT (100 10)": "4 of 1099 1199 1200 5001",
+    "undo ": "3 of 1099 1199 1200",
+}
+
+
+def asked(lines: list[str]) -> list[list[str]]:
+    """What the program answers to each line."""
+    ended = subprocess.run([PROGRAM], input=sent(lines), capture_output=True, timeout=600, check=True)
+    return answers(ended.stdout)
+
+
+def rows_of_points(count: int, across: int) -> list[str]:
+    """A layer of so many points, in rows."""
+    return ["layer add w point", *(f"add w POINT ({number % across} {number // across})" for number in range(count))]
+
+
+@unittest.skipUnless(PROGRAM.is_file(), "sf_refusing is not built")
+class Indexed(unittest.TestCase):
+    """How many features queries look at, and what the index of a layer finds, where memory is ample."""
+
+    def test_predicates_look_at_what_is_near(self) -> None:
+        lines = ["layer add s any", *(f"add s {shape}" for shape in SHAPES)]
+        told = asked([*lines, *(f"looked query s {predicate} {SQUARE}" for predicate in LOOKED)])
+        self.assertEqual(told[len(lines) :], [[wanted] for wanted in LOOKED.values()])
+
+    def test_a_thousand_points(self) -> None:
+        lines = rows_of_points(1_000, 40)
+        near, apart = (answer[0].split() for answer in asked([*lines, *(f"looked query w {word} {AMONG_POINTS}" for word in ("intersects", "disjoint"))])[-2:])
+        inside = [str(40 * y + x + 1) for y in range(5, 10) for x in range(5, 10)]
+        self.assertEqual(near, ["25", "of", *inside])
+        self.assertEqual(apart, ["1000", "of", *(str(number) for number in range(1, 1_001) if str(number) not in inside)])
+
+    def test_an_index_of_thousands_is_kept(self) -> None:
+        """Each line leaves an index with just the boxes of the features."""
+        lines = rows_of_points(5_000, 100)
+        looks = ["boxes w", f"looked query w intersects {WINDOW}"]
+        told = asked([*lines, *looks, *(line for edit in THOUSANDS for line in (edit, *looks))])[len(lines) :]
+        self.assertEqual(told[:2], [["true"], ["4 of 1099 1100 1199 1200"]])
+        for (edit, wanted), (answer, boxes, looked) in zip(THOUSANDS.items(), zip(*[iter(told[2:])] * 3), strict=True):
+            with self.subTest(edit):
+                self.assertTrue(is_accepted(answer))
+                self.assertEqual((boxes, looked), (["true"], [wanted]))
 
 
 READS_MAX = 1_000_000_000

@@ -1,5 +1,5 @@
 """Shapes and what is told of them (shapes.txt), asked of the built program: the first faults of polygons, simple lines, changes
-of single vertices, matrices of pairs with their predicates and patterns, the places of points, and queries of a town."""
+of single vertices, matrices of pairs with their predicates and patterns, contact, the places of points, and queries of a town."""
 
 from __future__ import annotations
 
@@ -242,6 +242,32 @@ class Pairs(unittest.TestCase):
                 # the Point's interior is where the geometry has it, and nowhere else
                 self.assertEqual([matrix[row] for row in (0, 3, 6) if row == entry], ["0"], f"{geometry}: {point}")
                 self.assertEqual([matrix[row] for row in (0, 3, 6) if row != entry], ["F", "F"], f"{geometry}: {point}")
+
+
+class Contact(unittest.TestCase):
+    def setUp(self) -> None:
+        self.geometries = [row[0] for row in section("geometries beside one another")]
+        added = ["layer add a any", *(f"add a {geometry}" for geometry in self.geometries)]
+        related = [f"relate a {number} {given}" for given in self.geometries for number in range(1, 1 + len(self.geometries))]
+        asked = [f"query a {predicate} {given}" for given in self.geometries for predicate in ("intersects", "disjoint")]
+        found = answered([*added, *related, *asked])[len(added) :]
+        self.matrices, rows = found[: len(related)], found[len(related) :]
+        self.meeting, self.apart = ([told.splitlines()[1:] for told in rows[place::2]] for place in (0, 1))
+
+    def test_contact_is_that_of_the_matrices(self) -> None:
+        count = len(self.geometries)
+        self.assertEqual(count, 26)
+        for place in range(count):
+            matrices = self.matrices[count * place : count * (place + 1)]
+            apart = [str(number) for number, matrix in enumerate(matrices, 1) if matches("FF*FF****", matrix)]
+            meeting = [str(number) for number in range(1, count + 1) if str(number) not in apart]
+            self.assertEqual((self.apart[place], self.meeting[place]), (apart, meeting), self.geometries[place])
+
+    def test_contact_of_worked_pairs(self) -> None:
+        for pair, wanted in section("contact of these geometries"):
+            first, second = map(int, pair.split())
+            for one, other in ((first, second), (second, first)):
+                self.assertEqual(str(one) in self.meeting[other - 1], wanted == "true", pair)
 
 
 # What each predicate asks of a matrix, by the dimensions of the two geometries (06-103r4, 6.1.15.3); any of the patterns.

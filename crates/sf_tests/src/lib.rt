@@ -1,20 +1,14 @@
-//! Tests that cross crates and look within: files, readers and writers of every kind, whose steps are whose, what inverses weigh, what
-//! an index finds. What the console can be asked is asked of the program (`tests/test_sizes.py`, `tests/test_shapes.py`).
+//! Tests of what only code can do: readers that wait for flushes, writers that cannot flush, what inverses weigh, groups
+//! without rules, the index of a loaded layer. What the console can be asked is asked of the program, and each of its reads and writes fails there (`tests/test_faults.py`).
 #![tactic(auto)]
 
 #[cfg(test)]
 mod dialogs;
 #[cfg(test)]
-mod editors;
+mod flushes;
 #[cfg(test)]
-mod faults;
-#[cfg(test)]
-mod indexes;
+mod groups;
 #[cfg(test)]
 mod loading;
-#[cfg(test)]
-mod saving;
-#[cfg(test)]
-mod support;
 #[cfg(test)]
 mod weights;

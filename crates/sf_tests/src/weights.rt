@@ -87,22 +87,22 @@ fn weight_of_line(alloc: Global, store: &mut Store, line: &str) -> Option<u64> {
     }
 }
 
-/// The store over which edits are tried, or nothing where one of the edits that make it is refused.
-fn made_store(alloc: Global) -> Option<Store> {
-    let mut store = Store::new(alloc);
+/// Makes the store over which edits are tried, of an empty one. Whether all edits that make it are accepted.
+pub(crate) fn is_made(alloc: Global, store: &mut Store) -> bool {
+    let mut is_made = true;
     for line in STORE {
-        if weight_of_line(alloc, &mut store, line).is_none() {
-            return None;
-        }
+        is_made &= weight_of_line(alloc, store, line).is_some();
     }
-    Some(store)
+    is_made
 }
 
 /// What the inverse of a line's edit over that store weighs.
 fn weight_over_store(alloc: Global, line: &str) -> Option<u64> {
-    match made_store(alloc) {
-        Some(mut store) => weight_of_line(alloc, &mut store, line),
-        None => None,
+    let mut store = Store::new(alloc);
+    if is_made(alloc, &mut store) {
+        weight_of_line(alloc, &mut store, line)
+    } else {
+        None
     }
 }
 

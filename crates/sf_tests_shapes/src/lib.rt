@@ -1,8 +1,13 @@
-//! Tests of contact, of prepared geometries, and of what decides matrices before a walk is over.
+//! Tests of what only code can ask of pairs of geometries: whether contact is known, what edges nearby decide, when a sink is full,
+//! and that each kind of evidence shows something. What is shown is so of the matrix, by the contracts. And the index of a layer.
 #![tactic(auto)]
 
 #[cfg(test)]
 mod contact;
+#[cfg(test)]
+mod evidence;
+#[cfg(test)]
+mod layers;
 #[cfg(test)]
 mod made;
 #[cfg(test)]

@@ -1,7 +1,0 @@
-//! Tests of streams and options.
-#![tactic(auto)]
-
-#[cfg(test)]
-mod options;
-#[cfg(test)]
-mod streams;
