@@ -10,12 +10,12 @@ fn keeps_index(alloc: Global) -> bool {
         return false;
     };
     let mut layer = Layer::new(alloc, LayerKind::Any);
-    let is_put = layer
-        .put_feature(alloc, 7, Feature::new(alloc, point))
-        .is_ok();
+    let Ok(()) = layer.put_feature(alloc, 7, Feature::new(alloc, point)) else {
+        return false;
+    };
     let has_index = layer.index().is_some();
     let _ = layer.take_feature(alloc, 7);
-    is_put && has_index && layer.index().is_some()
+    has_index && layer.index().is_some()
 }
 
 #[test]
