@@ -17,13 +17,20 @@ struct Place {
 }
 
 /// The numbers before a geometry, and the geometry.
-fn numbers_and_geometry(alloc: Global, row: &str) -> io::Result<(Vec<i32>, Geometry)> {
+#[derive(Drop)]
+struct Asked {
+    numbers: Vec<i32>,
+    geometry: Geometry,
+}
+
+/// What a row asks.
+fn asked_of(alloc: Global, row: &str) -> io::Result<Asked> {
     let Some((numbers, geometry)) = row.split_once(" | ") else {
         return Err(unreadable());
     };
     let numbers = numbers_of(alloc, numbers)?;
     let geometry = geometry_of(alloc, geometry)?;
-    Ok((numbers, geometry))
+    Ok(Asked { numbers, geometry })
 }
 
 /// The place of three numbers.
@@ -35,27 +42,49 @@ fn place_at(part: i32, ring: i32, index: i32) -> Place {
     }
 }
 
+/// The place that three numbers are.
+fn place_of(numbers: &[i32]) -> io::Result<Place> {
+    match numbers {
+        [part, ring, index] => Ok(place_at(*part, *ring, *index)),
+        _ => Err(unreadable()),
+    }
+}
+
+/// The place and the point that five numbers are.
+fn place_and_point_of(numbers: &[i32]) -> io::Result<(Place, GridPoint)> {
+    match numbers {
+        [part, ring, index, x, y] => Ok((place_at(*part, *ring, *index), at(*x, *y)?)),
+        _ => Err(unreadable()),
+    }
+}
+
 /// The vertex at a place.
 pub(crate) fn vertex(alloc: Global, row: &str) -> io::Result<String> {
-    let (numbers, geometry) = numbers_and_geometry(alloc, row)?;
-    let [part, ring, index] = numbers.as_slice() else {
-        return Err(unreadable());
-    };
-    let place = place_at(*part, *ring, *index);
+    let asked = asked_of(alloc, row)?;
+    vertex_of(alloc, asked.numbers.as_slice(), &asked.geometry)
+}
+
+/// The vertex of a geometry at the place that numbers are.
+fn vertex_of(alloc: Global, numbers: &[i32], geometry: &Geometry) -> io::Result<String> {
+    let place = place_of(numbers)?;
     point_or_none(alloc, geometry.vertex(place.part, place.ring, place.index))
 }
 
 /// What a change answered, and the rings of a polygon that it was made to.
 fn changed(alloc: Global, answer: &str, geometry: &Geometry) -> io::Result<String> {
-    let Geometry::Polygon(rings) = geometry else {
-        return text(alloc, answer);
-    };
     let mut found = text(alloc, answer)?;
-    for ring in rings.as_slice() {
-        let ring = points(alloc, ring.as_slice())?;
-        write!(found, "; {ring}")?;
+    if let Geometry::Polygon(rings) = geometry {
+        for ring in rings.as_slice() {
+            push_ring(alloc, &mut found, ring.as_slice())?;
+        }
     }
     Ok(found)
+}
+
+/// Writes a ring behind a text.
+fn push_ring(alloc: Global, text: &mut String, ring: &[GridPoint]) -> io::Result<()> {
+    let ring = points(alloc, ring)?;
+    Ok(write!(text, "; {ring}")?)
 }
 
 /// The point that a change took away, or why it was refused.
@@ -68,23 +97,14 @@ fn given(alloc: Global, given: Result<GridPoint, Refusal>) -> io::Result<String>
 
 /// Puts a vertex in.
 pub(crate) fn insert(alloc: Global, row: &str) -> io::Result<String> {
-    let (numbers, mut geometry) = numbers_and_geometry(alloc, row)?;
-    let [part, ring, index, x, y] = numbers.as_slice() else {
-        return Err(unreadable());
-    };
-    let place = place_at(*part, *ring, *index);
-    let point = at(*x, *y)?;
-    let answer = inserted(alloc, &mut geometry, &place, point)?;
-    changed(alloc, answer, &geometry)
+    let mut asked = asked_of(alloc, row)?;
+    let answer = inserted(alloc, &mut asked.geometry, asked.numbers.as_slice())?;
+    changed(alloc, answer, &asked.geometry)
 }
 
 /// What a geometry that has a size answers where a vertex is put in.
-fn inserted(
-    alloc: Global,
-    geometry: &mut Geometry,
-    place: &Place,
-    point: GridPoint,
-) -> io::Result<&'static str> {
+fn inserted(alloc: Global, geometry: &mut Geometry, numbers: &[i32]) -> io::Result<&'static str> {
+    let (place, point) = place_and_point_of(numbers)?;
     if geometry.check_size().is_err() {
         return Err(unreadable());
     }
@@ -96,23 +116,14 @@ fn inserted(
 
 /// Moves a vertex.
 pub(crate) fn shift(alloc: Global, row: &str) -> io::Result<String> {
-    let (numbers, mut geometry) = numbers_and_geometry(alloc, row)?;
-    let [part, ring, index, x, y] = numbers.as_slice() else {
-        return Err(unreadable());
-    };
-    let place = place_at(*part, *ring, *index);
-    let point = at(*x, *y)?;
-    let answer = shifted(alloc, &mut geometry, &place, point)?;
-    changed(alloc, answer.as_str(), &geometry)
+    let mut asked = asked_of(alloc, row)?;
+    let answer = shifted(alloc, &mut asked.geometry, asked.numbers.as_slice())?;
+    changed(alloc, answer.as_str(), &asked.geometry)
 }
 
 /// What a geometry that has a size answers where a vertex is moved.
-fn shifted(
-    alloc: Global,
-    geometry: &mut Geometry,
-    place: &Place,
-    point: GridPoint,
-) -> io::Result<String> {
+fn shifted(alloc: Global, geometry: &mut Geometry, numbers: &[i32]) -> io::Result<String> {
+    let (place, point) = place_and_point_of(numbers)?;
     if geometry.check_size().is_err() {
         return Err(unreadable());
     }
@@ -122,17 +133,14 @@ fn shifted(
 
 /// Takes a vertex out.
 pub(crate) fn remove(alloc: Global, row: &str) -> io::Result<String> {
-    let (numbers, mut geometry) = numbers_and_geometry(alloc, row)?;
-    let [part, ring, index] = numbers.as_slice() else {
-        return Err(unreadable());
-    };
-    let place = place_at(*part, *ring, *index);
-    let answer = removed(alloc, &mut geometry, &place)?;
-    changed(alloc, answer.as_str(), &geometry)
+    let mut asked = asked_of(alloc, row)?;
+    let answer = removed(alloc, &mut asked.geometry, asked.numbers.as_slice())?;
+    changed(alloc, answer.as_str(), &asked.geometry)
 }
 
 /// What a geometry that has a size answers where a vertex is removed.
-fn removed(alloc: Global, geometry: &mut Geometry, place: &Place) -> io::Result<String> {
+fn removed(alloc: Global, geometry: &mut Geometry, numbers: &[i32]) -> io::Result<String> {
+    let place = place_of(numbers)?;
     if geometry.check_size().is_err() {
         return Err(unreadable());
     }

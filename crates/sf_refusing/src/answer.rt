@@ -18,15 +18,9 @@ pub(crate) enum Answer {
     Found(Found),
     /// What a tree has after a removal, if it is not gone, and what one built anew has.
     Removed(Option<Vec<u32>>, Vec<u32>),
-    Refused(Refusal),
 }
 
 impl Answer {
-    /// The answer, or why there is none.
-    pub(crate) fn of(answer: Result<Answer, Refusal>) -> Answer {
-        answer.unwrap_or_else(|refusal| Answer::Refused(refusal))
-    }
-
     /// Writes the answer. It takes no memory.
     pub(crate) fn write_to<W: Write>(&self, output: &mut W) -> io::Result<()> {
         match self {
@@ -35,31 +29,41 @@ impl Answer {
             Answer::Truth(is) => writeln!(output, "{is}"),
             Answer::Calls(calls) => writeln!(output, "calls {calls}"),
             Answer::Depths(past, future) => writeln!(output, "{past} {future}"),
-            Answer::Found(found) => {
-                write!(output, "{} of", found.looked)?;
-                write_ids(output, found.ids.as_slice())
-            }
+            Answer::Found(found) => write_found(output, found),
             Answer::Removed(left, anew) => {
                 write_left(output, left)?;
-                write!(output, "anew")?;
-                write_ids(output, anew.as_slice())
-            }
-            Answer::Refused(refusal) => {
-                writeln!(output, "refused {} {}", refusal.number(), refusal.name())
+                write_anew(output, anew.as_slice())
             }
         }
     }
+}
+
+/// Writes that a line was refused. It takes no memory.
+pub(crate) fn write_refusal<W: Write>(refusal: Refusal, output: &mut W) -> io::Result<()> {
+    writeln!(output, "refused {} {}", refusal.number(), refusal.name())
+}
+
+/// Writes what a query finds.
+fn write_found<W: Write>(output: &mut W, found: &Found) -> io::Result<()> {
+    write!(output, "{} of", found.looked)?;
+    write_ids(output, found.ids.as_slice())
 }
 
 /// Writes what a tree has after a removal.
 fn write_left<W: Write>(output: &mut W, left: &Option<Vec<u32>>) -> io::Result<()> {
     match left {
         Some(ids) => {
-            write!(output, "rows 2\nleft")?;
+            output.write_all(b"rows 2\nleft")?;
             write_ids(output, ids.as_slice())
         }
-        None => writeln!(output, "rows 2\ngone"),
+        None => output.write_all(b"rows 2\ngone\n"),
     }
+}
+
+/// Writes what a tree that is built anew has.
+fn write_anew<W: Write>(output: &mut W, anew: &[u32]) -> io::Result<()> {
+    output.write_all(b"anew")?;
+    write_ids(output, anew)
 }
 
 /// Writes identifiers, and ends their line.
@@ -67,5 +71,5 @@ fn write_ids<W: Write>(output: &mut W, ids: &[u32]) -> io::Result<()> {
     for id in ids {
         write!(output, " {id}")?;
     }
-    writeln!(output)
+    output.write_all(b"\n")
 }

@@ -7,7 +7,7 @@ use sf_run::{BeginFault, FilesFault, LoadFault, RunFault, SaveFault, ServeFault}
 use std::fmt;
 
 /// Why a run ended before its time.
-#[derive(Debug, Drop)]
+#[derive(Drop)]
 pub enum Ending {
     Serve(ServeFault),
     /// The system's words are no texts.
@@ -33,7 +33,7 @@ pub enum Ending {
 }
 
 /// Why a journal could not be opened. Places are bytes from its beginning.
-#[derive(Clone, Copy, Debug, PartialEq, Eq)]
+#[derive(Clone, Copy)]
 pub enum JournalFault {
     Memory,
     Read,
@@ -47,13 +47,51 @@ pub enum JournalFault {
     NotAccepted(usize),
 }
 
-/// The name of what ended serving a store that is kept.
-fn keep_name(fault: KeepFault) -> &'static str {
+/// The words for what ended serving.
+fn serve_words(fault: &ServeFault) -> &'static str {
     match fault {
-        KeepFault::Read => "Read",
-        KeepFault::Write => "Write",
-        KeepFault::Journal => "Journal",
-        KeepFault::Memory => "Memory",
+        ServeFault::Read => "fault serve Read",
+        ServeFault::Write => "fault serve Write",
+        ServeFault::Memory => "fault serve Memory",
+    }
+}
+
+/// The words for what ended serving a store that is kept.
+fn keep_words(fault: KeepFault) -> &'static str {
+    match fault {
+        KeepFault::Read => "fault serve Read",
+        KeepFault::Write => "fault serve Write",
+        KeepFault::Journal => "fault serve Journal",
+        KeepFault::Memory => "fault serve Memory",
+    }
+}
+
+/// The words for why a file was not loaded. A place stands behind those for a bad one.
+fn load_words(fault: &LoadFault) -> &'static str {
+    match fault {
+        LoadFault::Memory => "fault load Memory",
+        LoadFault::Read => "fault load Read",
+        LoadFault::BadFile { .. } => "fault load BadFile",
+    }
+}
+
+/// The words for why a save failed.
+fn save_words(fault: &SaveFault) -> &'static str {
+    match fault {
+        SaveFault::Memory => "fault save Memory",
+        SaveFault::Write => "fault save Write",
+    }
+}
+
+/// The words for why a journal could not be opened. A place stands behind those that have one.
+fn journal_words(fault: &JournalFault) -> &'static str {
+    match fault {
+        JournalFault::Memory => "fault journal Memory",
+        JournalFault::Read => "fault journal Read",
+        JournalFault::Write => "fault journal Write",
+        JournalFault::OtherFile => "fault journal OtherFile",
+        JournalFault::Damaged(_) => "fault journal Damaged",
+        JournalFault::NotAccepted(_) => "fault journal NotAccepted",
     }
 }
 
@@ -97,40 +135,40 @@ impl Ending {
     }
 }
 
+impl Ending {
+    /// The words that its line begins with. What is said of refused words of the command line has a text of its own.
+    fn words(&self) -> &'static str {
+        match self {
+            Ending::Serve(fault) => serve_words(fault),
+            Ending::Arguments => "error: a word of the command line is not UTF-8",
+            Ending::Words(_) => "fault words Memory",
+            Ending::LoadOpen => "fault load Open",
+            Ending::Load(fault) => load_words(fault),
+            Ending::LoadChanged => "fault load Changed",
+            Ending::SaveOpen => "fault save Open",
+            Ending::Save(fault) => save_words(fault),
+            Ending::SaveChanged => "fault save Changed",
+            Ending::Options => {
+                "error: --store goes with neither --load nor --save, and --keep goes with --store"
+            }
+            Ending::Taken => "fault load Taken",
+            Ending::Journal(fault) => journal_words(fault),
+            Ending::Keep(fault) => keep_words(*fault),
+        }
+    }
+}
+
 impl fmt::Display for Ending {
     fn fmt<W: fmt::Write>(&self, f: &mut fmt::Formatter<W>) -> fmt::Result {
         match self {
-            Ending::Serve(fault) => writeln!(f, "fault serve {}", fault.name()),
-            Ending::Arguments => writeln!(f, "error: a word of the command line is not UTF-8"),
-            Ending::Words(OptionsFault::Memory) => writeln!(f, "fault words Memory"),
             Ending::Words(OptionsFault::Refused(error)) => write!(f, "{error}"),
-            Ending::LoadOpen => writeln!(f, "fault load Open"),
-            Ending::Load(LoadFault::Memory) => writeln!(f, "fault load Memory"),
-            Ending::Load(LoadFault::Read) => writeln!(f, "fault load Read"),
             Ending::Load(LoadFault::BadFile { place, inner }) => {
-                writeln!(f, "fault load BadFile {place} {inner}")
+                writeln!(f, "{} {place} {inner}", self.words())
             }
-            Ending::LoadChanged => writeln!(f, "fault load Changed"),
-            Ending::SaveOpen => writeln!(f, "fault save Open"),
-            Ending::Save(SaveFault::Memory) => writeln!(f, "fault save Memory"),
-            Ending::Save(SaveFault::Write) => writeln!(f, "fault save Write"),
-            Ending::SaveChanged => writeln!(f, "fault save Changed"),
-            Ending::Options => writeln!(
-                f,
-                "error: --store goes with neither --load nor --save, and --keep goes with --store"
-            ),
-            Ending::Taken => writeln!(f, "fault load Taken"),
-            Ending::Journal(JournalFault::Memory) => writeln!(f, "fault journal Memory"),
-            Ending::Journal(JournalFault::Read) => writeln!(f, "fault journal Read"),
-            Ending::Journal(JournalFault::Write) => writeln!(f, "fault journal Write"),
-            Ending::Journal(JournalFault::OtherFile) => writeln!(f, "fault journal OtherFile"),
-            Ending::Journal(JournalFault::Damaged(place)) => {
-                writeln!(f, "fault journal Damaged {place}")
+            Ending::Journal(JournalFault::Damaged(place) | JournalFault::NotAccepted(place)) => {
+                writeln!(f, "{} {place}", self.words())
             }
-            Ending::Journal(JournalFault::NotAccepted(place)) => {
-                writeln!(f, "fault journal NotAccepted {place}")
-            }
-            Ending::Keep(fault) => writeln!(f, "fault serve {}", keep_name(*fault)),
+            _ => writeln!(f, "{}", self.words()),
         }
     }
 }

@@ -33,11 +33,21 @@ fn arguments_fault(error: &io::Error) -> Ending {
 
 /// What the words of the command line ask for.
 fn asked(rt: &(impl Env + AllocGlobal)) -> Result<Options, Ending> {
-    let alloc = rt.alloc();
+    let arguments = arguments_of(rt)?;
+    asked_by(rt.alloc(), arguments.as_slice())
+}
+
+/// The words of the command line.
+fn arguments_of(rt: &(impl Env + AllocGlobal)) -> Result<Vec<String>, Ending> {
     let arguments = env::args(rt).map_err(|error| arguments_fault(&error))?;
-    let Ok(arguments) = arguments.collect::<Vec<String>>(alloc) else {
-        return Err(Ending::Words(OptionsFault::Memory));
-    };
+    match arguments.collect::<Vec<String>>(rt.alloc()) {
+        Ok(arguments) => Ok(arguments),
+        Err(_) => Err(Ending::Words(OptionsFault::Memory)),
+    }
+}
+
+/// What these words ask for.
+fn asked_by(alloc: Global, arguments: &[String]) -> Result<Options, Ending> {
     let Ok(words) = arguments
         .iter()
         .map(|word| word.as_str())
@@ -73,30 +83,42 @@ fn run(
     rt: &(impl Files<File = File> + Env + Input + Print + Eprint + AllocGlobal),
 ) -> Result<(), Ending> {
     let asked = asked(rt)?;
-    let Some(path) = &asked.store else {
-        if asked.keep {
-            return Err(Ending::Options);
-        }
-        return run_files(
+    run_asked(rt, &asked)
+}
+
+/// The run that is asked for.
+fn run_asked(
+    rt: &(impl Files<File = File> + Env + Input + Print + Eprint + AllocGlobal),
+    asked: &Options,
+) -> Result<(), Ending> {
+    let is_named = asked.load.is_some() || asked.save.is_some();
+    match &asked.store {
+        Some(path) if !is_named => run_stored(
+            rt,
             rt.alloc(),
-            &mut SystemFiles::new(rt, rt.alloc()),
-            &asked,
+            path.as_str(),
+            asked.keep,
             &mut rt.reader(),
-            &mut io::writer(rt),
-        )
-        .map_err(Ending::from);
-    };
-    if asked.load.is_some() || asked.save.is_some() {
-        return Err(Ending::Options);
+            io::writer(rt),
+        ),
+        None if !asked.keep => run_unstored(rt, asked),
+        _ => Err(Ending::Options),
     }
-    run_stored(
-        rt,
+}
+
+/// The run between files of the system.
+fn run_unstored(
+    rt: &(impl Files<File = File> + Input + Print + AllocGlobal),
+    asked: &Options,
+) -> Result<(), Ending> {
+    run_files(
         rt.alloc(),
-        path.as_str(),
-        asked.keep,
+        &mut SystemFiles::new(rt, rt.alloc()),
+        asked,
         &mut rt.reader(),
-        io::writer(rt),
+        &mut io::writer(rt),
     )
+    .map_err(Ending::from)
 }
 
 fn main(rt: HostRuntime) -> ExitCode {

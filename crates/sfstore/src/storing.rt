@@ -6,7 +6,9 @@ use sf_folder::{
     take_lock,
 };
 use sf_journal::{FileSum, Sum, SumFault, head, sum_of};
-use sf_keeping::{Desk, Editor, Input, KeepFault, Pending, ReplayFault, Stop, replay, serve_kept};
+use sf_keeping::{
+    Desk, Editor, Input, KeepFault, Pending, ReplayFault, Replayed, Stop, replay, serve_kept,
+};
 use sf_layers::Store;
 use sf_lines::line_feed;
 use sf_run::{LoadFault, Ruled, SaveFault, load};
@@ -14,7 +16,7 @@ use sf_streams::{WriteFault, flush, send};
 use std::alloc::Global;
 use std::fs::{File, Files, OpenFile};
 use std::io::{ErrorKind, Read, Seek, SeekFrom, Write};
-use std::{fs, io};
+use std::{fs, io, mem};
 
 /// What each head of a journal begins with.
 const HEAD_FRONT: &str = "sfstore-journal 3 ";
@@ -76,12 +78,11 @@ impl<'a> Source for Saved<'a> {
     }
 }
 
-/// What a run begins with.
+/// The bytes of the journal under its name, and of the one beside, where each is there.
 #[derive(Drop)]
-struct Opened {
-    editor: Editor,
-    sum: Sum,
-    is_cut_short: bool,
+struct Journals {
+    journal: Option<Vec<u8>>,
+    beside: Option<Vec<u8>>,
 }
 
 /// Why a sum could not be taken.
@@ -114,26 +115,43 @@ fn load_store<R: Files<File = File>>(
     alloc: Global,
     places: &Places,
 ) -> Result<(Ruled, Known), Ending> {
-    let mut file = match fs::open(files, places.at(Name::Store)) {
-        Ok(file) => file,
-        Err(fault) if fault.kind() == ErrorKind::NotFound => return new_store(alloc),
-        Err(_) => return Err(Ending::LoadOpen),
-    };
-    let seen = seen_of(&file)?;
-    let sum = sum_of(alloc, &mut file).map_err(sum_fault)?;
-    if file.seek(SeekFrom::Start(0)).is_err() {
-        return Err(Ending::LoadOpen);
+    match fs::open(files, places.at(Name::Store)) {
+        Ok(mut file) => load_file(alloc, &mut file),
+        Err(fault) if fault.kind() == ErrorKind::NotFound => new_store(alloc),
+        Err(_) => Err(Ending::LoadOpen),
     }
-    let store = load(alloc, &mut file).map_err(Ending::Load)?;
+}
+
+/// Loads the store of an open file, with what is known of the file.
+fn load_file(alloc: Global, file: &mut File) -> Result<(Ruled, Known), Ending> {
+    let (seen, sum) = summed(alloc, file)?;
+    let store = load(alloc, file).map_err(Ending::Load)?;
     // What was summed and what was loaded are one, if nobody wrote to the file meanwhile.
-    if seen_of(&file)? != seen {
-        return Err(Ending::LoadChanged);
-    }
+    has_stayed(file, seen)?;
     let known = Known {
         seen: Some(seen),
         sum,
     };
     Ok((store, known))
+}
+
+/// What is seen of an open file, and the sum of its bytes. It is at its beginning again then.
+fn summed(alloc: Global, file: &mut File) -> Result<(Seen, FileSum), Ending> {
+    let seen = seen_of(file)?;
+    let sum = sum_of(alloc, file).map_err(sum_fault)?;
+    match file.seek(SeekFrom::Start(0)) {
+        Ok(_) => Ok((seen, sum)),
+        Err(_) => Err(Ending::LoadOpen),
+    }
+}
+
+/// Refuses a file of which something else is seen now.
+fn has_stayed(file: &File, seen: Seen) -> Result<(), Ending> {
+    if seen_of(file)? == seen {
+        Ok(())
+    } else {
+        Err(Ending::LoadChanged)
+    }
 }
 
 /// The bytes behind a front of so many.
@@ -146,52 +164,60 @@ fn behind(bytes: &[u8], front: usize) -> &[u8] {
 }
 
 /// The bytes of the journal that counts, its head among them.
-fn bytes_of<'a>(
-    chosen: Chosen,
-    journal: &'a Option<Vec<u8>>,
-    beside: &'a Option<Vec<u8>>,
-) -> &'a [u8] {
+fn bytes_of(chosen: Chosen, journals: &Journals) -> &[u8] {
     let bytes = match chosen {
-        Chosen::UnderItsName => journal,
-        Chosen::Beside => beside,
-        Chosen::NoneYet => return &[],
+        Chosen::UnderItsName => slice_of(&journals.journal),
+        Chosen::Beside => slice_of(&journals.beside),
+        Chosen::NoneYet => None,
     };
-    match bytes {
-        Some(bytes) => bytes.as_slice(),
-        None => &[],
-    }
+    bytes.unwrap_or(&[])
 }
 
 /// Does the edits of the journal again that goes on from the file, and writes it anew.
 fn open<'a, R: Files>(
     alloc: Global,
-    store: Ruled,
+    editor: &mut Editor,
     file: &FileSum,
     folder: &mut StoreFolder<'a, R>,
-) -> Result<Opened, Ending> {
-    let journal = read_journal(folder, Name::Journal)?;
-    let beside = read_journal(folder, Name::JournalBeside)?;
-    let chosen = chosen_of(alloc, file, &journal, &beside)?;
-    let Ok(head) = head(alloc, file) else {
-        return Err(Ending::Journal(JournalFault::Memory));
-    };
-    let records = behind(bytes_of(chosen, &journal, &beside), head.len());
-    let mut editor = Editor::from_ruled(alloc, store);
-    let first = Sum::of_head(head.as_bytes());
-    let replayed = replay(alloc, &mut editor, first, records).map_err(|fault| replay_fault(
-        fault,
-        head.len(),
+) -> Result<Replayed, Ending> {
+    let journals = read_journals(folder)?;
+    open_chosen(alloc, editor, file, folder, &journals)
+}
+
+/// Does the edits of that of two journals again that goes on from the file, and writes it anew.
+fn open_chosen<'a, R: Files>(
+    alloc: Global,
+    editor: &mut Editor,
+    file: &FileSum,
+    folder: &mut StoreFolder<'a, R>,
+    journals: &Journals,
+) -> Result<Replayed, Ending> {
+    let chosen = chosen_of(alloc, file, journals)?;
+    let (first, front) = head_of(alloc, file)?;
+    let records = behind(bytes_of(chosen, journals), front);
+    let replayed = replay(alloc, editor, first, records).map_err(|fault| replay_fault(
+        fault, front,
     ))?;
     let whole = replayed.whole.min(records.len());
-    renew(folder, alloc, chosen, file, records.split_at(whole).0).map_err(|fault| journal_fault(
-        &fault,
-        JournalFault::Write,
-    ))?;
-    Ok(Opened {
-        editor,
-        sum: replayed.sum,
-        is_cut_short: replayed.is_cut_short,
-    })
+    match renew(folder, alloc, chosen, file, records.split_at(whole).0) {
+        Ok(()) => Ok(replayed),
+        Err(fault) => Err(journal_fault(&fault, JournalFault::Write)),
+    }
+}
+
+/// The sum behind the head of the journal that goes on from the file, and how many bytes the head is.
+fn head_of(alloc: Global, file: &FileSum) -> Result<(Sum, usize), Ending> {
+    match head(alloc, file) {
+        Ok(head) => Ok((Sum::of_head(head.as_bytes()), head.len())),
+        Err(_) => Err(Ending::Journal(JournalFault::Memory)),
+    }
+}
+
+/// The bytes of both journals.
+fn read_journals<'a, R: Files>(folder: &StoreFolder<'a, R>) -> Result<Journals, Ending> {
+    let journal = read_journal(folder, Name::Journal)?;
+    let beside = read_journal(folder, Name::JournalBeside)?;
+    Ok(Journals { journal, beside })
 }
 
 /// The bytes of a journal, where it is there.
@@ -213,27 +239,30 @@ fn journal_fault(fault: &io::Error, other: JournalFault) -> Ending {
 }
 
 /// Which journal goes on from the file.
-fn chosen_of(
-    alloc: Global,
-    file: &FileSum,
-    journal: &Option<Vec<u8>>,
-    beside: &Option<Vec<u8>>,
-) -> Result<Chosen, Ending> {
-    match choose(alloc, file, slice_of(journal), slice_of(beside)) {
+fn chosen_of(alloc: Global, file: &FileSum, journals: &Journals) -> Result<Chosen, Ending> {
+    match choose(
+        alloc,
+        file,
+        slice_of(&journals.journal),
+        slice_of(&journals.beside),
+    ) {
         Ok(Some(chosen)) => Ok(chosen),
         // Another program wrote the file. Nothing is lost where the journal has no edits.
-        Ok(None) if has_no_edits(journal) => Ok(Chosen::NoneYet),
+        Ok(None) if has_no_edits(slice_of(&journals.journal)) => Ok(Chosen::NoneYet),
         Ok(None) => Err(Ending::Journal(JournalFault::OtherFile)),
         Err(_) => Err(Ending::Journal(JournalFault::Memory)),
     }
 }
 
 /// Whether a journal is a head, of whatever file, and nothing behind it.
-fn has_no_edits(journal: &Option<Vec<u8>>) -> bool {
-    let Some(bytes) = slice_of(journal) else {
-        return true;
-    };
-    bytes.starts_with(HEAD_FRONT.as_bytes()) && line_feed(bytes) == bytes.len().checked_sub(1)
+fn has_no_edits(journal: Option<&[u8]>) -> bool {
+    match journal {
+        Some(bytes) => {
+            bytes.starts_with(HEAD_FRONT.as_bytes())
+                && line_feed(bytes) == bytes.len().checked_sub(1)
+        }
+        None => true,
+    }
 }
 
 /// The bytes of a journal that is there.
@@ -284,48 +313,71 @@ fn save_store<'a, R: Files>(
     }
 }
 
-/// Why serving ended.
-fn serve_fault(fault: KeepFault) -> Ending {
-    Ending::Keep(fault)
-}
-
 /// Answers all lines of the input, with a save where one asks for it. The history ends with a save.
 fn serve_all<'a, R: Files<File = File>, I: Read, W: Write>(
     alloc: Global,
-    opened: Opened,
+    editor: &mut Editor,
+    sum: Sum,
     desk: &mut StoreDesk<'a, R, W>,
     reader: &mut I,
-) -> Result<Editor, Ending> {
-    let Opened { editor, sum, .. } = opened;
-    let mut editor = editor;
-    let mut sum = sum;
-    let Ok(mut input) = Input::new(alloc) else {
-        return Err(serve_fault(KeepFault::Memory));
-    };
+) -> Result<(), Ending> {
     let Ok(mut pending) = Pending::new(alloc, sum) else {
-        return Err(serve_fault(KeepFault::Memory));
+        return Err(Ending::Keep(KeepFault::Memory));
     };
+    let Ok(mut input) = Input::new(alloc) else {
+        return Err(Ending::Keep(KeepFault::Memory));
+    };
+    serve_between_saves(alloc, editor, &mut pending, &mut input, sum, reader, desk)
+}
+
+/// The same, with what waits to be kept and what was read of the input.
+fn serve_between_saves<'a, R: Files<File = File>, I: Read, W: Write>(
+    alloc: Global,
+    editor: &mut Editor,
+    pending: &mut Pending,
+    input: &mut Input,
+    sum: Sum,
+    reader: &mut I,
+    desk: &mut StoreDesk<'a, R, W>,
+) -> Result<(), Ending> {
+    let mut sum = sum;
     for _ in 0..u64::MAX {
-        let stop = serve_kept(
-            alloc,
-            &mut editor,
-            &mut pending,
-            &mut input,
-            sum,
-            reader,
-            desk,
-        )
-        .map_err(serve_fault)?;
-        if stop == Stop::End {
-            break;
-        }
-        sum = save_store(alloc, &mut desk.folder, &editor)?;
-        editor = Editor::from_ruled(alloc, editor.into_ruled());
-        if desk.answer(b"ok\n").is_err() {
-            return Err(serve_fault(KeepFault::Write));
+        match serve_kept(alloc, editor, pending, input, sum, reader, desk) {
+            Ok(Stop::Save) => sum = save_and_answer(alloc, editor, desk)?,
+            Ok(Stop::End) => break,
+            Err(fault) => return Err(Ending::Keep(fault)),
         }
     }
-    Ok(editor)
+    Ok(())
+}
+
+/// Saves where a line asks for it, ends the history, and answers the line.
+fn save_and_answer<'a, R: Files<File = File>, W: Write>(
+    alloc: Global,
+    editor: &mut Editor,
+    desk: &mut StoreDesk<'a, R, W>,
+) -> Result<Sum, Ending> {
+    let sum = save_store(alloc, &mut desk.folder, editor)?;
+    end_history(alloc, editor);
+    match desk.answer(b"ok\n") {
+        Ok(()) => Ok(sum),
+        Err(_) => Err(Ending::Keep(KeepFault::Write)),
+    }
+}
+
+/// Leaves the store and its rules to an editor without a past.
+fn end_history(alloc: Global, editor: &mut Editor) {
+    let ended = mem::replace(editor, Editor::new(alloc));
+    *editor = Editor::from_ruled(alloc, ended.into_ruled());
+}
+
+/// Takes the lock of a store.
+fn lock_of<R: Files<File = File>>(rt: &R, places: &Places) -> Result<Lock, Ending> {
+    match take_lock(rt, places) {
+        Ok(Some(lock)) => Ok(lock),
+        Ok(None) => Err(Ending::Taken),
+        Err(_) => Err(Ending::LoadOpen),
+    }
 }
 
 /// The whole run over a store that is kept. Where `keep` is asked for, its end saves nothing, and the journal has the edits.
@@ -340,28 +392,42 @@ pub fn run_stored<R: Files<File = File> + Eprint, I: Read, W: Write + Drop>(
     let Ok(places) = Places::of(rt, alloc, path) else {
         return Err(Ending::LoadOpen);
     };
-    let lock = match take_lock(rt, &places) {
-        Ok(Some(lock)) => lock,
-        Ok(None) => return Err(Ending::Taken),
-        Err(_) => return Err(Ending::LoadOpen),
-    };
+    let lock = lock_of(rt, &places)?;
     let (store, known) = load_store(rt, alloc, &places)?;
-    let mut folder = StoreFolder::new(rt, alloc, places, known);
-    let opened = open(alloc, store, &known.sum, &mut folder)?;
-    if opened.is_cut_short {
-        // Where nothing can be told, the run goes on: what was dropped was never answered.
-        let _ = rt.eprint(
-            "warning: a record of the journal was not written to its end, and is dropped\n",
-        );
-    }
+    let mut editor = Editor::from_ruled(alloc, store);
     let mut desk = StoreDesk {
-        folder,
+        folder: StoreFolder::new(rt, alloc, places, known),
         lock,
         output,
     };
-    let editor = serve_all(alloc, opened, &mut desk, reader)?;
+    run_loaded(rt, alloc, &mut editor, &known.sum, &mut desk, keep, reader)
+}
+
+/// The run over a store that is loaded, of a file with this sum: its journal, the lines of the input, and a save at their
+/// end.
+fn run_loaded<'a, R: Files<File = File> + Eprint, I: Read, W: Write>(
+    rt: &R,
+    alloc: Global,
+    editor: &mut Editor,
+    file: &FileSum,
+    desk: &mut StoreDesk<'a, R, W>,
+    keep: bool,
+    reader: &mut I,
+) -> Result<(), Ending> {
+    let replayed = open(alloc, editor, file, &mut desk.folder)?;
+    if replayed.is_cut_short {
+        warn_of_cut(rt);
+    }
+    serve_all(alloc, editor, replayed.sum, desk, reader)?;
     if !keep {
-        save_store(alloc, &mut desk.folder, &editor)?;
+        save_store(alloc, &mut desk.folder, editor)?;
     }
     Ok(())
+}
+
+/// Says that a record was dropped. Where nothing can be told, the run goes on: what was dropped was never answered.
+fn warn_of_cut<R: Eprint>(rt: &R) {
+    let _ = rt.eprint(
+        "warning: a record of the journal was not written to its end, and is dropped\n",
+    );
 }
