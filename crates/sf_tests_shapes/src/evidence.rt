@@ -1,4 +1,4 @@
-//! Each kind of evidence shows something of some pair of geometries. What it shows is so of their matrix, by the contract.
+//! Which evidence of a kind shows something of worked pairs of geometries, and which doesn't.
 
 use super::made::{Pair, pair_of};
 use sf_query::shown_by_each;
@@ -91,7 +91,7 @@ fn shows_of(alloc: Global, kind: usize, first: &str, second: &str) -> Option<boo
 }
 
 #[test]
-fn each_evidence_shows_something(rt: HostRuntime) {
+fn evidence_of_worked_pairs(rt: HostRuntime) {
     for (kind, first, second, wanted) in SHOWN {
         assert!(rt;
             shows_of(rt.alloc(), kind, first, second) == Some(wanted),

@@ -1,5 +1,5 @@
 //! Tests of what only code can ask of pairs of geometries: whether contact is known, what edges nearby decide, when a sink is full,
-//! and that each kind of evidence shows something. What is shown is so of the matrix, by the contracts. And the index of a layer.
+//! and what each kind of evidence shows, beside a walk over pairs that look random. And the index of a layer.
 #![tactic(auto)]
 
 #[cfg(test)]
@@ -14,3 +14,5 @@ mod made;
 mod prepared;
 #[cfg(test)]
 mod relate;
+#[cfg(test)]
+mod seeded;
