@@ -2,7 +2,7 @@
 //! orders.
 
 use super::boxes::extent_of;
-use super::reading::{Pair, pair_of, unreadable};
+use super::reading::{two_of, unreadable};
 use super::writing::{both, text, told};
 use sf_along::run_along;
 use sf_crossing::have_crossing;
@@ -20,27 +20,17 @@ const EVERYWHERE: Extent = Extent {
 
 /// Whether an edge of the one runs along an edge of the other.
 pub(crate) fn runs_along(alloc: Global, row: &str) -> io::Result<String> {
-    let pair = pair_of(alloc, row)?;
-    does_run_along(alloc, &pair)
-}
-
-/// Whether an edge of the one runs along an edge of the other.
-fn does_run_along(alloc: Global, pair: &Pair) -> io::Result<String> {
-    let first = run_along(alloc, &pair.first, &pair.second)?;
-    let second = run_along(alloc, &pair.second, &pair.first)?;
+    let (a, b) = two_of(alloc, row)?;
+    let first = run_along(alloc, &a, &b)?;
+    let second = run_along(alloc, &b, &a)?;
     both(alloc, first, second)
 }
 
 /// Whether an edge of the one crosses an edge of the other at a point of no other edge.
 pub(crate) fn crosses(alloc: Global, row: &str) -> io::Result<String> {
-    let pair = pair_of(alloc, row)?;
-    does_cross(alloc, &pair)
-}
-
-/// Whether an edge of the one crosses an edge of the other at a point of no other edge.
-fn does_cross(alloc: Global, pair: &Pair) -> io::Result<String> {
-    let first = have_crossing(alloc, &pair.first, &pair.second, &EVERYWHERE)?;
-    let second = have_crossing(alloc, &pair.second, &pair.first, &EVERYWHERE)?;
+    let (a, b) = two_of(alloc, row)?;
+    let first = have_crossing(alloc, &a, &b, &EVERYWHERE)?;
+    let second = have_crossing(alloc, &b, &a, &EVERYWHERE)?;
     both(alloc, first, second)
 }
 
@@ -50,12 +40,6 @@ pub(crate) fn crosses_within(alloc: Global, row: &str) -> io::Result<String> {
         return Err(unreadable());
     };
     let common = extent_of(alloc, common)?;
-    let pair = pair_of(alloc, geometries)?;
-    does_cross_within(alloc, &pair, &common)
-}
-
-/// The same of edges that meet a box.
-fn does_cross_within(alloc: Global, pair: &Pair, common: &Extent) -> io::Result<String> {
-    let found = have_crossing(alloc, &pair.first, &pair.second, common)?;
-    text(alloc, told(found))
+    let (a, b) = two_of(alloc, geometries)?;
+    text(alloc, told(have_crossing(alloc, &a, &b, &common)?))
 }

@@ -87,27 +87,17 @@ fn pieces_of(alloc: Global, row: &str) -> io::Result<Vec<Piece>> {
 /// The cells as they are listed.
 pub(crate) fn listed(alloc: Global, row: &str) -> io::Result<String> {
     let pieces = pieces_of(alloc, row)?;
-    let cells = cells_of(alloc, pieces.as_slice())?;
-    Ok(told_of(alloc, cells.as_slice()))
-}
-
-/// The cells of not too many pieces.
-fn cells_of(alloc: Global, pieces: &[Piece]) -> io::Result<Vec<Cell>> {
+    let pieces = pieces.as_slice();
     if pieces.len() > 65535 || !have_length(pieces) {
         return Err(unreadable());
     }
-    Ok(decompose(alloc, pieces)?)
-}
-
-/// What a transcript has of these cells.
-fn told_of(alloc: Global, cells: &[Cell]) -> String {
     let mut transcript = Transcript {
         text: String::new(alloc),
     };
-    for cell in cells {
+    for cell in decompose(alloc, pieces)?.as_slice() {
         transcript.listed(cell);
     }
-    transcript.text
+    Ok(transcript.text)
 }
 
 /// The cells of a walk.
@@ -128,17 +118,11 @@ fn walked(alloc: Global, pieces: &[Piece], groups: &[u32]) -> io::Result<String>
 /// The cells of a walk over pieces that are each a group.
 pub(crate) fn walked_apart(alloc: Global, row: &str) -> io::Result<String> {
     let pieces = pieces_of(alloc, row)?;
-    let groups = apart(alloc, pieces.as_slice())?;
-    walked(alloc, pieces.as_slice(), groups.as_slice())
-}
-
-/// A group of its own for each piece.
-fn apart(alloc: Global, pieces: &[Piece]) -> io::Result<Vec<u32>> {
     let mut groups = Vec::new(alloc);
     for (_, number) in pieces.iter().zip(0u32..65535) {
         groups.push(number)?;
     }
-    Ok(groups)
+    walked(alloc, pieces.as_slice(), groups.as_slice())
 }
 
 /// The cells of a walk over pieces of one group.

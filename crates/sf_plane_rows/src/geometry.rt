@@ -17,11 +17,6 @@ pub(crate) fn tightened(alloc: Global, row: &str) -> io::Result<String> {
 /// The edges of a geometry, in order.
 pub(crate) fn edges(alloc: Global, row: &str) -> io::Result<String> {
     let geometry = geometry_of(alloc, row)?;
-    edges_of(alloc, &geometry)
-}
-
-/// The edges of a geometry, in order.
-fn edges_of(alloc: Global, geometry: &Geometry) -> io::Result<String> {
     let edges = geometry.edges(alloc)?;
     let ends = ends_of(alloc, edges.as_slice())?;
     points(alloc, ends.as_slice())
@@ -31,7 +26,8 @@ fn edges_of(alloc: Global, geometry: &Geometry) -> io::Result<String> {
 fn ends_of(alloc: Global, edges: &[(GridPoint, GridPoint)]) -> io::Result<Vec<GridPoint>> {
     let mut ends = Vec::new(alloc);
     for edge in edges {
-        ends.extend_from_slice(&[edge.0, edge.1])?;
+        ends.push(edge.0)?;
+        ends.push(edge.1)?;
     }
     Ok(ends)
 }
@@ -39,11 +35,6 @@ fn ends_of(alloc: Global, edges: &[(GridPoint, GridPoint)]) -> io::Result<Vec<Gr
 /// The ends of open lines.
 pub(crate) fn ends(alloc: Global, row: &str) -> io::Result<String> {
     let geometry = geometry_of(alloc, row)?;
-    ends_of_lines(alloc, &geometry)
-}
-
-/// The ends of open lines.
-fn ends_of_lines(alloc: Global, geometry: &Geometry) -> io::Result<String> {
     let ends = geometry.ends(alloc)?;
     points(alloc, ends.as_slice())
 }
@@ -75,15 +66,10 @@ fn corners(alloc: Global, extent: &Extent) -> io::Result<String> {
 /// Kind, dimension, number of points and box of a geometry, or why it has no size.
 pub(crate) fn size(alloc: Global, row: &str) -> io::Result<String> {
     let geometry = geometry_of(alloc, row)?;
-    size_of(alloc, &geometry)
-}
-
-/// Kind, dimension, number of points and box of a geometry, or why it has no size.
-fn size_of(alloc: Global, geometry: &Geometry) -> io::Result<String> {
     match geometry.check_size() {
         Ok(()) => {
             let (count, around) = (geometry.point_count(), geometry.envelope());
-            sized(alloc, geometry, count, &around)
+            sized(alloc, &geometry, count, &around)
         }
         Err(refusal) => text(alloc, name(refusal)),
     }

@@ -91,20 +91,10 @@ fn share(alloc: Global, ends: (GridPoint, GridPoint, GridPoint, GridPoint)) -> i
 /// What two edges share, and in how many of the eight orders of edges and ends they do.
 pub(crate) fn shared(alloc: Global, row: &str) -> io::Result<String> {
     let points = points_of(alloc, row)?;
-    match points.as_slice() {
-        [a, b, c, d] => share_in_orders(alloc, *a, *b, *c, *d),
-        _ => Err(unreadable()),
-    }
-}
-
-/// What two edges share, and in how many of the eight orders of edges and ends they do.
-fn share_in_orders(
-    alloc: Global,
-    a: GridPoint,
-    b: GridPoint,
-    c: GridPoint,
-    d: GridPoint,
-) -> io::Result<String> {
+    let [a, b, c, d] = points.as_slice() else {
+        return Err(unreadable());
+    };
+    let (a, b, c, d) = (*a, *b, *c, *d);
     let found = share(alloc, (a, b, c, d))?;
     let orders = [
         (a, b, c, d),

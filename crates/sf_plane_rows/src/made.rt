@@ -32,53 +32,34 @@ pub(crate) fn geometry_of(alloc: Global, kind: &str, text: &str) -> io::Result<G
     }
     let numbers = numbers_of(alloc, text)?;
     match (kind, numbers.as_slice()) {
+        ("star", [x, y]) => star(alloc, *x, *y),
+        ("valley", [y]) => valley(alloc, *y),
+        ("hill", [y]) => hill(alloc, *y),
+        ("level", [count]) => level(alloc, *count),
+        ("dipping", [count, number]) => dipping(alloc, *count, *number),
         ("copies", [count, x, y]) => copies(alloc, *count, *x, *y),
-        (_, numbers) => line_of(alloc, kind, numbers),
-    }
-}
-
-/// The line of a word and numbers.
-fn line_of(alloc: Global, kind: &str, numbers: &[i32]) -> io::Result<Geometry> {
-    let mut points = Vec::new(alloc);
-    push_line(&mut points, kind, numbers)?;
-    Ok(line(points))
-}
-
-/// Puts the points of the line of a word and numbers behind others.
-fn push_line(points: &mut Vec<GridPoint>, kind: &str, numbers: &[i32]) -> io::Result<()> {
-    match (kind, numbers) {
-        ("star", [x, y]) => push_star(points, (*x, *y)),
-        ("valley", [y]) => push_valley(points, *y),
-        ("hill", [y]) => push_hill(points, *y),
-        ("level", [count]) => push_level(points, *count),
-        ("dipping", [count, number]) => push_dipping(points, *count, *number),
         _ => Err(unreadable()),
     }
 }
 
-/// Puts a point in each column before the last one behind points, at one height in even columns and else at another.
-fn push_columns(points: &mut Vec<GridPoint>, ends: [i32; 4]) -> io::Result<()> {
+/// A point in each column before the last one, at one height in even columns and else at another.
+fn columns(alloc: Global, ends: [i32; 4]) -> io::Result<Vec<GridPoint>> {
     let [from, to, even, odd] = ends;
+    let mut points = Vec::new(alloc);
     for x in from..to {
         let y = if x % 2 == 0 { even } else { odd };
-        push_at(points, x, y)?;
+        push_at(&mut points, x, y)?;
     }
-    Ok(())
+    Ok(points)
 }
 
 /// A line up and down from column to column, and on to some places.
 fn zigzag(alloc: Global, text: &str) -> io::Result<Geometry> {
-    let mut points = Vec::new(alloc);
-    push_zigzag(alloc, &mut points, text)?;
-    Ok(line(points))
-}
-
-/// Puts the points of such a line behind others.
-fn push_zigzag(alloc: Global, points: &mut Vec<GridPoint>, text: &str) -> io::Result<()> {
     let (ends, places) = text.split_once(';').unwrap_or((text, ""));
-    push_columns(points, four_of(alloc, ends)?)?;
     let further = points_of(alloc, places)?;
-    Ok(points.extend_from_slice(further.as_slice())?)
+    let mut points = columns(alloc, four_of(alloc, ends)?)?;
+    points.extend_from_slice(further.as_slice())?;
+    Ok(line(points))
 }
 
 /// The vertices of a star around 0 in the first quarter of the plane.
@@ -123,48 +104,54 @@ fn push_turned(
     Ok(())
 }
 
-/// Puts a star of 40 edges around a place, which is closed, behind points.
-fn push_star(points: &mut Vec<GridPoint>, middle: (i32, i32)) -> io::Result<()> {
+/// A star of 40 edges around a place, as a line that is closed.
+fn star(alloc: Global, x: i32, y: i32) -> io::Result<Geometry> {
+    let mut points = Vec::new(alloc);
     for quarters in 0..4 {
-        push_turned(points, QUARTER, quarters, middle)?;
+        push_turned(&mut points, QUARTER, quarters, (x, y))?;
     }
-    push_turned(points, &[(100, 0)], 0, middle)
+    push_turned(&mut points, &[(100, 0)], 0, (x, y))?;
+    Ok(line(points))
 }
 
-/// Puts a curve that rises to both sides from a height behind points.
-fn push_valley(points: &mut Vec<GridPoint>, base: i32) -> io::Result<()> {
+/// A curve that rises to both sides from a height.
+fn valley(alloc: Global, base: i32) -> io::Result<Geometry> {
+    let mut points = Vec::new(alloc);
     for x in -40i32..41 {
-        push_at(points, x, base.saturating_add(x.saturating_mul(x)))?;
+        push_at(&mut points, x, base.saturating_add(x.saturating_mul(x)))?;
     }
-    Ok(())
+    Ok(line(points))
 }
 
-/// Puts a curve that falls to both sides from a height behind points.
-fn push_hill(points: &mut Vec<GridPoint>, base: i32) -> io::Result<()> {
+/// A curve that falls to both sides from a height.
+fn hill(alloc: Global, base: i32) -> io::Result<Geometry> {
+    let mut points = Vec::new(alloc);
     for x in -40i32..41 {
-        push_at(points, x, base.saturating_sub(x.saturating_mul(x)))?;
+        push_at(&mut points, x, base.saturating_sub(x.saturating_mul(x)))?;
     }
-    Ok(())
+    Ok(line(points))
 }
 
-/// Puts a level line with so many points behind points.
-fn push_level(points: &mut Vec<GridPoint>, count: i32) -> io::Result<()> {
+/// A level line with so many points.
+fn level(alloc: Global, count: i32) -> io::Result<Geometry> {
+    let mut points = Vec::new(alloc);
     for number in 0i32..count {
-        push_at(points, number.saturating_mul(10), 0)?;
+        push_at(&mut points, number.saturating_mul(10), 0)?;
     }
-    Ok(())
+    Ok(line(points))
 }
 
-/// Puts a line above it that comes down once and goes up again, behind the point with a number, behind points.
-fn push_dipping(points: &mut Vec<GridPoint>, count: i32, dip: i32) -> io::Result<()> {
+/// A line above it that comes down once and goes up again, behind the point with a number.
+fn dipping(alloc: Global, count: i32, dip: i32) -> io::Result<Geometry> {
+    let mut points = Vec::new(alloc);
     for number in 0i32..count {
         let x = number.saturating_mul(10);
-        push_at(points, x, 9)?;
+        push_at(&mut points, x, 9)?;
         if number.saturating_add(1) == dip {
-            push_at(points, x.saturating_add(5), -9)?;
+            push_at(&mut points, x.saturating_add(5), -9)?;
         }
     }
-    Ok(())
+    Ok(line(points))
 }
 
 /// One point so many times.

@@ -16,17 +16,12 @@ pub(crate) fn unreadable() -> io::Error {
 pub(crate) fn numbers_of(alloc: Global, text: &str) -> io::Result<Vec<i32>> {
     let mut numbers = Vec::new(alloc);
     for word in text.split_whitespace() {
-        push_number(&mut numbers, word)?;
+        let Ok(number) = word.parse::<i32>() else {
+            return Err(unreadable());
+        };
+        numbers.push(number)?;
     }
     Ok(numbers)
-}
-
-/// Puts the number that a word is behind others.
-fn push_number(numbers: &mut Vec<i32>, word: &str) -> io::Result<()> {
-    match word.parse::<i32>() {
-        Ok(number) => Ok(numbers.push(number)?),
-        Err(_) => Err(unreadable()),
-    }
 }
 
 /// A number that is not below 0.
@@ -60,32 +55,22 @@ pub(crate) fn points_of(alloc: Global, text: &str) -> io::Result<Vec<GridPoint>>
         return Ok(points);
     }
     for place in text.split(',') {
-        push_point(&mut points, place)?;
+        points.push(point_of(place)?)?;
     }
     Ok(points)
-}
-
-/// Puts the point of a text behind others.
-fn push_point(points: &mut Vec<GridPoint>, text: &str) -> io::Result<()> {
-    Ok(points.push(point_of(text)?)?)
 }
 
 /// The lists of a text.
 pub(crate) fn lists_of(alloc: Global, text: &str) -> io::Result<Sequence<Sequence<GridPoint>>> {
     let mut lists = Vec::new(alloc);
     for list in text.split(';') {
-        push_list(alloc, &mut lists, list)?;
+        lists.push(Sequence::from_vec(points_of(alloc, list)?))?;
     }
     Ok(Sequence::from_vec(lists))
 }
 
-/// Puts the list of a text behind others.
-fn push_list(alloc: Global, lists: &mut Vec<Sequence<GridPoint>>, text: &str) -> io::Result<()> {
-    Ok(lists.push(Sequence::from_vec(points_of(alloc, text)?))?)
-}
-
 /// The piece between two ends, or the dot at both.
-fn piece_between(ends: [i32; 4]) -> io::Result<Piece> {
+pub(crate) fn piece_between(ends: [i32; 4]) -> io::Result<Piece> {
     let [a, b, c, d] = ends;
     let from = at(a, b)?;
     let to = at(c, d)?;
@@ -112,28 +97,18 @@ pub(crate) fn fours_of(alloc: Global, text: &str) -> io::Result<Vec<[i32; 4]>> {
         return Ok(all);
     }
     for four in text.split(',') {
-        push_four(alloc, &mut all, four)?;
+        all.push(four_of(alloc, four)?)?;
     }
     Ok(all)
-}
-
-/// Puts the four numbers of a text behind others.
-fn push_four(alloc: Global, all: &mut Vec<[i32; 4]>, text: &str) -> io::Result<()> {
-    Ok(all.push(four_of(alloc, text)?)?)
 }
 
 /// The pieces between these ends.
 pub(crate) fn pieces_between(alloc: Global, all: &[[i32; 4]]) -> io::Result<Vec<Piece>> {
     let mut pieces = Vec::new(alloc);
     for ends in all {
-        push_piece(&mut pieces, *ends)?;
+        pieces.push(piece_between(*ends)?)?;
     }
     Ok(pieces)
-}
-
-/// Puts the piece between two ends behind others.
-pub(crate) fn push_piece(pieces: &mut Vec<Piece>, ends: [i32; 4]) -> io::Result<()> {
-    Ok(pieces.push(piece_between(ends)?)?)
 }
 
 /// The geometry of a text.
@@ -154,19 +129,12 @@ fn line_of(alloc: Global, text: &str) -> io::Result<Geometry> {
     Ok(Geometry::LineString(Sequence::from_vec(points_of(alloc, text)?)))
 }
 
-/// Two geometries.
-#[derive(Drop)]
-pub(crate) struct Pair {
-    pub(crate) first: Geometry,
-    pub(crate) second: Geometry,
-}
-
-/// The two geometries of a text.
-pub(crate) fn pair_of(alloc: Global, text: &str) -> io::Result<Pair> {
+/// Two geometries of a text.
+pub(crate) fn two_of(alloc: Global, text: &str) -> io::Result<(Geometry, Geometry)> {
     let Some((first, second)) = text.split_once(" | ") else {
         return Err(unreadable());
     };
     let first = geometry_of(alloc, first)?;
     let second = geometry_of(alloc, second)?;
-    Ok(Pair { first, second })
+    Ok((first, second))
 }

@@ -27,10 +27,10 @@ fn between(from: GridPoint, to: GridPoint, pieces: i32, step: i32) -> io::Result
 fn cut(alloc: Global, places: &[GridPoint], pieces: i32) -> io::Result<Sequence<GridPoint>> {
     let mut points = Vec::new(alloc);
     for (from, to) in places.iter().zip(places.iter().skip(1)) {
-        push_edge(&mut points, (*from, *to), pieces)?;
+        push_edge(&mut points, *from, *to, pieces)?;
     }
     if let Some(last) = places.last() {
-        push_between(&mut points, (*last, *last), pieces, 0)?;
+        points.push(between(*last, *last, pieces, 0)?)?;
     }
     Ok(Sequence::from_vec(points))
 }
@@ -38,49 +38,30 @@ fn cut(alloc: Global, places: &[GridPoint], pieces: i32) -> io::Result<Sequence<
 /// Puts the points that begin the pieces of an edge behind others.
 fn push_edge(
     points: &mut Vec<GridPoint>,
-    ends: (GridPoint, GridPoint),
+    from: GridPoint,
+    to: GridPoint,
     pieces: i32,
 ) -> io::Result<()> {
     for step in 0..pieces {
-        push_between(points, ends, pieces, step)?;
+        points.push(between(from, to, pieces, step)?)?;
     }
     Ok(())
-}
-
-/// Puts the end of a step behind others.
-fn push_between(
-    points: &mut Vec<GridPoint>,
-    ends: (GridPoint, GridPoint),
-    pieces: i32,
-    step: i32,
-) -> io::Result<()> {
-    Ok(points.push(between(ends.0, ends.1, pieces, step)?)?)
 }
 
 /// Whether a line or ring meets itself once it is cut.
 fn does_cut_meet(alloc: Global, places: &[GridPoint], pieces: i32) -> io::Result<bool> {
     let points = cut(alloc, places, pieces)?;
-    do_points_meet(alloc, points.as_slice())
-}
-
-/// Whether a line or ring of not too many points meets itself.
-fn do_points_meet(alloc: Global, points: &[GridPoint]) -> io::Result<bool> {
-    if points.len() > 4096 {
+    if points.as_slice().len() > 4096 {
         return Err(unreadable());
     }
-    Ok(sf_strands::meets_itself(alloc, points)?)
+    Ok(sf_strands::meets_itself(alloc, points.as_slice())?)
 }
 
 /// Whether a line or ring meets itself, and whether it does once it is cut.
 pub(crate) fn meets_itself(alloc: Global, row: &str) -> io::Result<String> {
     let places = points_of(alloc, row)?;
-    does_meet(alloc, places.as_slice())
-}
-
-/// Whether a line or ring meets itself, and whether it does once it is cut.
-fn does_meet(alloc: Global, places: &[GridPoint]) -> io::Result<String> {
-    let whole = does_cut_meet(alloc, places, 1)?;
-    let fine = does_cut_meet(alloc, places, MANY)?;
+    let whole = does_cut_meet(alloc, places.as_slice(), 1)?;
+    let fine = does_cut_meet(alloc, places.as_slice(), MANY)?;
     both(alloc, whole, fine)
 }
 
@@ -88,19 +69,9 @@ fn does_meet(alloc: Global, places: &[GridPoint]) -> io::Result<String> {
 fn cut_all(alloc: Global, lines: &[Sequence<GridPoint>], pieces: i32) -> io::Result<Geometry> {
     let mut all = Vec::new(alloc);
     for places in lines {
-        push_cut(alloc, &mut all, places.as_slice(), pieces)?;
+        all.push(cut(alloc, places.as_slice(), pieces)?)?;
     }
     Ok(Geometry::MultiLineString(Sequence::from_vec(all)))
-}
-
-/// Puts a line that is cut behind others.
-fn push_cut(
-    alloc: Global,
-    all: &mut Vec<Sequence<GridPoint>>,
-    places: &[GridPoint],
-    pieces: i32,
-) -> io::Result<()> {
-    Ok(all.push(cut(alloc, places, pieces)?)?)
 }
 
 /// Whether the lines of a geometry are tangled.
@@ -123,12 +94,7 @@ fn are_cut_tangled(alloc: Global, lines: &[Sequence<GridPoint>], pieces: i32) ->
 /// Whether lines are tangled, and whether they are once they are cut.
 pub(crate) fn tangled(alloc: Global, row: &str) -> io::Result<String> {
     let lines = lists_of(alloc, row)?;
-    are_tangled(alloc, lines.as_slice())
-}
-
-/// Whether lines are tangled, and whether they are once they are cut.
-fn are_tangled(alloc: Global, lines: &[Sequence<GridPoint>]) -> io::Result<String> {
-    let whole = are_cut_tangled(alloc, lines, 1)?;
-    let fine = are_cut_tangled(alloc, lines, MANY)?;
+    let whole = are_cut_tangled(alloc, lines.as_slice(), 1)?;
+    let fine = are_cut_tangled(alloc, lines.as_slice(), MANY)?;
     both(alloc, whole, fine)
 }

@@ -1,7 +1,7 @@
 //! What the sweep hands out of pieces, beside their cells worked out one by one: the classes are the same, and so is the
 //! greatest dimension of each.
 
-use super::reading::{fours_of, numbers_of, pieces_between, push_piece, unreadable, unsigned};
+use super::reading::{fours_of, numbers_of, piece_between, unreadable, unsigned};
 use sf_classes::{CellSink, Piece};
 use sf_slabs::{are_in_range, decompose, have_length};
 use sf_sweep::walk_classes;
@@ -108,10 +108,13 @@ fn counts_by(pieces: &[u32]) -> [u32; GROUPS] {
 
 /// The pieces, and so many dots above them in one of their columns.
 fn pieces_and_dots(alloc: Global, all: &[[i32; 4]], dots: u16) -> io::Result<Vec<Piece>> {
-    let mut pieces = pieces_between(alloc, all)?;
+    let mut pieces = Vec::new(alloc);
+    for ends in all {
+        pieces.push(piece_between(*ends)?)?;
+    }
     for dot in 0..dots {
         let y = i32::from(dot).wrapping_add(10);
-        push_piece(&mut pieces, [0, y, 0, y])?;
+        pieces.push(piece_between([0, y, 0, y])?)?;
     }
     Ok(pieces)
 }
@@ -137,22 +140,17 @@ fn groups_of(alloc: Global, count: usize, base: u16) -> io::Result<Vec<u32>> {
 
 /// What the sweep over pieces hands out.
 fn swept(alloc: Global, pieces: &[Piece], areal: Marks, base: u16) -> io::Result<Greatest> {
-    let mut found = Greatest::new(alloc, areal, usize::from(base))?;
-    sweep_groups(alloc, pieces, areal, base, &mut found)?;
-    Ok(found)
-}
-
-/// Hands a sink what the sweep over pieces hands out.
-fn sweep_groups(
-    alloc: Global,
-    pieces: &[Piece],
-    areal: Marks,
-    base: u16,
-    found: &mut Greatest,
-) -> io::Result<()> {
     let groups = groups_of(alloc, pieces.len(), base)?;
     let marks = all_marks(alloc, &areal, usize::from(base))?;
-    sweep(alloc, pieces, groups.as_slice(), marks.as_slice(), found)
+    let mut found = Greatest::new(alloc, areal, usize::from(base))?;
+    sweep(
+        alloc,
+        pieces,
+        groups.as_slice(),
+        marks.as_slice(),
+        &mut found,
+    )?;
+    Ok(found)
 }
 
 /// Hands a sink what the sweep over pieces with these groups and marks hands out.
@@ -169,28 +167,23 @@ fn sweep(
     if !have_length(pieces) || !are_in_range(groups, pieces.len()) {
         return Err(unreadable());
     }
-    Ok(walk_classes(alloc, pieces, groups, marks, found)?)
+    walk_classes(alloc, pieces, groups, marks, found)?;
+    Ok(())
 }
 
 /// What the cells of pieces are, worked out one by one.
 fn listed(alloc: Global, pieces: &[Piece], areal: Marks) -> io::Result<Greatest> {
-    let mut wanted = Greatest::new(alloc, areal, 0)?;
-    put_cells(alloc, pieces, &mut wanted)?;
-    Ok(wanted)
-}
-
-/// Puts what the cells of pieces are, worked out one by one.
-fn put_cells(alloc: Global, pieces: &[Piece], wanted: &mut Greatest) -> io::Result<()> {
     if pieces.len() > 65535 || !have_length(pieces) {
         return Err(unreadable());
     }
     let cells = decompose(alloc, pieces)?;
+    let mut wanted = Greatest::new(alloc, areal, 0)?;
     for cell in cells.as_slice() {
         let on = counts_by(cell.on.as_slice());
         let above = counts_by(cell.above.as_slice());
         wanted.put(cell.dim, &on, &above);
     }
-    Ok(())
+    Ok(wanted)
 }
 
 /// Whether the sweep over these pieces, and dots above them, hands out the classes of their cells. The groups
@@ -203,13 +196,8 @@ fn does_agree(
     dots: u16,
 ) -> io::Result<bool> {
     let pieces = pieces_and_dots(alloc, all, dots)?;
-    are_alike(alloc, pieces.as_slice(), areal, base)
-}
-
-/// Whether the sweep over these pieces hands out the classes of their cells.
-fn are_alike(alloc: Global, pieces: &[Piece], areal: Marks, base: u16) -> io::Result<bool> {
-    let found = swept(alloc, pieces, areal, base)?;
-    let wanted = listed(alloc, pieces, areal)?;
+    let found = swept(alloc, pieces.as_slice(), areal, base)?;
+    let wanted = listed(alloc, pieces.as_slice(), areal)?;
     Ok(found.dims.as_slice() == wanted.dims.as_slice())
 }
 
@@ -249,38 +237,27 @@ fn random_pieces(first: u64) -> [[i32; 4]; PIECES] {
 /// Of how many ways to mark the groups as areal the sweep over some pieces agrees.
 pub(crate) fn agrees(alloc: Global, row: &str) -> io::Result<String> {
     let pieces = fours_of(alloc, row)?;
-    let alike = count_ways(alloc, pieces.as_slice())?;
-    Ok(format!(in alloc; "{alike} alike")?)
-}
-
-/// In how many ways to mark the groups as areal the sweep over some pieces agrees.
-fn count_ways(alloc: Global, pieces: &[[i32; 4]]) -> io::Result<u32> {
     let mut alike = 0u32;
     for bits in 0..8 {
-        if does_agree(alloc, pieces, marks(bits), 0, 0)? {
+        if does_agree(alloc, pieces.as_slice(), marks(bits), 0, 0)? {
             alike = alike.saturating_add(1);
         }
     }
-    Ok(alike)
+    Ok(format!(in alloc; "{alike} alike")?)
 }
 
 /// Of how many sets of random pieces the sweep agrees, `SETS BASE DOTS`: the first of the groups is `BASE`, and there
 /// are so many dots beside the pieces.
 pub(crate) fn agree_at_random(alloc: Global, row: &str) -> io::Result<String> {
     let numbers = numbers_of(alloc, row)?;
-    let alike = count_at_random(alloc, numbers.as_slice())?;
-    Ok(format!(in alloc; "{alike} alike")?)
-}
-
-/// Of how many sets of random pieces the sweep agrees, by the numbers of a row.
-fn count_at_random(alloc: Global, numbers: &[i32]) -> io::Result<u32> {
-    let [sets, base, dots] = numbers else {
+    let [sets, base, dots] = numbers.as_slice() else {
         return Err(unreadable());
     };
-    match (u16::try_from(*base), u16::try_from(*dots)) {
-        (Ok(base), Ok(dots)) => count_alike(alloc, unsigned(*sets), base, dots),
-        _ => Err(unreadable()),
-    }
+    let (Ok(base), Ok(dots)) = (u16::try_from(*base), u16::try_from(*dots)) else {
+        return Err(unreadable());
+    };
+    let alike = count_alike(alloc, unsigned(*sets), base, dots)?;
+    Ok(format!(in alloc; "{alike} alike")?)
 }
 
 /// Of how many sets of random pieces, of so many, the sweep agrees.

@@ -78,23 +78,13 @@ fn find_alike<I: SpatialIndex, J: SpatialIndex>(
     other: &J,
 ) -> io::Result<bool> {
     for window in &windows() {
-        if !find_alike_within(alloc, one, other, window)? {
+        let found = one.meeting(alloc, window)?;
+        let wanted = other.meeting(alloc, window)?;
+        if found.as_slice() != wanted.as_slice() {
             return Ok(false);
         }
     }
     Ok(true)
-}
-
-/// Whether both find the same in a window.
-fn find_alike_within<I: SpatialIndex, J: SpatialIndex>(
-    alloc: Global,
-    one: &I,
-    other: &J,
-    window: &Extent,
-) -> io::Result<bool> {
-    let found = one.meeting(alloc, window)?;
-    let wanted = other.meeting(alloc, window)?;
-    Ok(found.as_slice() == wanted.as_slice())
 }
 
 /// Whether a tree of the boxes finds what a list does, also as they are removed.
@@ -147,18 +137,6 @@ fn is_grown_like_list(alloc: Global, count: u32, are_apart: bool) -> io::Result<
     is_like_list(alloc, tree, boxes.as_slice())
 }
 
-/// A tree of so many boxes that were put in one by one.
-fn grown_of(alloc: Global, count: u32, are_apart: bool) -> io::Result<RTree> {
-    let boxes = some_boxes(alloc, count, are_apart)?;
-    put_all(alloc, boxes.as_slice())
-}
-
-/// A tree of so many boxes that was built at once.
-fn built_of(alloc: Global, count: u32, are_apart: bool) -> io::Result<RTree> {
-    let boxes = some_boxes(alloc, count, are_apart)?;
-    Ok(RTree::from_boxes(alloc, boxes)?)
-}
-
 /// Whether a tree of so many boxes, built at once, is like a list.
 fn is_built_like_list(alloc: Global, count: u32, are_apart: bool) -> io::Result<bool> {
     let boxes = some_boxes(alloc, count, are_apart)?;
@@ -190,14 +168,10 @@ pub(crate) fn built(alloc: Global, row: &str) -> io::Result<String> {
 /// Whether the one tree finds what the other does.
 pub(crate) fn grown_and_built(alloc: Global, row: &str) -> io::Result<String> {
     let (count, are_apart) = asked(row)?;
-    text(alloc, told(is_built_like_grown(alloc, count, are_apart)?))
-}
-
-/// Whether of so many boxes the one tree finds what the other does.
-fn is_built_like_grown(alloc: Global, count: u32, are_apart: bool) -> io::Result<bool> {
-    let grown = grown_of(alloc, count, are_apart)?;
-    let built = built_of(alloc, count, are_apart)?;
-    find_alike(alloc, &grown, &built)
+    let boxes = some_boxes(alloc, count, are_apart)?;
+    let grown: RTree = put_all(alloc, boxes.as_slice())?;
+    let built = RTree::from_boxes(alloc, boxes)?;
+    text(alloc, told(find_alike(alloc, &grown, &built)?))
 }
 
 /// How many boxes a tree finds that meet a window, the first of them, and whether the tree is from 4 to 6 high.
@@ -207,12 +181,13 @@ pub(crate) fn found(alloc: Global, row: &str) -> io::Result<String> {
     };
     let (count, are_apart) = asked(boxes)?;
     let window = extent_of(alloc, window)?;
-    let grown = grown_of(alloc, count, are_apart)?;
-    found_within(alloc, &grown, &window)
+    found_within(alloc, count, are_apart, &window)
 }
 
-/// The same of a tree and a window.
-fn found_within(alloc: Global, grown: &RTree, window: &Extent) -> io::Result<String> {
+/// The same of boxes and a window.
+fn found_within(alloc: Global, count: u32, are_apart: bool, window: &Extent) -> io::Result<String> {
+    let boxes = some_boxes(alloc, count, are_apart)?;
+    let grown: RTree = put_all(alloc, boxes.as_slice())?;
     let found = grown.meeting(alloc, window)?;
     let first = found.as_slice().first().copied().unwrap_or(0);
     let is_low = told(4 <= grown.height() && grown.height() <= 6);
@@ -222,6 +197,6 @@ fn found_within(alloc: Global, grown: &RTree, window: &Extent) -> io::Result<Str
 /// How high a tree of boxes is that was built at once.
 pub(crate) fn height(alloc: Global, row: &str) -> io::Result<String> {
     let (count, are_apart) = asked(row)?;
-    let height = built_of(alloc, count, are_apart)?.height();
-    Ok(format!(in alloc; "{height}")?)
+    let tree = RTree::from_boxes(alloc, some_boxes(alloc, count, are_apart)?)?;
+    Ok(format!(in alloc; "{}", tree.height())?)
 }

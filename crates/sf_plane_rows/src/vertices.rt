@@ -17,20 +17,13 @@ struct Place {
 }
 
 /// The numbers before a geometry, and the geometry.
-#[derive(Drop)]
-struct Asked {
-    numbers: Vec<i32>,
-    geometry: Geometry,
-}
-
-/// What a row asks.
-fn asked_of(alloc: Global, row: &str) -> io::Result<Asked> {
+fn numbers_and_geometry(alloc: Global, row: &str) -> io::Result<(Vec<i32>, Geometry)> {
     let Some((numbers, geometry)) = row.split_once(" | ") else {
         return Err(unreadable());
     };
     let numbers = numbers_of(alloc, numbers)?;
     let geometry = geometry_of(alloc, geometry)?;
-    Ok(Asked { numbers, geometry })
+    Ok((numbers, geometry))
 }
 
 /// The place of three numbers.
@@ -42,49 +35,27 @@ fn place_at(part: i32, ring: i32, index: i32) -> Place {
     }
 }
 
-/// The place that three numbers are.
-fn place_of(numbers: &[i32]) -> io::Result<Place> {
-    match numbers {
-        [part, ring, index] => Ok(place_at(*part, *ring, *index)),
-        _ => Err(unreadable()),
-    }
-}
-
-/// The place and the point that five numbers are.
-fn place_and_point_of(numbers: &[i32]) -> io::Result<(Place, GridPoint)> {
-    match numbers {
-        [part, ring, index, x, y] => Ok((place_at(*part, *ring, *index), at(*x, *y)?)),
-        _ => Err(unreadable()),
-    }
-}
-
 /// The vertex at a place.
 pub(crate) fn vertex(alloc: Global, row: &str) -> io::Result<String> {
-    let asked = asked_of(alloc, row)?;
-    vertex_of(alloc, asked.numbers.as_slice(), &asked.geometry)
-}
-
-/// The vertex of a geometry at the place that numbers are.
-fn vertex_of(alloc: Global, numbers: &[i32], geometry: &Geometry) -> io::Result<String> {
-    let place = place_of(numbers)?;
+    let (numbers, geometry) = numbers_and_geometry(alloc, row)?;
+    let [part, ring, index] = numbers.as_slice() else {
+        return Err(unreadable());
+    };
+    let place = place_at(*part, *ring, *index);
     point_or_none(alloc, geometry.vertex(place.part, place.ring, place.index))
 }
 
 /// What a change answered, and the rings of a polygon that it was made to.
 fn changed(alloc: Global, answer: &str, geometry: &Geometry) -> io::Result<String> {
+    let Geometry::Polygon(rings) = geometry else {
+        return text(alloc, answer);
+    };
     let mut found = text(alloc, answer)?;
-    if let Geometry::Polygon(rings) = geometry {
-        for ring in rings.as_slice() {
-            push_ring(alloc, &mut found, ring.as_slice())?;
-        }
+    for ring in rings.as_slice() {
+        let ring = points(alloc, ring.as_slice())?;
+        write!(found, "; {ring}")?;
     }
     Ok(found)
-}
-
-/// Writes a ring behind a text.
-fn push_ring(alloc: Global, text: &mut String, ring: &[GridPoint]) -> io::Result<()> {
-    let ring = points(alloc, ring)?;
-    Ok(write!(text, "; {ring}")?)
 }
 
 /// The point that a change took away, or why it was refused.
@@ -97,14 +68,23 @@ fn given(alloc: Global, given: Result<GridPoint, Refusal>) -> io::Result<String>
 
 /// Puts a vertex in.
 pub(crate) fn insert(alloc: Global, row: &str) -> io::Result<String> {
-    let mut asked = asked_of(alloc, row)?;
-    let answer = inserted(alloc, &mut asked.geometry, asked.numbers.as_slice())?;
-    changed(alloc, answer, &asked.geometry)
+    let (numbers, mut geometry) = numbers_and_geometry(alloc, row)?;
+    let [part, ring, index, x, y] = numbers.as_slice() else {
+        return Err(unreadable());
+    };
+    let place = place_at(*part, *ring, *index);
+    let point = at(*x, *y)?;
+    let answer = inserted(alloc, &mut geometry, &place, point)?;
+    changed(alloc, answer, &geometry)
 }
 
 /// What a geometry that has a size answers where a vertex is put in.
-fn inserted(alloc: Global, geometry: &mut Geometry, numbers: &[i32]) -> io::Result<&'static str> {
-    let (place, point) = place_and_point_of(numbers)?;
+fn inserted(
+    alloc: Global,
+    geometry: &mut Geometry,
+    place: &Place,
+    point: GridPoint,
+) -> io::Result<&'static str> {
     if geometry.check_size().is_err() {
         return Err(unreadable());
     }
@@ -116,14 +96,23 @@ fn inserted(alloc: Global, geometry: &mut Geometry, numbers: &[i32]) -> io::Resu
 
 /// Moves a vertex.
 pub(crate) fn shift(alloc: Global, row: &str) -> io::Result<String> {
-    let mut asked = asked_of(alloc, row)?;
-    let answer = shifted(alloc, &mut asked.geometry, asked.numbers.as_slice())?;
-    changed(alloc, answer.as_str(), &asked.geometry)
+    let (numbers, mut geometry) = numbers_and_geometry(alloc, row)?;
+    let [part, ring, index, x, y] = numbers.as_slice() else {
+        return Err(unreadable());
+    };
+    let place = place_at(*part, *ring, *index);
+    let point = at(*x, *y)?;
+    let answer = shifted(alloc, &mut geometry, &place, point)?;
+    changed(alloc, answer.as_str(), &geometry)
 }
 
 /// What a geometry that has a size answers where a vertex is moved.
-fn shifted(alloc: Global, geometry: &mut Geometry, numbers: &[i32]) -> io::Result<String> {
-    let (place, point) = place_and_point_of(numbers)?;
+fn shifted(
+    alloc: Global,
+    geometry: &mut Geometry,
+    place: &Place,
+    point: GridPoint,
+) -> io::Result<String> {
     if geometry.check_size().is_err() {
         return Err(unreadable());
     }
@@ -133,14 +122,17 @@ fn shifted(alloc: Global, geometry: &mut Geometry, numbers: &[i32]) -> io::Resul
 
 /// Takes a vertex out.
 pub(crate) fn remove(alloc: Global, row: &str) -> io::Result<String> {
-    let mut asked = asked_of(alloc, row)?;
-    let answer = removed(alloc, &mut asked.geometry, asked.numbers.as_slice())?;
-    changed(alloc, answer.as_str(), &asked.geometry)
+    let (numbers, mut geometry) = numbers_and_geometry(alloc, row)?;
+    let [part, ring, index] = numbers.as_slice() else {
+        return Err(unreadable());
+    };
+    let place = place_at(*part, *ring, *index);
+    let answer = removed(alloc, &mut geometry, &place)?;
+    changed(alloc, answer.as_str(), &geometry)
 }
 
 /// What a geometry that has a size answers where a vertex is removed.
-fn removed(alloc: Global, geometry: &mut Geometry, numbers: &[i32]) -> io::Result<String> {
-    let place = place_of(numbers)?;
+fn removed(alloc: Global, geometry: &mut Geometry, place: &Place) -> io::Result<String> {
     if geometry.check_size().is_err() {
         return Err(unreadable());
     }

@@ -18,9 +18,15 @@ pub(crate) enum Answer {
     Found(Found),
     /// What a tree has after a removal, if it is not gone, and what one built anew has.
     Removed(Option<Vec<u32>>, Vec<u32>),
+    Refused(Refusal),
 }
 
 impl Answer {
+    /// The answer, or why there is none.
+    pub(crate) fn of(answer: Result<Answer, Refusal>) -> Answer {
+        answer.unwrap_or_else(|refusal| Answer::Refused(refusal))
+    }
+
     /// Writes the answer. It takes no memory.
     pub(crate) fn write_to<W: Write>(&self, output: &mut W) -> io::Result<()> {
         match self {
@@ -29,41 +35,31 @@ impl Answer {
             Answer::Truth(is) => writeln!(output, "{is}"),
             Answer::Calls(calls) => writeln!(output, "calls {calls}"),
             Answer::Depths(past, future) => writeln!(output, "{past} {future}"),
-            Answer::Found(found) => write_found(output, found),
+            Answer::Found(found) => {
+                write!(output, "{} of", found.looked)?;
+                write_ids(output, found.ids.as_slice())
+            }
             Answer::Removed(left, anew) => {
                 write_left(output, left)?;
-                write_anew(output, anew.as_slice())
+                write!(output, "anew")?;
+                write_ids(output, anew.as_slice())
+            }
+            Answer::Refused(refusal) => {
+                writeln!(output, "refused {} {}", refusal.number(), refusal.name())
             }
         }
     }
-}
-
-/// Writes that a line was refused. It takes no memory.
-pub(crate) fn write_refusal<W: Write>(refusal: Refusal, output: &mut W) -> io::Result<()> {
-    writeln!(output, "refused {} {}", refusal.number(), refusal.name())
-}
-
-/// Writes what a query finds.
-fn write_found<W: Write>(output: &mut W, found: &Found) -> io::Result<()> {
-    write!(output, "{} of", found.looked)?;
-    write_ids(output, found.ids.as_slice())
 }
 
 /// Writes what a tree has after a removal.
 fn write_left<W: Write>(output: &mut W, left: &Option<Vec<u32>>) -> io::Result<()> {
     match left {
         Some(ids) => {
-            output.write_all(b"rows 2\nleft")?;
+            write!(output, "rows 2\nleft")?;
             write_ids(output, ids.as_slice())
         }
-        None => output.write_all(b"rows 2\ngone\n"),
+        None => writeln!(output, "rows 2\ngone"),
     }
-}
-
-/// Writes what a tree that is built anew has.
-fn write_anew<W: Write>(output: &mut W, anew: &[u32]) -> io::Result<()> {
-    output.write_all(b"anew")?;
-    write_ids(output, anew)
 }
 
 /// Writes identifiers, and ends their line.
@@ -71,5 +67,5 @@ fn write_ids<W: Write>(output: &mut W, ids: &[u32]) -> io::Result<()> {
     for id in ids {
         write!(output, " {id}")?;
     }
-    output.write_all(b"\n")
+    writeln!(output)
 }

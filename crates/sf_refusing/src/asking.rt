@@ -1,6 +1,5 @@
 //! What only the library tells.
-ghost use Rattle.std.specs.Prelude.{◌≡◌, Some, IfOk};
-ghost use Rattle.sf_rtree.specs.Indexes.{box_of};
+ghost use Rattle.std.specs.Prelude.{◌≡◌, IfOk};
 
 use super::answer::Answer;
 use super::boxes::{all_of, boxes_of, has, tree_of};
@@ -10,7 +9,7 @@ use sf_layers::{Layer, Store};
 use sf_query::{Ask, query};
 use sf_refusals::Refusal;
 use sf_rtree::{RTree, SpatialIndex};
-use std::alloc::{AllocError, Global};
+use std::alloc::Global;
 use std::collections::BTreeMap;
 use std::io::Write;
 
@@ -38,18 +37,11 @@ pub(crate) fn boxes(alloc: Global, store: &Store, name: &str) -> Result<Answer, 
 /// What a query finds, and how many features it looks at.
 pub(crate) fn looked(alloc: Global, store: &Store, line: &str) -> Result<Answer, Refusal> {
     let (_, command) = parse(alloc, line)?;
-    looked_by(alloc, store, &command)
-}
-
-/// The same of the command that asks it.
-fn looked_by(alloc: Global, store: &Store, command: &Command) -> Result<Answer, Refusal> {
-    match command {
-        Command::Query(layer, predicate, given) => {
-            let ask = Ask::Named(*predicate);
-            Ok(Answer::Found(query(alloc, store, layer.as_str(), &ask, given)?))
-        }
-        _ => Err(Refusal::BadCommand),
-    }
+    let Command::Query(layer, predicate, given) = command else {
+        return Err(Refusal::BadCommand);
+    };
+    let found = query(alloc, store, layer.as_str(), &Ask::Named(predicate), &given)?;
+    Ok(Answer::Found(found))
 }
 
 /// A tree of a layer's boxes, those of some features taken out of it, the last one while memory is scarce; and one
@@ -60,57 +52,23 @@ pub(crate) fn removal<W: Write>(
     words: &str,
     output: &mut W,
 ) -> Result<Answer, Refusal> {
-    let Some((name, ids)) = words.split_once(' ') else {
-        return Err(Refusal::BadCommand);
-    };
-    let mut boxes = boxes_of(alloc, layer_of(store, name)?)?;
-    let left = left_without(alloc, &mut boxes, ids, output)?;
-    let anew = anew_of(alloc, &boxes)?;
-    Ok(Answer::Removed(left, anew))
-}
-
-/// What a tree of the boxes has once those of these identifiers are taken out of it, if it is not gone. They are taken out
-/// of the map too.
-fn left_without<W: Write>(
-    alloc: Global,
-    boxes: &mut BTreeMap<u32, Extent>,
-    ids: &str,
-    output: &mut W,
-) -> Result<Option<Vec<u32>>, Refusal> {
+    let (name, ids) = words.split_once(' ').ok_or(Refusal::BadCommand)?;
     let (earlier, last) = ids.rsplit_once(' ').unwrap_or(("", ids));
     let last = id_of(last)?;
-    let tree = tree_of(alloc, boxes)?;
-    let tree = without_all(alloc, tree, boxes, earlier)?;
-    let Some(extent) = boxes.remove(&last) else {
-        return Err(Refusal::NoFeature);
-    };
-    match without_last(alloc, tree, last, extent, output) {
-        Ok(tree) => Ok(Some(all_of(alloc, &tree)?)),
-        Err(_) => Ok(None),
-    }
-}
-
-/// A tree without a box of it, which is taken out while memory is scarce.
-fn without_last<W: Write>(
-    alloc: Global,
-    tree: RTree,
-    id: u32,
-    extent: Extent,
-    output: &mut W,
-) -> Result<RTree, AllocError>
-    requires { box_of tree id ≡ Some extent }
-{
+    let mut boxes = boxes_of(alloc, layer_of(store, name)?)?;
+    let tree = tree_of(alloc, &boxes)?;
+    let tree = without_all(alloc, tree, &mut boxes, earlier)?;
+    let extent = boxes.remove(&last).ok_or(Refusal::NoFeature)?;
     // Where these can't be written, the answer can't either.
     let _ = Answer::Scarce.write_to(output);
-    let left = tree.remove(alloc, id, extent);
+    let left = tree.remove(alloc, last, extent);
     let _ = Answer::Ample.write_to(output);
-    left
-}
-
-/// What a tree of the boxes has that is built anew.
-fn anew_of(alloc: Global, boxes: &BTreeMap<u32, Extent>) -> Result<Vec<u32>, AllocError> {
-    let tree = tree_of(alloc, boxes)?;
-    all_of(alloc, &tree)
+    let left = match left {
+        Ok(tree) => Some(all_of(alloc, &tree)?),
+        Err(_) => None,
+    };
+    let anew = all_of(alloc, &tree_of(alloc, &boxes)?)?;
+    Ok(Answer::Removed(left, anew))
 }
 
 /// A tree without the boxes of these identifiers, which are taken out of the map too.

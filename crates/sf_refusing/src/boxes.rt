@@ -46,23 +46,12 @@ pub(crate) fn has(
     boxes: &BTreeMap<u32, Extent>,
 ) -> Result<bool, AllocError> {
     for (_, extent) in boxes.iter() {
-        if !does_find(alloc, index, boxes, extent)? {
+        let found = index.meeting(alloc, extent)?;
+        if found.as_slice() != meeting(alloc, boxes, extent)?.as_slice() {
             return Ok(false);
         }
     }
     Ok(all_of(alloc, index)?.len() == boxes.len())
-}
-
-/// Whether an index finds of these boxes those that share a point with the given one.
-fn does_find(
-    alloc: Global,
-    index: &RTree,
-    boxes: &BTreeMap<u32, Extent>,
-    extent: &Extent,
-) -> Result<bool, AllocError> {
-    let found = index.meeting(alloc, extent)?;
-    let wanted = meeting(alloc, boxes, extent)?;
-    Ok(found.as_slice() == wanted.as_slice())
 }
 
 /// The identifiers of the boxes that share a point with the given one.

@@ -36,19 +36,14 @@ pub(crate) fn served<W: Write>(alloc: Global, output: &mut W) -> Result<Answer, 
 
 /// How often a window that looks ahead, as `load` reads by, asks a reader that never ends.
 pub(crate) fn ahead(alloc: Global) -> Result<Answer, Refusal> {
-    let mut window = Window::new(alloc)?;
-    Ok(Answer::Calls(calls_of(&mut window)))
-}
-
-/// How often a window asks a reader that never ends.
-fn calls_of(window: &mut Window) -> u64 {
     let mut reader = Endless { calls: 0 };
+    let mut window = Window::new(alloc)?;
     for _ in 0..u64::MAX {
-        if !goes_on(window, &mut reader) {
+        if !goes_on(&mut window, &mut reader) {
             break;
         }
     }
-    reader.calls
+    Ok(Answer::Calls(reader.calls))
 }
 
 /// Reads a byte ahead and goes past it; says whether one came.

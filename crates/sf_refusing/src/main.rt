@@ -9,7 +9,7 @@ mod asking;
 mod boxes;
 mod endless;
 
-use answer::{Answer, write_refusal};
+use answer::Answer;
 use sf_console::{Editor, ServeFault, serve};
 use sf_refusals::Refusal;
 use std::alloc::Global;
@@ -26,26 +26,18 @@ fn answer_line<W: Write>(
 ) -> io::Result<()> {
     let (verb, rest) = line.split_once(' ').unwrap_or((line, ""));
     let answer = match verb {
-        "scarce" => Ok(Answer::Scarce),
-        "ample" => Ok(Answer::Ample),
-        "served" => endless::served(alloc, output),
-        "ahead" => endless::ahead(alloc),
-        "depths" => Ok(asking::depths(editor)),
-        "indexed" => asking::indexed(editor.store(), rest),
-        "boxes" => asking::boxes(alloc, editor.store(), rest),
-        "looked" => asking::looked(alloc, editor.store(), rest),
-        "removal" => asking::removal(alloc, editor.store(), rest, output),
+        "scarce" => Answer::Scarce,
+        "ample" => Answer::Ample,
+        "served" => Answer::of(endless::served(alloc, output)),
+        "ahead" => Answer::of(endless::ahead(alloc)),
+        "depths" => asking::depths(editor),
+        "indexed" => Answer::of(asking::indexed(editor.store(), rest)),
+        "boxes" => Answer::of(asking::boxes(alloc, editor.store(), rest)),
+        "looked" => Answer::of(asking::looked(alloc, editor.store(), rest)),
+        "removal" => Answer::of(asking::removal(alloc, editor.store(), rest, output)),
         _ => return answer_console(alloc, editor, line, output),
     };
-    write_answer(&answer, output)
-}
-
-/// Writes an answer, or why there is none.
-fn write_answer<W: Write>(answer: &Result<Answer, Refusal>, output: &mut W) -> io::Result<()> {
-    match answer {
-        Ok(answer) => answer.write_to(output),
-        Err(refusal) => write_refusal(*refusal, output),
-    }
+    answer.write_to(output)
 }
 
 /// Answers a line of the console.
@@ -59,7 +51,7 @@ fn answer_console<W: Write>(
     match serve(alloc, editor, &mut bytes, output) {
         Ok(()) => Ok(()),
         // Its buffers found no memory: nothing was read.
-        Err(ServeFault::Memory) => write_refusal(Refusal::Memory, output),
+        Err(ServeFault::Memory) => Answer::Refused(Refusal::Memory).write_to(output),
         Err(_) => Err(io::ErrorKind::Other.into()),
     }
 }
@@ -69,18 +61,8 @@ fn run(rt: &(impl Input + Print + AllocGlobal)) -> io::Result<()> {
     let text = io::read_to_string(rt.alloc(), rt.reader())?;
     let mut editor = Editor::new(rt.alloc());
     let mut output = io::writer(rt);
-    answer_all(rt.alloc(), &mut editor, text.as_str(), &mut output)
-}
-
-/// Answers all lines of a text.
-fn answer_all<W: Write>(
-    alloc: Global,
-    editor: &mut Editor,
-    text: &str,
-    output: &mut W,
-) -> io::Result<()> {
     for line in text.lines() {
-        answer_line(alloc, editor, line, output)?;
+        answer_line(rt.alloc(), &mut editor, line, &mut output)?;
     }
     Ok(())
 }
