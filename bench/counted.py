@@ -62,7 +62,9 @@ def printed_rows(program: Path, measure: Callable[[], None]) -> dict[str, float]
         once = asked[: period(asked)]
         return (count("\n".join([*before, *once])) - count("\n".join(before))) * (len(asked) // len(once))
 
-    questions.cost = towns.cost = cost
+    # `towns` has brought the function in by its name.
+    for module in (questions, towns):
+        setattr(module, "cost", cost)
     printed = io.StringIO()
     with contextlib.redirect_stdout(printed):
         measure()

@@ -20,7 +20,7 @@ from pathlib import Path
 from planted import KIT, module_in
 
 CHECK = re.compile(r'(define internal void @"rattle-llvm-checks::(\w+)"\(i8 %a0\)[^{]*)\{.*?\n\}', re.DOTALL)
-CLANG = [KIT / "toolchain/bin/clang", "--target=x86_64-unknown-linux-gnu", "--no-default-config", "-Wno-override-module"]
+CLANG: list[str | Path] = [KIT / "toolchain/bin/clang", "--target=x86_64-unknown-linux-gnu", "--no-default-config", "-Wno-override-module"]
 # The processor that proved programs are made for.
 PROCESSOR = "-march=x86-64-v2"
 

@@ -8,7 +8,7 @@ import unittest
 from pathlib import Path
 
 TOP = Path(__file__).resolve().parent.parent
-SCRIPTS = ["bench/calls.py", "bench/planted.py", "bench/plants.py", "package/manual.py", "package/plugin.py", "tests/api.py", "tests/costs.py", "tests/english.py", "tests/made_pages.py", "tests/shown.py", "tests/trust.py", "tests/wrong_bodies.py", "build-programs"]
+SCRIPTS = ["bench/calls.py", "bench/counted.py", "bench/kept.py", "bench/planted.py", "bench/plants.py", "bench/unproved.py", "package/manual.py", "package/plugin.py", "tests/api.py", "tests/costs.py", "tests/english.py", "tests/made_pages.py", "tests/shown.py", "tests/trust.py", "tests/wrong_bodies.py", "build-programs"]
 
 
 def said(*words: str) -> tuple[int, str]:
