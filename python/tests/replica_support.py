@@ -145,10 +145,21 @@ class ReplicaCase(TestCase):
         """A connection to such a replica."""
         connection = socket.socket(socket.AF_UNIX)
         self.addCleanup(connection.close)
-        # With a limit of time it would not wait while many are to be let in.
-        connection.connect(str(path))
+        until = time.monotonic() + 30
+        # With a limit of time it would not wait while many are to be let in. The socket has its name a moment before it listens.
+        while not self.is_let_in(connection, path) and time.monotonic() < until:
+            time.sleep(0.02)
         connection.settimeout(30)
         return connection
+
+    @staticmethod
+    def is_let_in(connection, path):
+        """Whether a socket takes a connection, and does not refuse it."""
+        try:
+            connection.connect(str(path))
+        except ConnectionRefusedError:
+            return False
+        return True
 
     def asked(self, connection, lines, count):
         """Sends lines, and gives so many lines of answers."""
