@@ -32,7 +32,7 @@ CRATE = "sf_bench"
 CHOICES = ["grid", "cells", "classes", "validity", "matrices", "texts"]
 # What the program calls, as crates.txt has it.
 BELOW = (
-    "sf_refusals sf_grid sf_strips sf_cells sf_slabs sf_plane sf_classes sf_sweep sf_geometry sf_rules sf_pieces"
+    "sf_refusals sf_grid sf_strips sf_cells sf_slabs sf_plane sf_classes sf_sweep sf_geometry sf_valid_rules sf_pieces"
     " sf_strands sf_polygons sf_validity sf_relate sf_wkt sf_wkb"
 )
 

@@ -10,15 +10,15 @@ use Rattle.sf_grid.specs.Plane.{IsOnGrid}
 use Rattle.sf_geometry.specs.Parts.{points_of}
 use Rattle.sf_geometry.specs.declared.geometry.Geometry.{Geometry}
 use Rattle.sf_geometry.specs.Size.{IsSized}
-use Rattle.sf_rules.specs.declared.fault.Fault.{Fault}
-use Rattle.sf_rules.specs.declared.fault.Fault.TheVariants as faults
-use Rattle.sf_rules.specs.Faults.{refusal_of as refusal_of_fault}
-use Rattle.sf_rules.specs.Validity.{IsFirstFault, IsVerdict}
-use Rattle.sf_rules.specs.Verdicts.{first_fault}
-use Rattle.sf_rules.proofs.FirstLaws.{first_fault-over_plane}
+use Rattle.sf_valid_rules.specs.declared.fault.Fault.{Fault}
+use Rattle.sf_valid_rules.specs.declared.fault.Fault.TheVariants as faults
+use Rattle.sf_valid_rules.specs.Faults.{refusal_of as refusal_of_fault}
+use Rattle.sf_valid_rules.specs.Validity.{IsFirstFault, IsVerdict}
+use Rattle.sf_valid_rules.specs.Verdicts.{first_fault}
+use Rattle.sf_valid_rules.proofs.FirstLaws.{first_fault-over_plane}
 use Rattle.sf_known.specs.declared.predicate.Predicate.{Predicate}
 use Rattle.sf_known.specs.Patterns.{pattern_of}
-use Rattle.sf_lines.specs.Lines.{line_max}
+use Rattle.sf_text_lines.specs.Lines.{line_max}
 use Rattle.sf_wkt.specs.declared.fault.WktFault.{WktFault}
 use Rattle.sf_wkt.specs.declared.fault.WktFault.TheVariants as texts
 use Rattle.sf_wkt.specs.Faults.{refusal_of}
@@ -29,8 +29,8 @@ use Rattle.sf_wkb.specs.declared.fault.WkbFault.{WkbFault}
 use Rattle.sf_wkb.specs.declared.fault.WkbFault.TheVariants as binaries
 use Rattle.sf_wkb.specs.Faults.{refusal_of as refusal_of_bytes}
 use Rattle.sf_wkb.specs.Grammar.{read as read_bytes}
-use Rattle.sf_constraints.specs.declared.rule.Form.{Form}
-use Rattle.sf_constraints.specs.declared.rule.Form.TheVariants.{Never, Each}
+use Rattle.sf_rules.specs.declared.rule.Form.{Form}
+use Rattle.sf_rules.specs.declared.rule.Form.TheVariants.{Never, Each}
 use Rattle.sf_steps.specs.declared.edit.Edit.TheVariants as edits
 use Rattle.sf_commands.specs.declared.command.Command.{Command}
 use Rattle.sf_commands.specs.declared.command.Command.TheVariants.{Edit, Undo, Redo, Layers, Columns, Rules, Show, Hex, Simple, Extent, Relate, Match, Query}

@@ -2,9 +2,9 @@
 use Rattle.std.specs.Prelude.{◌≡◌, ℕ, List, [], Result, Ok, Err}
 use Rattle.sf_refusals.specs.declared.refusal.Refusal.{Refusal}
 use Rattle.sf_geometry.specs.declared.geometry.Geometry.{Geometry}
-use Rattle.sf_rules.specs.declared.fault.Fault.{Fault}
-use Rattle.sf_rules.specs.Faults.{refusal_of as refusal_of_fault}
-use Rattle.sf_rules.specs.Validity.{IsFirstFault, IsValid}
+use Rattle.sf_valid_rules.specs.declared.fault.Fault.{Fault}
+use Rattle.sf_valid_rules.specs.Faults.{refusal_of as refusal_of_fault}
+use Rattle.sf_valid_rules.specs.Validity.{IsFirstFault, IsValid}
 use Rattle.sf_wkt.specs.Grammar.{read}
 use Rattle.sf_commands.specs.declared.command.Command.{Command}
 use Rattle.sf_commands.specs.declared.command.Command.TheVariants as commands

@@ -3,7 +3,7 @@ use Rattle.std.proofs.Common.{◌≡◌, ℕ, ◌≤◌, Bool, true, false, nat_
 use Rattle.std.proofs.lemmas.Grind.{common_steps}
 use Rattle.sf_refusals.specs.declared.refusal.Refusal.{Refusal}
 use Rattle.sf_refusals.specs.declared.refusal.Refusal.TheVariants.{LineTooLong, Memory}
-use Rattle.sf_lines.specs.Lines.{line_max}
+use Rattle.sf_text_lines.specs.Lines.{line_max}
 use Rattle.sf_commands.specs.declared.command.Command.{Command}
 use Rattle.sf_words.specs.Editors.{addressed}
 use Rattle.sf_commands.specs.Commands.{addressed_takes_memory, by_editor, by_words, command_of, made, takes_memory, words_take_memory, OrMemory, OrMemoryIf}

@@ -12,7 +12,7 @@ use Rattle.sf_geometry.specs.Parts.{LiesOnGrid, points_of}
 use Rattle.sf_geometry.specs.Size.{IsSized}
 use Rattle.sf_known.specs.declared.predicate.Predicate.{Predicate}
 use Rattle.sf_known.specs.Patterns.{pattern_of}
-use Rattle.sf_lines.specs.Lines.{line_max}
+use Rattle.sf_text_lines.specs.Lines.{line_max}
 use Rattle.sf_wkt.specs.declared.fault.WktFault.{WktFault}
 use Rattle.sf_wkt.specs.Grammar.{read}
 use Rattle.sf_wkt.specs.Tokens.{coordinate_of}
@@ -21,7 +21,7 @@ use Rattle.sf_wkb.specs.declared.fault.WkbFault.{WkbFault}
 use Rattle.sf_wkb.specs.declared.grid.Grid.TheVariants.{Bits24}
 use Rattle.sf_wkb.specs.Grammar.{read as read_bytes}
 use Rattle.sf_wkb.proofs.Sized.{read_is_sized as bytes_are_sized}
-use Rattle.sf_constraints.specs.declared.rule.Form.{Form}
+use Rattle.sf_rules.specs.declared.rule.Form.{Form}
 use Rattle.sf_steps.specs.declared.edit.Edit.TheVariants as edits
 use Rattle.sf_steps.specs.Laws.{BringsGridPoints}
 use Rattle.sf_groups.specs.declared.member.Member.{Member}

@@ -6,8 +6,8 @@ use Rattle.sf_refusals.specs.declared.refusal.Refusal.{Refusal}
 use Rattle.sf_refusals.specs.declared.refusal.Refusal.TheVariants.{Memory, BadPattern}
 use Rattle.sf_geometry.specs.declared.geometry.Geometry.{Geometry}
 use Rattle.sf_geometry.specs.Size.{IsSized}
-use Rattle.sf_rules.specs.Validity.{IsValid}
-use Rattle.sf_rules.specs.Verdicts.{first_fault}
+use Rattle.sf_valid_rules.specs.Validity.{IsValid}
+use Rattle.sf_valid_rules.specs.Verdicts.{first_fault}
 use Rattle.sf_validity.specs.declared.refusal.Refusal.{Refusal as ValidityRefusal}
 use Rattle.sf_validity.specs.declared.refusal.Refusal.TheVariants as validities
 use Rattle.sf_validity.specs.Refusals.{Refuses, refusal_of}

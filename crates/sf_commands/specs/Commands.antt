@@ -7,13 +7,13 @@ use Rattle.hex.specs.Hex.{decode_of}
 use Rattle.sf_refusals.specs.declared.refusal.Refusal.{Refusal}
 use Rattle.sf_refusals.specs.declared.refusal.Refusal.TheVariants.{Memory, Syntax, BadCommand, BadPattern, LineTooLong}
 use Rattle.sf_geometry.specs.declared.geometry.Geometry.{Geometry}
-use Rattle.sf_rules.specs.declared.fault.Fault.{Fault}
-use Rattle.sf_rules.specs.Faults.{refusal_of as refusal_of_fault}
-use Rattle.sf_rules.specs.Verdicts.{first_fault}
+use Rattle.sf_valid_rules.specs.declared.fault.Fault.{Fault}
+use Rattle.sf_valid_rules.specs.Faults.{refusal_of as refusal_of_fault}
+use Rattle.sf_valid_rules.specs.Verdicts.{first_fault}
 use Rattle.sf_known.specs.declared.predicate.Predicate.{Predicate}
 use Rattle.sf_known.specs.declared.letter.Letter.{Letter}
 use Rattle.sf_known.specs.Patterns.{pattern_of}
-use Rattle.sf_lines.specs.Lines.{line_max}
+use Rattle.sf_text_lines.specs.Lines.{line_max}
 use Rattle.sf_wkt.specs.declared.fault.WktFault.{WktFault}
 use Rattle.sf_wkt.specs.Faults.{refusal_of}
 use Rattle.sf_wkt.specs.Grammar.{read}
@@ -23,8 +23,8 @@ use Rattle.sf_wkb.specs.Grammar.{read as read_bytes}
 use Rattle.sf_features.specs.declared.attr_value.AttrValue.{AttrValue}
 use Rattle.sf_query.specs.declared.ask.Ask.{Ask}
 use Rattle.sf_query.specs.declared.ask.Ask.TheVariants.{Matching, Named}
-use Rattle.sf_constraints.specs.declared.rule.Form.{Form}
-use Rattle.sf_constraints.specs.declared.rule.Form.TheVariants.{Never, Each}
+use Rattle.sf_rules.specs.declared.rule.Form.{Form}
+use Rattle.sf_rules.specs.declared.rule.Form.TheVariants.{Never, Each}
 use Rattle.sf_steps.specs.declared.edit.Edit.TheVariants as edits
 use Rattle.sf_words.specs.declared.verb.Verb.{Verb}
 use Rattle.sf_words.specs.declared.verb.Verb.TheVariants as verbs

@@ -2,7 +2,7 @@
 use Rattle.std.specs.Prelude.{ℕ, Bool, false, List, [], ◌∷◌, length, Option, Some, Result, Ok, Err, nat_lt, if◌then◌else◌}
 use Rattle.sf_refusals.specs.declared.refusal.Refusal.{Refusal}
 use Rattle.sf_refusals.specs.declared.refusal.Refusal.TheVariants.{BadCommand, LineTooLong}
-use Rattle.sf_lines.specs.Lines.{line_max}
+use Rattle.sf_text_lines.specs.Lines.{line_max}
 use Rattle.sf_groups.specs.declared.member.Member.{Member}
 use Rattle.sf_commands.specs.declared.command.Command.{Command}
 use Rattle.sf_commands.specs.declared.command.Command.TheVariants.{Edit}

@@ -11,8 +11,8 @@ use super::feature_commands::{
 };
 use super::vertex_commands::vertex_arguments;
 use sf_groups::Member;
-use sf_lines::LINE_MAX;
 use sf_refusals::Refusal;
+use sf_text_lines::LINE_MAX;
 use sf_words::{Naming, Verb, Words, is_last, verb_of};
 use std::alloc::Global;
 

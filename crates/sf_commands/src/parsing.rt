@@ -17,8 +17,8 @@ use super::lookup_commands::{find_arguments, get_arguments};
 use super::query_commands::{match_arguments, query_arguments, relate_arguments};
 use super::rule_commands::{rule_arguments, rules_arguments};
 use super::vertex_commands::vertex_arguments;
-use sf_lines::LINE_MAX;
 use sf_refusals::Refusal;
+use sf_text_lines::LINE_MAX;
 use sf_words::{Naming, Verb, Words, addressed, verb_of};
 use std::alloc::Global;
 

@@ -6,8 +6,8 @@ ghost use Rattle.sf_words.specs.Words.{words as words_of};
 
 use super::command::Command;
 use super::spelling::{ask_of, form_of};
-use sf_constraints::{Form, Rule};
 use sf_refusals::Refusal;
+use sf_rules::{Form, Rule};
 use sf_values::text_of;
 use sf_words::{Action, Words, action_of};
 use std::alloc::Global;

@@ -2,10 +2,10 @@
 ghost use Rattle.std.specs.Prelude.{◌≡◌};
 ghost use Rattle.sf_commands.specs.Commands.{ask_of as ask_spelled, form_of as form_named};
 
-use sf_constraints::Form;
 use sf_known::Pattern;
 use sf_query::Ask;
 use sf_refusals::Refusal;
+use sf_rules::Form;
 use sf_values::predicate_of;
 
 /// What a word asks of two features: a predicate that it names; any other word is taken as a pattern.

@@ -7,10 +7,10 @@ use Rattle.std.proofs.lemmas.Str.{IsUtf8-append, IsUtf8-from_is_utf8, IsUtf8-nil
 use Rattle.std.proofs.lemmas.Grind.{common_steps}
 use Rattle.std.proofs.lemmas.List.{length-append, take-append-drop}
 use Rattle.sf_refusals.specs.declared.refusal.Refusal.TheVariants.{BadCommand}
-use Rattle.sf_lines.specs.Lines.{HasNoFeed, Line, line_max, text_of, without_return}
-use Rattle.sf_lines.specs.Buffers.{Buffered, IsBufferOf, line_buffered, nothing_buffered}
-use Rattle.sf_lines.proofs.LineLemmas.{HasNoFeed-append}
-use Rattle.sf_lines.proofs.BufferLemmas.{line_buffered-None, line_buffered-Some, nothing_buffered-of}
+use Rattle.sf_text_lines.specs.Lines.{HasNoFeed, Line, line_max, text_of, without_return}
+use Rattle.sf_text_lines.specs.Buffers.{Buffered, IsBufferOf, line_buffered, nothing_buffered}
+use Rattle.sf_text_lines.proofs.LineLemmas.{HasNoFeed-append}
+use Rattle.sf_text_lines.proofs.BufferLemmas.{line_buffered-None, line_buffered-Some, nothing_buffered-of}
 use Rattle.sf_history.specs.History.{Machine}
 use Rattle.sf_wkt.specs.Tokens.{is_blank}
 use Rattle.sf_groups.specs.declared.member.Member.{Member}

@@ -2,11 +2,11 @@
 use Rattle.std.proofs.Common.{◌≡◌, ◌≢◌, true, ℕ, ◌+◌, inl, inr, Result, Ok, Err, OnErr, List, [], ◌∷◌, ◌++◌, Option, take, drop, refl, sym, ap, ◌∙◌, subst, append_assoc, append-nil}
 use Rattle.std.proofs.KnownBytes.{Consumes-trans, Consumes-kept, Appends-nil, Appends-trans}
 use Rattle.std.specs.Io.KnownBytes.{Consumes, Appends, Keeps, IsAtEnd}
-use Rattle.sf_lines.specs.Lines.{IsWhole, HasNoFeed}
-use Rattle.sf_lines.specs.Buffers.{Buffered, nothing_buffered, buffered_with, IsBufferOf}
-use Rattle.sf_lines.proofs.LineLemmas.{IsWhole-append, IsWhole-fed, HasNoFeed-append}
-use Rattle.sf_lines.proofs.FeedLemmas.{IsFirstFeed}
-use Rattle.sf_lines.proofs.BufferLemmas.{IsBufferOf-extend, IsBufferOf-nothing}
+use Rattle.sf_text_lines.specs.Lines.{IsWhole, HasNoFeed}
+use Rattle.sf_text_lines.specs.Buffers.{Buffered, nothing_buffered, buffered_with, IsBufferOf}
+use Rattle.sf_text_lines.proofs.LineLemmas.{IsWhole-append, IsWhole-fed, HasNoFeed-append}
+use Rattle.sf_text_lines.proofs.FeedLemmas.{IsFirstFeed}
+use Rattle.sf_text_lines.proofs.BufferLemmas.{IsBufferOf-extend, IsBufferOf-nothing}
 use Rattle.sf_streams.specs.Streams.{WritesFront}
 use Rattle.sf_history.specs.History.{Machine}
 use Rattle.sf_console.specs.declared.group_lines.GroupLines.{GroupLines}

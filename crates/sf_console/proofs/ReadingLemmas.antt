@@ -8,8 +8,8 @@ use Rattle.std.proofs.lemmas.List.{map-append}
 use Rattle.std.proofs.lemmas.Grind.{common_steps}
 use Rattle.sf_refusals.specs.declared.refusal.Refusal.{Refusal}
 use Rattle.sf_refusals.specs.declared.refusal.Refusal.TheVariants.{Memory, BadCommand}
-use Rattle.sf_lines.specs.Lines.{Line, ended_lines, line_max, lines_of, text_of, IsWhole, HasNoFeed}
-use Rattle.sf_lines.proofs.LineLemmas.{lines_of-whole, lines_of-unfed, lines_of-fed, ended_lines-whole, ended_lines-append, IsWhole-fed}
+use Rattle.sf_text_lines.specs.Lines.{Line, ended_lines, line_max, lines_of, text_of, IsWhole, HasNoFeed}
+use Rattle.sf_text_lines.proofs.LineLemmas.{lines_of-whole, lines_of-unfed, lines_of-fed, ended_lines-whole, ended_lines-append, IsWhole-fed}
 use Rattle.sf_wkt.specs.Tokens.{is_blank}
 use Rattle.sf_history.specs.History.{Machine}
 use Rattle.sf_commands.specs.declared.command.Command.{Command}

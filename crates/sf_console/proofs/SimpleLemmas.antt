@@ -1,9 +1,9 @@
 -- The answer to `simple`, where the plane decided it.
 use Rattle.std.proofs.Common.{◌≡◌, ◌↔◌, Bool, true, false, IsTrue, refl, sym}
 use Rattle.sf_geometry.specs.declared.geometry.Geometry.{Geometry}
-use Rattle.sf_rules.specs.Simplicity.{IsSimple}
-use Rattle.sf_rules.specs.Verdicts.{is_simple}
-use Rattle.sf_rules.proofs.FirstLaws.{simplicity-over_plane}
+use Rattle.sf_valid_rules.specs.Simplicity.{IsSimple}
+use Rattle.sf_valid_rules.specs.Verdicts.{is_simple}
+use Rattle.sf_valid_rules.proofs.FirstLaws.{simplicity-over_plane}
 
 -- two truth values that stand for one another are one
 same_truth : (a b : Bool) → IsTrue a ↔ IsTrue b → a ≡ b

@@ -4,8 +4,8 @@ use Rattle.std.specs.Option.{option_map_or}
 use Rattle.sf_refusals.specs.declared.refusal.Refusal.{Refusal}
 use Rattle.sf_refusals.specs.Refusals.{number_of, name_of}
 use Rattle.sf_geometry.specs.declared.geometry.Geometry.{Geometry}
-use Rattle.sf_rules.specs.declared.fault.Fault.{Fault}
-use Rattle.sf_rules.specs.Faults.{refusal_of as refusal_of_fault}
+use Rattle.sf_valid_rules.specs.declared.fault.Fault.{Fault}
+use Rattle.sf_valid_rules.specs.Faults.{refusal_of as refusal_of_fault}
 use Rattle.sf_faults.specs.declared.place.Place.{Place}
 use Rattle.sf_faults.specs.declared.place.Place.TheVariants.{Line, Ring, Edges, Rings, Hole, Holes, Parts}
 use Rattle.sf_faults.specs.declared.place.Spot.{Spot}

@@ -2,8 +2,8 @@
 -- What a chunk of the input does after the bytes in the line buffer.
 use Rattle.std.specs.Prelude.{◌≡◌, ◌≢◌, ℕ, true, List, [], ◌∷◌, ◌++◌, Option}
 use Rattle.std.specs.Io.KnownBytes.{Appends}
-use Rattle.sf_lines.specs.Lines.{IsWhole, HasNoFeed}
-use Rattle.sf_lines.specs.Buffers.{Buffered, IsBufferOf}
+use Rattle.sf_text_lines.specs.Lines.{IsWhole, HasNoFeed}
+use Rattle.sf_text_lines.specs.Buffers.{Buffered, IsBufferOf}
 use Rattle.sf_history.specs.History.{Machine}
 use Rattle.sf_console.specs.declared.group_lines.GroupLines.{GroupLines}
 use Rattle.sf_console.specs.Readings.{Reading, line_text}

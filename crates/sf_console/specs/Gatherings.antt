@@ -3,7 +3,7 @@
 use Rattle.std.specs.Prelude.{◌≡◌, ℕ, ◌+◌, ◌<◌, Bool, not, true, false, List, [], ◌∷◌, ◌++◌, length, Option, None, Some, Result, string_bytes}
 use Rattle.std.specs.List.{list_all}
 use Rattle.std.specs.Str.{is_utf8}
-use Rattle.sf_lines.specs.Lines.{HasNoFeed}
+use Rattle.sf_text_lines.specs.Lines.{HasNoFeed}
 use Rattle.sf_wkt.specs.Tokens.{is_blank}
 use Rattle.sf_groups.specs.declared.member.Member.{Member as GroupMember}
 use Rattle.sf_history.specs.History.{Machine}

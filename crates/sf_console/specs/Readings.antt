@@ -4,7 +4,7 @@ use Rattle.std.specs.List.{list_all}
 use Rattle.std.specs.Str.{is_utf8}
 use Rattle.sf_refusals.specs.declared.refusal.Refusal.{Refusal}
 use Rattle.sf_refusals.specs.declared.refusal.Refusal.TheVariants.{BadCommand, LineTooLong}
-use Rattle.sf_lines.specs.Lines.{Line, line_max, text_of}
+use Rattle.sf_text_lines.specs.Lines.{Line, line_max, text_of}
 use Rattle.sf_wkt.specs.Tokens.{is_blank}
 use Rattle.sf_groups.specs.declared.member.Member.{Member}
 use Rattle.sf_commands.specs.declared.command.Command.{Command}

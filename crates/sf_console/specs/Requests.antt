@@ -3,7 +3,7 @@
 use Rattle.std.specs.Prelude.{ℕ, zero, suc, ◌+◌, ◌-◌, Bool, false, not, ◌&&◌, List, [], ◌∷◌, ◌++◌, map, replicate, Option, None, Some, if◌then◌else◌}
 use Rattle.std.specs.List.{list_all, list_any}
 use Rattle.std.specs.Str.{is_utf8}
-use Rattle.sf_lines.specs.Lines.{Line, line_max, lines_of, ended_lines}
+use Rattle.sf_text_lines.specs.Lines.{Line, line_max, lines_of, ended_lines}
 use Rattle.sf_wkt.specs.Tokens.{is_blank}
 use Rattle.sf_commands.specs.declared.head.Head.{Head}
 use Rattle.sf_commands.specs.GroupTexts.{head_of, is_return, members_of}

@@ -1,7 +1,7 @@
 //! Groups of edits whose lines are still coming.
 ghost use Rattle.std.specs.Prelude.{◌≡◌, ◌↔◌, IsTrue, ℕ, [], ◌∷◌, List, MatchOption, None, Option, OnOk, Some, option_copied, replicate, string_bytes, ◌++◌, ◌+◌, if◌then◌else◌};
 ghost use Rattle.sf_commands.specs.declared.head.Head.{Head as HeadOf};
-ghost use Rattle.sf_lines.specs.Lines.{HasNoFeed, line_max};
+ghost use Rattle.sf_text_lines.specs.Lines.{HasNoFeed, line_max};
 ghost use Rattle.sf_commands.specs.GroupTexts.{group_of, is_return};
 ghost use Rattle.std.specs.List.{list_any};
 ghost use Rattle.std.specs.Str.{is_utf8};
@@ -9,7 +9,7 @@ ghost use Rattle.sf_console.specs.Requests.{Closed, Comes, Gathering, Open, gath
 ghost use Rattle.sf_console.specs.Gatherings.{Asks, IsGrown, IsHeld, IsOpen, IsUnfed, stands_alone as stands_alone_of};
 
 use sf_commands::{Head, are_blanks, begins_as_head, head_of};
-use sf_lines::LINE_MAX;
+use sf_text_lines::LINE_MAX;
 use std::alloc::{AllocError, Global};
 use std::mem::replace;
 use std::str::from_utf8;

@@ -18,7 +18,7 @@ use Rattle.sf_geometry.specs.PointSets.{in_boundary, in_interior, is_among, on_l
 use Rattle.sf_plane.specs.Boxes.{IsClosedChain}
 use Rattle.sf_plane.proofs.CombineLaws.{or_union, start_on_edge}
 use Rattle.sf_polygons.proofs.TestLaws.{any-follows}
-use Rattle.sf_rules.specs.Validity.{IsValid}
+use Rattle.sf_valid_rules.specs.Validity.{IsValid}
 use Rattle.sf_interiors.proofs.ParityLaws.{odd-append, on-edges}
 use Rattle.sf_interiors.proofs.RingLaws.{ring-chain}
 use Rattle.sf_interiors.proofs.SideLaws.{differ}

@@ -35,9 +35,9 @@ use Rattle.sf_plane.proofs.GuardLaws.{left_side, value-left_side}
 use Rattle.sf_plane.proofs.PlaceLaws.{IsIn}
 use Rattle.sf_plane.proofs.ShareLaws.{edge_is_convex}
 use Rattle.sf_plane.proofs.UnionLaws.{point_in_segment, segment_in_triangle}
-use Rattle.sf_rules.specs.Validity.{IsValid}
-use Rattle.sf_rules.proofs.MemberLaws.{count-same, each-from_in, each-in, each-of_flat, each-to_flat}
-use Rattle.sf_rules.proofs.TightLaws.{edges-differ}
+use Rattle.sf_valid_rules.specs.Validity.{IsValid}
+use Rattle.sf_valid_rules.proofs.MemberLaws.{count-same, each-from_in, each-in, each-of_flat, each-to_flat}
+use Rattle.sf_valid_rules.proofs.TightLaws.{edges-differ}
 use Rattle.sf_interiors.proofs.ChainLaws.{balanced-chain, differ-chain, odd-count}
 use Rattle.sf_interiors.specs.Dimensions.{interior_dim}
 use Rattle.sf_interiors.proofs.DimensionLaws.{interior_has_dimension}

@@ -16,7 +16,7 @@ use Rattle.sf_geometry.specs.Parts.{edge_of, edges_of}
 use Rattle.sf_grid.specs.Edge.{Edge, on_edge}
 use Rattle.sf_grid.specs.Plane.{IsPoint, Point as PlanePoint}
 use Rattle.sf_plane.proofs.BoxLaws.{common_point_meets, edge_in_box}
-use Rattle.sf_rules.specs.Validity.{IsValid}
+use Rattle.sf_valid_rules.specs.Validity.{IsValid}
 use Rattle.sf_validity.specs.Beside.{box_of_extent}
 use Rattle.sf_relate.specs.Contact.{in_extent}
 use Rattle.sf_relate.proofs.CommonBoxLaws.{has-ends, in-common}

@@ -21,7 +21,7 @@ use Rattle.sf_edge_tree.specs.Meeting.{Meets, extent_of_edge}
 use Rattle.sf_geometry.proofs.ListLaws.{edges-step, same-is}
 use Rattle.sf_interiors.proofs.ParityLaws.{on-edges}
 use Rattle.sf_plane.proofs.BoxLaws.{common_point_meets, edge_in_box}
-use Rattle.sf_rules.specs.Validity.{IsValid}
+use Rattle.sf_valid_rules.specs.Validity.{IsValid}
 use Rattle.sf_strands.proofs.EndLaws.{grid-IsPoint, start-on}
 use Rattle.sf_validity.specs.Beside.{box_of_extent}
 use Rattle.sf_relate.specs.Contact.{is_in}

@@ -12,10 +12,10 @@ use Rattle.sf_geometry.specs.declared.geometry.Geometry.TheVariants.{Point, Line
 use Rattle.sf_geometry.specs.Lists.{edges_between, edges_of as edges_of_list, tight}
 use Rattle.sf_geometry.specs.Parts.{joined, lines_of, polygons_of, rings_of}
 use Rattle.sf_geometry.specs.PointSets.{is_among}
-use Rattle.sf_rules.specs.Conditions.{Applies}
-use Rattle.sf_rules.specs.Rules.{Rule, line_rules, polygon_rules, ring_rules}
-use Rattle.sf_rules.specs.Validity.{IsValid}
-use Rattle.sf_rules.proofs.MemberLaws.{each-of_flat}
+use Rattle.sf_valid_rules.specs.Conditions.{Applies}
+use Rattle.sf_valid_rules.specs.Rules.{Rule, line_rules, polygon_rules, ring_rules}
+use Rattle.sf_valid_rules.specs.Validity.{IsValid}
+use Rattle.sf_valid_rules.proofs.MemberLaws.{each-of_flat}
 use Rattle.sf_plane.proofs.CombineLaws.{start_on_edge}
 use Rattle.sf_paths.proofs.SlantLaws.{is_grid}
 use Rattle.sf_relate.specs.Contact.{SharePoint, is_in}

@@ -7,7 +7,7 @@ use Rattle.sf_grid.specs.Edge.{on_edge}
 use Rattle.sf_geometry.specs.declared.geometry.Geometry.{Geometry}
 use Rattle.sf_geometry.specs.declared.geometry.Geometry.TheVariants.{Point, MultiPoint}
 use Rattle.sf_geometry.specs.Parts.{edges_of, lists_of}
-use Rattle.sf_rules.specs.Validity.{IsValid}
+use Rattle.sf_valid_rules.specs.Validity.{IsValid}
 use Rattle.sf_relate.specs.Contact.{is_in}
 use Rattle.sf_contact.specs.EdgeContact.{Share}
 use Rattle.sf_relate.specs.ByKinds.{ShareNone}

@@ -14,7 +14,7 @@ use Rattle.sf_known.specs.Known.{Holds}
 use Rattle.sf_known.specs.declared.known.Known.{Known}
 use Rattle.sf_plane.specs.declared.dim.Dim.TheVariants.{Nothing, One, Two}
 use Rattle.sf_relate.specs.Matrices.{matrix_of}
-use Rattle.sf_rules.specs.Validity.{IsValid}
+use Rattle.sf_valid_rules.specs.Validity.{IsValid}
 
 -- the most points that each of two areas has for such a line to be looked for
 abbrev pub sided_points : ℕ

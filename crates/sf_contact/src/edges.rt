@@ -1,6 +1,6 @@
 //! Whether edges of two geometries share a point, pair by pair: no memory.
 
-ghost use Rattle.sf_rules.specs.Validity.{IsValid};
+ghost use Rattle.sf_valid_rules.specs.Validity.{IsValid};
 ghost use Rattle.sf_contact.specs.Absence.{on_edges};
 ghost use Rattle.sf_contact.specs.Pairs.{Tells};
 

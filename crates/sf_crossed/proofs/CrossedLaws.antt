@@ -16,7 +16,7 @@ use Rattle.sf_plane.specs.declared.dim.Dim.{Dim}
 use Rattle.sf_plane.specs.declared.dim.Dim.TheVariants as dims
 use Rattle.sf_plane.specs.Dimension.{HasDimension, HasPoint, HasSegment, HasTriangle, PointSet}
 use Rattle.sf_prepared.proofs.TransposedLaws.{matrices_are_transposed}
-use Rattle.sf_rules.specs.Validity.{IsValid}
+use Rattle.sf_valid_rules.specs.Validity.{IsValid}
 use Rattle.sf_relate.specs.declared.shape.Shape.{Shape}
 use Rattle.sf_relate.specs.declared.shape.Shape.TheVariants.{Areas, Lines, Points}
 use Rattle.sf_relate.specs.AllPieces.{all_pieces}

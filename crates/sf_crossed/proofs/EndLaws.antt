@@ -19,8 +19,8 @@ use Rattle.sf_grid.proofs.CallerLemmas.{eq_from_test, on_edge-swap, same_points_
 use Rattle.sf_slabs.proofs.CallerLemmas.{each-append, each-map}
 use Rattle.sf_plane.proofs.CombineLaws.{start_on_edge}
 use Rattle.sf_plane.proofs.PlaceLaws.{IsIn}
-use Rattle.sf_rules.proofs.MemberLaws.{count-same, each-of_flat}
-use Rattle.sf_rules.proofs.TightLaws.{tight-ends}
+use Rattle.sf_valid_rules.proofs.MemberLaws.{count-same, each-of_flat}
+use Rattle.sf_valid_rules.proofs.TightLaws.{tight-ends}
 use Rattle.sf_interiors.proofs.AlongLaws.{rise_to, run_to}
 use Rattle.sf_interiors.proofs.DimensionLaws.{is_grid}
 use Rattle.sf_interiors.proofs.InsideLaws.{IsOff}

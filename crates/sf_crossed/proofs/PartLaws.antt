@@ -14,7 +14,7 @@ use Rattle.sf_plane.proofs.UnionLaws.{point_in_segment, samples_tell, segment_in
 use Rattle.sf_plane.specs.declared.dim.Dim.TheVariants as dims
 use Rattle.sf_plane.specs.Dimension.{HasDimension, HasSegment, HasTriangle, PointSet}
 use Rattle.sf_plane.specs.Unions.{IsUnionOfCells}
-use Rattle.sf_rules.specs.Validity.{IsValid}
+use Rattle.sf_valid_rules.specs.Validity.{IsValid}
 use Rattle.sf_relate.specs.declared.shape.Shape.TheVariants.{Areas, Lines}
 use Rattle.sf_relate.specs.AllPieces.{all_pieces}
 use Rattle.sf_relate.specs.Contact.{is_in}

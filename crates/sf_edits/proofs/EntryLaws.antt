@@ -4,9 +4,9 @@ use Rattle.std.specs.Option.{option_map_or}
 use Rattle.sf_geometry.specs.declared.geometry.Geometry.{Geometry}
 use Rattle.sf_geometry.specs.Kinds.{kind_of}
 use Rattle.sf_geometry.specs.Size.{IsSized, size_fault}
-use Rattle.sf_rules.specs.Validity.{IsValid}
-use Rattle.sf_rules.specs.Verdicts.{first_fault}
-use Rattle.sf_rules.specs.declared.fault.Fault.{Fault}
+use Rattle.sf_valid_rules.specs.Validity.{IsValid}
+use Rattle.sf_valid_rules.specs.Verdicts.{first_fault}
+use Rattle.sf_valid_rules.specs.declared.fault.Fault.{Fault}
 use Rattle.sf_validity.specs.declared.refusal.Refusal.{Refusal as ValidityRefusal}
 use Rattle.sf_validity.specs.declared.refusal.Refusal.TheVariants as validities
 use Rattle.sf_validity.specs.Refusals.{Refuses as RefusesGeometry}

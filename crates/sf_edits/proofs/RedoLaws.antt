@@ -5,8 +5,8 @@ use Rattle.std.specs.Option.{option_map_or}
 use Rattle.sf_grid.specs.Plane.{Coordinates}
 use Rattle.sf_geometry.specs.declared.geometry.Geometry.{Geometry}
 use Rattle.sf_geometry.specs.Vertices.{Change, changed, exchange, insert_vertex, insertion, move_vertex, outcome, removal, remove_vertex, vertex_of}
-use Rattle.sf_rules.specs.Validity.{IsValid}
-use Rattle.sf_rules.specs.Verdicts.{first_fault}
+use Rattle.sf_valid_rules.specs.Validity.{IsValid}
+use Rattle.sf_valid_rules.specs.Verdicts.{first_fault}
 use Rattle.sf_features.specs.Features.{GeometryChange}
 use Rattle.sf_layers.specs.Content.{Content, LayerContent, change_at, change_layer, feature_at, feature_of, has_layer, layer_at, layer_of, place_of}
 use Rattle.sf_layers.specs.WellFormed.{IsWellFormed, id_end}

@@ -5,9 +5,9 @@ use Rattle.sf_grid.specs.Plane.{Coordinates}
 use Rattle.sf_geometry.specs.declared.geometry.Geometry.{Geometry}
 use Rattle.sf_geometry.specs.declared.refusal.Refusal.{Refusal as GeometryRefusal}
 use Rattle.sf_geometry.specs.Vertices.{Change, changed, insert_vertex, move_vertex, outcome, remove_vertex, vertex_of}
-use Rattle.sf_rules.specs.Validity.{IsValid}
-use Rattle.sf_rules.specs.Verdicts.{first_fault}
-use Rattle.sf_rules.specs.declared.fault.Fault.{Fault}
+use Rattle.sf_valid_rules.specs.Validity.{IsValid}
+use Rattle.sf_valid_rules.specs.Verdicts.{first_fault}
+use Rattle.sf_valid_rules.specs.declared.fault.Fault.{Fault}
 use Rattle.sf_validity.specs.Held.{IsHeld}
 use Rattle.sf_validity.specs.Refusals.{RefusesChange, Refuses as RefusesGeometry}
 use Rattle.sf_validity.specs.declared.refusal.Refusal.{Refusal as ValidityRefusal}

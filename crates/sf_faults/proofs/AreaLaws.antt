@@ -16,7 +16,7 @@ use Rattle.sf_relate.specs.Matrices.{both, matrix_of}
 use Rattle.sf_known.specs.Patterns.{is_filled}
 use Rattle.sf_relate.proofs.SetLaws.{matrices_are_over_the_plane}
 use Rattle.sf_relate.proofs.SharedLaws.{filled, fills}
-use Rattle.sf_rules.specs.Conditions.{Applies, AtPoint}
+use Rattle.sf_valid_rules.specs.Conditions.{Applies, AtPoint}
 use Rattle.sf_strands.proofs.EndLaws.{end-same-on, start-same-on}
 use Rattle.sf_faults.specs.Candidates.{is_edge_outside, is_hole_outside}
 

@@ -6,9 +6,9 @@ use Rattle.std.proofs.lemmas.Bool.{false≢true}
 use Rattle.sf_grid.specs.Plane.{Coordinates}
 use Rattle.sf_geometry.specs.declared.geometry.Geometry.{Geometry}
 use Rattle.sf_geometry.specs.Parts.{lines_of, polygons_of, rings_of}
-use Rattle.sf_rules.specs.declared.fault.Fault.{Fault}
-use Rattle.sf_rules.specs.Conditions.{Applies, applies_among}
-use Rattle.sf_rules.specs.Verdicts.{points_among}
+use Rattle.sf_valid_rules.specs.declared.fault.Fault.{Fault}
+use Rattle.sf_valid_rules.specs.Conditions.{Applies, applies_among}
+use Rattle.sf_valid_rules.specs.Verdicts.{points_among}
 use Rattle.sf_faults.specs.declared.place.Place.{Place}
 use Rattle.sf_faults.specs.Candidates.{Candidate, candidates}
 use Rattle.sf_faults.specs.Computed.{PlaceIsOverThePlane, first_place, first_place_among}

@@ -6,7 +6,7 @@ use Rattle.std.proofs.lemmas.Slice.Zip.{get_or-zip}
 use Rattle.sf_grid.specs.Plane.{Coordinates, Point}
 use Rattle.sf_grid.specs.Edge.{Edge}
 use Rattle.sf_geometry.specs.Lists.{edges_between, edges_of, is_closed, tight}
-use Rattle.sf_rules.specs.Conditions.{Applies, AtPoint}
+use Rattle.sf_valid_rules.specs.Conditions.{Applies, AtPoint}
 use Rattle.sf_strands.specs.Pairs.{pair_meets}
 use Rattle.sf_strands.proofs.PairLaws.{any_edge, pair-is}
 use Rattle.sf_strands.proofs.PlaceLaws.{edges-more}

@@ -13,13 +13,13 @@ use Rattle.sf_geometry.specs.declared.geometry.Geometry.{Geometry}
 use Rattle.sf_geometry.specs.Lists.{edges_of, is_closed, tight}
 use Rattle.sf_geometry.specs.Parts.{joined, lines_of, polygons_of, rings_of}
 use Rattle.sf_geometry.specs.PointSets.{in_polygon, in_ring, within_ring}
-use Rattle.sf_rules.specs.declared.fault.Fault.{Fault}
-use Rattle.sf_rules.specs.declared.fault.Fault.TheVariants.{ShortLine, OpenRing, ShortRing, RingNotSimple, RingsMeet, HoleOutside, HolesNested, PolygonsOverlap}
-use Rattle.sf_rules.specs.Conditions.{Applies, AtPoint, AtTwoPoints, Plain, any_two}
-use Rattle.sf_rules.specs.Rules.{Rule, line_rules, polygon_rules, ring_rules, rules_of}
-use Rattle.sf_rules.specs.Shapes.{in_hole_outside, in_two_holes, in_two_polygons, is_joint, meets_itself, on_both, share_piece}
-use Rattle.sf_rules.specs.Validity.{IsFirstOf, IsFirstFault}
-use Rattle.sf_rules.proofs.MemberLaws.{any-one, each-from_in, each-in, each-of_flat, each-of_map, each-to_flat}
+use Rattle.sf_valid_rules.specs.declared.fault.Fault.{Fault}
+use Rattle.sf_valid_rules.specs.declared.fault.Fault.TheVariants.{ShortLine, OpenRing, ShortRing, RingNotSimple, RingsMeet, HoleOutside, HolesNested, PolygonsOverlap}
+use Rattle.sf_valid_rules.specs.Conditions.{Applies, AtPoint, AtTwoPoints, Plain, any_two}
+use Rattle.sf_valid_rules.specs.Rules.{Rule, line_rules, polygon_rules, ring_rules, rules_of}
+use Rattle.sf_valid_rules.specs.Shapes.{in_hole_outside, in_two_holes, in_two_polygons, is_joint, meets_itself, on_both, share_piece}
+use Rattle.sf_valid_rules.specs.Validity.{IsFirstOf, IsFirstFault}
+use Rattle.sf_valid_rules.proofs.MemberLaws.{any-one, each-from_in, each-in, each-of_flat, each-of_map, each-to_flat}
 use Rattle.sf_faults.specs.declared.place.Spot.{Spot}
 use Rattle.sf_faults.specs.Candidates.{Candidate, candidates, candidates_among, crossings_of, do_edges_meet, edge_outside, edges_between, edges_meeting, edges_shared, hole_outside, holes_nested, nested_in, open_ring, outside_at, outside_in, parts_overlap, share_two, shared_by, short_line, short_ring}
 use Rattle.sf_faults.specs.Orders.{edge_numbers, numbered, pairs, pairs_after, placed_from, placed_in, placed_rings, spot, with_last, written_edges}

@@ -9,8 +9,8 @@ use Rattle.sf_grid.specs.Edge.{Edge, on_edge}
 use Rattle.sf_geometry.specs.Lists.{edges_of}
 use Rattle.sf_geometry.specs.PointSets.{in_ring, on_line, within_ring}
 use Rattle.sf_plane.proofs.PlaceLaws.{IsIn}
-use Rattle.sf_rules.specs.Conditions.{Applies, AtPoint}
-use Rattle.sf_rules.proofs.MemberLaws.{each-to_map, one-any}
+use Rattle.sf_valid_rules.specs.Conditions.{Applies, AtPoint}
+use Rattle.sf_valid_rules.proofs.MemberLaws.{each-to_map, one-any}
 use Rattle.sf_faults.specs.declared.place.Place.TheVariants.{Hole}
 use Rattle.sf_faults.specs.declared.place.Spot.{Spot}
 use Rattle.sf_faults.specs.declared.written_edge.WrittenEdge.{WrittenEdge}

@@ -8,7 +8,7 @@ use Rattle.sf_grid.specs.Plane.{Coordinates, Point}
 use Rattle.sf_geometry.specs.declared.geometry.Geometry.{Geometry}
 use Rattle.sf_geometry.specs.declared.geometry.Geometry.TheVariants.{MultiPoint, Polygon}
 use Rattle.sf_geometry.specs.PointSets.{in_interior, in_ring}
-use Rattle.sf_rules.specs.Conditions.{Applies, AtPoint}
+use Rattle.sf_valid_rules.specs.Conditions.{Applies, AtPoint}
 use Rattle.sf_faults.specs.declared.place.Place.{Place}
 use Rattle.sf_faults.specs.declared.place.Place.TheVariants.{Holes, Parts}
 use Rattle.sf_faults.specs.Candidates.{Candidate, candidate, holes_nested, parts_overlap}

@@ -9,7 +9,7 @@ use Rattle.std.proofs.lemmas.List.{append-nil, drop_more, get_or-take, get_or_de
 use Rattle.std.proofs.lemmas.Grind.{flat_map-append}
 use Rattle.std.proofs.lemmas.List.Concat.{flat_map_single}
 use Rattle.std.proofs.lemmas.List.Folds.{flat_map-map}
-use Rattle.sf_rules.specs.Conditions.{Applies}
+use Rattle.sf_valid_rules.specs.Conditions.{Applies}
 use Rattle.sf_faults.specs.declared.place.Place.{Place}
 use Rattle.sf_faults.specs.Candidates.{Candidate}
 use Rattle.sf_faults.specs.Orders.{numbered, pairs, pairs_after, with_last}

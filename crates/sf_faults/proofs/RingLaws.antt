@@ -6,7 +6,7 @@ use Rattle.std.proofs.lemmas.List.{get_or-map, get_or_default, length-map, lengt
 use Rattle.std.proofs.lemmas.List.FromFn.{get_or-enumerate_from, length-enumerate_from}
 use Rattle.sf_slabs.proofs.ColumnLaws.{map-flat_map}
 use Rattle.sf_slabs.proofs.CallerLemmas.{each-append, each-map}
-use Rattle.sf_rules.proofs.MemberLaws.{each-to_map}
+use Rattle.sf_valid_rules.proofs.MemberLaws.{each-to_map}
 use Rattle.sf_grid.specs.Plane.{Coordinates}
 use Rattle.sf_faults.specs.declared.place.Place.{Place}
 use Rattle.sf_faults.specs.declared.place.Spot.{Spot}

@@ -11,7 +11,7 @@ use Rattle.sf_grid.specs.declared.meet.Meet.TheVariants.{Along, Apart, At}
 use Rattle.sf_grid.proofs.CallerLemmas.{differs_from_before, same_point_is_equivalence}
 use Rattle.sf_geometry.proofs.ListLaws.{same-is}
 use Rattle.sf_strands.proofs.EndLaws.{both-same, end-on, grid-IsPoint, start-on}
-use Rattle.sf_rules.specs.Conditions.{Applies, AtTwoPoints}
+use Rattle.sf_valid_rules.specs.Conditions.{Applies, AtTwoPoints}
 use Rattle.sf_faults.specs.declared.place.Place.{Place}
 use Rattle.sf_faults.specs.declared.place.Spot.{Spot}
 use Rattle.sf_faults.specs.declared.written_edge.WrittenEdge.{WrittenEdge}

@@ -20,15 +20,15 @@ use Rattle.sf_plane.specs.Laws.{ShareTwoPoints}
 use Rattle.sf_geometry.specs.Lists.{edges_of, is_closed, tight}
 use Rattle.sf_geometry.specs.Parts.{joined}
 use Rattle.sf_geometry.specs.PointSets.{in_polygon, in_ring, on_line, within_ring}
-use Rattle.sf_rules.specs.declared.fault.Fault.{Fault}
-use Rattle.sf_rules.specs.declared.fault.Fault.TheVariants.{ShortLine, OpenRing, ShortRing, RingNotSimple, RingsMeet, HoleOutside, HolesNested, PolygonsOverlap}
-use Rattle.sf_rules.specs.Conditions.{AtTwoPoints}
-use Rattle.sf_rules.specs.Shapes.{is_joint, on_both}
-use Rattle.sf_rules.specs.Verdicts.{pieces_of, points_among}
-use Rattle.sf_rules.proofs.AgreeLaws.{Agree, AgreeAt, AgreeBy}
-use Rattle.sf_rules.proofs.MemberLaws.{any-one, any-same, count-same, each-from_in, each-in, each-numbered, each-to_flat, each-to_map, in_flat_map, in_map, one-any}
-use Rattle.sf_rules.proofs.SampledLaws.{Tells, all_pieces, plain-tells, point-tells}
-use Rattle.sf_rules.proofs.TightLaws.{edges-differ, edges-ends}
+use Rattle.sf_valid_rules.specs.declared.fault.Fault.{Fault}
+use Rattle.sf_valid_rules.specs.declared.fault.Fault.TheVariants.{ShortLine, OpenRing, ShortRing, RingNotSimple, RingsMeet, HoleOutside, HolesNested, PolygonsOverlap}
+use Rattle.sf_valid_rules.specs.Conditions.{AtTwoPoints}
+use Rattle.sf_valid_rules.specs.Shapes.{is_joint, on_both}
+use Rattle.sf_valid_rules.specs.Verdicts.{pieces_of, points_among}
+use Rattle.sf_valid_rules.proofs.AgreeLaws.{Agree, AgreeAt, AgreeBy}
+use Rattle.sf_valid_rules.proofs.MemberLaws.{any-one, any-same, count-same, each-from_in, each-in, each-numbered, each-to_flat, each-to_map, in_flat_map, in_map, one-any}
+use Rattle.sf_valid_rules.proofs.SampledLaws.{Tells, all_pieces, plain-tells, point-tells}
+use Rattle.sf_valid_rules.proofs.TightLaws.{edges-differ, edges-ends}
 use Rattle.sf_faults.specs.declared.place.Spot.{Spot}
 use Rattle.sf_faults.specs.Candidates.{Candidate, candidates_among, crossings_of, do_edges_meet, edge_outside, edges_meeting, edges_shared, hole_outside, holes_nested, is_edge_outside, is_hole_outside, nested_in, open_ring, outside_at, outside_in, parts_overlap, share_two, shared_by, short_line, short_ring}
 use Rattle.sf_faults.specs.Orders.{numbered, pairs, pairs_after, placed_from, placed_in, placed_rings, spot, with_last, written_edges, edge_numbers}

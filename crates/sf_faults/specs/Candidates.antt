@@ -7,10 +7,10 @@ use Rattle.sf_geometry.specs.declared.geometry.Geometry.{Geometry}
 use Rattle.sf_geometry.specs.Lists.{edges_of, is_closed, tight}
 use Rattle.sf_geometry.specs.Parts.{lines_of, polygons_of}
 use Rattle.sf_geometry.specs.PointSets.{in_polygon, in_ring, within_ring}
-use Rattle.sf_rules.specs.declared.fault.Fault.{Fault}
-use Rattle.sf_rules.specs.declared.fault.Fault.TheVariants.{ShortLine, OpenRing, ShortRing, RingNotSimple, RingsMeet, HoleOutside, HolesNested, PolygonsOverlap}
-use Rattle.sf_rules.specs.Conditions.{Condition, Plain, AtPoint, AtTwoPoints}
-use Rattle.sf_rules.specs.Shapes.{is_joint, on_both}
+use Rattle.sf_valid_rules.specs.declared.fault.Fault.{Fault}
+use Rattle.sf_valid_rules.specs.declared.fault.Fault.TheVariants.{ShortLine, OpenRing, ShortRing, RingNotSimple, RingsMeet, HoleOutside, HolesNested, PolygonsOverlap}
+use Rattle.sf_valid_rules.specs.Conditions.{Condition, Plain, AtPoint, AtTwoPoints}
+use Rattle.sf_valid_rules.specs.Shapes.{is_joint, on_both}
 use Rattle.sf_faults.specs.declared.place.Place.{Place}
 use Rattle.sf_faults.specs.declared.place.Place.TheVariants.{Line, Ring, Edges, Rings, Hole, Holes, Parts}
 use Rattle.sf_faults.specs.declared.place.Spot.{Spot}

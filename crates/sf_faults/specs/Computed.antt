@@ -4,9 +4,9 @@ use Rattle.std.specs.Prelude.{◌≡◌, List, [], ◌∷◌, Option, Some, None
 use Rattle.sf_grid.specs.Plane.{Point}
 use Rattle.sf_geometry.specs.declared.geometry.Geometry.{Geometry}
 use Rattle.sf_geometry.specs.Parts.{rings_of}
-use Rattle.sf_rules.specs.declared.fault.Fault.{Fault}
-use Rattle.sf_rules.specs.Conditions.{applies_among}
-use Rattle.sf_rules.specs.Verdicts.{points_among}
+use Rattle.sf_valid_rules.specs.declared.fault.Fault.{Fault}
+use Rattle.sf_valid_rules.specs.Conditions.{applies_among}
+use Rattle.sf_valid_rules.specs.Verdicts.{points_among}
 use Rattle.sf_faults.specs.declared.place.Place.{Place}
 use Rattle.sf_faults.specs.Candidates.{Candidate, candidates}
 use Rattle.sf_faults.specs.Places.{IsPlaceOf}

@@ -10,7 +10,7 @@ use Rattle.sf_faults.specs.Candidates.{Candidate, candidate, edge_outside, edges
 use Rattle.sf_geometry.specs.declared.geometry.Geometry.{Geometry}
 use Rattle.sf_geometry.specs.declared.geometry.Geometry.TheVariants.{Polygon}
 use Rattle.sf_geometry.specs.PointSets.{in_interior}
-use Rattle.sf_rules.specs.Conditions.{AtPoint}
+use Rattle.sf_valid_rules.specs.Conditions.{AtPoint}
 use Rattle.sf_faults.specs.declared.place.Place.TheVariants.{Hole}
 use Rattle.sf_faults.specs.declared.place.Place.{Place}
 use Rattle.sf_faults.specs.Orders.{numbered, pairs, ring_of, written_edges}

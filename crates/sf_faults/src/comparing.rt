@@ -5,7 +5,7 @@ ghost use Rattle.sf_geometry.specs.declared.geometry.Geometry.TheVariants.{LineS
 ghost use Rattle.sf_geometry.specs.PointSets.{in_boundary, in_exterior, in_interior};
 ghost use Rattle.sf_relate.specs.Matrices.{matrix_of};
 ghost use Rattle.sf_known.specs.Patterns.{is_filled as is_filled_by};
-ghost use Rattle.sf_rules.specs.Conditions.{Applies, Condition};
+ghost use Rattle.sf_valid_rules.specs.Conditions.{Applies, Condition};
 
 use sf_geometry::{Geometry, Sequence};
 use sf_grid::GridPoint;

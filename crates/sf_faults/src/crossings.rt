@@ -2,7 +2,7 @@
 
 ghost use Rattle.std.specs.Prelude.{◌≡◌, ◌↔◌, ◌+◌, ◌<◌, IfOk, IsTrue, length};
 ghost use Rattle.std.specs.List.{flat_map};
-ghost use Rattle.sf_rules.specs.Conditions.{Applies, Condition};
+ghost use Rattle.sf_valid_rules.specs.Conditions.{Applies, Condition};
 ghost use Rattle.sf_strands.specs.Pairs.{are_neighbours as are_neighbours_at, closes_ring, pair_meets};
 ghost use Rattle.sf_strands.specs.Tight.{IsTight};
 ghost use Rattle.sf_faults.specs.Candidates.{crossings_of};

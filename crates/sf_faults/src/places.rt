@@ -14,7 +14,7 @@ use crate::sharing::first_sharing;
 use crate::spots::spots_of;
 use sf_geometry::{Geometry, Sequence};
 use sf_grid::GridPoint;
-use sf_rules::Fault;
+use sf_valid_rules::Fault;
 use std::alloc::{AllocError, Global};
 use std::slice;
 

@@ -2,7 +2,7 @@
 
 ghost use Rattle.std.specs.Prelude.{◌≡◌, ◌↔◌, IfOk, IsSome, IsTrue};
 ghost use Rattle.std.specs.List.{flat_map};
-ghost use Rattle.sf_rules.specs.Conditions.{Applies, Condition};
+ghost use Rattle.sf_valid_rules.specs.Conditions.{Applies, Condition};
 ghost use Rattle.sf_faults.specs.Candidates.{share_two, shared_by};
 ghost use Rattle.sf_faults.specs.Orders.{pairs, placed_rings, ring_of, spots};
 ghost use Rattle.sf_faults.specs.Places.{IsFirstAmong};

@@ -3,7 +3,7 @@ ghost use Rattle.std.specs.List.Sorted.{IsBinarySearchResult, IsSearchInRange, I
 ghost use Rattle.std.specs.Map.{keys_of};
 ghost use Rattle.std.specs.Ordering.{nat_cmp};
 ghost use Rattle.sf_geometry.specs.Vertices.{insert_vertex, move_vertex, remove_vertex, vertex_of};
-ghost use Rattle.sf_rules.specs.Validity.{IsValid};
+ghost use Rattle.sf_valid_rules.specs.Validity.{IsValid};
 ghost use Rattle.sf_validity.specs.Held.{IsHeld};
 ghost use Rattle.sf_validity.specs.Refusals.{RefusesChange};
 ghost use Rattle.sf_features.specs.Features.{change_geometry, number_end, plain_feature, value_in, with_geometry, with_value, without_value};

@@ -4,8 +4,8 @@ use Rattle.std.proofs.lemmas.Grind.{common_steps}
 use Rattle.std.specs.Fmt.{decimal, digits, digits_onto, digit_glyph}
 use Rattle.sha2.specs.Sha256.{sha256}
 use Rattle.hex.specs.Hex.{encode_with, encode_lower, lower_digits}
-use Rattle.sf_lines.specs.Lines.{HasNoFeed}
-use Rattle.sf_lines.proofs.LineLemmas.{HasNoFeed-append}
+use Rattle.sf_text_lines.specs.Lines.{HasNoFeed}
+use Rattle.sf_text_lines.proofs.LineLemmas.{HasNoFeed-append}
 use Rattle.sf_journal.specs.Records.{head_of}
 
 -- a byte in front of others

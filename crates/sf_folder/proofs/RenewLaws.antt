@@ -2,7 +2,7 @@
 use Rattle.std.proofs.Common.{◌≡◌, ◌⊎◌, inl, inr, ℕ, zero, suc, cond, Bool, true, false, ◌==◌, ◌||◌, List, [], ◌∷◌, ◌++◌, length, Option, None, Some, option_map, slice_get, refl, sym, ap, ◌∙◌, subst, append-nil, append_assoc}
 use Rattle.std.specs.Prelude.{slice_get, option_map}
 use Rattle.std.specs.List.{AllByRecursion, list_any}
-use Rattle.sf_lines.specs.Lines.{Line, lines_of, onto_first, HasNoFeed}
+use Rattle.sf_text_lines.specs.Lines.{Line, lines_of, onto_first, HasNoFeed}
 use Rattle.sf_journal.specs.Records.{head_of, records, first_sum, sum_with, mark_of}
 use Rattle.sf_journal.specs.Readings.{Ending, Whole, AreIn, Reads}
 use Rattle.sf_journal.proofs.FrontLaws.{Reads-records}

@@ -4,13 +4,13 @@ use Rattle.sf_geometry.specs.declared.geometry.Geometry.TheVariants.{Point}
 use Rattle.sf_geometry.specs.declared.kind.Kind.TheVariants as kinds
 use Rattle.sf_known.specs.declared.letter.Letter.TheVariants.{Any, Filled, Empty, Zero, One, Two}
 use Rattle.sf_known.specs.declared.predicate.Predicate.TheVariants.{Within}
-use Rattle.sf_ruled.specs.Ruling.{Matching, Named}
+use Rattle.sf_ruled_store.specs.Ruling.{Matching, Named}
 use Rattle.sf_layers.specs.declared.layer_kind.LayerKind.TheVariants.{Only}
 use Rattle.sf_features.specs.Features.{plain_feature}
 use Rattle.sf_layers.specs.Content.{Content}
-use Rattle.sf_ruled.specs.Ruling.{Rule}
-use Rattle.sf_ruled.specs.Ruling.{Each, Never}
-use Rattle.sf_ruled.specs.Ruled.{Ruled}
+use Rattle.sf_ruled_store.specs.Ruling.{Rule}
+use Rattle.sf_ruled_store.specs.Ruling.{Each, Never}
+use Rattle.sf_ruled_store.specs.Ruled.{Ruled}
 use Rattle.sf_format.specs.Defects.{number_of}
 use Rattle.sf_format.specs.Readings.{Fault}
 use Rattle.sf_format.specs.Format.{ruled_content_of}

@@ -7,10 +7,10 @@ use Rattle.sf_features.specs.declared.attr_value.AttrValue.{AttrValue}
 use Rattle.sf_features.specs.Features.{FeatureContent}
 use Rattle.sf_layers.specs.declared.layer_kind.LayerKind.{LayerKind}
 use Rattle.sf_layers.specs.Content.{Content, LayerContent}
-use Rattle.sf_ruled.specs.Ruling.{Ask}
-use Rattle.sf_ruled.specs.Ruling.{Rule}
-use Rattle.sf_ruled.specs.Ruling.{Form}
-use Rattle.sf_ruled.specs.Ruled.{Ruled}
+use Rattle.sf_ruled_store.specs.Ruling.{Ask}
+use Rattle.sf_ruled_store.specs.Ruling.{Rule}
+use Rattle.sf_ruled_store.specs.Ruling.{Form}
+use Rattle.sf_ruled_store.specs.Ruled.{Ruled}
 use Rattle.sf_format.specs.declared.version.Version.{Version}
 use Rattle.sf_format.specs.declared.defect.Defect.TheVariants.{NoColumn, WrongValue, WrongKind, IdsExhausted, ColumnsExhausted, BadFile}
 use Rattle.sf_wkb.specs.Grammar.{read_in}

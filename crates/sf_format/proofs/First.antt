@@ -3,7 +3,7 @@ use Rattle.std.proofs.Common.{◌≡◌, ℕ, ◌+◌, Bool, true, false, List, 
 use Rattle.sf_wkb.specs.declared.grid.Grid.TheVariants.{Bits20, Bits24}
 use Rattle.sf_wkb.specs.Grammar.{read_in}
 use Rattle.sf_layers.specs.Content.{Content}
-use Rattle.sf_ruled.specs.Ruling.{Rule}
+use Rattle.sf_ruled_store.specs.Ruling.{Rule}
 use Rattle.sf_streams.specs.Streams.{Left}
 use Rattle.sf_format.specs.declared.version.Version.{Version}
 use Rattle.sf_format.specs.declared.version.Version.TheVariants.{First, Second, Third}

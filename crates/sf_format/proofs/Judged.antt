@@ -9,19 +9,19 @@ use Rattle.sf_geometry.specs.declared.geometry.Geometry.{Geometry}
 use Rattle.sf_geometry.specs.Kinds.{kind_of}
 use Rattle.sf_geometry.specs.Parts.{LiesOnGrid}
 use Rattle.sf_geometry.specs.Size.{IsSized}
-use Rattle.sf_rules.specs.declared.fault.Fault.{Fault as ShapeFault}
-use Rattle.sf_rules.specs.Validity.{IsFirstFault, IsVerdict}
-use Rattle.sf_rules.specs.Verdicts.{first_fault}
-use Rattle.sf_rules.proofs.FirstLaws.{first_fault-over_plane}
+use Rattle.sf_valid_rules.specs.declared.fault.Fault.{Fault as ShapeFault}
+use Rattle.sf_valid_rules.specs.Validity.{IsFirstFault, IsVerdict}
+use Rattle.sf_valid_rules.specs.Verdicts.{first_fault}
+use Rattle.sf_valid_rules.proofs.FirstLaws.{first_fault-over_plane}
 use Rattle.sf_wkb.specs.declared.fault.WkbFault.{WkbFault}
 use Rattle.sf_wkb.specs.declared.fault.WkbFault.TheVariants as binaries
 use Rattle.sf_wkb.specs.Grammar.{read_in}
 use Rattle.sf_wkb.proofs.Sized.{read_is_sized}
 use Rattle.sf_known.specs.Patterns.{pattern_of}
-use Rattle.sf_ruled.specs.Ruling.{Matching, Named}
-use Rattle.sf_ruled.specs.Ruling.{Rule}
-use Rattle.sf_ruled.specs.Ruling.{break_of}
-use Rattle.sf_ruled.specs.Ruled.{Ruled, has_rule}
+use Rattle.sf_ruled_store.specs.Ruling.{Matching, Named}
+use Rattle.sf_ruled_store.specs.Ruling.{Rule}
+use Rattle.sf_ruled_store.specs.Ruling.{break_of}
+use Rattle.sf_ruled_store.specs.Ruled.{Ruled, has_rule}
 use Rattle.sf_features.specs.declared.column.Column.{Column}
 use Rattle.sf_features.specs.declared.column_type.ColumnType.{ColumnType}
 use Rattle.sf_features.specs.declared.column_type.ColumnType.TheVariants as types

@@ -15,10 +15,10 @@ use Rattle.sf_geometry.specs.declared.geometry.Geometry.{Geometry}
 use Rattle.sf_geometry.specs.Kinds.{kind_of}
 use Rattle.sf_geometry.specs.Parts.{LiesOnGrid}
 use Rattle.sf_geometry.specs.Size.{IsSized}
-use Rattle.sf_rules.specs.declared.fault.Fault.{Fault as ShapeFault}
-use Rattle.sf_rules.specs.Validity.{IsVerdict, IsValid}
-use Rattle.sf_rules.specs.Verdicts.{first_fault}
-use Rattle.sf_rules.proofs.FirstLaws.{first_fault-over_plane}
+use Rattle.sf_valid_rules.specs.declared.fault.Fault.{Fault as ShapeFault}
+use Rattle.sf_valid_rules.specs.Validity.{IsVerdict, IsValid}
+use Rattle.sf_valid_rules.specs.Verdicts.{first_fault}
+use Rattle.sf_valid_rules.proofs.FirstLaws.{first_fault-over_plane}
 use Rattle.sf_wkb.specs.declared.fault.WkbFault.{WkbFault}
 use Rattle.sf_wkb.specs.Grammar.{read_in}
 use Rattle.sf_wkb.proofs.Sized.{read_is_sized}
@@ -36,10 +36,10 @@ use Rattle.sf_layers.specs.Content.{Content, LayerContent, has_layer, layer_of, 
 use Rattle.sf_layers.specs.WellFormed.{IsIssued, IsColumn, IsValue, IsFeature, IsLayer, IsWellFormed, layers_max}
 use Rattle.sf_layers.proofs.Issued.{all-push}
 use Rattle.sf_layers.proofs.Kept.{none-from}
-use Rattle.sf_ruled.specs.Ruling.{Rule}
-use Rattle.sf_ruled.specs.Ruling.{HasLayers}
-use Rattle.sf_ruled.proofs.HeldLaws.{rules_are_over_the_plane}
-use Rattle.sf_ruled.specs.Ruled.{Ruled, has_layers}
+use Rattle.sf_ruled_store.specs.Ruling.{Rule}
+use Rattle.sf_ruled_store.specs.Ruling.{HasLayers}
+use Rattle.sf_ruled_store.proofs.HeldLaws.{rules_are_over_the_plane}
+use Rattle.sf_ruled_store.specs.Ruled.{Ruled, has_layers}
 use Rattle.sf_streams.specs.Streams.{Left}
 use Rattle.sf_format.specs.declared.version.Version.{Version}
 use Rattle.sf_format.specs.declared.version.Version.TheVariants.{First, Second, Third}

@@ -3,10 +3,10 @@ use Rattle.std.proofs.Common.{◌≡◌, ◌≤◌, List, [], ◌∷◌, None, O
 use Rattle.std.specs.List.{AllByRecursion}
 use Rattle.std.specs.Map.{values_of}
 use Rattle.sf_geometry.specs.declared.geometry.Geometry.{Geometry}
-use Rattle.sf_rules.specs.Verdicts.{first_fault}
-use Rattle.sf_rules.specs.Validity.{IsValid}
-use Rattle.sf_rules.proofs.FirstLaws.{first_fault-over_plane}
-use Rattle.sf_rules.proofs.VerdictLaws.{verdict-one}
+use Rattle.sf_valid_rules.specs.Verdicts.{first_fault}
+use Rattle.sf_valid_rules.specs.Validity.{IsValid}
+use Rattle.sf_valid_rules.proofs.FirstLaws.{first_fault-over_plane}
+use Rattle.sf_valid_rules.proofs.VerdictLaws.{verdict-one}
 use Rattle.sf_geometry.specs.Parts.{points_of}
 use Rattle.sf_wkb.specs.declared.grid.Grid.{Grid}
 use Rattle.sf_wkb.specs.declared.grid.Grid.TheVariants.{Bits20, Bits24}

@@ -10,19 +10,19 @@ use Rattle.sf_known.specs.declared.predicate.Predicate.TheVariants as predicates
 use Rattle.std.proofs.lemmas.List.{length-map}
 use Rattle.sf_known.specs.Patterns.{letter_character, pattern_of, pattern_text}
 use Rattle.sf_known.proofs.TextLaws.{patterns_are_of_their_texts}
-use Rattle.sf_ruled.specs.Ruling.{Ask}
-use Rattle.sf_ruled.specs.Ruling.{Matching, Named}
+use Rattle.sf_ruled_store.specs.Ruling.{Ask}
+use Rattle.sf_ruled_store.specs.Ruling.{Matching, Named}
 use Rattle.sf_features.specs.Columns.{IsDistinct}
 use Rattle.sf_features.specs.Names.{is_name}
 use Rattle.sf_layers.specs.Content.{Content, has_layer, layer_of}
-use Rattle.sf_ruled.specs.Ruling.{HasNineLetters}
-use Rattle.sf_ruled.specs.Ruling.{Break}
-use Rattle.sf_ruled.specs.Ruling.{Broken}
-use Rattle.sf_ruled.specs.Ruling.{Rule}
-use Rattle.sf_ruled.specs.Ruling.{Form}
-use Rattle.sf_ruled.specs.Ruling.{Never, Each}
-use Rattle.sf_ruled.specs.Ruling.{break_of, broken_from, broken_or}
-use Rattle.sf_ruled.specs.Ruled.{has_layers, has_rule}
+use Rattle.sf_ruled_store.specs.Ruling.{HasNineLetters}
+use Rattle.sf_ruled_store.specs.Ruling.{Break}
+use Rattle.sf_ruled_store.specs.Ruling.{Broken}
+use Rattle.sf_ruled_store.specs.Ruling.{Rule}
+use Rattle.sf_ruled_store.specs.Ruling.{Form}
+use Rattle.sf_ruled_store.specs.Ruling.{Never, Each}
+use Rattle.sf_ruled_store.specs.Ruling.{break_of, broken_from, broken_or}
+use Rattle.sf_ruled_store.specs.Ruled.{has_layers, has_rule}
 use Rattle.sf_format.specs.declared.defect.Defect.TheVariants.{BadFile, BadPattern, NoLayer, RuleBroken, RuleExists}
 use Rattle.sf_format.specs.Readings.{◌>>=◌, bytes, field, number, items}
 use Rattle.sf_format.specs.Format.{ask, asked_by, form_of_byte, fresh_rule_name, held_rule, known_layer_name, name, present, rule, rules, unbroken}

@@ -6,14 +6,14 @@ use Rattle.std.proofs.lemmas.Bool.{eqb-true}
 use Rattle.sf_known.specs.declared.letter.Letter.{Letter}
 use Rattle.sf_known.specs.declared.predicate.Predicate.{Predicate}
 use Rattle.sf_known.specs.Patterns.{letter_of, letters_of, pattern_of}
-use Rattle.sf_ruled.specs.Ruling.{Matching, Named}
+use Rattle.sf_ruled_store.specs.Ruling.{Matching, Named}
 use Rattle.sf_features.specs.Columns.{IsDistinct}
 use Rattle.sf_features.specs.Names.{is_name}
 use Rattle.sf_layers.specs.Content.{Content, has_layer}
-use Rattle.sf_ruled.specs.Ruling.{HasNineLetters}
-use Rattle.sf_ruled.specs.Ruling.{Rule}
-use Rattle.sf_ruled.specs.Ruling.{break_of, broken_from, broken_or}
-use Rattle.sf_ruled.specs.Ruled.{has_layers, has_rule, rules_max}
+use Rattle.sf_ruled_store.specs.Ruling.{HasNineLetters}
+use Rattle.sf_ruled_store.specs.Ruling.{Rule}
+use Rattle.sf_ruled_store.specs.Ruling.{break_of, broken_from, broken_or}
+use Rattle.sf_ruled_store.specs.Ruled.{has_layers, has_rule, rules_max}
 use Rattle.sf_format.specs.declared.version.Version.{Version}
 use Rattle.sf_format.specs.declared.version.Version.TheVariants.{First, Second, Third}
 use Rattle.sf_format.specs.declared.defect.Defect.TheVariants.{BadFile, BadPattern, NoLayer, RuleBroken, RuleExists}

@@ -6,12 +6,12 @@ use Rattle.sf_wkb.specs.Grammar.{code_of, canonical as canonical_wkb}
 use Rattle.sf_known.specs.Patterns.{pattern_text}
 use Rattle.sf_known.specs.declared.predicate.Predicate.{Predicate}
 use Rattle.sf_known.specs.declared.predicate.Predicate.TheVariants as predicates
-use Rattle.sf_ruled.specs.Ruling.{Ask}
-use Rattle.sf_ruled.specs.Ruling.{Matching, Named}
-use Rattle.sf_ruled.specs.Ruling.{Rule}
-use Rattle.sf_ruled.specs.Ruling.{Form}
-use Rattle.sf_ruled.specs.Ruling.{Never, Each}
-use Rattle.sf_ruled.specs.Ruled.{Ruled}
+use Rattle.sf_ruled_store.specs.Ruling.{Ask}
+use Rattle.sf_ruled_store.specs.Ruling.{Matching, Named}
+use Rattle.sf_ruled_store.specs.Ruling.{Rule}
+use Rattle.sf_ruled_store.specs.Ruling.{Form}
+use Rattle.sf_ruled_store.specs.Ruling.{Never, Each}
+use Rattle.sf_ruled_store.specs.Ruled.{Ruled}
 use Rattle.sf_features.specs.Features.{FeatureContent}
 use Rattle.sf_layers.specs.Content.{Content, LayerContent}
 use Rattle.sf_layers.specs.declared.layer_kind.LayerKind.{LayerKind}

@@ -3,7 +3,7 @@ use Rattle.std.specs.Prelude.{ℕ}
 use Rattle.sf_refusals.specs.declared.refusal.Refusal.{Refusal}
 use Rattle.sf_refusals.specs.declared.refusal.Refusal.TheVariants as refusals
 use Rattle.sf_refusals.specs.Refusals.{number_of as number_of_refusal}
-use Rattle.sf_rules.specs.Faults.{refusal_of as fault_refusal_of}
+use Rattle.sf_valid_rules.specs.Faults.{refusal_of as fault_refusal_of}
 use Rattle.sf_wkb.specs.Faults.{refusal_of as wkb_refusal_of}
 use Rattle.sf_format.specs.declared.defect.Defect.{Defect}
 use Rattle.sf_format.specs.declared.defect.Defect.TheVariants.{Truncated, Trailing, TooManyVertices, Wkb, Invalid, LayerExists, BadName, NoColumn, ColumnExists, WrongValue, WrongKind, IdsExhausted, ColumnsExhausted, BadFile, NoLayer, RuleExists, BadPattern, RuleBroken}

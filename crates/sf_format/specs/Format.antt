@@ -5,13 +5,13 @@ use Rattle.std.specs.Map.{lookup}
 use Rattle.sf_geometry.specs.declared.geometry.Geometry.{Geometry}
 use Rattle.sf_geometry.specs.declared.kind.Kind.TheVariants as kinds
 use Rattle.sf_geometry.specs.Kinds.{kind_of}
-use Rattle.sf_rules.specs.declared.fault.Fault.{Fault as ShapeFault}
-use Rattle.sf_rules.specs.Verdicts.{first_fault}
+use Rattle.sf_valid_rules.specs.declared.fault.Fault.{Fault as ShapeFault}
+use Rattle.sf_valid_rules.specs.Verdicts.{first_fault}
 use Rattle.sf_known.specs.declared.predicate.Predicate.{Predicate}
 use Rattle.sf_known.specs.declared.predicate.Predicate.TheVariants.{Equals, Disjoint, Intersects, Touches, Within, Contains, Crosses, Overlaps}
 use Rattle.sf_known.specs.Patterns.{pattern_of}
-use Rattle.sf_ruled.specs.Ruling.{Ask}
-use Rattle.sf_ruled.specs.Ruling.{Matching, Named}
+use Rattle.sf_ruled_store.specs.Ruling.{Ask}
+use Rattle.sf_ruled_store.specs.Ruling.{Matching, Named}
 use Rattle.sf_wkb.specs.declared.fault.WkbFault.{WkbFault}
 use Rattle.sf_wkb.specs.declared.grid.Grid.{Grid}
 use Rattle.sf_wkb.specs.declared.grid.Grid.TheVariants.{Bits20, Bits24}
@@ -29,11 +29,11 @@ use Rattle.sf_features.specs.declared.column_type.ColumnType.{ColumnType}
 use Rattle.sf_features.specs.declared.column_type.ColumnType.TheVariants as types
 use Rattle.sf_features.specs.declared.attr_value.AttrValue.{AttrValue}
 use Rattle.sf_features.specs.declared.attr_value.AttrValue.TheVariants as values
-use Rattle.sf_ruled.specs.Ruling.{Rule}
-use Rattle.sf_ruled.specs.Ruling.{Form}
-use Rattle.sf_ruled.specs.Ruling.{Never, Each}
-use Rattle.sf_ruled.specs.Ruling.{break_of}
-use Rattle.sf_ruled.specs.Ruled.{Ruled, has_rule}
+use Rattle.sf_ruled_store.specs.Ruling.{Rule}
+use Rattle.sf_ruled_store.specs.Ruling.{Form}
+use Rattle.sf_ruled_store.specs.Ruling.{Never, Each}
+use Rattle.sf_ruled_store.specs.Ruling.{break_of}
+use Rattle.sf_ruled_store.specs.Ruled.{Ruled, has_rule}
 use Rattle.sf_format.specs.declared.version.Version.{Version}
 use Rattle.sf_format.specs.declared.version.Version.TheVariants.{First, Second, Third}
 use Rattle.sf_format.specs.declared.defect.Defect.{Defect}

@@ -4,8 +4,8 @@ use Rattle.std.specs.List.{AllByRecursion}
 use Rattle.std.specs.Map.{values_of}
 use Rattle.sf_geometry.specs.declared.geometry.Geometry.{Geometry}
 use Rattle.sf_geometry.specs.Parts.{points_of}
-use Rattle.sf_rules.specs.declared.fault.Fault.{Fault as ShapeFault}
-use Rattle.sf_rules.specs.Validity.{IsFirstFault}
+use Rattle.sf_valid_rules.specs.declared.fault.Fault.{Fault as ShapeFault}
+use Rattle.sf_valid_rules.specs.Validity.{IsFirstFault}
 use Rattle.sf_wkb.specs.declared.grid.Grid.TheVariants.{Bits20}
 use Rattle.sf_wkb.specs.Grammar.{read_in}
 use Rattle.sf_wkb.specs.Words.{IsIn}
@@ -13,11 +13,11 @@ use Rattle.sf_features.specs.Columns.{IsDistinct}
 use Rattle.sf_features.specs.Names.{is_name}
 use Rattle.sf_layers.specs.Content.{Content}
 use Rattle.sf_layers.specs.WellFormed.{IsWellFormed}
-use Rattle.sf_ruled.specs.Ruling.{HasNineLetters}
-use Rattle.sf_ruled.specs.Ruling.{Rule}
-use Rattle.sf_ruled.specs.Ruling.{AllHold}
-use Rattle.sf_ruled.specs.Ruled.{Ruled, rules_max}
-use Rattle.sf_ruled.specs.Undos.{IsSettled}
+use Rattle.sf_ruled_store.specs.Ruling.{HasNineLetters}
+use Rattle.sf_ruled_store.specs.Ruling.{Rule}
+use Rattle.sf_ruled_store.specs.Ruling.{AllHold}
+use Rattle.sf_ruled_store.specs.Ruled.{Ruled, rules_max}
+use Rattle.sf_ruled_store.specs.Undos.{IsSettled}
 use Rattle.sf_streams.specs.Streams.{Left}
 use Rattle.sf_format.specs.declared.version.Version.{Version}
 use Rattle.sf_format.specs.declared.defect.Defect.TheVariants.{Invalid}

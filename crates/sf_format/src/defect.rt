@@ -2,7 +2,7 @@ ghost use Rattle.std.specs.Prelude.{◌≡◌};
 ghost use Rattle.sf_format.specs.Defects.{number_of, refusal_of};
 
 use sf_refusals::Refusal;
-use sf_rules::Fault;
+use sf_valid_rules::Fault;
 use sf_wkb::WkbFault;
 
 /// What is wrong with a field of a file.

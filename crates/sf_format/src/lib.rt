@@ -7,5 +7,5 @@ pub mod laws;
 mod version;
 
 pub use defect::Defect;
-pub use sf_ruled::{Ask, Form, Refusal as StepRefusal, Rule, Ruled, Rules as KeptRules};
+pub use sf_ruled_store::{Ask, Form, Refusal as StepRefusal, Rule, Ruled, Rules as KeptRules};
 pub use version::Version;

@@ -1,11 +1,11 @@
 -- What a step makes of a machine, by what it makes of the content and the rules.
 use Rattle.std.proofs.Common.{◌≡◌, ◌⊎◌, inl, inr, ℕ, List, Result, Ok, Err, refl, sym, ap, ◌∙◌}
 use Rattle.sf_layers.specs.Content.{Content}
-use Rattle.sf_ruled.specs.Stepped.{Answer, Edit, EditRefusal, Member, OfEdit, OfGroup, Refused, step, together}
-use Rattle.sf_ruled.specs.declared.refusal.Refusal.{Refusal as StepRefusal}
-use Rattle.sf_ruled.specs.declared.refusal.Refusal.TheVariants.{ByEdit, ByMember, Memory}
-use Rattle.sf_ruled.specs.Outcomes.{IsRefusedAs}
-use Rattle.sf_ruled.specs.Ruled.{Asked as Step, OfChange, Ruled, after_change, edit_led, group_led, ruled_step}
+use Rattle.sf_ruled_store.specs.Stepped.{Answer, Edit, EditRefusal, Member, OfEdit, OfGroup, Refused, step, together}
+use Rattle.sf_ruled_store.specs.declared.refusal.Refusal.{Refusal as StepRefusal}
+use Rattle.sf_ruled_store.specs.declared.refusal.Refusal.TheVariants.{ByEdit, ByMember, Memory}
+use Rattle.sf_ruled_store.specs.Outcomes.{IsRefusedAs}
+use Rattle.sf_ruled_store.specs.Ruled.{Asked as Step, OfChange, Ruled, after_change, edit_led, group_led, ruled_step}
 use Rattle.sf_history.specs.History.{Machine, advanced, after_step, answering, edited, giving, grouped, identifying, ruled_now, stepped}
 use Rattle.sf_history.proofs.LawProofs.{machine-of}
 

@@ -5,10 +5,10 @@ use Rattle.std.proofs.lemmas.Grind.{common_steps}
 use Rattle.std.proofs.lemmas.List.{reverse-append, length-reverse, length-take, length-drop, get_or-reverse, get_or-take, get_or-drop}
 use Rattle.sf_refusals.specs.declared.refusal.Refusal.{Refusal}
 use Rattle.sf_refusals.specs.declared.refusal.Refusal.TheVariants.{NotYours}
-use Rattle.sf_ruled.specs.declared.undo.Undo.{Undo}
-use Rattle.sf_ruled.specs.declared.redo.Redo.{Redo}
-use Rattle.sf_ruled.specs.Ruled.{Ruled}
-use Rattle.sf_ruled.specs.Undos.{redone_under, undone_under}
+use Rattle.sf_ruled_store.specs.declared.undo.Undo.{Undo}
+use Rattle.sf_ruled_store.specs.declared.redo.Redo.{Redo}
+use Rattle.sf_ruled_store.specs.Ruled.{Ruled}
+use Rattle.sf_ruled_store.specs.Undos.{redone_under, undone_under}
 use Rattle.sf_history.specs.History.{Machine, Kept, advanced, kept, past_of, future_of, if_own, back_to, forth_to, undone, redone}
 use Rattle.sf_history.proofs.LawProofs.{own_allowed}
 

@@ -2,10 +2,10 @@
 use Rattle.std.proofs.Common.{◌≡◌, ℕ, List, [], ◌∷◌, Result, Ok, Err, refl, sym, subst}
 use Rattle.std.specs.List.{AllByRecursion}
 use Rattle.sf_layers.specs.WellFormed.{IsWellFormed}
-use Rattle.sf_ruled.specs.declared.refusal.Refusal.{Refusal as StepRefusal}
-use Rattle.sf_ruled.specs.Laws.{IsKept}
-use Rattle.sf_ruled.specs.Ruled.{Asked as Step, Ruled, ruled_step}
-use Rattle.sf_ruled.proofs.RuledLaws.{ruled_steps_keep_rules}
+use Rattle.sf_ruled_store.specs.declared.refusal.Refusal.{Refusal as StepRefusal}
+use Rattle.sf_ruled_store.specs.Laws.{IsKept}
+use Rattle.sf_ruled_store.specs.Ruled.{Asked as Step, Ruled, ruled_step}
+use Rattle.sf_ruled_store.proofs.RuledLaws.{ruled_steps_keep_rules}
 use Rattle.sf_history.specs.History.{Machine, Kept, after_step, back_to, forth_to, ruled_in, ruled_now}
 use Rattle.sf_history.specs.Laws.{Steps, Undoes, Redoes, KeepsRules, TurnsKeepRules}
 use Rattle.sf_history.proofs.LawProofs.{allowed_own, machine-of}

@@ -4,10 +4,10 @@ use Rattle.std.proofs.lemmas.Bool.{eq-eqb}
 use Rattle.std.proofs.lemmas.List.{reverse-append}
 use Rattle.sf_refusals.specs.declared.refusal.Refusal.{Refusal}
 use Rattle.sf_refusals.specs.declared.refusal.Refusal.TheVariants.{NotYours}
-use Rattle.sf_ruled.specs.declared.undo.Undo.{Undo}
-use Rattle.sf_ruled.specs.declared.refusal.Refusal.{Refusal as StepRefusal}
-use Rattle.sf_ruled.specs.Ruled.{Ruled, ruled_step}
-use Rattle.sf_ruled.specs.Undos.{FitsUndoUnder, undone_under}
+use Rattle.sf_ruled_store.specs.declared.undo.Undo.{Undo}
+use Rattle.sf_ruled_store.specs.declared.refusal.Refusal.{Refusal as StepRefusal}
+use Rattle.sf_ruled_store.specs.Ruled.{Ruled, ruled_step}
+use Rattle.sf_ruled_store.specs.Undos.{FitsUndoUnder, undone_under}
 use Rattle.sf_history.specs.History.{Machine, Kept, kept, ruled_now, after_step, if_own, back_to, forth_to, FitInTurn}
 use Rattle.sf_history.specs.Laws.{undone_after, undone_in_turn, IsBackAt, LeadsBack, UndoLaw, RedoLaw, InversesLaw}
 

@@ -3,9 +3,9 @@ use Rattle.std.proofs.Common.{◌≡◌, ◌≢◌, ◌⊎◌, ℕ, suc, Bool, t
 use Rattle.std.specs.Prelude.{Contains}
 use Rattle.std.proofs.lemmas.Bool.{eqb-true}
 use Rattle.sf_layers.specs.Content.{Content}
-use Rattle.sf_ruled.specs.Stepped.{Rule}
-use Rattle.sf_ruled.specs.declared.refusal.Refusal.{Refusal as StepRefusal}
-use Rattle.sf_ruled.specs.Ruled.{Ruled, ruled_step}
+use Rattle.sf_ruled_store.specs.Stepped.{Rule}
+use Rattle.sf_ruled_store.specs.declared.refusal.Refusal.{Refusal as StepRefusal}
+use Rattle.sf_ruled_store.specs.Ruled.{Ruled, ruled_step}
 use Rattle.sf_history.specs.History.{Machine, Kept, fresh_under, kept, ruled_in, ruled_now, after_step, back_to, forth_to}
 use Rattle.sf_history.specs.Laws.{Asked, Turn, Steps, Undoes, Redoes, Leads, LeadInTurn, IsMadeBy, steps_of, KeepsOthers, OwnStepsLaw}
 use Rattle.sf_history.proofs.LawProofs.{allowed_own, machine-of}

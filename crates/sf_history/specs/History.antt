@@ -2,13 +2,13 @@
 -- contents with their rules.
 use Rattle.std.specs.Prelude.{ℕ, List, [], ◌∷◌, Result, Ok, Err, nat_eq, if◌then◌else◌}
 use Rattle.sf_layers.specs.Content.{Content}
-use Rattle.sf_ruled.specs.Stepped.{Answer, Edit, EditRefusal, Member, OfEdit, OfGroup, Refused, Rule, step, together}
-use Rattle.sf_ruled.specs.declared.undo.Undo.{Undo}
-use Rattle.sf_ruled.specs.declared.redo.Redo.{Redo}
-use Rattle.sf_ruled.specs.declared.refusal.Refusal.{Refusal as StepRefusal}
-use Rattle.sf_ruled.specs.declared.refusal.Refusal.TheVariants.{ByEdit, ByMember}
-use Rattle.sf_ruled.specs.Ruled.{Asked as Step, OfChange, Ruled, ruled_step}
-use Rattle.sf_ruled.specs.Undos.{FitsRedoUnder, FitsUndoUnder, redone_under, undone_under}
+use Rattle.sf_ruled_store.specs.Stepped.{Answer, Edit, EditRefusal, Member, OfEdit, OfGroup, Refused, Rule, step, together}
+use Rattle.sf_ruled_store.specs.declared.undo.Undo.{Undo}
+use Rattle.sf_ruled_store.specs.declared.redo.Redo.{Redo}
+use Rattle.sf_ruled_store.specs.declared.refusal.Refusal.{Refusal as StepRefusal}
+use Rattle.sf_ruled_store.specs.declared.refusal.Refusal.TheVariants.{ByEdit, ByMember}
+use Rattle.sf_ruled_store.specs.Ruled.{Asked as Step, OfChange, Ruled, ruled_step}
+use Rattle.sf_ruled_store.specs.Undos.{FitsRedoUnder, FitsUndoUnder, redone_under, undone_under}
 use Rattle.sf_refusals.specs.declared.refusal.Refusal.{Refusal}
 use Rattle.sf_refusals.specs.declared.refusal.Refusal.TheVariants.{NothingToUndo, NothingToRedo, NotYours}
 

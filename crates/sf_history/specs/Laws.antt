@@ -2,10 +2,10 @@
 use Rattle.std.specs.Prelude.{◌≡◌, ◌≢◌, ◌⊎◌, ℕ, List, [], ◌∷◌, map, reverse, fold, filter, Contains, Result, Ok, Err, IsOkAnd, nat_eq}
 use Rattle.std.specs.List.{AllByRecursion}
 use Rattle.sf_layers.specs.WellFormed.{IsWellFormed}
-use Rattle.sf_ruled.specs.declared.undo.Undo.{Undo}
-use Rattle.sf_ruled.specs.Laws.{IsKept}
-use Rattle.sf_ruled.specs.Ruled.{Asked as Step, Ruled, ruled_step}
-use Rattle.sf_ruled.specs.Undos.{FitsUndoUnder, undone_under}
+use Rattle.sf_ruled_store.specs.declared.undo.Undo.{Undo}
+use Rattle.sf_ruled_store.specs.Laws.{IsKept}
+use Rattle.sf_ruled_store.specs.Ruled.{Asked as Step, Ruled, ruled_step}
+use Rattle.sf_ruled_store.specs.Undos.{FitsUndoUnder, undone_under}
 use Rattle.sf_refusals.specs.declared.refusal.Refusal.{Refusal}
 use Rattle.sf_history.specs.History.{Machine, Kept, fresh_under, ruled_in, ruled_now, stepped, undone, redone, FitInTurn}
 

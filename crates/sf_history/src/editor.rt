@@ -1,11 +1,11 @@
 ghost use Rattle.std.specs.Prelude.{◌≡◌, ◌⊎◌, ◌+◌, ◌≤◌, ◌∷◌, ◌++◌, [], length, take, Ok, Err, IsOk, OnOk, OnErr, IfOk, IfErr, vec_capacity};
-ghost use Rattle.sf_ruled.specs.declared.refusal.Refusal.TheVariants.{Memory};
-ghost use Rattle.sf_ruled.specs.Ruled.{AddRule, DropRule};
+ghost use Rattle.sf_ruled_store.specs.declared.refusal.Refusal.TheVariants.{Memory};
+ghost use Rattle.sf_ruled_store.specs.Ruled.{AddRule, DropRule};
 ghost use Rattle.sf_history.specs.History.{edited, fresh, fresh_under, grouped, redone, ruled_now, stepped, undone};
 
 use sf_layers::Store;
 use sf_refusals::Refusal;
-use sf_ruled::{
+use sf_ruled_store::{
     Answer, Edit, Edited, Group, Grouped, Redo, Refusal as StepRefusal, Rule, Ruled, Rules, Undo,
 };
 use std::alloc::{AllocError, Global};

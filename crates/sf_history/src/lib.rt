@@ -6,4 +6,4 @@ pub mod laws;
 
 pub use editor::{Depths, Editor};
 pub use sf_refusals::Refusal;
-pub use sf_ruled::{Break, Form, Refusal as StepRefusal, Rule, Rules};
+pub use sf_ruled_store::{Break, Form, Refusal as StepRefusal, Rule, Rules};

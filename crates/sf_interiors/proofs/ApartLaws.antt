@@ -12,12 +12,12 @@ use Rattle.sf_geometry.specs.declared.geometry.Geometry.TheVariants.{LineString,
 use Rattle.sf_geometry.specs.Lists.{edges_of, is_closed, tight}
 use Rattle.sf_geometry.specs.Parts.{joined}
 use Rattle.sf_geometry.specs.PointSets.{in_boundary, in_polygon, on_line, on_polygon}
-use Rattle.sf_rules.specs.Conditions.{Applies, any_two}
-use Rattle.sf_rules.specs.Rules.{Rule, polygon_rules, ring_rules}
-use Rattle.sf_rules.specs.Shapes.{in_hole_outside, in_two_holes, in_two_polygons, share_piece}
-use Rattle.sf_rules.specs.Validity.{NoneApplies}
-use Rattle.sf_rules.proofs.MemberLaws.{any-one, each-from_in, each-in, each-of_flat, each-to_flat, one-any}
-use Rattle.sf_rules.proofs.TightLaws.{edges-differ}
+use Rattle.sf_valid_rules.specs.Conditions.{Applies, any_two}
+use Rattle.sf_valid_rules.specs.Rules.{Rule, polygon_rules, ring_rules}
+use Rattle.sf_valid_rules.specs.Shapes.{in_hole_outside, in_two_holes, in_two_polygons, share_piece}
+use Rattle.sf_valid_rules.specs.Validity.{NoneApplies}
+use Rattle.sf_valid_rules.proofs.MemberLaws.{any-one, each-from_in, each-in, each-of_flat, each-to_flat, one-any}
+use Rattle.sf_valid_rules.proofs.TightLaws.{edges-differ}
 use Rattle.sf_interiors.specs.Apart.{InteriorIsApart}
 use Rattle.sf_interiors.proofs.ChainLaws.{IsBalanced}
 use Rattle.sf_interiors.proofs.CommonLaws.{HasCommon, common}

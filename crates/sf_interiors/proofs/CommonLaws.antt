@@ -12,7 +12,7 @@ use Rattle.sf_grid.proofs.Products.{mul_assoc}
 use Rattle.sf_slabs.proofs.CallerLemmas.{each-append, each-both, each-map, each-parts}
 use Rattle.sf_plane.proofs.CombineLaws.{start_on_edge}
 use Rattle.sf_plane.proofs.FormLaws.{nudged, nudged-point}
-use Rattle.sf_rules.proofs.MemberLaws.{count-same}
+use Rattle.sf_valid_rules.proofs.MemberLaws.{count-same}
 use Rattle.sf_interiors.proofs.AlongLaws.{AreApart, along-off, along-on, no-run, rise_to, run_to, upright-from}
 use Rattle.sf_interiors.proofs.BesideLaws.{slanted-beside, upright-above, upright-above_left, upright-off, upright-straddles}
 use Rattle.sf_interiors.proofs.ChainLaws.{IsBalanced, exchange, odd-count}

@@ -23,11 +23,11 @@ use Rattle.sf_geometry.specs.Lists.{edges_between, edges_from, edges_of, ends_of
 use Rattle.sf_geometry.specs.Parts.{joined}
 use Rattle.sf_geometry.specs.PointSets.{in_boundary, in_interior, in_polygon, is_among, on_line, on_polygon}
 use Rattle.sf_geometry.specs.Size.{is_empty}
-use Rattle.sf_rules.specs.Conditions.{Applies}
-use Rattle.sf_rules.specs.Rules.{Rule, polygon_rules, ring_rules}
-use Rattle.sf_rules.specs.Validity.{NoneApplies}
-use Rattle.sf_rules.proofs.MemberLaws.{any-one, count-same, each-from_in, each-in, each-to_flat, one-any}
-use Rattle.sf_rules.proofs.TightLaws.{edges-differ}
+use Rattle.sf_valid_rules.specs.Conditions.{Applies}
+use Rattle.sf_valid_rules.specs.Rules.{Rule, polygon_rules, ring_rules}
+use Rattle.sf_valid_rules.specs.Validity.{NoneApplies}
+use Rattle.sf_valid_rules.proofs.MemberLaws.{any-one, count-same, each-from_in, each-in, each-to_flat, one-any}
+use Rattle.sf_valid_rules.proofs.TightLaws.{edges-differ}
 use Rattle.sf_interiors.specs.Dimensions.{BoundaryHasDimension, InteriorHasDimension}
 use Rattle.sf_interiors.specs.Vertices.{beside, is_beside}
 use Rattle.sf_interiors.proofs.AlongLaws.{along-on, rise_to, run_to}

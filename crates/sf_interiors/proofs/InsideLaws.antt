@@ -12,7 +12,7 @@ use Rattle.sf_grid.specs.EvenOdd.{edges_above, is_odd}
 use Rattle.sf_grid.proofs.CallerLemmas.{dif, eq_from_test, ge_from_test, lt_from_mul, lt_from_test, mul, num, on_edge-swap, on_edge_from, ring, test_from_eq, test_from_le, var}
 use Rattle.sf_slabs.proofs.CallerLemmas.{each-both, each-map}
 use Rattle.sf_plane.proofs.FormLaws.{nudged}
-use Rattle.sf_rules.proofs.MemberLaws.{count-same}
+use Rattle.sf_valid_rules.proofs.MemberLaws.{count-same}
 use Rattle.sf_interiors.proofs.ChainLaws.{IsBalanced, odd-count}
 use Rattle.sf_interiors.proofs.NudgeLaws.{IsFine, above-left, above-right, off-nudged, swerve}
 use Rattle.sf_interiors.proofs.SideLaws.{differ, edge_above_left, is_over, straddles}

@@ -22,7 +22,7 @@ use Rattle.sf_plane.proofs.StripLaws.{among_has}
 use Rattle.sf_plane.specs.Cover.{is_among}
 use Rattle.sf_plane.specs.Dimension.{HasTriangle, PointSet}
 use Rattle.sf_grid.specs.Fraction.{fraction_lt}
-use Rattle.sf_rules.proofs.MemberLaws.{count-same, each-of_flat, each-of_map, each-to_flat, each-to_map}
+use Rattle.sf_valid_rules.proofs.MemberLaws.{count-same, each-of_flat, each-of_map, each-to_flat, each-to_map}
 use Rattle.sf_interiors.proofs.ChainLaws.{IsBalanced}
 use Rattle.sf_interiors.proofs.InsideLaws.{IsInside, IsOff, each-fine, stays, swerves}
 

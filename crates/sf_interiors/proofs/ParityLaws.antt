@@ -8,8 +8,8 @@ use Rattle.sf_grid.specs.Edge.{Edge as Line, edge_above, on_edge}
 use Rattle.sf_grid.specs.EvenOdd.{edges_above, is_odd}
 use Rattle.sf_geometry.specs.Lists.{edges_of}
 use Rattle.sf_geometry.specs.PointSets.{in_polygon, in_ring, on_line, on_polygon, within_ring}
-use Rattle.sf_rules.specs.Conditions.{any_two}
-use Rattle.sf_rules.specs.Shapes.{in_hole_outside, in_two_holes}
+use Rattle.sf_valid_rules.specs.Conditions.{any_two}
+use Rattle.sf_valid_rules.specs.Shapes.{in_hole_outside, in_two_holes}
 use Rattle.sf_interiors.proofs.ChainLaws.{odd-count}
 use Rattle.sf_interiors.proofs.InsideLaws.{IsInside, IsOff}
 use Rattle.sf_interiors.proofs.SideLaws.{differ}

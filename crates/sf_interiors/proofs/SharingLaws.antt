@@ -11,9 +11,9 @@ use Rattle.sf_slabs.proofs.CallerLemmas.{each-append, each-parts}
 use Rattle.sf_plane.specs.Laws.{ShareTwoPoints}
 use Rattle.sf_geometry.specs.Lists.{edges_between, edges_from, edges_of, is_closed, tight}
 use Rattle.sf_plane.proofs.PlaceLaws.{IsIn}
-use Rattle.sf_rules.specs.Conditions.{any_two}
-use Rattle.sf_rules.specs.Shapes.{is_joint, meets_itself, on_both, share_piece}
-use Rattle.sf_rules.proofs.MemberLaws.{each-from_in, each-to_flat, one-any}
+use Rattle.sf_valid_rules.specs.Conditions.{any_two}
+use Rattle.sf_valid_rules.specs.Shapes.{is_joint, meets_itself, on_both, share_piece}
+use Rattle.sf_valid_rules.proofs.MemberLaws.{each-from_in, each-to_flat, one-any}
 use Rattle.sf_interiors.proofs.AlongLaws.{AreApart}
 
 -- ---- each edge is apart from those after it

@@ -15,7 +15,7 @@ use Rattle.sf_geometry.specs.declared.geometry.Geometry.TheVariants.{LineString,
 use Rattle.sf_geometry.specs.Lists.{edges_of}
 use Rattle.sf_geometry.specs.Parts.{joined}
 use Rattle.sf_geometry.specs.PointSets.{in_boundary, in_interior, in_polygon, on_polygon}
-use Rattle.sf_rules.proofs.MemberLaws.{each-from_in, each-in, each-of_flat, each-to_flat, one-any}
+use Rattle.sf_valid_rules.proofs.MemberLaws.{each-from_in, each-in, each-of_flat, each-to_flat, one-any}
 use Rattle.sf_interiors.specs.Vertices.{AreasHaveBeside, HasBeside, beside, is_beside}
 use Rattle.sf_interiors.proofs.AlongLaws.{rise_to, run_to}
 use Rattle.sf_interiors.proofs.ApartLaws.{IsSound}

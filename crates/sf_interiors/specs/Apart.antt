@@ -4,7 +4,7 @@ use Rattle.std.specs.Prelude.{IsFalse, IsTrue}
 use Rattle.sf_grid.specs.Plane.{IsPoint, Point}
 use Rattle.sf_geometry.specs.declared.geometry.Geometry.{Geometry}
 use Rattle.sf_geometry.specs.PointSets.{in_boundary, in_interior}
-use Rattle.sf_rules.specs.Validity.{IsValid}
+use Rattle.sf_valid_rules.specs.Validity.{IsValid}
 
 -- no point of the plane is in both
 abbrev pub InteriorIsApart : Type 0

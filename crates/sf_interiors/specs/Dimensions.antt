@@ -10,7 +10,7 @@ use Rattle.sf_geometry.specs.PointSets.{in_boundary, in_interior}
 use Rattle.sf_plane.specs.declared.dim.Dim.{Dim}
 use Rattle.sf_plane.specs.declared.dim.Dim.TheVariants.{Nothing, One, Two, Zero}
 use Rattle.sf_plane.specs.Dimension.{HasDimension}
-use Rattle.sf_rules.specs.Validity.{IsValid}
+use Rattle.sf_valid_rules.specs.Validity.{IsValid}
 
 -- points have no length, lines no area
 abbrev pub interior_dim : Geometry → Dim

@@ -9,7 +9,7 @@ use Rattle.sf_geometry.specs.Parts.{edges_of}
 use Rattle.sf_geometry.specs.PointSets.{in_boundary, in_interior}
 use Rattle.sf_plane.specs.declared.dim.Dim.TheVariants.{Two}
 use Rattle.sf_plane.specs.Dimension.{HasSegment, HasTriangle, PointSet}
-use Rattle.sf_rules.specs.Validity.{IsValid}
+use Rattle.sf_valid_rules.specs.Validity.{IsValid}
 use Rattle.sf_interiors.specs.Dimensions.{interior_dim}
 
 -- q is less than a grid step away from v, across and up

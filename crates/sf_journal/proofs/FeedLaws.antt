@@ -3,8 +3,8 @@ use Rattle.std.proofs.Common.{◌≡◌, ℕ, zero, suc, ◌/◌, ◌%◌, Bool,
 use Rattle.std.specs.List.{list_any}
 use Rattle.std.specs.Int.{w64, to_be_bytes}
 use Rattle.hex.specs.Hex.{encode_with, lower_digits}
-use Rattle.sf_lines.specs.Lines.{HasNoFeed}
-use Rattle.sf_lines.proofs.LineLemmas.{HasNoFeed-append}
+use Rattle.sf_text_lines.specs.Lines.{HasNoFeed}
+use Rattle.sf_text_lines.proofs.LineLemmas.{HasNoFeed-append}
 use Rattle.sf_journal.specs.Records.{sum_with, mark_of, line_of}
 
 -- two bytes in front of others

@@ -2,8 +2,8 @@
 use Rattle.std.proofs.Common.{◌≡◌, ℕ, Bool, true, false, ◌==◌, ◌||◌, inl, List, [], ◌∷◌, ◌++◌, refl, sym, ap, ◌∙◌, subst, append_assoc}
 use Rattle.std.proofs.lemmas.List.{append_cancel_left}
 use Rattle.std.specs.List.{AllByRecursion, list_any}
-use Rattle.sf_lines.specs.Lines.{lines_of, HasNoFeed}
-use Rattle.sf_lines.proofs.LineLemmas.{lines_of-append, lines_of-fed, lines_of-unfed}
+use Rattle.sf_text_lines.specs.Lines.{lines_of, HasNoFeed}
+use Rattle.sf_text_lines.proofs.LineLemmas.{lines_of-append, lines_of-fed, lines_of-unfed}
 use Rattle.sf_journal.specs.Records.{records, record_of, line_of, sum_with, sum_behind}
 use Rattle.sf_journal.specs.Readings.{AreIn, Reads, Ending}
 use Rattle.sf_journal.specs.Readings.Ending.{Whole, CutShort}

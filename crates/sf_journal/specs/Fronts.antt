@@ -1,7 +1,7 @@
 -- What a crash may leave of a journal.
 use Rattle.std.specs.Prelude.{◌≡◌, ◌≢◌, ℕ, List, ◌++◌}
 use Rattle.std.specs.List.{AllByRecursion}
-use Rattle.sf_lines.specs.Lines.{HasNoFeed}
+use Rattle.sf_text_lines.specs.Lines.{HasNoFeed}
 use Rattle.sf_journal.specs.Records.{records}
 use Rattle.sf_journal.specs.Readings.{Ending, Reads}
 use Rattle.sf_journal.specs.Readings.Ending.{Damaged}

@@ -1,6 +1,6 @@
 -- What stands in the bytes of a journal, of which a crash may have left a front.
 use Rattle.std.specs.Prelude.{◌≡◌, ◌⊎◌, ℕ, true, false, List, [], ◌∷◌}
-use Rattle.sf_lines.specs.Lines.{Line, lines_of}
+use Rattle.sf_text_lines.specs.Lines.{Line, lines_of}
 use Rattle.sf_journal.specs.Records.{line_of, sum_with}
 
 -- how the records of a journal end: with a whole one; with one that was not written to its end; or with a line that is

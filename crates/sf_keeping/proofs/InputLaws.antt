@@ -2,9 +2,9 @@
 use Rattle.std.proofs.Common.{◌≡◌, ℕ, ◌+◌, List, [], ◌∷◌, ◌++◌, take, drop, length, sym, ap, ◌∙◌, subst}
 use Rattle.std.proofs.Math.Seq.{drop-length}
 use Rattle.std.proofs.lemmas.List.{drop-drop}
-use Rattle.sf_lines.specs.Lines.{HasNoFeed}
-use Rattle.sf_lines.specs.Buffers.{Buffered, buffered_with}
-use Rattle.sf_lines.proofs.FeedLemmas.{IsFirstFeed}
+use Rattle.sf_text_lines.specs.Lines.{HasNoFeed}
+use Rattle.sf_text_lines.specs.Buffers.{Buffered, buffered_with}
+use Rattle.sf_text_lines.proofs.FeedLemmas.{IsFirstFeed}
 use Rattle.sf_keeping.specs.Inputs.{EndsLine, GoesOn}
 
 -- a line feed was found in what is left of a chunk

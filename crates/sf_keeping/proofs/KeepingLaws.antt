@@ -1,7 +1,7 @@
 -- What is asked, carried out and kept.
 use Rattle.std.proofs.Common.{◌≡◌, ◌≢◌, ℕ, ◌<◌, ◌≤◌, false, inl, inr, length, append-nil, List, [], ◌∷◌, ◌++◌, Option, None, Some, refl, sym, ap, ◌∙◌, subst, append_assoc, arith}
 use Rattle.sf_refusals.specs.declared.refusal.Refusal.TheVariants.{Memory}
-use Rattle.sf_lines.specs.Lines.{HasNoFeed, line_max}
+use Rattle.sf_text_lines.specs.Lines.{HasNoFeed, line_max}
 use Rattle.sf_journal.specs.Records.{sum_with}
 use Rattle.sf_console.specs.History.{Machine}
 use Rattle.sf_console.specs.Answers.{refusal_line}

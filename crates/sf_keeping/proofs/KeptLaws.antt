@@ -1,7 +1,7 @@
 -- What is kept of what is asked, one after another, and what it leads to.
 use Rattle.std.proofs.Common.{◌≡◌, ℕ, inl, inr, List, [], ◌∷◌, ◌++◌, refl, sym, ap, ◌∙◌, subst, append_assoc, append-nil}
 use Rattle.std.specs.List.{AllByRecursion}
-use Rattle.sf_lines.specs.Lines.{HasNoFeed}
+use Rattle.sf_text_lines.specs.Lines.{HasNoFeed}
 use Rattle.sf_journal.specs.Fronts.{IsFrontOf}
 use Rattle.sf_journal.proofs.FrontLaws.{front-law}
 use Rattle.sf_console.specs.History.{Machine}

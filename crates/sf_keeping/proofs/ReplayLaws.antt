@@ -3,9 +3,9 @@ use Rattle.std.proofs.Common.{◌≡◌, ℕ, ◌+◌, ◌-◌, ◌≤◌, Bool,
 use Rattle.std.proofs.lemmas.Grind.{common_steps}
 use Rattle.std.proofs.lemmas.List.{length-append}
 use Rattle.std.specs.List.{AllByRecursion, list_any}
-use Rattle.sf_lines.specs.Lines.{lines_of, HasNoFeed}
-use Rattle.sf_lines.proofs.LineLemmas.{lines_of-append, lines_of-fed, lines_of-unfed}
-use Rattle.sf_lines.proofs.FeedLemmas.{IsFirstFeed}
+use Rattle.sf_text_lines.specs.Lines.{lines_of, HasNoFeed}
+use Rattle.sf_text_lines.proofs.LineLemmas.{lines_of-append, lines_of-fed, lines_of-unfed}
+use Rattle.sf_text_lines.proofs.FeedLemmas.{IsFirstFeed}
 use Rattle.sf_journal.specs.Records.{records, record_of, line_of, mark_of, sum_with, sum_behind}
 use Rattle.sf_journal.specs.Readings.{AreIn, Reads}
 use Rattle.sf_journal.specs.Readings.Ending.{CutShort, Damaged}

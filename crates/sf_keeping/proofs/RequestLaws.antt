@@ -4,10 +4,10 @@ use Rattle.std.proofs.lemmas.List.{take-append-drop, length-append}
 use Rattle.std.proofs.lemmas.Grind.{common_steps}
 use Rattle.std.proofs.lemmas.Slice.Eq.{bytes_eq-Decides}
 use Rattle.std.specs.List.{list_any}
-use Rattle.sf_lines.specs.Lines.{Line, line_max, lines_of, text_of, without_return, IsWhole, HasNoFeed}
-use Rattle.sf_lines.proofs.LineLemmas.{lines_of-unfed}
-use Rattle.sf_lines.specs.Buffers.{Buffered, IsBufferOf, line_buffered, nothing_buffered}
-use Rattle.sf_lines.proofs.BufferLemmas.{nothing_buffered-of}
+use Rattle.sf_text_lines.specs.Lines.{Line, line_max, lines_of, text_of, without_return, IsWhole, HasNoFeed}
+use Rattle.sf_text_lines.proofs.LineLemmas.{lines_of-unfed}
+use Rattle.sf_text_lines.specs.Buffers.{Buffered, IsBufferOf, line_buffered, nothing_buffered}
+use Rattle.sf_text_lines.proofs.BufferLemmas.{nothing_buffered-of}
 use Rattle.sf_console.specs.Carried.{Head}
 use Rattle.sf_console.specs.Readings.{line_text}
 use Rattle.sf_console.specs.Requests.{Closed, Comes, Ends, Gathering, Open, Request, come, gathered, gathered_on, inside, is_passed_over, left_in, line_head, member_text, nothing_asked, outside, requests_from, requests_in, requests_of, text_asked, with_member}

@@ -2,10 +2,10 @@
 use Rattle.std.proofs.Common.{◌≡◌, ℕ, true, false, inl, List, [], ◌∷◌, ◌++◌, Option, refl, sym, ap, ◌∙◌, subst, append_assoc, append-nil}
 use Rattle.std.proofs.KnownBytes.{Consumes-trans, Consumes-kept}
 use Rattle.std.specs.Io.KnownBytes.{Consumes, Keeps, IsAtEnd}
-use Rattle.sf_lines.specs.Lines.{lines_of, IsWhole}
-use Rattle.sf_lines.specs.Buffers.{IsBufferOf}
-use Rattle.sf_lines.proofs.LineLemmas.{IsWhole-append}
-use Rattle.sf_lines.proofs.BufferLemmas.{IsBufferOf-nothing}
+use Rattle.sf_text_lines.specs.Lines.{lines_of, IsWhole}
+use Rattle.sf_text_lines.specs.Buffers.{IsBufferOf}
+use Rattle.sf_text_lines.proofs.LineLemmas.{IsWhole-append}
+use Rattle.sf_text_lines.proofs.BufferLemmas.{IsBufferOf-nothing}
 use Rattle.sf_journal.specs.Records.{records, line_of, sum_with, sum_behind}
 use Rattle.sf_console.specs.History.{Machine}
 use Rattle.sf_console.specs.declared.group_lines.GroupLines.{GroupLines}

@@ -1,9 +1,9 @@
 -- From line to line of what was read.
 use Rattle.std.proofs.Common.{◌≡◌, ◌↔◌, ℕ, Bool, true, false, IsTrue, inl, List, [], ◌∷◌, ◌++◌, Option, refl, sym, ap, ◌∙◌, subst, append_assoc, append-nil}
-use Rattle.sf_lines.specs.Lines.{text_of, IsWhole, HasNoFeed}
-use Rattle.sf_lines.specs.Buffers.{IsBufferOf}
-use Rattle.sf_lines.proofs.LineLemmas.{IsWhole-append, IsWhole-fed, HasNoFeed-append}
-use Rattle.sf_lines.proofs.BufferLemmas.{IsBufferOf-extend, IsBufferOf-nothing}
+use Rattle.sf_text_lines.specs.Lines.{text_of, IsWhole, HasNoFeed}
+use Rattle.sf_text_lines.specs.Buffers.{IsBufferOf}
+use Rattle.sf_text_lines.proofs.LineLemmas.{IsWhole-append, IsWhole-fed, HasNoFeed-append}
+use Rattle.sf_text_lines.proofs.BufferLemmas.{IsBufferOf-extend, IsBufferOf-nothing}
 use Rattle.sf_console.specs.History.{Machine}
 use Rattle.sf_console.specs.declared.group_lines.GroupLines.{GroupLines}
 use Rattle.sf_console.specs.Requests.{Closed, Gathering, Request, left_in, requests_in}

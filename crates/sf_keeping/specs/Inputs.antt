@@ -1,8 +1,8 @@
 -- Internal: who wants to trust the program need not read this file.
 -- What was read, and not carried out yet.
 use Rattle.std.specs.Prelude.{◌≡◌, ℕ, List, [], ◌∷◌, ◌++◌}
-use Rattle.sf_lines.specs.Lines.{HasNoFeed}
-use Rattle.sf_lines.specs.Buffers.{Buffered, nothing_buffered, buffered_with}
+use Rattle.sf_text_lines.specs.Lines.{HasNoFeed}
+use Rattle.sf_text_lines.specs.Buffers.{Buffered, nothing_buffered, buffered_with}
 
 -- what the line has that is begun, and what was read behind it
 pub record Ahead : Type 0 where

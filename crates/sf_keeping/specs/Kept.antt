@@ -1,6 +1,6 @@
 -- What is kept of a session: the texts that were accepted as edits, groups, undos and redos.
 use Rattle.std.specs.Prelude.{◌≡◌, ◌⊎◌, ℕ, List, [], ◌∷◌, ◌++◌, Some}
-use Rattle.sf_lines.specs.Lines.{HasNoFeed}
+use Rattle.sf_text_lines.specs.Lines.{HasNoFeed}
 use Rattle.sf_console.specs.History.{Machine}
 use Rattle.sf_console.specs.Readings.{text_reading}
 use Rattle.sf_console.specs.Requests.{Request}

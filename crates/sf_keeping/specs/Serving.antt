@@ -1,7 +1,7 @@
 -- What serving with a journal does, in the words of `Read` for the bytes that it reports, and of `Desk` for its calls.
 use Rattle.std.specs.Prelude.{◌≡◌, ℕ, true, false, List, [], ◌∷◌, ◌++◌, Option, if◌then◌else◌}
 use Rattle.std.specs.Io.KnownBytes.{Consumes, IsAtEnd}
-use Rattle.sf_lines.specs.Lines.{Line, text_of, IsWhole, HasNoFeed}
+use Rattle.sf_text_lines.specs.Lines.{Line, text_of, IsWhole, HasNoFeed}
 use Rattle.sf_journal.specs.Records.{records, sum_behind}
 use Rattle.sf_console.specs.History.{Machine}
 use Rattle.sf_console.specs.Requests.{Closed, Request, left_in, requests_in, requests_of}

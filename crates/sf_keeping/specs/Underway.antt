@@ -2,8 +2,8 @@
 -- How far a session is that is kept in a journal.
 use Rattle.std.specs.Prelude.{◌≡◌, ℕ, ◌≤◌, true, false, List, [], ◌∷◌, ◌++◌, length, Option, None, Some}
 use Rattle.std.specs.Io.KnownBytes.{Consumes}
-use Rattle.sf_lines.specs.Lines.{line_max, text_of, IsWhole, HasNoFeed}
-use Rattle.sf_lines.specs.Buffers.{IsBufferOf, nothing_buffered}
+use Rattle.sf_text_lines.specs.Lines.{line_max, text_of, IsWhole, HasNoFeed}
+use Rattle.sf_text_lines.specs.Buffers.{IsBufferOf, nothing_buffered}
 use Rattle.sf_journal.specs.Records.{records, sum_behind}
 use Rattle.sf_console.specs.History.{Machine}
 use Rattle.sf_keeping.specs.Desks.{Call, Makes, nothing_yet, after_calls}

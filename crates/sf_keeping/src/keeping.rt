@@ -1,7 +1,7 @@
 //! The lines of a reader, answered once they are kept.
 ghost use Rattle.std.specs.Prelude.{◌≡◌, ◌≤◌, ◌<◌, ◌+◌, ◌∷◌, ℕ, List, [], true, false, length, option_copied, IfOk, OnOk, OnErr};
-ghost use Rattle.sf_lines.specs.Lines.{HasNoFeed, line_max, text_of};
-ghost use Rattle.sf_lines.specs.Buffers.{IsBufferOf};
+ghost use Rattle.sf_text_lines.specs.Lines.{HasNoFeed, line_max, text_of};
+ghost use Rattle.sf_text_lines.specs.Buffers.{IsBufferOf};
 ghost use Rattle.sf_console.specs.History.{Machine};
 ghost use Rattle.sf_console.specs.Answers.{reply_text};
 ghost use Rattle.sf_keeping.specs.Waiting.{nothing_waits};
@@ -20,9 +20,9 @@ use sf_console::{
     AnswerLine, Editor, GroupLines, LineAsks, Reply, answer_end, matrix_line, whole_line,
 };
 use sf_journal::Sum;
-use sf_lines::{LINE_MAX, LineBuffer, without_return};
 use sf_refusals::Refusal;
 use sf_streams::READS_MAX;
+use sf_text_lines::{LINE_MAX, LineBuffer, without_return};
 use std::alloc::Global;
 use std::io::Read;
 

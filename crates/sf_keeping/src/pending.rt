@@ -6,7 +6,7 @@ ghost use Rattle.sf_keeping.specs.Waiting.{nothing_waits, with_text, with_answer
 
 use super::desk::{Desk, JournalFault, KeepFault};
 use sf_journal::{MARK_LEN, Sum};
-use sf_lines::LINE_MAX;
+use sf_text_lines::LINE_MAX;
 use std::alloc::{AllocError, Global};
 use std::marker::Model;
 

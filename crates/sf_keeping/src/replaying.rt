@@ -7,8 +7,8 @@ ghost use Rattle.sf_keeping.specs.Replays.{FailsAt, IsReplayed};
 use super::carrying::{Outcome, carry_out};
 use sf_console::Editor;
 use sf_journal::Sum;
-use sf_lines::line_feed;
 use sf_refusals::Refusal;
+use sf_text_lines::line_feed;
 use std::alloc::Global;
 
 /// What the records of a journal gave.

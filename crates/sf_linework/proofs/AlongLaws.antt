@@ -43,8 +43,8 @@ use Rattle.sf_relate.specs.Matrices.{IsMatrix, both, matrix_of}
 use Rattle.sf_relate.specs.Places.{shape_of}
 use Rattle.sf_relate.specs.declared.shape.Shape.{Shape}
 use Rattle.sf_relate.specs.declared.shape.Shape.TheVariants.{Areas, Lines, Points}
-use Rattle.sf_rules.proofs.MemberLaws.{any-one, each-in, in_map, one-any}
-use Rattle.sf_rules.specs.Validity.{IsValid}
+use Rattle.sf_valid_rules.proofs.MemberLaws.{any-one, each-in, in_map, one-any}
+use Rattle.sf_valid_rules.specs.Validity.{IsValid}
 use Rattle.sf_strips.specs.declared.piece.Piece.{Piece}
 use Rattle.sf_strips.specs.declared.piece.Piece.TheVariants.{Edge}
 use Rattle.sf_cells.specs.Samples.{Sample, samples}

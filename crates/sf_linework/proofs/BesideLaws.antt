@@ -25,7 +25,7 @@ use Rattle.sf_relate.specs.Matrices.{IsMatrix, both, matrix_of}
 use Rattle.sf_relate.specs.Places.{shape_of}
 use Rattle.sf_relate.specs.declared.shape.Shape.{Shape}
 use Rattle.sf_relate.specs.declared.shape.Shape.TheVariants.{Areas, Lines, Points}
-use Rattle.sf_rules.specs.Validity.{IsValid}
+use Rattle.sf_valid_rules.specs.Validity.{IsValid}
 use Rattle.sf_strips.specs.declared.piece.Piece.{Piece}
 use Rattle.sf_linework.specs.Beside.{entry_beside, has_lines, known_beside, known_of_rest}
 use Rattle.sf_linework.proofs.AlongLaws.{any-most, long-entry, no-share}

@@ -46,8 +46,8 @@ use Rattle.sf_relate.specs.Matrices.{IsMatrix, both, matrix_of}
 use Rattle.sf_relate.specs.Places.{shape_of}
 use Rattle.sf_relate.specs.declared.shape.Shape.{Shape}
 use Rattle.sf_relate.specs.declared.shape.Shape.TheVariants.{Areas, Lines, Points}
-use Rattle.sf_rules.proofs.MemberLaws.{any-one, each-from_in, each-in, in_map, one-any}
-use Rattle.sf_rules.specs.Validity.{IsValid}
+use Rattle.sf_valid_rules.proofs.MemberLaws.{any-one, each-from_in, each-in, in_map, one-any}
+use Rattle.sf_valid_rules.specs.Validity.{IsValid}
 use Rattle.sf_linework.specs.Cover.{CoverIsKnown, EndsAreSeen, HasEndIn, HasEndOff, IsKnownByCover, if_long, known_of_covered, known_of_ends_at, seen_starts}
 use Rattle.sf_linework.specs.declared.cover.Cover.{Cover}
 use Rattle.sf_linework.specs.declared.cover.Cover.TheVariants.{Ends, Whole}

@@ -33,8 +33,8 @@ use Rattle.sf_relate.specs.AllPieces.{all_pieces}
 use Rattle.sf_relate.specs.Matrices.{both, matrix_of}
 use Rattle.sf_relate.specs.Places.{shape_of}
 use Rattle.sf_relate.specs.declared.shape.Shape.TheVariants.{Lines}
-use Rattle.sf_rules.proofs.MemberLaws.{HasOne, any-one, count-same, each-from_in, in_flat_map, one-any}
-use Rattle.sf_rules.specs.Validity.{IsValid}
+use Rattle.sf_valid_rules.proofs.MemberLaws.{HasOne, any-one, count-same, each-from_in, in_flat_map, one-any}
+use Rattle.sf_valid_rules.specs.Validity.{IsValid}
 use Rattle.sf_linework.specs.declared.ends.Seen.{Seen}
 use Rattle.sf_linework.specs.Ends.{EndsAreKnown, boundary_row, if_seen, is_all, is_lines, known_by_ends, known_by_own_ends, known_of_seen, seen_ends, seen_or}
 use Rattle.sf_linework.proofs.AlongLaws.{ends-short, no-share, short-entry}

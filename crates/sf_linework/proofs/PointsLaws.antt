@@ -42,8 +42,8 @@ use Rattle.sf_relate.specs.Contact.{in_extent, is_in}
 use Rattle.sf_relate.specs.declared.place.Place.TheVariants.{Exterior, Interior}
 use Rattle.sf_relate.specs.Matrices.{both, matrix_of}
 use Rattle.sf_relate.specs.Places.{IsPlaceOf}
-use Rattle.sf_rules.proofs.MemberLaws.{any-one, in_map, one-any}
-use Rattle.sf_rules.specs.Validity.{IsValid}
+use Rattle.sf_valid_rules.proofs.MemberLaws.{any-one, in_map, one-any}
+use Rattle.sf_valid_rules.specs.Validity.{IsValid}
 use Rattle.sf_linework.specs.Ends.{if_seen, is_lines}
 use Rattle.sf_linework.specs.Points.{interior_row, is_points, known_of_points, seen_points}
 use Rattle.sf_linework.proofs.AlongLaws.{no-share, short-entry}

@@ -16,7 +16,7 @@ use Rattle.sf_relate.specs.declared.place.Place.{Place}
 use Rattle.sf_relate.specs.declared.place.Place.TheVariants.{Boundary, Exterior, Interior}
 use Rattle.sf_relate.specs.Matrices.{both, matrix_of}
 use Rattle.sf_relate.specs.Places.{is_place}
-use Rattle.sf_rules.specs.Validity.{IsValid}
+use Rattle.sf_valid_rules.specs.Validity.{IsValid}
 use Rattle.sf_linework.specs.declared.ends.Seen.{Seen}
 
 -- ---- what is known

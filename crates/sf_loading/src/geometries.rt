@@ -3,7 +3,7 @@ ghost use Rattle.std.specs.Prelude.{◌≡◌, ◌≤◌, Ok, Err, Result, nat_l
 ghost use Rattle.sf_geometry.specs.declared.geometry.Geometry.{Geometry as Shape};
 ghost use Rattle.sf_geometry.specs.Kinds.{kind_of};
 ghost use Rattle.sf_geometry.specs.Size.{IsSized};
-ghost use Rattle.sf_rules.specs.Verdicts.{first_fault};
+ghost use Rattle.sf_valid_rules.specs.Verdicts.{first_fault};
 ghost use Rattle.sf_validity.specs.Held.{IsHeld};
 ghost use Rattle.sf_wkb.specs.declared.fault.WkbFault.{WkbFault as RowFault};
 ghost use Rattle.sf_wkb.specs.Grammar.{OrMemory, read_in};

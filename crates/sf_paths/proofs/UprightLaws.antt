@@ -8,7 +8,7 @@ use Rattle.sf_grid.specs.Edge.{Edge as Line, IsOnEdge, below_rightward, cross, e
 use Rattle.sf_grid.specs.EvenOdd.{is_odd}
 use Rattle.sf_grid.proofs.CallerLemmas.{abs_of_run, dif, int_le-scaled, le_from_test, lt_from_test, mul, mul_le, mul_lt, mul_nonneg, mul_nonneg-nonneg, on_edge-swap, ring, same_tests, sum, test_from_lt, var}
 use Rattle.sf_slabs.proofs.CallerLemmas.{each-map}
-use Rattle.sf_rules.proofs.MemberLaws.{count-same}
+use Rattle.sf_valid_rules.proofs.MemberLaws.{count-same}
 use Rattle.sf_interiors.proofs.SideLaws.{no-rightward}
 use Rattle.sf_paths.specs.Paths.{parity}
 use Rattle.sf_paths.proofs.SlantLaws.{above_of, above_of-on, above_of-point, run_of}

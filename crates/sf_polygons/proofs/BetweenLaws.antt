@@ -15,10 +15,10 @@ use Rattle.sf_geometry.specs.Lists.{edges_of, is_closed}
 use Rattle.sf_geometry.specs.Parts.{joined}
 use Rattle.sf_geometry.specs.PointSets.{in_polygon, on_line, on_polygon}
 use Rattle.sf_pieces.specs.Marked.{HasGroups, Marked, groups_of, item_at, pieces_of}
-use Rattle.sf_rules.specs.Conditions.{Applies, any_two}
-use Rattle.sf_rules.specs.Rules.{ring_rules}
-use Rattle.sf_rules.specs.Shapes.{in_hole_outside, in_two_holes, in_two_polygons, on_both, share_piece}
-use Rattle.sf_rules.specs.Validity.{NoneApplies}
+use Rattle.sf_valid_rules.specs.Conditions.{Applies, any_two}
+use Rattle.sf_valid_rules.specs.Rules.{ring_rules}
+use Rattle.sf_valid_rules.specs.Shapes.{in_hole_outside, in_two_holes, in_two_polygons, on_both, share_piece}
+use Rattle.sf_valid_rules.specs.Validity.{NoneApplies}
 use Rattle.sf_polygons.specs.declared.found.PolygonFaults.{PolygonFaults}
 use Rattle.sf_polygons.specs.Colours.{IsColouring, box_of}
 use Rattle.sf_polygons.specs.Found.{ArePolygonFaults, polygon_pieces_shared, with_polygon_cell}

@@ -8,11 +8,11 @@ use Rattle.std.proofs.lemmas.List.{length-append, take_more}
 use Rattle.sf_grid.specs.Plane.{Coordinates, Point}
 use Rattle.sf_slabs.proofs.CallerLemmas.{each-parts}
 use Rattle.sf_geometry.specs.Parts.{joined}
-use Rattle.sf_rules.specs.declared.fault.Fault.TheVariants.{RingsMeet, HoleOutside, HolesNested, PolygonsOverlap}
-use Rattle.sf_rules.specs.Conditions.{Applies, AtPoint, AtTwoPoints, any_two}
-use Rattle.sf_rules.specs.Rules.{Rule, polygon_rules, ring_rules}
-use Rattle.sf_rules.specs.Shapes.{in_hole_outside, in_two_holes, share_piece}
-use Rattle.sf_rules.specs.Validity.{IsFirstIn, NoneApplies}
+use Rattle.sf_valid_rules.specs.declared.fault.Fault.TheVariants.{RingsMeet, HoleOutside, HolesNested, PolygonsOverlap}
+use Rattle.sf_valid_rules.specs.Conditions.{Applies, AtPoint, AtTwoPoints, any_two}
+use Rattle.sf_valid_rules.specs.Rules.{Rule, polygon_rules, ring_rules}
+use Rattle.sf_valid_rules.specs.Shapes.{in_hole_outside, in_two_holes, share_piece}
+use Rattle.sf_valid_rules.specs.Validity.{IsFirstIn, NoneApplies}
 use Rattle.sf_polygons.specs.declared.found.PolygonFaults.{PolygonFaults}
 use Rattle.sf_polygons.specs.declared.found.RingFaults.{RingFaults}
 use Rattle.sf_polygons.specs.Found.{ArePolygonFaults, AreRingFaults, both_faults, first_found, holes_nested, holes_outside, pieces_shared, polygons_overlap}

@@ -13,10 +13,10 @@ use Rattle.sf_plane.specs.Laws.{ShareTwoPoints}
 use Rattle.sf_plane.proofs.ShareLaws.{shared_tell}
 use Rattle.sf_geometry.specs.Lists.{edges_between, edges_from, edges_of, is_closed, tight}
 use Rattle.sf_pieces.specs.Marked.{piece_of}
-use Rattle.sf_rules.specs.Conditions.{Applies, AtTwoPoints, any_two}
-use Rattle.sf_rules.specs.Rules.{Rule, ring_rules}
-use Rattle.sf_rules.specs.Shapes.{is_joint, meets_itself, on_both, share_piece}
-use Rattle.sf_rules.specs.Validity.{NoneApplies}
+use Rattle.sf_valid_rules.specs.Conditions.{Applies, AtTwoPoints, any_two}
+use Rattle.sf_valid_rules.specs.Rules.{Rule, ring_rules}
+use Rattle.sf_valid_rules.specs.Shapes.{is_joint, meets_itself, on_both, share_piece}
+use Rattle.sf_valid_rules.specs.Validity.{NoneApplies}
 use Rattle.sf_polygons.proofs.PieceLaws.{all_edges}
 use Rattle.sf_polygons.proofs.TestLaws.{any-at, each-among, one-of, two-count, two-flat, two-of}
 

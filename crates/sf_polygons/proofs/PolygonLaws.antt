@@ -5,8 +5,8 @@ use Rattle.std.specs.List.{list_any}
 use Rattle.std.proofs.lemmas.Bool.{both_ways, or_left}
 use Rattle.sf_grid.specs.Plane.{Coordinates, Point}
 use Rattle.sf_geometry.specs.PointSets.{in_polygon, in_ring, on_line, on_polygon, within_ring}
-use Rattle.sf_rules.specs.Conditions.{any_two}
-use Rattle.sf_rules.specs.Shapes.{in_hole_outside, in_two_holes}
+use Rattle.sf_valid_rules.specs.Conditions.{any_two}
+use Rattle.sf_valid_rules.specs.Shapes.{in_hole_outside, in_two_holes}
 use Rattle.sf_polygons.proofs.PieceLaws.{parity}
 use Rattle.sf_polygons.proofs.TestLaws.{and-none, any-follows, odd_many, or-neither}
 

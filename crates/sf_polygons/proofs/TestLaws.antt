@@ -5,7 +5,7 @@ use Rattle.std.proofs.lemmas.Bool.{both_ways, or_cases}
 use Rattle.std.proofs.lemmas.List.Sums.{sum_by-append, sum_by-cons}
 use Rattle.sf_grid.specs.EvenOdd.{is_odd}
 use Rattle.sf_slabs.proofs.CallerLemmas.{each-map}
-use Rattle.sf_rules.specs.Conditions.{any_two}
+use Rattle.sf_valid_rules.specs.Conditions.{any_two}
 
 -- ---- truth values
 pub or-none : (b : Bool) → (b || false) ≡ b

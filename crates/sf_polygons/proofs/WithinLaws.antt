@@ -17,10 +17,10 @@ use Rattle.sf_geometry.specs.PointSets.{in_ring, on_line, within_ring}
 use Rattle.sf_plane.specs.Cover.{cell_at}
 use Rattle.sf_pieces.specs.Marked.{HasGroups, Marked, groups_of, item_at, items_of, pieces_of}
 use Rattle.sf_pieces.proofs.CountLaws.{items-count}
-use Rattle.sf_rules.specs.Conditions.{any_two}
-use Rattle.sf_rules.specs.Rules.{ring_rules}
-use Rattle.sf_rules.specs.Shapes.{in_hole_outside, in_two_holes, share_piece}
-use Rattle.sf_rules.specs.Validity.{NoneApplies}
+use Rattle.sf_valid_rules.specs.Conditions.{any_two}
+use Rattle.sf_valid_rules.specs.Rules.{ring_rules}
+use Rattle.sf_valid_rules.specs.Shapes.{in_hole_outside, in_two_holes, share_piece}
+use Rattle.sf_valid_rules.specs.Validity.{NoneApplies}
 use Rattle.sf_polygons.specs.declared.found.RingFaults.{RingFaults}
 use Rattle.sf_polygons.specs.Colours.{IsColouring, box_of}
 use Rattle.sf_polygons.specs.Found.{AreRingFaults, with_ring_cell}

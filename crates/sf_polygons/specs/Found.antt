@@ -5,10 +5,10 @@ use Rattle.std.specs.List.{list_any}
 use Rattle.sf_grid.specs.Plane.{Coordinates}
 use Rattle.sf_cells.specs.Groups.{Item}
 use Rattle.sf_geometry.specs.Parts.{joined}
-use Rattle.sf_rules.specs.declared.fault.Fault.{Fault}
-use Rattle.sf_rules.specs.declared.fault.Fault.TheVariants.{RingsMeet, HoleOutside, HolesNested, PolygonsOverlap}
-use Rattle.sf_rules.specs.Conditions.{Applies, AtPoint, AtTwoPoints, Condition, any_two}
-use Rattle.sf_rules.specs.Shapes.{in_hole_outside, in_two_holes, in_two_polygons, share_piece}
+use Rattle.sf_valid_rules.specs.declared.fault.Fault.{Fault}
+use Rattle.sf_valid_rules.specs.declared.fault.Fault.TheVariants.{RingsMeet, HoleOutside, HolesNested, PolygonsOverlap}
+use Rattle.sf_valid_rules.specs.Conditions.{Applies, AtPoint, AtTwoPoints, Condition, any_two}
+use Rattle.sf_valid_rules.specs.Shapes.{in_hole_outside, in_two_holes, in_two_polygons, share_piece}
 use Rattle.sf_polygons.specs.declared.found.RingFaults.{RingFaults}
 use Rattle.sf_polygons.specs.declared.found.PolygonFaults.{PolygonFaults}
 use Rattle.sf_polygons.specs.Tests.{is_nested, is_outside, is_overlap, is_shared}

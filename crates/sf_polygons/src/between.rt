@@ -3,8 +3,8 @@
 ghost use Rattle.std.specs.Prelude.{◌≡◌, ◌++◌, ◌==◌, ◌≤◌, IfOk, OnOk, length, map};
 ghost use Rattle.std.specs.List.{flat_map, list_all};
 ghost use Rattle.sf_geometry.specs.Parts.{joined};
-ghost use Rattle.sf_rules.specs.Rules.{ring_rules};
-ghost use Rattle.sf_rules.specs.Validity.{NoneApplies};
+ghost use Rattle.sf_valid_rules.specs.Rules.{ring_rules};
+ghost use Rattle.sf_valid_rules.specs.Validity.{NoneApplies};
 ghost use Rattle.sf_polygons.specs.Colours.{box_of};
 ghost use Rattle.sf_polygons.specs.Found.{ArePolygonFaults};
 ghost use Rattle.sf_polygons.specs.Rings.{grouped, pieces_in, polygons_in};

@@ -3,8 +3,8 @@
 ghost use Rattle.std.specs.Prelude.{◌≡◌, ◌≤◌, IfOk, length};
 ghost use Rattle.std.specs.List.{flat_map};
 ghost use Rattle.sf_geometry.specs.Parts.{joined};
-ghost use Rattle.sf_rules.specs.Rules.{polygon_rules, ring_rules};
-ghost use Rattle.sf_rules.specs.Validity.{IsFirstIn, NoneApplies};
+ghost use Rattle.sf_valid_rules.specs.Rules.{polygon_rules, ring_rules};
+ghost use Rattle.sf_valid_rules.specs.Validity.{IsFirstIn, NoneApplies};
 ghost use Rattle.sf_polygons.specs.Found.{AreRingFaults, both_faults, first_found};
 
 use crate::between::faults_between;
@@ -12,7 +12,7 @@ use crate::found::{PolygonFaults, RingFaults};
 use crate::within::faults_within;
 use sf_geometry::Sequence;
 use sf_grid::GridPoint;
-use sf_rules::Fault;
+use sf_valid_rules::Fault;
 use std::alloc::{AllocError, Global};
 
 /// The first fault of polygons in how their rings lie to one another, or None. Each polygon is its

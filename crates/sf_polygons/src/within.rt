@@ -3,8 +3,8 @@
 ghost use Rattle.std.specs.Prelude.{◌≡◌, ◌∷◌, ◌++◌, ◌<◌, ◌≤◌, [], ◌+◌, ◌^◌, IfOk, OnOk, length, map};
 ghost use Rattle.std.specs.List.{All, flat_map};
 ghost use Rattle.sf_geometry.specs.Parts.{joined};
-ghost use Rattle.sf_rules.specs.Rules.{ring_rules};
-ghost use Rattle.sf_rules.specs.Validity.{NoneApplies};
+ghost use Rattle.sf_valid_rules.specs.Rules.{ring_rules};
+ghost use Rattle.sf_valid_rules.specs.Validity.{NoneApplies};
 ghost use Rattle.sf_polygons.specs.Colours.{box_of};
 ghost use Rattle.sf_polygons.specs.Found.{AreRingFaults};
 ghost use Rattle.sf_polygons.specs.Rings.{holes_in, pieces_in};

@@ -9,7 +9,7 @@ use Rattle.sf_geometry.specs.declared.geometry.Geometry.TheVariants.{LineString,
 use Rattle.sf_geometry.specs.Lists.{tight}
 use Rattle.sf_geometry.specs.Size.{has_empty, is_empty}
 use Rattle.sf_geometry.specs.Vertices.{ring_vertices, vertex_of}
-use Rattle.sf_rules.specs.Validity.{IsValid}
+use Rattle.sf_valid_rules.specs.Validity.{IsValid}
 
 -- a ring of four points has a first vertex
 ring-begins : (x : Coordinates) (xs : List Coordinates) → ¬ (nat_lt (length (tight (x ∷ xs))) 4 ≡ true) → slice_get (ring_vertices (x ∷ xs)) 0 ≡ None → ⊥

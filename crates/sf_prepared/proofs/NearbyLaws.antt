@@ -29,7 +29,7 @@ use Rattle.sf_interiors.proofs.VertexLaws.{areas_have_beside}
 use Rattle.sf_plane.specs.declared.dim.Dim.TheVariants.{Two}
 use Rattle.sf_plane.specs.Dimension.{PointSet}
 use Rattle.sf_plane.proofs.BoxLaws.{common_point_meets, edge_in_box}
-use Rattle.sf_rules.specs.Validity.{IsValid}
+use Rattle.sf_valid_rules.specs.Validity.{IsValid}
 use Rattle.sf_validity.specs.Beside.{box_of_extent}
 use Rattle.sf_validity.specs.Held.{IsHeld}
 use Rattle.sf_relate.specs.Contact.{in_extent, is_in}

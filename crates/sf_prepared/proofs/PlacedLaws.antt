@@ -23,7 +23,7 @@ use Rattle.sf_interiors.proofs.SideLaws.{differ}
 use Rattle.sf_paths.specs.Paths.{IsOffBox, parity}
 use Rattle.sf_paths.proofs.PathLaws.{box_has_one_parity}
 use Rattle.sf_plane.specs.Boxes.{Box, in_box}
-use Rattle.sf_rules.specs.Validity.{IsValid}
+use Rattle.sf_valid_rules.specs.Validity.{IsValid}
 use Rattle.sf_validity.specs.Beside.{box_of_extent}
 use Rattle.sf_relate.specs.Contact.{in_extent, is_in}
 use Rattle.sf_relate.specs.declared.place.Place.{Place}

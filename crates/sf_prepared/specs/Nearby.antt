@@ -7,7 +7,7 @@ use Rattle.sf_geometry.specs.declared.extent.Extent.{Extent}
 use Rattle.sf_geometry.specs.declared.geometry.Geometry.{Geometry}
 use Rattle.sf_geometry.specs.Envelope.{envelope_of, extents_meet}
 use Rattle.sf_geometry.specs.Parts.{edge_of}
-use Rattle.sf_rules.specs.Validity.{IsValid}
+use Rattle.sf_valid_rules.specs.Validity.{IsValid}
 use Rattle.sf_relate.specs.Contact.{in_extent}
 use Rattle.sf_relate.specs.Nearby.{ReachesBeyond, TellPlaces}
 use Rattle.sf_relate.specs.Places.{shape_of}

@@ -5,7 +5,7 @@ ghost use Rattle.sf_grid.specs.EvenOdd.{edges_above, is_odd};
 ghost use Rattle.sf_grid.specs.Plane.{grid_point};
 ghost use Rattle.sf_geometry.specs.Envelope.{envelope_of};
 ghost use Rattle.sf_geometry.specs.Parts.{edge_of, edges_of};
-ghost use Rattle.sf_rules.specs.Validity.{IsValid};
+ghost use Rattle.sf_valid_rules.specs.Validity.{IsValid};
 ghost use Rattle.sf_validity.specs.Held.{IsHeld};
 ghost use Rattle.sf_relate.specs.declared.place.Place.TheVariants.{Boundary};
 ghost use Rattle.sf_relate.specs.declared.shape.Shape.TheVariants.{Areas, Lines, Points};

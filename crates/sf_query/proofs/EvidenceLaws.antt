@@ -7,7 +7,7 @@ use Rattle.sf_geometry.specs.declared.geometry.Geometry.{Geometry}
 use Rattle.sf_geometry.specs.declared.geometry.Geometry.TheVariants.{Point}
 use Rattle.sf_plane.specs.declared.dim.Dim.{Dim}
 use Rattle.sf_plane.specs.declared.dim.Dim.TheVariants.{Nothing, Two, Zero}
-use Rattle.sf_rules.specs.Validity.{IsValid}
+use Rattle.sf_valid_rules.specs.Validity.{IsValid}
 use Rattle.sf_known.specs.declared.known.Known.{Known}
 use Rattle.sf_known.specs.declared.matrix.Matrix.{Matrix}
 use Rattle.sf_known.proofs.KnownLaws.{both_hold}

@@ -5,7 +5,7 @@ ghost use Rattle.std.specs.List.{AllByRecursion};
 ghost use Rattle.sf_grid.specs.Plane.{Coordinates};
 ghost use Rattle.sf_geometry.specs.declared.geometry.Geometry.TheVariants.{Point};
 ghost use Rattle.sf_geometry.specs.Size.{point_count};
-ghost use Rattle.sf_rules.specs.Validity.{IsValid};
+ghost use Rattle.sf_valid_rules.specs.Validity.{IsValid};
 ghost use Rattle.sf_known.specs.Known.{Holds, exactly, nothing_known};
 ghost use Rattle.sf_relate.specs.Contact.{has_first_point_in};
 ghost use Rattle.sf_relate.specs.Matrices.{matrix_of};

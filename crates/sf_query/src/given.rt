@@ -3,7 +3,7 @@
 ghost use Rattle.std.specs.Prelude.{◌≡◌, ◌&&◌, not, IfOk, IfSome};
 ghost use Rattle.sf_geometry.specs.Envelope.{envelope_of, extents_meet};
 ghost use Rattle.sf_rtree.specs.Indexes.{ids_meeting};
-ghost use Rattle.sf_rules.specs.Validity.{IsValid};
+ghost use Rattle.sf_valid_rules.specs.Validity.{IsValid};
 ghost use Rattle.sf_relate.specs.Matrices.{matrix_of};
 
 use sf_geometry::Extent;
@@ -29,7 +29,7 @@ impl<'a> Model for Given<'a> {
     ghost use Rattle.std.specs.Prelude.{◌≡◌, IfSome};
     ghost use Rattle.sf_geometry.specs.Envelope.{envelope_of};
     ghost use Rattle.sf_geometry.specs.declared.geometry.Geometry.{Geometry as Shape};
-    ghost use Rattle.sf_rules.specs.Validity.{IsValid};
+    ghost use Rattle.sf_valid_rules.specs.Validity.{IsValid};
     ghost use Rattle.sf_prepared.specs.Boxes.{AreEdgesOf};
 
     ghost Value = { Shape };

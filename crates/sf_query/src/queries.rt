@@ -4,7 +4,7 @@ ghost use Rattle.std.specs.Prelude.{◌≡◌, IfOk, IsSome, IsTrue, filter, nat
 ghost use Rattle.std.specs.List.{AllByRecursion};
 ghost use Rattle.sf_geometry.specs.Envelope.{envelope_of};
 ghost use Rattle.sf_rtree.specs.Indexes.{ids_meeting};
-ghost use Rattle.sf_rules.specs.Validity.{IsValid};
+ghost use Rattle.sf_valid_rules.specs.Validity.{IsValid};
 ghost use Rattle.sf_layers.specs.Boxes.{boxes_of};
 ghost use Rattle.sf_layers.specs.Content.{feature_of, layer_of};
 ghost use Rattle.sf_layers.specs.WellFormed.{IsLayer};

@@ -24,8 +24,8 @@ use Rattle.sf_plane.specs.declared.dim.Dim.{Dim}
 use Rattle.sf_plane.specs.declared.dim.Dim.TheVariants as dims
 use Rattle.sf_plane.specs.Dimension.{HasDimension, HasSegment, HasTriangle, PointSet}
 use Rattle.sf_plane.specs.Unions.{IsUnionOfCells, dimension_by_samples}
-use Rattle.sf_rules.proofs.MemberLaws.{any-one, in_map, one-any}
-use Rattle.sf_rules.specs.Validity.{IsValid}
+use Rattle.sf_valid_rules.proofs.MemberLaws.{any-one, in_map, one-any}
+use Rattle.sf_valid_rules.specs.Validity.{IsValid}
 use Rattle.sf_known.proofs.NineLaws.{boundaries-known}
 use Rattle.sf_known.specs.declared.aim.Aim.TheVariants.{ButBoundaries}
 use Rattle.sf_known.specs.declared.known.Known.{Known}

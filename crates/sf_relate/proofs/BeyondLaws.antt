@@ -15,7 +15,7 @@ use Rattle.sf_plane.proofs.UnionLaws.{samples_tell}
 use Rattle.sf_plane.specs.declared.dim.Dim.TheVariants.{One, Two, Zero}
 use Rattle.sf_plane.specs.Dimension.{HasDimension, HasSegment, HasTriangle, PointSet}
 use Rattle.sf_plane.specs.Unions.{IsSampleOf}
-use Rattle.sf_rules.specs.Validity.{IsValid}
+use Rattle.sf_valid_rules.specs.Validity.{IsValid}
 use Rattle.sf_known.specs.Known.{Holds, IsAtMost}
 use Rattle.sf_relate.specs.declared.shape.Shape.TheVariants.{Areas, Points}
 use Rattle.sf_relate.specs.AllPieces.{all_pieces}

@@ -22,8 +22,8 @@ use Rattle.sf_plane.proofs.BoxLaws.{common_point_meets, edge_in_box}
 use Rattle.sf_plane.proofs.CoverLaws.{contains}
 use Rattle.sf_plane.proofs.PlaceLaws.{IsIn}
 use Rattle.sf_plane.proofs.ShareLaws.{in_from_contains}
-use Rattle.sf_rules.proofs.MemberLaws.{one-any}
-use Rattle.sf_rules.specs.Validity.{IsValid}
+use Rattle.sf_valid_rules.proofs.MemberLaws.{one-any}
+use Rattle.sf_valid_rules.specs.Validity.{IsValid}
 use Rattle.sf_validity.specs.Beside.{box_of_extent}
 use Rattle.sf_relate.specs.Contact.{in_extent, is_in}
 use Rattle.sf_relate.proofs.AreasLaws.{any-flat}

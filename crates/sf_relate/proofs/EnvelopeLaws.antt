@@ -18,10 +18,10 @@ use Rattle.sf_geometry.specs.Parts.{HasClosedRings, lines_of, lists_of, points_o
 use Rattle.sf_geometry.specs.PointSets.{in_boundary, in_interior, in_polygon, in_ring, is_among, on_line, on_polygon, within_ring}
 use Rattle.sf_plane.specs.Boxes.{Box, HasEnds, in_box}
 use Rattle.sf_plane.proofs.BoxLaws.{common_point_meets, edge_in_box, ring_in_box}
-use Rattle.sf_rules.specs.Conditions.{Applies}
-use Rattle.sf_rules.specs.Rules.{Rule, line_rules, polygon_rules, ring_rules}
-use Rattle.sf_rules.specs.Validity.{IsValid}
-use Rattle.sf_rules.proofs.MemberLaws.{each-of_flat}
+use Rattle.sf_valid_rules.specs.Conditions.{Applies}
+use Rattle.sf_valid_rules.specs.Rules.{Rule, line_rules, polygon_rules, ring_rules}
+use Rattle.sf_valid_rules.specs.Validity.{IsValid}
+use Rattle.sf_valid_rules.proofs.MemberLaws.{each-of_flat}
 use Rattle.sf_interiors.proofs.RingLaws.{ring-chain}
 use Rattle.sf_strands.proofs.EndLaws.{start-same-on}
 use Rattle.sf_polygons.proofs.TestLaws.{any-follows}

@@ -11,7 +11,7 @@ use Rattle.sf_geometry.specs.declared.geometry.Geometry.TheVariants.{Point, Line
 use Rattle.sf_geometry.specs.Lists.{edges_between, tight}
 use Rattle.sf_geometry.specs.PointSets.{in_boundary, in_interior, in_polygon, is_among, on_line, on_polygon}
 use Rattle.sf_geometry.specs.Vertices.{ring_vertices, vertex_of}
-use Rattle.sf_rules.specs.Validity.{IsValid}
+use Rattle.sf_valid_rules.specs.Validity.{IsValid}
 use Rattle.sf_strands.proofs.EndLaws.{grid-IsPoint, start-on}
 use Rattle.sf_relate.specs.Contact.{FirstPointIsIn, SharePoint, is_in}
 use Rattle.sf_relate.specs.Matrices.{matrix_of}

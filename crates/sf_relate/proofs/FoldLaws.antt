@@ -20,7 +20,7 @@ use Rattle.sf_plane.specs.declared.dim.Dim.{Dim}
 use Rattle.sf_plane.specs.declared.dim.Dim.TheVariants.{Nothing, Zero, One, Two}
 use Rattle.sf_plane.specs.Dimension.{PointSet}
 use Rattle.sf_plane.specs.Unions.{dim_of, dimension_by_samples, greater_dim, greatest_dim}
-use Rattle.sf_rules.specs.Validity.{IsValid}
+use Rattle.sf_valid_rules.specs.Validity.{IsValid}
 use Rattle.sf_pieces.specs.Marked.{Marked, groups_of, items_of, pieces_of}
 use Rattle.sf_relate.specs.declared.place.Place.{Place}
 use Rattle.sf_relate.specs.declared.place.Place.TheVariants.{Interior, Boundary, Exterior}

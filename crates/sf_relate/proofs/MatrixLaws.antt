@@ -3,7 +3,7 @@ use Rattle.std.proofs.Common.{◌≡◌, ap, sym, ◌∙◌, subst, Bool, List, 
 use Rattle.sf_classes.specs.Classes.{Represent, WereHanded}
 use Rattle.sf_geometry.specs.declared.geometry.Geometry.{Geometry}
 use Rattle.sf_plane.specs.declared.dim.Dim.{Dim}
-use Rattle.sf_rules.specs.Validity.{IsValid}
+use Rattle.sf_valid_rules.specs.Validity.{IsValid}
 use Rattle.sf_pieces.specs.Marked.{Marked, groups_of, items_of, pieces_of}
 use Rattle.sf_known.specs.declared.aim.Aim.{Aim}
 use Rattle.sf_known.specs.declared.known.Known.{Known}

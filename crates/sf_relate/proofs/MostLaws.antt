@@ -12,7 +12,7 @@ use Rattle.sf_plane.proofs.UnionLaws.{point_in_segment, segment_in_triangle}
 use Rattle.sf_plane.specs.declared.dim.Dim.{Dim}
 use Rattle.sf_plane.specs.declared.dim.Dim.TheVariants as dims
 use Rattle.sf_plane.specs.Dimension.{HasDimension, HasPoint, HasSegment, HasTriangle, PointSet}
-use Rattle.sf_rules.specs.Validity.{IsValid}
+use Rattle.sf_valid_rules.specs.Validity.{IsValid}
 use Rattle.sf_known.proofs.OrderLaws.{at-most-lesser, at-most-two, greater-same, through}
 use Rattle.sf_known.specs.Known.{AreAtMost, Holds, IsAtMost}
 use Rattle.sf_relate.specs.Matrices.{both, matrix_of}

@@ -34,8 +34,8 @@ use Rattle.sf_plane.specs.declared.dim.Dim.{Dim}
 use Rattle.sf_plane.specs.declared.dim.Dim.TheVariants.{Nothing, One, Two}
 use Rattle.sf_plane.specs.Dimension.{HasDimension, HasTriangle}
 use Rattle.sf_plane.specs.Unions.{IsUnionOfCells, dim_of, dimension_by_samples, greater_dim, greatest_dim}
-use Rattle.sf_rules.specs.Validity.{IsValid}
-use Rattle.sf_rules.proofs.MemberLaws.{each-from_in, each-of_map}
+use Rattle.sf_valid_rules.specs.Validity.{IsValid}
+use Rattle.sf_valid_rules.proofs.MemberLaws.{each-from_in, each-of_map}
 use Rattle.sf_interiors.specs.Dimensions.{boundary_dim, interior_dim}
 use Rattle.sf_interiors.proofs.DimensionLaws.{boundary_has_dimension}
 use Rattle.sf_pieces.specs.Marked.{HasGroups, Marked, groups_of, item_at, items_of, marked, piece_of, pieces_of as pieces_among}

@@ -22,8 +22,8 @@ use Rattle.sf_plane.specs.declared.dim.Dim.{Dim}
 use Rattle.sf_plane.specs.declared.dim.Dim.TheVariants as dims
 use Rattle.sf_plane.specs.Dimension.{HasDimension, HasPoint, HasSegment, HasTriangle, PointSet}
 use Rattle.sf_plane.specs.Unions.{dimension_by_samples}
-use Rattle.sf_rules.proofs.MemberLaws.{each-of_flat, one-any}
-use Rattle.sf_rules.specs.Validity.{IsValid}
+use Rattle.sf_valid_rules.proofs.MemberLaws.{each-of_flat, one-any}
+use Rattle.sf_valid_rules.specs.Validity.{IsValid}
 use Rattle.sf_relate.specs.declared.place.Place.TheVariants.{Interior, Exterior}
 use Rattle.sf_relate.specs.declared.shape.Shape.TheVariants.{Areas}
 use Rattle.sf_relate.specs.AllPieces.{all_pieces}

@@ -15,10 +15,10 @@ use Rattle.sf_geometry.specs.Lists.{before_tight, edges_between, edges_from, edg
 use Rattle.sf_geometry.specs.Parts.{joined}
 use Rattle.sf_geometry.specs.PointSets.{in_polygon, is_among, on_line, on_polygon}
 use Rattle.sf_geometry.proofs.ListLaws.{same-is}
-use Rattle.sf_rules.specs.Conditions.{Applies, any_two}
-use Rattle.sf_rules.specs.Rules.{Rule, polygon_rules, ring_rules}
-use Rattle.sf_rules.specs.Shapes.{in_hole_outside, in_two_holes, in_two_polygons}
-use Rattle.sf_rules.specs.Validity.{NoneApplies}
+use Rattle.sf_valid_rules.specs.Conditions.{Applies, any_two}
+use Rattle.sf_valid_rules.specs.Rules.{Rule, polygon_rules, ring_rules}
+use Rattle.sf_valid_rules.specs.Shapes.{in_hole_outside, in_two_holes, in_two_polygons}
+use Rattle.sf_valid_rules.specs.Validity.{NoneApplies}
 use Rattle.sf_pieces.specs.Marked.{piece_of}
 use Rattle.sf_strands.proofs.EndLaws.{both-same, end-same-on, same-self, start-same-on}
 use Rattle.sf_polygons.proofs.TestLaws.{any-flat, any-follows, any-map, count-map, odd-flat, odd-joined, odd_many, or-neither, or-none, or-right, some-count, xor}

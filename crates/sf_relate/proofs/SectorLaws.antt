@@ -20,7 +20,7 @@ use Rattle.sf_plane.proofs.FormLaws.{mean-point, mean_of_three-point, nudged, nu
 use Rattle.sf_plane.proofs.PlaceLaws.{IsIn}
 use Rattle.sf_plane.proofs.ShareLaws.{edge_is_convex, in_from_contains}
 use Rattle.sf_plane.specs.Dimension.{HasSegment, HasTriangle, PointSet, area, mean, mean_of_three}
-use Rattle.sf_rules.proofs.MemberLaws.{count-same, each-from_in, each-in}
+use Rattle.sf_valid_rules.proofs.MemberLaws.{count-same, each-from_in, each-in}
 use Rattle.sf_interiors.proofs.AlongLaws.{along-on, rise_to, run_to}
 use Rattle.sf_interiors.proofs.ChainLaws.{IsBalanced}
 use Rattle.sf_interiors.proofs.InsideLaws.{IsOff, balanced-off, each-fine, stays-off, swerves}

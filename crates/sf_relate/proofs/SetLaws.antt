@@ -21,7 +21,7 @@ use Rattle.sf_plane.specs.declared.dim.Dim.{Dim}
 use Rattle.sf_plane.specs.Dimension.{PointSet}
 use Rattle.sf_plane.specs.Unions.{IsUnionOfCells, dimension_by_samples}
 use Rattle.sf_pieces.specs.Marked.{piece_of}
-use Rattle.sf_rules.proofs.MemberLaws.{each-from_in, each-of_flat, each-of_map}
+use Rattle.sf_valid_rules.proofs.MemberLaws.{each-from_in, each-of_flat, each-of_map}
 use Rattle.sf_relate.specs.AllPieces.{all_pieces, end_dots_of, pieces_of, with_ends}
 use Rattle.sf_relate.specs.Matrices.{AreDimensions, MatricesAreOverThePlane, both, intersections, matrix_of, sets_of}
 

@@ -14,7 +14,7 @@ use Rattle.sf_geometry.specs.declared.geometry.Geometry.TheVariants.{Point, Line
 use Rattle.sf_geometry.specs.Lists.{edges_between, edges_of as edges_of_list, ends_of as ends_of_line, is_closed, last_from, tight}
 use Rattle.sf_geometry.specs.Parts.{ends_of, joined, lines_of, points_of}
 use Rattle.sf_geometry.specs.Size.{has_empty, is_empty}
-use Rattle.sf_rules.specs.Validity.{IsValid}
+use Rattle.sf_valid_rules.specs.Validity.{IsValid}
 use Rattle.sf_pieces.specs.Marked.{HasGroups, Marked, groups_of, marked, piece_of}
 use Rattle.sf_strands.proofs.EndLaws.{same-self}
 use Rattle.sf_polygons.proofs.SizeLaws.{few-edges}

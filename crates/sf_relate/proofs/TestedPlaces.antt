@@ -17,7 +17,7 @@ use Rattle.sf_interiors.proofs.ParityLaws.{on-edges}
 use Rattle.sf_geometry.specs.PointSets.{is_among, on_line}
 use Rattle.sf_pieces.specs.Marked.{piece_of}
 use Rattle.sf_polygons.proofs.TestLaws.{any-follows, any-map, count-map, or-none, some-count}
-use Rattle.sf_rules.specs.Validity.{IsValid}
+use Rattle.sf_valid_rules.specs.Validity.{IsValid}
 use Rattle.sf_strands.proofs.EndLaws.{grid-IsPoint}
 use Rattle.sf_relate.specs.declared.place.Place.{Place}
 use Rattle.sf_relate.specs.declared.place.Place.TheVariants.{Interior, Boundary, Exterior}

@@ -23,7 +23,7 @@ use Rattle.sf_plane.specs.Dimension.{HasDimension, HasPoint, HasSegment, HasTria
 use Rattle.sf_plane.proofs.BoxLaws.{common_point_meets}
 use Rattle.sf_plane.proofs.FormLaws.{Form, inside_in, value}
 use Rattle.sf_plane.proofs.GuardLaws.{right_of, value-right_of}
-use Rattle.sf_rules.specs.Validity.{IsValid}
+use Rattle.sf_valid_rules.specs.Validity.{IsValid}
 use Rattle.sf_validity.specs.Beside.{box_of_extent}
 use Rattle.sf_relate.specs.Contact.{SharePoint, is_in}
 use Rattle.sf_relate.specs.Matrices.{IsMatrix, both, matrix_of}

@@ -11,7 +11,7 @@ use Rattle.sf_plane.specs.declared.dim.Dim.TheVariants as dims
 use Rattle.sf_relate.specs.declared.shape.Shape.TheVariants.{Areas}
 use Rattle.sf_relate.specs.Matrices.{matrix_of}
 use Rattle.sf_relate.specs.Places.{shape_of}
-use Rattle.sf_rules.specs.Validity.{IsValid}
+use Rattle.sf_valid_rules.specs.Validity.{IsValid}
 
 -- the most that each entry can have of two areas; that of the boundaries by whether these share a piece
 abbrev pub overlapping_entries : Bool → List Dim

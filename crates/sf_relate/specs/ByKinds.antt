@@ -12,7 +12,7 @@ use Rattle.sf_interiors.specs.Dimensions.{boundary_dim, interior_dim}
 use Rattle.sf_plane.specs.declared.dim.Dim.{Dim}
 use Rattle.sf_plane.specs.declared.dim.Dim.TheVariants.{Nothing, Two}
 use Rattle.sf_plane.specs.Dimension.{HasTriangle}
-use Rattle.sf_rules.specs.Validity.{IsValid}
+use Rattle.sf_valid_rules.specs.Validity.{IsValid}
 use Rattle.sf_relate.specs.Contact.{SharePoint, is_in}
 use Rattle.sf_relate.specs.Matrices.{IsMatrix, both, matrix_of}
 

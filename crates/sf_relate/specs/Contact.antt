@@ -11,7 +11,7 @@ use Rattle.sf_geometry.specs.PointSets.{in_boundary, in_exterior, in_interior}
 use Rattle.sf_geometry.specs.Vertices.{vertex_of}
 use Rattle.sf_plane.specs.declared.dim.Dim.{Dim}
 use Rattle.sf_plane.specs.Boxes.{in_box}
-use Rattle.sf_rules.specs.Validity.{IsValid}
+use Rattle.sf_valid_rules.specs.Validity.{IsValid}
 use Rattle.sf_validity.specs.Beside.{box_of_extent}
 use Rattle.sf_known.specs.declared.predicate.Predicate.TheVariants.{Disjoint, Intersects}
 use Rattle.sf_relate.specs.Matrices.{matrix_of}

@@ -13,7 +13,7 @@ use Rattle.sf_geometry.specs.PointSets.{in_boundary, in_interior}
 use Rattle.sf_plane.specs.declared.dim.Dim.{Dim}
 use Rattle.sf_plane.specs.declared.dim.Dim.TheVariants.{Nothing}
 use Rattle.sf_plane.specs.Unions.{dim_of}
-use Rattle.sf_rules.specs.Validity.{IsValid}
+use Rattle.sf_valid_rules.specs.Validity.{IsValid}
 use Rattle.sf_relate.specs.declared.place.Place.{Place}
 use Rattle.sf_relate.specs.declared.place.Place.TheVariants.{Interior, Boundary, Exterior}
 use Rattle.sf_relate.specs.declared.shape.Shape.{Shape}

@@ -8,7 +8,7 @@ ghost use Rattle.sf_geometry.specs.Envelope.{envelope_of, extents_meet};
 ghost use Rattle.sf_geometry.specs.Lists.{ends_of};
 ghost use Rattle.sf_interiors.specs.Dimensions.{boundary_dim as boundary_dim_of, has_end, interior_dim};
 ghost use Rattle.sf_plane.specs.declared.dim.Dim.TheVariants as dims;
-ghost use Rattle.sf_rules.specs.Validity.{IsValid};
+ghost use Rattle.sf_valid_rules.specs.Validity.{IsValid};
 ghost use Rattle.sf_relate.specs.Matrices.{matrix_of};
 ghost use Rattle.sf_relate.specs.ByKinds.{IsWithin, ShareNone, has_odd_end, is_odd_end};
 

@@ -1,8 +1,14 @@
+pub mod LeastLaws
+pub mod EntryLaws
+pub mod ChangeLaws
+pub mod SlotLaws
+pub mod LookLaws
+pub mod LoopLaws
+pub mod LeavingLaws
+pub mod WholeLaws
+pub mod MutualLaws
+pub mod UnderwayLaws
+pub mod HoldsLaws
+pub mod NearLaws
 mod Computed
-mod ComputedSimple
-pub mod VerdictLaws
-pub mod MemberLaws
-pub mod TightLaws
-pub mod AgreeLaws
-pub mod SampledLaws
-pub mod FirstLaws
+pub mod JoinedLists

@@ -1,7 +1,9 @@
-pub mod Faults
-pub mod Conditions
-pub mod Shapes
 pub mod Rules
-pub mod Validity
-pub mod Simplicity
-pub mod Verdicts
+pub mod Holds
+pub mod Breaks
+pub mod Leaving
+pub mod Near
+pub mod Looks
+pub mod Underway
+pub mod Exchanging
+pub mod Asked

@@ -1,45 +1,63 @@
--- The rules of validity, in their order: of each line or ring from the first on, then of the whole.
-use Rattle.std.specs.Prelude.{not, List, [], ◌∷◌, ◌++◌, length, nat_lt}
-use Rattle.std.specs.List.{flat_map, list_any}
-use Rattle.sf_grid.specs.Plane.{Coordinates}
-use Rattle.sf_geometry.specs.declared.geometry.Geometry.{Geometry}
-use Rattle.sf_geometry.specs.Lists.{is_closed, tight}
-use Rattle.sf_geometry.specs.Parts.{joined, lines_of, polygons_of, rings_of}
-use Rattle.sf_rules.specs.declared.fault.Fault.{Fault}
-use Rattle.sf_rules.specs.declared.fault.Fault.TheVariants.{ShortLine, OpenRing, ShortRing, RingNotSimple, RingsMeet, HoleOutside, HolesNested, PolygonsOverlap}
-use Rattle.sf_rules.specs.Conditions.{Condition, Plain, AtPoint, AtTwoPoints, any_two}
-use Rattle.sf_rules.specs.Shapes.{in_hole_outside, in_two_holes, in_two_polygons, meets_itself, share_piece}
+-- Rules between features, and what breaks them.
+use Rattle.std.specs.Prelude.{ℕ, ◌+◌, Bool, not, List, [], ◌∷◌, filter, map, Option, None, Some, bytes_eq}
+use Rattle.std.specs.List.{list_any}
+use Rattle.std.specs.Map.{keys_of}
+use Rattle.sf_query.specs.declared.ask.Ask.{Ask}
+use Rattle.sf_features.specs.Features.{FeatureContent}
+use Rattle.sf_layers.specs.Content.{LayerContent, Content, layer_of}
+use Rattle.sf_joins.specs.Joins.{is_pair, pairs_found}
+use Rattle.sf_rules.specs.declared.rule.Rule.{Rule}
+use Rattle.sf_rules.specs.declared.rule.Form.{Form}
+use Rattle.sf_rules.specs.declared.rule.Form.TheVariants.{Never, Each}
+use Rattle.sf_rules.specs.declared.breaks.Break.{Break}
+use Rattle.sf_rules.specs.declared.breaks.Break.TheVariants.{Pair, Alone}
+use Rattle.sf_rules.specs.declared.breaks.Broken.{Broken}
 
--- a fault, and the condition under which a geometry has it
-pub record Rule : Type 0 where
-  pub fault : Fault
-  pub condition : Condition
+-- whether both layers of a rule are one
+abbrev pub of_one : Rule → Bool
+of_one rule = bytes_eq rule.first rule.second
 
-abbrev pub rule : Fault → Condition → Rule
-rule fault condition = record { fault = fault; condition = condition }
+-- whether no feature of the second layer is as asked with this one of the first
+abbrev pub lacks_partner : Bool → Ask → LayerContent → ℕ × FeatureContent → Bool
+lacks_partner one ask second a = not (list_any (is_pair one ask a) second.features)
 
--- of a line
-abbrev pub line_rules : List Coordinates → List Rule
-line_rules ps = rule ShortLine (Plain (nat_lt (length (tight ps)) 2)) ∷ []
+-- two features that are as asked
+abbrev pub pair_break : ℕ × ℕ → Break
+pair_break pair = Pair pair.0 pair.1
 
--- of a ring
-abbrev pub ring_rules : List Coordinates → List Rule
-ring_rules ring =
-    rule OpenRing (Plain (not (is_closed ring)))
-    ∷ rule ShortRing (Plain (nat_lt (length (tight ring)) 4))
-    ∷ rule RingNotSimple (AtPoint (meets_itself ring)) ∷ []
+-- a feature that has no other
+abbrev pub alone_break : ℕ → Break
+alone_break id = Alone id
 
--- of polygons, each as its rings, the shell first
-abbrev pub polygon_rules : List (List (List Coordinates)) → List Rule
-polygon_rules polygons =
-    rule RingsMeet (AtTwoPoints (λ p q. any_two (λ r s. share_piece r s p q) (joined polygons)))
-    ∷ rule HoleOutside (AtPoint (λ p. list_any (λ rings. in_hole_outside rings p) polygons))
-    ∷ rule HolesNested (AtPoint (λ p. list_any (λ rings. in_two_holes rings p) polygons))
-    ∷ rule PolygonsOverlap (AtPoint (in_two_polygons polygons)) ∷ []
+-- all that breaks a rule between two layers, in order: the pairs, or the features of the first layer that have no partner
+abbrev pub breaks_between : Form → Bool → LayerContent → Ask → LayerContent → List Break
+breaks_between Never one first ask second = map pair_break (pairs_found one first ask second)
+breaks_between Each one first ask second = map alone_break (keys_of (filter (lacks_partner one ask second) first.features))
 
--- of a geometry
-abbrev pub rules_of : Geometry → List Rule
-rules_of geometry =
-    flat_map line_rules (lines_of geometry)
-    ++ flat_map ring_rules (rings_of geometry)
-    ++ polygon_rules (polygons_of geometry)
+-- the first of several
+abbrev pub first_of : List Break → Option Break
+first_of [] = None
+first_of (found ∷ rest) = Some found
+
+abbrev pub break_by : Rule → Option LayerContent → Option LayerContent → Option Break
+break_by rule (Some first) (Some second) = first_of (breaks_between rule.form (of_one rule) first rule.ask second)
+break_by rule first second = None
+
+-- what breaks a rule first in a content; nothing does where a layer is not there
+abbrev pub break_of : Content → Rule → Option Break
+break_of content rule = break_by rule (layer_of content rule.first) (layer_of content rule.second)
+
+-- ---- several rules
+
+abbrev pub broken_or : ℕ → Option Break → Option Broken → Option Broken
+broken_or place None later = later
+broken_or place (Some least) later = Some (record { place = place; least = least })
+
+-- the first of the rules from a place on that is broken, and what breaks it first
+abbrev pub broken_from : ℕ → Content → List Rule → Option Broken
+broken_from place content [] = None
+broken_from place content (rule ∷ rules) = broken_or place (break_of content rule) (broken_from (place + 1) content rules)
+
+-- the first rule that is broken
+abbrev pub first_broken : Content → List Rule → Option Broken
+first_broken content rules = broken_from 0 content rules

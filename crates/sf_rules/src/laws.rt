@@ -1,19 +1,26 @@
-//! Laws of validity and simplicity, each the contract of a function that does nothing.
+//! Laws of rules, each the contract of a function that does nothing.
 
-ghost use Rattle.sf_rules.specs.Verdicts.{FirstFaultIsOverThePlane, SimplicityIsOverThePlane, VerdictIsOne};
+ghost use Rattle.sf_rules.specs.Holds.{BreaksAreOverThePlane, ReportedRulesAreBroken, RulesAreOverThePlane};
+ghost use Rattle.sf_rules.specs.Near.{BreaksAreNear};
 
-/// The first fault that is computed is the first one over all points of the plane, and where there
-/// is none the geometry is valid.
-pub fn first_fault_is_over_the_plane()
-    ensures { FirstFaultIsOverThePlane }
+/// What breaks a rule as it is computed is just what breaks it over all points of the plane, the least first; nothing does just
+/// where the rule holds.
+pub fn breaks_are_over_the_plane()
+    ensures { BreaksAreOverThePlane }
 {}
 
-/// A geometry has one verdict.
-pub fn verdict_is_one()
-    ensures { VerdictIsOne }
+/// No rule is broken, as it is computed, just where all of them hold over all points of the plane.
+pub fn rules_are_over_the_plane()
+    ensures { RulesAreOverThePlane }
 {}
 
-/// A geometry is computed to be simple just where it is simple over all points of the plane.
-pub fn simplicity_is_over_the_plane()
-    ensures { SimplicityIsOverThePlane }
+/// A rule that is reported is broken: by two features that are there and are as asked, or by one that has no other.
+pub fn reported_rules_are_broken()
+    ensures { ReportedRulesAreBroken }
+{}
+
+/// Of a rule that held, the first break after a change is among the features that were changed, and those that are near one as it
+/// was.
+pub fn breaks_are_near()
+    ensures { BreaksAreNear }
 {}

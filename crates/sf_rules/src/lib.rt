@@ -1,7 +1,19 @@
-//! The rules of validity and simplicity, over all points of the plane: definitions and laws.
+//! Rules between features of layers: what breaks them, in a whole store and after a change; and exchanges under rules.
 #![tactic(auto)]
 
-mod fault;
+mod alone;
+mod between;
+mod breaks;
+mod exchanging;
 pub mod laws;
+mod leaving;
+mod near;
+mod pairs;
+mod rule;
+mod whole;
 
-pub use fault::Fault;
+pub use breaks::{Break, Broken};
+pub use exchanging::{NotExchanged, exchange_under};
+pub use rule::{Form, Rule};
+pub use sf_query::Ask;
+pub use whole::first_break;

@@ -6,9 +6,9 @@ use Rattle.sf_geometry.specs.declared.refusal.Refusal.{Refusal as GeometryRefusa
 use Rattle.sf_geometry.specs.declared.refusal.Refusal.TheVariants as geometries
 use Rattle.sf_geometry.specs.Size.{size_fault}
 use Rattle.sf_geometry.specs.Vertices.{Change, changed, exchange, insertion, outcome, removal}
-use Rattle.sf_rules.specs.declared.fault.Fault.{Fault}
-use Rattle.sf_rules.specs.Validity.{IsFirstFault, IsValid}
-use Rattle.sf_rules.specs.Verdicts.{first_fault}
+use Rattle.sf_valid_rules.specs.declared.fault.Fault.{Fault}
+use Rattle.sf_valid_rules.specs.Validity.{IsFirstFault, IsValid}
+use Rattle.sf_valid_rules.specs.Verdicts.{first_fault}
 use Rattle.sf_features.specs.Names.{is_name}
 use Rattle.sf_features.specs.Features.{GeometryChange}
 use Rattle.sf_layers.specs.Content.{Content, feature_in, has_layer}

@@ -7,11 +7,11 @@ use Rattle.sf_geometry.specs.declared.geometry.Geometry.TheVariants.{Point, Line
 use Rattle.sf_geometry.specs.Parts.{joined}
 use Rattle.sf_geometry.specs.Size.{IsSized, has_empty_list, point_count, points_max, size_fault}
 use Rattle.sf_geometry.proofs.BackLaws.{HasRings, IsRing}
-use Rattle.sf_rules.specs.declared.fault.Fault.{Fault}
-use Rattle.sf_rules.specs.Validity.{IsFirstFault, IsValid, IsVerdict}
-use Rattle.sf_rules.specs.Verdicts.{first_fault}
-use Rattle.sf_rules.proofs.FirstLaws.{first_fault-over_plane}
-use Rattle.sf_rules.proofs.VerdictLaws.{verdict-one}
+use Rattle.sf_valid_rules.specs.declared.fault.Fault.{Fault}
+use Rattle.sf_valid_rules.specs.Validity.{IsFirstFault, IsValid, IsVerdict}
+use Rattle.sf_valid_rules.specs.Verdicts.{first_fault}
+use Rattle.sf_valid_rules.proofs.FirstLaws.{first_fault-over_plane}
+use Rattle.sf_valid_rules.proofs.VerdictLaws.{verdict-one}
 use Rattle.sf_validity.proofs.ValidLaws.{valid-rings}
 use Rattle.sf_steps.proofs.VerticesBack.{HasWholeRings}
 

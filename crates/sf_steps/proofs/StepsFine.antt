@@ -8,12 +8,12 @@ use Rattle.sf_geometry.specs.declared.refusal.Refusal.{Refusal as GeometryRefusa
 use Rattle.sf_geometry.specs.Kinds.{kind_of}
 use Rattle.sf_geometry.specs.Parts.{LiesOnGrid}
 use Rattle.sf_geometry.specs.Size.{size_fault}
-use Rattle.sf_rules.specs.Validity.{IsValid}
+use Rattle.sf_valid_rules.specs.Validity.{IsValid}
 use Rattle.sf_features.proofs.GridLaws.{LiesOnGrid-insert_vertex, LiesOnGrid-move_vertex, LiesOnGrid-remove_vertex}
 use Rattle.sf_features.proofs.VertexLaws.{kind_of-outcome}
 use Rattle.sf_steps.proofs.Judged.{sized, valid}
 use Rattle.sf_geometry.specs.Vertices.{Change, changed, outcome, sized_or_refused, insertion, exchange, removal}
-use Rattle.sf_rules.specs.Verdicts.{first_fault}
+use Rattle.sf_valid_rules.specs.Verdicts.{first_fault}
 use Rattle.sf_features.specs.declared.column.Column.{Column}
 use Rattle.sf_layers.specs.declared.layer_kind.LayerKind.{LayerKind}
 use Rattle.sf_features.specs.Names.{is_name}

@@ -5,8 +5,8 @@ use Rattle.sf_geometry.specs.declared.geometry.Geometry.{Geometry}
 use Rattle.sf_geometry.specs.declared.refusal.Refusal.{Refusal as GeometryRefusal}
 use Rattle.sf_geometry.specs.Parts.{LiesOnGrid}
 use Rattle.sf_geometry.specs.Vertices.{insert_vertex, move_vertex, remove_vertex}
-use Rattle.sf_rules.specs.declared.fault.Fault.{Fault}
-use Rattle.sf_rules.specs.Validity.{IsFirstFault, IsValid}
+use Rattle.sf_valid_rules.specs.declared.fault.Fault.{Fault}
+use Rattle.sf_valid_rules.specs.Validity.{IsFirstFault, IsValid}
 use Rattle.sf_layers.specs.Content.{Content, feature_in}
 use Rattle.sf_layers.specs.WellFormed.{IsWellFormed}
 use Rattle.sf_steps.specs.declared.answer.Answer.{Answer}

@@ -6,7 +6,7 @@ use Rattle.sf_geometry.specs.declared.refusal.Refusal.{Refusal as GeometryRefusa
 use Rattle.sf_geometry.specs.Kinds.{kind_of}
 use Rattle.sf_geometry.specs.Size.{size_fault}
 use Rattle.sf_geometry.specs.Vertices.{insert_vertex, move_vertex, remove_vertex}
-use Rattle.sf_rules.specs.Verdicts.{first_fault}
+use Rattle.sf_valid_rules.specs.Verdicts.{first_fault}
 use Rattle.sf_features.specs.declared.column_type.ColumnType.{ColumnType}
 use Rattle.sf_features.specs.Names.{is_name}
 use Rattle.sf_features.specs.Features.{GeometryChange, change_geometry, plain_feature, with_geometry, with_value, without_value}

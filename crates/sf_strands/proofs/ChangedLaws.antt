@@ -5,8 +5,8 @@ use Rattle.std.proofs.lemmas.Bool.{and_from, and_parts, cases_lt, false≢true, 
 use Rattle.sf_grid.specs.Plane.{Coordinates, IsPoint, Point, grid_point, same_point}
 use Rattle.sf_grid.specs.Edge.{Edge}
 use Rattle.sf_geometry.specs.Lists.{edges_of, is_closed}
-use Rattle.sf_rules.specs.Conditions.{Applies, AtPoint}
-use Rattle.sf_rules.specs.Shapes.{meets_itself, on_both}
+use Rattle.sf_valid_rules.specs.Conditions.{Applies, AtPoint}
+use Rattle.sf_valid_rules.specs.Shapes.{meets_itself, on_both}
 use Rattle.sf_strands.specs.Changed.{MeetsEarlier, MeetsLater, edge_meets, either_meets}
 use Rattle.sf_strands.specs.Pairs.{edge_at, pair_meets}
 use Rattle.sf_strands.specs.Tight.{IsTight}

@@ -5,8 +5,8 @@ use Rattle.std.proofs.lemmas.Bool.{and_from, and_parts, false≢true, or_left, o
 use Rattle.sf_grid.specs.Plane.{Coordinates, IsPoint, IsSamePoint, Point, grid_point, same_point}
 use Rattle.sf_first_meeting.specs.Numbered.{AllAreApart, HasLengths, IsClosedBy, IsJoint}
 use Rattle.sf_geometry.specs.Lists.{edges_of, is_closed, is_same}
-use Rattle.sf_rules.specs.Conditions.{Applies, AtPoint}
-use Rattle.sf_rules.specs.Shapes.{is_joint, meets_itself}
+use Rattle.sf_valid_rules.specs.Conditions.{Applies, AtPoint}
+use Rattle.sf_valid_rules.specs.Shapes.{is_joint, meets_itself}
 use Rattle.sf_strands.specs.Pairs.{edge_at, pair_meets, point_of}
 use Rattle.sf_strands.specs.Tight.{IsTight}
 use Rattle.sf_strands.proofs.EndLaws.{same-self}

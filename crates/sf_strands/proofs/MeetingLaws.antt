@@ -7,8 +7,8 @@ use Rattle.sf_grid.specs.Edge.{Edge, IsOnEdge, edge_between}
 use Rattle.sf_grid.specs.Sharing.{IsSharing}
 use Rattle.sf_grid.specs.declared.meet.Meet.TheVariants.{Along, Apart, At}
 use Rattle.sf_grid.proofs.CallerLemmas.{differs_from_before, eq_from_test, mul, num, on_edge-mean, ring, same_coordinates, same_point_is_equivalence, sum, var}
-use Rattle.sf_rules.specs.Conditions.{Applies, AtPoint}
-use Rattle.sf_rules.specs.Shapes.{on_both}
+use Rattle.sf_valid_rules.specs.Conditions.{Applies, AtPoint}
+use Rattle.sf_valid_rules.specs.Shapes.{on_both}
 use Rattle.sf_grid.proofs.ColumnLaws.{times-one}
 use Rattle.sf_strands.proofs.EndLaws.{end-on, grid-IsPoint, start-on}
 

@@ -14,8 +14,8 @@ use Rattle.sf_edge_tree.specs.declared.outcome.Outcome.{Outcome}
 use Rattle.sf_edge_tree.specs.Boxes.{edge_at as ends_at, extent_at_edge, extent_of_edge}
 use Rattle.sf_edge_tree.specs.Searches.{Answers, AreTwoOf, HasPair}
 use Rattle.sf_edge_tree.proofs.PairLaws.{answers-as}
-use Rattle.sf_rules.specs.Conditions.{Applies, AtPoint}
-use Rattle.sf_rules.specs.Shapes.{meets_itself, on_both}
+use Rattle.sf_valid_rules.specs.Conditions.{Applies, AtPoint}
+use Rattle.sf_valid_rules.specs.Shapes.{meets_itself, on_both}
 use Rattle.sf_strands.specs.Beside.{AreBeside, is_left, is_right}
 use Rattle.sf_strands.specs.Pairs.{edge_at, pair_meets, point_of}
 use Rattle.sf_strands.specs.Tight.{IsTight}

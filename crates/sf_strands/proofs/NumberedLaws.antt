@@ -4,8 +4,8 @@ use Rattle.std.specs.List.{enumerate_from, list_any}
 use Rattle.std.proofs.Math.Bool.{and-false, and-or_distrib_left, and-true, and_assoc, or-false}
 use Rattle.sf_grid.specs.Plane.{Point, grid_point, same_point}
 use Rattle.sf_grid.specs.Edge.{Edge, on_edge}
-use Rattle.sf_rules.specs.Conditions.{any_two}
-use Rattle.sf_rules.specs.Shapes.{is_joint, on_both}
+use Rattle.sf_valid_rules.specs.Conditions.{any_two}
+use Rattle.sf_valid_rules.specs.Shapes.{is_joint, on_both}
 use Rattle.sf_strands.proofs.ChainLaws.{IsChain, bit, crosses, joints-and-end, last_ends, on_count}
 use Rattle.sf_strands.proofs.LinkLaws.{link_of, links}
 

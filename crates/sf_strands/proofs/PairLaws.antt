@@ -9,8 +9,8 @@ use Rattle.sf_grid.specs.Sharing.{IsSharing}
 use Rattle.sf_grid.specs.declared.meet.Meet.{Meet}
 use Rattle.sf_grid.specs.declared.meet.Meet.TheVariants.{Along, Apart, At}
 use Rattle.sf_geometry.specs.Lists.{edges_between, edges_from, edges_of, is_closed}
-use Rattle.sf_rules.specs.Conditions.{Applies, AtPoint, any_two}
-use Rattle.sf_rules.specs.Shapes.{meets_itself}
+use Rattle.sf_valid_rules.specs.Conditions.{Applies, AtPoint, any_two}
+use Rattle.sf_valid_rules.specs.Shapes.{meets_itself}
 use Rattle.sf_strands.specs.Pairs.{are_neighbours, edge_at, pair_meets, point_of}
 use Rattle.sf_strands.specs.Tight.{IsTight}
 use Rattle.sf_strands.proofs.MeetingLaws.{along-meets, apart-meets, once-meets}

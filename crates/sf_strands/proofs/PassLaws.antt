@@ -5,7 +5,7 @@ use Rattle.std.specs.List.{list_any}
 use Rattle.std.proofs.Math.Bool.{and-true}
 use Rattle.std.proofs.lemmas.Bool.{and_from, and_parts, or_cases, or_left, or_right}
 use Rattle.sf_grid.proofs.CallerLemmas.{same_tests}
-use Rattle.sf_rules.specs.Conditions.{any_two}
+use Rattle.sf_valid_rules.specs.Conditions.{any_two}
 use Rattle.sf_strands.proofs.ChainLaws.{bit, le-test, test-le}
 use Rattle.sf_strands.proofs.NumberedLaws.{any-same}
 

@@ -7,7 +7,7 @@ use Rattle.sf_grid.specs.Plane.{Coordinates, IsPoint, Point}
 use Rattle.sf_grid.specs.Edge.{Edge, edge_between, on_edge}
 use Rattle.sf_geometry.specs.Lists.{edges_between, edges_from, is_closed, is_same, last_from, tight}
 use Rattle.sf_geometry.proofs.ListLaws.{same-is}
-use Rattle.sf_rules.specs.Conditions.{any_two}
+use Rattle.sf_valid_rules.specs.Conditions.{any_two}
 use Rattle.sf_strands.specs.Strands.{StrandsDecide}
 use Rattle.sf_strands.proofs.ChainLaws.{IsChain, bit, closed-strands, crosses-strands, joint_count, on_count}
 use Rattle.sf_strands.proofs.EndLaws.{both-same, start-same-on}

@@ -10,8 +10,8 @@ use Rattle.sf_grid.proofs.CallerLemmas.{same_tests}
 use Rattle.sf_geometry.specs.Lists.{edges_between, edges_from, edges_of, ends_of, is_closed, is_same, last_from, tight}
 use Rattle.sf_geometry.specs.PointSets.{is_among, on_line}
 use Rattle.sf_geometry.proofs.ListLaws.{same-is}
-use Rattle.sf_rules.specs.Conditions.{any_two}
-use Rattle.sf_rules.specs.Shapes.{meets_itself, on_two_lines}
+use Rattle.sf_valid_rules.specs.Conditions.{any_two}
+use Rattle.sf_valid_rules.specs.Shapes.{meets_itself, on_two_lines}
 use Rattle.sf_strands.specs.Strands.{TanglesDecide, all_edges_at, all_ends_at, all_joints_at, edges_at, ends_at, is_tangled_by, joints_at}
 use Rattle.sf_strands.proofs.ChainLaws.{any-count, bit, joints-and-end, last_ends, le-test, test-le}
 use Rattle.sf_strands.proofs.EndLaws.{both-same, same-self}

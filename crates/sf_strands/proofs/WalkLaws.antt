@@ -10,8 +10,8 @@ use Rattle.sf_geometry.specs.Lists.{edges_between, edges_of, ends_of, is_closed,
 use Rattle.sf_pieces.specs.Marked.{Marked, groups_of, item_at, pieces_of}
 use Rattle.sf_pieces.proofs.CountLaws.{items-count}
 use Rattle.sf_pieces.proofs.PassLaws.{items-pass}
-use Rattle.sf_rules.specs.Conditions.{Applies, AtPoint}
-use Rattle.sf_rules.specs.Shapes.{meets_itself}
+use Rattle.sf_valid_rules.specs.Conditions.{Applies, AtPoint}
+use Rattle.sf_valid_rules.specs.Shapes.{meets_itself}
 use Rattle.sf_strands.specs.Strands.{all_edges_at, all_joints_at, is_tangled_by}
 use Rattle.sf_strands.specs.Tangles.{are_tangled}
 use Rattle.sf_strands.specs.Walks.{is_tangled, strands_of, strands_of_lines}

@@ -4,7 +4,7 @@ use Rattle.std.specs.Prelude.{ℕ, ◌+◌, ◌<◌, Bool, ◌&&◌, ◌||◌, L
 use Rattle.std.specs.List.{enumerate_from, list_any}
 use Rattle.sf_grid.specs.Plane.{Coordinates, Point}
 use Rattle.sf_geometry.specs.Lists.{edges_of}
-use Rattle.sf_rules.specs.Conditions.{Applies, AtPoint}
+use Rattle.sf_valid_rules.specs.Conditions.{Applies, AtPoint}
 use Rattle.sf_strands.specs.Pairs.{pair_meets}
 
 -- two edges share p, whichever comes first, and p isn't their common vertex as neighbours

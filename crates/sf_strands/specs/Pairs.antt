@@ -4,7 +4,7 @@ use Rattle.std.specs.Prelude.{ℕ, ◌+◌, Bool, ◌&&◌, ◌||◌, not, List,
 use Rattle.sf_grid.specs.Plane.{Coordinates, Point}
 use Rattle.sf_grid.specs.Edge.{Edge, edge_between}
 use Rattle.sf_geometry.specs.Lists.{edges_of, is_closed}
-use Rattle.sf_rules.specs.Shapes.{is_joint, on_both}
+use Rattle.sf_valid_rules.specs.Shapes.{is_joint, on_both}
 
 -- the point with the number i, counted from 0
 abbrev pub point_of : List Coordinates → ℕ → Coordinates

@@ -5,7 +5,7 @@ use Rattle.std.specs.Prelude.{◌≡◌, ℕ, ◌+◌, Bool, ◌&&◌, List, cou
 use Rattle.sf_grid.specs.Plane.{Coordinates, IsPoint, Point, grid_point, same_point}
 use Rattle.sf_grid.specs.Edge.{on_edge}
 use Rattle.sf_geometry.specs.Lists.{edges_of, ends_of, is_closed}
-use Rattle.sf_rules.specs.Shapes.{meets_itself}
+use Rattle.sf_valid_rules.specs.Shapes.{meets_itself}
 use Rattle.sf_strands.specs.Tangles.{are_tangled}
 
 -- the joints of a line: where its edges begin, but the first one's beginning only where the line is closed

@@ -2,7 +2,7 @@
 //! decides whether the whole does.
 
 ghost use Rattle.std.specs.Prelude.{◌↔◌, ◌+◌, ◌<◌, IsTrue, length};
-ghost use Rattle.sf_rules.specs.Conditions.{Applies, Condition};
+ghost use Rattle.sf_valid_rules.specs.Conditions.{Applies, Condition};
 ghost use Rattle.sf_strands.specs.Changed.{MeetsEarlier, MeetsLater, edge_meets};
 ghost use Rattle.sf_strands.specs.Tight.{IsTight};
 

@@ -1,8 +1,8 @@
 //! Lines and rings of edges that reach far, by a sweep over their vertices.
 
 ghost use Rattle.std.specs.Prelude.{◌↔◌, ◌≤◌, IfOk, IsTrue, length};
-ghost use Rattle.sf_rules.specs.Conditions.{Applies, Condition};
-ghost use Rattle.sf_rules.specs.Shapes.{meets_itself as meets_itself_at};
+ghost use Rattle.sf_valid_rules.specs.Conditions.{Applies, Condition};
+ghost use Rattle.sf_valid_rules.specs.Shapes.{meets_itself as meets_itself_at};
 ghost use Rattle.sf_strands.specs.Tight.{IsTight};
 
 use crate::pairs::does_pair_meet;

@@ -2,8 +2,8 @@
 
 ghost use Rattle.std.specs.Prelude.{◌≡◌, IfOk, drop};
 ghost use Rattle.std.specs.List.{zip};
-ghost use Rattle.sf_rules.specs.Conditions.{Applies, Condition};
-ghost use Rattle.sf_rules.specs.Shapes.{meets_itself as meets_itself_at};
+ghost use Rattle.sf_valid_rules.specs.Conditions.{Applies, Condition};
+ghost use Rattle.sf_valid_rules.specs.Shapes.{meets_itself as meets_itself_at};
 ghost use Rattle.sf_edge_tree.specs.Searches.{Answers};
 ghost use Rattle.sf_strands.specs.Tight.{IsTight};
 
@@ -54,7 +54,7 @@ struct NearPairs<'a> {
 
 impl PairTest for NearPairs<'_> {
     ghost use Rattle.std.specs.Prelude.{◌+◌, ◌<◌, length};
-    ghost use Rattle.sf_rules.specs.Conditions.{Applies, AtPoint};
+    ghost use Rattle.sf_valid_rules.specs.Conditions.{Applies, AtPoint};
     ghost use Rattle.sf_strands.specs.Pairs.{pair_meets};
     ghost use Rattle.sf_strands.specs.Tight.{IsTight};
 

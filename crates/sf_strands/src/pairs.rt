@@ -1,8 +1,8 @@
 //! Lines and rings that meet themselves, by looking at each pair of their edges.
 
 ghost use Rattle.std.specs.Prelude.{◌≡◌, ◌↔◌, ◌+◌, ◌<◌, IsTrue, length};
-ghost use Rattle.sf_rules.specs.Conditions.{Applies, Condition};
-ghost use Rattle.sf_rules.specs.Shapes.{meets_itself as meets_itself_at};
+ghost use Rattle.sf_valid_rules.specs.Conditions.{Applies, Condition};
+ghost use Rattle.sf_valid_rules.specs.Shapes.{meets_itself as meets_itself_at};
 ghost use Rattle.sf_strands.specs.Pairs.{are_neighbours as are_neighbours_at, closes_ring as closes_ring_at, pair_meets};
 ghost use Rattle.sf_strands.specs.Tight.{IsTight};
 

@@ -4,8 +4,8 @@
 ghost use Rattle.std.specs.Prelude.{◌≡◌, ◌↔◌, ◌++◌, ◌≤◌, IfOk, IsTrue, OnOk, length, map, slice_index};
 ghost use Rattle.sf_strips.specs.declared.piece.Piece.TheVariants.{Dot};
 ghost use Rattle.sf_pieces.specs.Marked.{HasGroups, item_at, marked};
-ghost use Rattle.sf_rules.specs.Conditions.{Applies, Condition};
-ghost use Rattle.sf_rules.specs.Shapes.{meets_itself};
+ghost use Rattle.sf_valid_rules.specs.Conditions.{Applies, Condition};
+ghost use Rattle.sf_valid_rules.specs.Shapes.{meets_itself};
 ghost use Rattle.sf_strands.specs.Strands.{is_tangled_by};
 ghost use Rattle.sf_strands.specs.Tight.{IsTight};
 ghost use Rattle.sf_strands.specs.Walks.{is_tangled as is_tangled_item, strands_of};

@@ -1,7 +1,7 @@
 ghost use Rattle.std.specs.Prelude.{◌↔◌, ◌≤◌, IfOk, IsTrue, length};
 ghost use Rattle.sf_geometry.specs.Parts.{joined};
-ghost use Rattle.sf_rules.specs.Conditions.{Applies, Condition};
-ghost use Rattle.sf_rules.specs.Shapes.{meets_itself as meets_itself_at};
+ghost use Rattle.sf_valid_rules.specs.Conditions.{Applies, Condition};
+ghost use Rattle.sf_valid_rules.specs.Shapes.{meets_itself as meets_itself_at};
 ghost use Rattle.sf_strands.specs.Tight.{IsTight};
 ghost use Rattle.sf_strands.specs.Tangles.{are_tangled as are_tangled_at};
 

@@ -13,10 +13,10 @@ use Rattle.sf_geometry.specs.Vertices.{Change, change_at, change_ring, changed, 
 use Rattle.sf_geometry.proofs.BackLaws.{HasRings, IsRing, outcome-some}
 use Rattle.sf_geometry.proofs.ListLaws.{tight_length-other, tight_length-same}
 use Rattle.sf_slabs.proofs.CallerLemmas.{each-parts}
-use Rattle.sf_rules.specs.Conditions.{Applies, AtPoint}
-use Rattle.sf_rules.specs.Shapes.{meets_itself}
-use Rattle.sf_rules.specs.Validity.{IsValid}
-use Rattle.sf_rules.proofs.MemberLaws.{each-of_flat}
+use Rattle.sf_valid_rules.specs.Conditions.{Applies, AtPoint}
+use Rattle.sf_valid_rules.specs.Shapes.{meets_itself}
+use Rattle.sf_valid_rules.specs.Validity.{IsValid}
+use Rattle.sf_valid_rules.proofs.MemberLaws.{each-of_flat}
 use Rattle.sf_strands.specs.Changed.{edge_meets}
 use Rattle.sf_strands.specs.Pairs.{edge_at, point_of}
 use Rattle.sf_strands.specs.Tight.{IsTight, IsTightFrom}

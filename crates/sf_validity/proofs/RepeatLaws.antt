@@ -13,7 +13,7 @@ use Rattle.sf_grid.specs.Plane.{Coordinates}
 use Rattle.sf_grid.specs.Sharing.{comes_before}
 use Rattle.sf_geometry.specs.Lists.{is_same, tight}
 use Rattle.sf_geometry.proofs.ListLaws.{same-is, tight_length-other, tight_length-same}
-use Rattle.sf_rules.specs.Conditions.{any_two}
+use Rattle.sf_valid_rules.specs.Conditions.{any_two}
 use Rattle.sf_validity.proofs.ValidLaws.{tight-short}
 
 -- ---- the order of points

@@ -9,9 +9,9 @@ use Rattle.std.proofs.lemmas.Grind.{flat_map-append}
 use Rattle.sf_grid.specs.Plane.{Coordinates}
 use Rattle.sf_geometry.specs.Parts.{joined}
 use Rattle.sf_geometry.proofs.ListLaws.{flat_map-joined, flat_map-more}
-use Rattle.sf_rules.specs.declared.fault.Fault.{Fault}
-use Rattle.sf_rules.specs.Rules.{Rule, polygon_rules, ring_rules}
-use Rattle.sf_rules.specs.Validity.{IsFirstOf, NoneApplies}
+use Rattle.sf_valid_rules.specs.declared.fault.Fault.{Fault}
+use Rattle.sf_valid_rules.specs.Rules.{Rule, polygon_rules, ring_rules}
+use Rattle.sf_valid_rules.specs.Validity.{IsFirstOf, NoneApplies}
 use Rattle.sf_validity.specs.declared.refusal.Refusal.{Refusal}
 use Rattle.sf_validity.specs.declared.refusal.Refusal.TheVariants.{Empty, Invalid, Memory, NoVertex, TooManyVertices}
 use Rattle.sf_validity.specs.Refusals.{RefusesBy}

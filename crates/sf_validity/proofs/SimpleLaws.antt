@@ -5,9 +5,9 @@ use Rattle.std.specs.List.{AllByRecursion, list_any}
 use Rattle.std.proofs.lemmas.Bool.{false≢true}
 use Rattle.sf_grid.specs.Plane.{Coordinates, IsPoint, Point}
 use Rattle.sf_geometry.specs.declared.geometry.Geometry.TheVariants.{MultiLineString}
-use Rattle.sf_rules.specs.Conditions.{Applies, AtPoint, Condition}
-use Rattle.sf_rules.specs.Shapes.{meets_itself, on_two_lines}
-use Rattle.sf_rules.specs.Simplicity.{IsSimple}
+use Rattle.sf_valid_rules.specs.Conditions.{Applies, AtPoint, Condition}
+use Rattle.sf_valid_rules.specs.Shapes.{meets_itself, on_two_lines}
+use Rattle.sf_valid_rules.specs.Simplicity.{IsSimple}
 use Rattle.sf_strands.specs.Tangles.{are_tangled}
 
 -- ---- several lines

@@ -13,8 +13,8 @@ use Rattle.sf_plane.specs.Boxes.{Box, in_box}
 use Rattle.sf_strands.specs.Tight.{IsTight}
 use Rattle.sf_strands.proofs.EndLaws.{start-on}
 use Rattle.sf_strands.proofs.TightLaws.{tight-tight}
-use Rattle.sf_exchange.specs.Exchange.{AreIn, IsExchanged}
-use Rattle.sf_exchange.proofs.PointLaws.{points_are_exchanged}
+use Rattle.sf_ring_stretches.specs.Exchange.{AreIn, IsExchanged}
+use Rattle.sf_ring_stretches.proofs.PointLaws.{points_are_exchanged}
 use Rattle.sf_validity.specs.Beside.{stretch_of}
 use Rattle.sf_validity.specs.Changed.{IsSpliced}
 

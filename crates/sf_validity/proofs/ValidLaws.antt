@@ -11,8 +11,8 @@ use Rattle.sf_geometry.specs.Size.{IsSized}
 use Rattle.sf_geometry.specs.Vertices.{insert_vertex, move_vertex, outcome, remove_vertex, ring_of, vertex_of}
 use Rattle.sf_geometry.proofs.BackLaws.{HasRings, IsRing, insert-taken_back, move-taken_back, outcome-some}
 use Rattle.sf_geometry.proofs.ListLaws.{same-is}
-use Rattle.sf_rules.specs.Rules.{Rule, line_rules, polygon_rules, ring_rules}
-use Rattle.sf_rules.specs.Validity.{IsValid, NoneApplies}
+use Rattle.sf_valid_rules.specs.Rules.{Rule, line_rules, polygon_rules, ring_rules}
+use Rattle.sf_valid_rules.specs.Validity.{IsValid, NoneApplies}
 
 -- ---- rings
 pub tight-short : (ps : List Coordinates) → length (tight ps) ≤ length ps

@@ -14,18 +14,18 @@ use Rattle.sf_geometry.specs.PointSets.{in_ring, on_line, within_ring}
 use Rattle.sf_geometry.specs.Size.{IsSized}
 use Rattle.sf_slabs.proofs.CallerLemmas.{each-append, each-both, each-map, each-parts}
 use Rattle.sf_plane.specs.Boxes.{Box, in_box}
-use Rattle.sf_rules.specs.Conditions.{Applies, AtPoint}
-use Rattle.sf_rules.specs.Shapes.{in_hole_outside, meets_itself}
-use Rattle.sf_rules.specs.Rules.{Rule, line_rules, polygon_rules, ring_rules, rules_of}
-use Rattle.sf_rules.specs.Validity.{IsFirstOf, IsValid, NoneApplies}
-use Rattle.sf_rules.specs.declared.fault.Fault.TheVariants.{RingNotSimple}
-use Rattle.sf_rules.proofs.MemberLaws.{each-of_flat}
+use Rattle.sf_valid_rules.specs.Conditions.{Applies, AtPoint}
+use Rattle.sf_valid_rules.specs.Shapes.{in_hole_outside, meets_itself}
+use Rattle.sf_valid_rules.specs.Rules.{Rule, line_rules, polygon_rules, ring_rules, rules_of}
+use Rattle.sf_valid_rules.specs.Validity.{IsFirstOf, IsValid, NoneApplies}
+use Rattle.sf_valid_rules.specs.declared.fault.Fault.TheVariants.{RingNotSimple}
+use Rattle.sf_valid_rules.proofs.MemberLaws.{each-of_flat}
 use Rattle.sf_strands.specs.Tight.{IsTight}
 use Rattle.sf_paths.proofs.SlantLaws.{is_grid}
-use Rattle.sf_exchange.specs.Exchange.{AreIn}
-use Rattle.sf_exchange.specs.Kept.{IsBeside, IsOff, IsPolygonBeside, OneIsExchanged, Shell, Hole}
-use Rattle.sf_exchange.proofs.ExchangeLaws.{off-line}
-use Rattle.sf_exchange.proofs.KeptLaws.{polygons_are_kept}
+use Rattle.sf_ring_stretches.specs.Exchange.{AreIn}
+use Rattle.sf_ring_stretches.specs.Kept.{IsBeside, IsOff, IsPolygonBeside, OneIsExchanged, Shell, Hole}
+use Rattle.sf_ring_stretches.proofs.ExchangeLaws.{off-line}
+use Rattle.sf_ring_stretches.proofs.KeptLaws.{polygons_are_kept}
 use Rattle.sf_validity.specs.Beside.{AreOthersApart, IsAlone, IsApart, IsFrontOff, ring_in, stood, stretch_of}
 use Rattle.sf_validity.specs.Changed.{IsChange, IsInside, IsRespliced, NoneMeets}
 use Rattle.sf_validity.specs.Refusals.{Refuses}

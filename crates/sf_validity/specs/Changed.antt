@@ -5,8 +5,8 @@ use Rattle.sf_grid.specs.Plane.{Coordinates}
 use Rattle.sf_geometry.specs.declared.geometry.Geometry.{Geometry}
 use Rattle.sf_geometry.specs.Lists.{is_closed}
 use Rattle.sf_geometry.specs.Parts.{polygons_of}
-use Rattle.sf_rules.specs.Conditions.{Applies, AtPoint}
-use Rattle.sf_rules.specs.Validity.{IsValid}
+use Rattle.sf_valid_rules.specs.Conditions.{Applies, AtPoint}
+use Rattle.sf_valid_rules.specs.Validity.{IsValid}
 use Rattle.sf_strands.specs.Changed.{edge_meets}
 use Rattle.sf_strands.specs.Tight.{IsTight}
 use Rattle.sf_validity.specs.Beside.{ring_in, stood}

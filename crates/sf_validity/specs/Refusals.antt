@@ -5,9 +5,9 @@ use Rattle.sf_refusals.specs.declared.refusal.Refusal.TheVariants as store
 use Rattle.sf_geometry.specs.declared.geometry.Geometry.{Geometry}
 use Rattle.sf_geometry.specs.declared.refusal.Refusal.{Refusal as GeometryRefusal}
 use Rattle.sf_geometry.specs.declared.refusal.Refusal.TheVariants as lower
-use Rattle.sf_rules.specs.Faults.{refusal_of as fault_refusal_of}
-use Rattle.sf_rules.specs.Rules.{Rule, rules_of}
-use Rattle.sf_rules.specs.Validity.{IsFirstOf}
+use Rattle.sf_valid_rules.specs.Faults.{refusal_of as fault_refusal_of}
+use Rattle.sf_valid_rules.specs.Rules.{Rule, rules_of}
+use Rattle.sf_valid_rules.specs.Validity.{IsFirstOf}
 use Rattle.sf_validity.specs.declared.refusal.Refusal.{Refusal}
 use Rattle.sf_validity.specs.declared.refusal.Refusal.TheVariants.{Memory, Empty, TooManyVertices, NoVertex, Invalid}
 

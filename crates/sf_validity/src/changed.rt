@@ -5,9 +5,9 @@ ghost use Rattle.std.specs.Prelude.{◌≡◌, ◌+◌, ◌-◌, ◌<◌, IfErr,
 ghost use Rattle.sf_geometry.specs.declared.geometry.Geometry.{Geometry as Shape};
 ghost use Rattle.sf_geometry.specs.Parts.{polygons_of as polygons_of_geometry};
 ghost use Rattle.sf_geometry.specs.Size.{IsSized};
-ghost use Rattle.sf_rules.specs.Conditions.{Applies, Condition};
-ghost use Rattle.sf_rules.specs.Shapes.{meets_itself};
-ghost use Rattle.sf_rules.specs.Validity.{IsValid};
+ghost use Rattle.sf_valid_rules.specs.Conditions.{Applies, Condition};
+ghost use Rattle.sf_valid_rules.specs.Shapes.{meets_itself};
+ghost use Rattle.sf_valid_rules.specs.Validity.{IsValid};
 ghost use Rattle.sf_strands.specs.Tight.{IsTight};
 ghost use Rattle.sf_validity.specs.Beside.{ring_in};
 ghost use Rattle.sf_validity.specs.Changed.{IsChange, IsInside, IsTightAt, NoneMeets};
@@ -18,7 +18,7 @@ use super::checks::check;
 use super::refusal::Refusal;
 use sf_geometry::{Geometry, Sequence, is_closed, tight_length};
 use sf_grid::GridPoint;
-use sf_rules::Fault;
+use sf_valid_rules::Fault;
 use std::alloc::Global;
 
 /// New points in the ring of a part and number: so many from an index on, and the point that stood there, if any.

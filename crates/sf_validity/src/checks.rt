@@ -4,14 +4,14 @@ ghost use Rattle.std.specs.Prelude.{◌≤◌, ◌++◌, IfErr, OnOk, length};
 ghost use Rattle.std.specs.List.{flat_map};
 ghost use Rattle.sf_geometry.specs.Parts.{joined};
 ghost use Rattle.sf_geometry.specs.Size.{IsSized};
-ghost use Rattle.sf_rules.specs.Rules.{line_rules, polygon_rules, ring_rules};
-ghost use Rattle.sf_rules.specs.Validity.{IsValid, NoneApplies};
+ghost use Rattle.sf_valid_rules.specs.Rules.{line_rules, polygon_rules, ring_rules};
+ghost use Rattle.sf_valid_rules.specs.Validity.{IsValid, NoneApplies};
 ghost use Rattle.sf_validity.specs.Refusals.{Refuses, RefusesBy};
 
 use super::refusal::Refusal;
 use sf_geometry::{Geometry, Sequence, is_closed, tight_length};
 use sf_grid::GridPoint;
-use sf_rules::Fault;
+use sf_valid_rules::Fault;
 use std::alloc::Global;
 use std::slice;
 

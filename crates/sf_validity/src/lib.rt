@@ -10,6 +10,6 @@ mod valid;
 
 pub use checks::check;
 pub use refusal::Refusal;
-pub use sf_rules::Fault;
+pub use sf_valid_rules::Fault;
 pub use simple::is_simple;
 pub use valid::{Invalid, Valid, validate};

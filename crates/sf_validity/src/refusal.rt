@@ -1,4 +1,4 @@
-use sf_rules::Fault;
+use sf_valid_rules::Fault;
 use std::alloc::AllocError;
 
 /// Why a geometry, or a change of one of its vertices, was refused.

@@ -1,8 +1,8 @@
 //! Simplicity.
 
 ghost use Rattle.std.specs.Prelude.{◌↔◌, ◌≡◌, IfOk, IsTrue};
-ghost use Rattle.sf_rules.specs.Conditions.{any_two};
-ghost use Rattle.sf_rules.specs.Simplicity.{IsSimple};
+ghost use Rattle.sf_valid_rules.specs.Conditions.{any_two};
+ghost use Rattle.sf_valid_rules.specs.Simplicity.{IsSimple};
 ghost use Rattle.sf_geometry.specs.Lists.{is_same};
 ghost use Rattle.sf_grid.specs.Sharing.{comes_before};
 ghost use Rattle.std.specs.Ordering.{is_lt};

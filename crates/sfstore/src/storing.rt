@@ -10,9 +10,9 @@ use sf_keeping::{
     Desk, Editor, Input, KeepFault, Pending, ReplayFault, Replayed, Stop, replay, serve_kept,
 };
 use sf_layers::Store;
-use sf_lines::line_feed;
 use sf_run::{LoadFault, Ruled, SaveFault, load};
 use sf_streams::{WriteFault, flush, send};
+use sf_text_lines::line_feed;
 use std::alloc::Global;
 use std::fs::{File, Files, OpenFile};
 use std::io::{ErrorKind, Read, Seek, SeekFrom, Write};

@@ -1,6 +1,6 @@
 use Rattle.std.proofs.Common.{◌≡◌, ◌+◌, ◌++◌, ◌∙◌, ap, arith, replicate, string_bytes, sym}
 use Rattle.std.proofs.lemmas.List.{append-nil}
-use Rattle.sf_lines.specs.Lines.{line_max}
+use Rattle.sf_text_lines.specs.Lines.{line_max}
 use Rattle.sf_console.proofs.GroupLaws.{blanks-more}
 use Rattle.sf_console.proofs.group_lines.push_too_many_blanks.Goals as goal
 

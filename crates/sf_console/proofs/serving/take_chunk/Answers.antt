@@ -1,9 +1,9 @@
 use Rattle.std.proofs.Common.{◌++◌, ◌∙◌, ◌+◌, [], MatchOption, take, drop, ap, sym, subst}
-use Rattle.sf_lines.specs.Lines.{HasNoFeed}
-use Rattle.sf_lines.specs.Buffers.{IsBufferOf, buffered_with, nothing_buffered}
-use Rattle.sf_lines.proofs.LineLemmas.{HasNoFeed-append}
-use Rattle.sf_lines.proofs.FeedLemmas.{IsFirstFeed, position-feed}
-use Rattle.sf_lines.proofs.BufferLemmas.{IsBufferOf-extend}
+use Rattle.sf_text_lines.specs.Lines.{HasNoFeed}
+use Rattle.sf_text_lines.specs.Buffers.{IsBufferOf, buffered_with, nothing_buffered}
+use Rattle.sf_text_lines.proofs.LineLemmas.{HasNoFeed-append}
+use Rattle.sf_text_lines.proofs.FeedLemmas.{IsFirstFeed, position-feed}
+use Rattle.sf_text_lines.proofs.BufferLemmas.{IsBufferOf-extend}
 use Rattle.sf_streams.proofs.SendingLaws.{OnErr-from}
 use Rattle.sf_console.specs.Requests.{left_in}
 use Rattle.sf_console.specs.Chunks.{Takes}

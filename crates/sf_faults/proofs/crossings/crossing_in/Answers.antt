@@ -1,7 +1,7 @@
 use Rattle.std.proofs.Common.{arith, subst, sym, ap, ◌∙◌, List, length}
 use Rattle.std.proofs.lemmas.Bool.{false≢true}
 use Rattle.sf_grid.specs.Plane.{Coordinates}
-use Rattle.sf_rules.specs.Conditions.{Applies, AtPoint}
+use Rattle.sf_valid_rules.specs.Conditions.{Applies, AtPoint}
 use Rattle.sf_strands.specs.Pairs.{pair_meets}
 use Rattle.sf_strands.proofs.TightLaws.{made-IsTight}
 use Rattle.sf_faults.proofs.CrossingLaws.{crossing-found, crossing-more, crossings-end, crossings-more, edges-counted_by, within-tight}

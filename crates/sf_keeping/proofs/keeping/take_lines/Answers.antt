@@ -1,7 +1,7 @@
 use Rattle.std.proofs.Common.{◌≡◌, ◌++◌, false, sym, ◌∙◌, subst}
 use Rattle.sf_streams.proofs.SendingLaws.{OnErr-from}
-use Rattle.sf_lines.specs.Buffers.{IsBufferOf}
-use Rattle.sf_lines.proofs.LineLemmas.{HasNoFeed-append}
+use Rattle.sf_text_lines.specs.Buffers.{IsBufferOf}
+use Rattle.sf_text_lines.proofs.LineLemmas.{HasNoFeed-append}
 use Rattle.sf_console.specs.Requests.{Closed, left_in}
 use Rattle.sf_keeping.proofs.TakingLaws.{IsNoSave, TakesLines-start, TakesLines-line, TakesLines-rest, TakesSave-line, BreaksLines-line, ended-buffer, not-closed}
 use Rattle.sf_keeping.proofs.keeping.take_lines.Goals as goal

@@ -1,6 +1,6 @@
 use Rattle.std.proofs.Common.{ℕ, List, length}
-use Rattle.sf_lines.specs.Lines.{HasNoFeed}
-use Rattle.sf_lines.specs.Buffers.{IsBufferOf}
+use Rattle.sf_text_lines.specs.Lines.{HasNoFeed}
+use Rattle.sf_text_lines.specs.Buffers.{IsBufferOf}
 use Rattle.sf_console.specs.Requests.{Gathering}
 use Rattle.sf_console.specs.Gatherings.{IsHeld}
 use Rattle.sf_keeping.specs.Underway.{TakesLines}

@@ -1,6 +1,6 @@
 use Rattle.std.proofs.Common.{not, refl, MatchOption, sym, ap, ◌∙◌, subst}
-use Rattle.sf_lines.specs.Lines.{HasNoFeed}
-use Rattle.sf_lines.proofs.FeedLemmas.{IsFirstFeed, position-feed}
+use Rattle.sf_text_lines.specs.Lines.{HasNoFeed}
+use Rattle.sf_text_lines.proofs.FeedLemmas.{IsFirstFeed, position-feed}
 use Rattle.sf_keeping.proofs.CallLaws.{err-passed}
 use Rattle.sf_keeping.proofs.ReplayLaws.{Replays-start, Replays-step, Replays-end, Reads-damaged, FailsAt-text, place_of, rest_fits, some_byte-length}
 use Rattle.sf_keeping.proofs.replaying.replay.Goals as goal

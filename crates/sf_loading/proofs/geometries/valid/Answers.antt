@@ -1,5 +1,5 @@
 use Rattle.std.proofs.Common.{refl, subst}
-use Rattle.sf_rules.specs.Rules.{rules_of}
+use Rattle.sf_valid_rules.specs.Rules.{rules_of}
 use Rattle.sf_validity.specs.Refusals.{RefusesBy}
 use Rattle.sf_loading.proofs.GeometryLaws.{fault-found, valid-passes}
 use Rattle.sf_loading.proofs.geometries.valid.Goals as goal

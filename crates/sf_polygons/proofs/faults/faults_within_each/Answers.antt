@@ -2,8 +2,8 @@ use Rattle.std.proofs.Common.{sym, subst, ◌≤◌, List, [], ◌∷◌, length
 use Rattle.std.specs.List.{flat_map}
 use Rattle.sf_grid.specs.Plane.{Coordinates}
 use Rattle.sf_geometry.specs.Parts.{joined}
-use Rattle.sf_rules.specs.Rules.{ring_rules}
-use Rattle.sf_rules.specs.Validity.{NoneApplies}
+use Rattle.sf_valid_rules.specs.Rules.{ring_rules}
+use Rattle.sf_valid_rules.specs.Validity.{NoneApplies}
 use Rattle.sf_polygons.specs.Found.{AreRingFaults}
 use Rattle.sf_polygons.proofs.FaultLaws.{faults-more, few-points, sound-rings}
 use Rattle.sf_polygons.proofs.faults.faults_within_each.Goals as goal

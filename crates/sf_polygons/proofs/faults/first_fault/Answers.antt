@@ -1,6 +1,6 @@
 use Rattle.std.proofs.Common.{sym, subst}
-use Rattle.sf_rules.specs.Rules.{polygon_rules}
-use Rattle.sf_rules.specs.Validity.{IsFirstIn}
+use Rattle.sf_valid_rules.specs.Rules.{polygon_rules}
+use Rattle.sf_valid_rules.specs.Validity.{IsFirstIn}
 use Rattle.sf_polygons.proofs.FaultLaws.{first-is}
 use Rattle.sf_polygons.proofs.faults.first_fault.Goals as goal
 

@@ -1,5 +1,5 @@
 use Rattle.std.proofs.Common.{ℕ, ◌<◌}
-use Rattle.sf_rules.specs.Conditions.{Applies, AtPoint}
+use Rattle.sf_valid_rules.specs.Conditions.{Applies, AtPoint}
 use Rattle.sf_strands.specs.Pairs.{pair_meets}
 use Rattle.sf_strands.proofs.changed.does_later_meet.Given as goal
 

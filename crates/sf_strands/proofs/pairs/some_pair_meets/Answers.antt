@@ -1,5 +1,5 @@
 use Rattle.std.proofs.Common.{arith, below_more}
-use Rattle.sf_rules.specs.Conditions.{Applies, AtPoint}
+use Rattle.sf_valid_rules.specs.Conditions.{Applies, AtPoint}
 use Rattle.sf_strands.specs.Pairs.{pair_meets}
 use Rattle.sf_strands.proofs.PairLaws.{none-found, none-more, pair-found}
 use Rattle.sf_strands.proofs.pairs.some_pair_meets.Goals as goal

@@ -1,6 +1,6 @@
 use Rattle.std.proofs.Common.{◌∙◌, sym, subst}
 use Rattle.sf_geometry.specs.Envelope.{extent_with}
-use Rattle.sf_exchange.specs.Exchange.{AreIn}
+use Rattle.sf_ring_stretches.specs.Exchange.{AreIn}
 use Rattle.sf_validity.specs.Beside.{box_of_extent, stood}
 use Rattle.sf_validity.proofs.BesideLaws.{more-in, points-in, points-in-more}
 use Rattle.sf_validity.proofs.beside.extent_with_gone.Goals as goal

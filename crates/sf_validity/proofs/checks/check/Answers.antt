@@ -1,6 +1,6 @@
 use Rattle.std.proofs.Common.{IfErr, subst, sym}
 use Rattle.std.specs.List.{flat_map}
-use Rattle.sf_rules.specs.Rules.{line_rules}
+use Rattle.sf_valid_rules.specs.Rules.{line_rules}
 use Rattle.sf_validity.specs.Refusals.{Refuses, RefusesBy}
 use Rattle.sf_validity.proofs.RuleLaws.{lines-refused}
 use Rattle.sf_validity.proofs.checks.check.Goals as goal

@@ -1,5 +1,5 @@
 use Rattle.std.specs.List.{flat_map}
-use Rattle.sf_rules.specs.Rules.{line_rules}
+use Rattle.sf_valid_rules.specs.Rules.{line_rules}
 use Rattle.sf_validity.specs.Refusals.{RefusesBy}
 use Rattle.sf_validity.proofs.RuleLaws.{err-passed, refuses-at}
 use Rattle.sf_validity.proofs.checks.check_lines.Goals as goal

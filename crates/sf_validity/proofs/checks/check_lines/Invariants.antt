@@ -1,7 +1,7 @@
 use Rattle.std.proofs.Common.{take}
 use Rattle.std.specs.List.{flat_map}
-use Rattle.sf_rules.specs.Rules.{line_rules}
-use Rattle.sf_rules.specs.Validity.{NoneApplies}
+use Rattle.sf_valid_rules.specs.Rules.{line_rules}
+use Rattle.sf_valid_rules.specs.Validity.{NoneApplies}
 use Rattle.sf_validity.proofs.checks.check_lines.Given as goal
 
 -- no rule of those that were passed applies

@@ -1,8 +1,8 @@
 use Rattle.std.proofs.Common.{◌++◌, ap, subst, arith, length}
 use Rattle.std.specs.List.{flat_map}
 use Rattle.sf_geometry.specs.Parts.{joined}
-use Rattle.sf_rules.specs.Rules.{polygon_rules, ring_rules}
-use Rattle.sf_rules.specs.Validity.{IsFirstIn}
+use Rattle.sf_valid_rules.specs.Rules.{polygon_rules, ring_rules}
+use Rattle.sf_valid_rules.specs.Validity.{IsFirstIn}
 use Rattle.sf_validity.specs.Refusals.{RefusesBy}
 use Rattle.sf_validity.proofs.RuleLaws.{err-passed, first-right, length-part, none-append, points-each, refuses-at, refuses-left, rings-each, rings-passed}
 use Rattle.sf_validity.proofs.checks.check_polygons.Goals as goal

@@ -1,6 +1,6 @@
 use Rattle.std.proofs.Common.{arith}
 use Rattle.std.specs.List.{flat_map}
-use Rattle.sf_rules.specs.Rules.{ring_rules}
+use Rattle.sf_valid_rules.specs.Rules.{ring_rules}
 use Rattle.sf_validity.specs.Refusals.{RefusesBy}
 use Rattle.sf_validity.proofs.RuleLaws.{err-passed, length-part, none-more, refuses-at}
 use Rattle.sf_validity.proofs.checks.check_rings.Goals as goal

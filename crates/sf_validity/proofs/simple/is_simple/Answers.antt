@@ -1,7 +1,7 @@
 use Rattle.std.proofs.Common.{◌↔◌, ◌∙◌, subst, sym, not}
 use Rattle.std.specs.Prelude.{IsTrue}
-use Rattle.sf_rules.specs.Simplicity.{IsSimple}
-use Rattle.sf_rules.specs.Conditions.{Applies, AtPoint}
+use Rattle.sf_valid_rules.specs.Simplicity.{IsSimple}
+use Rattle.sf_valid_rules.specs.Conditions.{Applies, AtPoint}
 use Rattle.sf_strands.specs.Tangles.{are_tangled}
 use Rattle.sf_validity.proofs.SimpleLaws.{lines-simple}
 use Rattle.sf_validity.proofs.simple.is_simple.Goals as goal

@@ -1,6 +1,6 @@
 use Rattle.std.proofs.Common.{◌≡◌, ◌⊎◌, Err, subst}
-use Rattle.sf_ruled.specs.Ruled.{AddRule}
-use Rattle.sf_ruled.specs.declared.refusal.Refusal.TheVariants.{Memory}
+use Rattle.sf_ruled_store.specs.Ruled.{AddRule}
+use Rattle.sf_ruled_store.specs.declared.refusal.Refusal.TheVariants.{Memory}
 use Rattle.sf_history.specs.History.{stepped}
 use Rattle.sf_history.proofs.Accepted.{step-refused}
 use Rattle.sf_history.proofs.Histories.{seen}

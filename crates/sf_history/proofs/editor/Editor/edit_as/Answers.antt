@@ -1,5 +1,5 @@
 use Rattle.std.proofs.Common.{◌≡◌, ◌⊎◌, Err, subst}
-use Rattle.sf_ruled.specs.declared.refusal.Refusal.TheVariants.{Memory}
+use Rattle.sf_ruled_store.specs.declared.refusal.Refusal.TheVariants.{Memory}
 use Rattle.sf_history.specs.History.{edited}
 use Rattle.sf_history.proofs.Accepted.{edit-refused}
 use Rattle.sf_history.proofs.Histories.{seen}

@@ -1,6 +1,6 @@
 use Rattle.std.proofs.Common.{◌+◌, List, ℕ, MatchOption, drop, length, sym, ◌∙◌, subst}
-use Rattle.sf_lines.specs.Lines.{HasNoFeed}
-use Rattle.sf_lines.proofs.FeedLemmas.{IsFirstFeed, position-feed}
+use Rattle.sf_text_lines.specs.Lines.{HasNoFeed}
+use Rattle.sf_text_lines.proofs.FeedLemmas.{IsFirstFeed, position-feed}
 use Rattle.sf_keeping.specs.Inputs.{EndsLine, GoesOn}
 use Rattle.sf_keeping.proofs.InputLaws.{EndsLine-at, GoesOn-at}
 use Rattle.sf_keeping.proofs.input.Input.end_line.Goals as goal

@@ -1,8 +1,0 @@
-use Rattle.sf_constraints.specs.Looks.{alone_at}
-use Rattle.sf_constraints.proofs.LoopLaws.{flat-more}
-use Rattle.sf_constraints.proofs.alone.least_beside.Goals as goal
-
-pub loop-id-preserved : goal.loop-id-preserved
-loop-id-preserved c =
-    flat-more (alone_at c.args.between.now) c.as_slice-id-items.result.now c.loop-id.id-index _ c.args.least c.loop-id.least c.in_ok-least.least c.loop-id-test.true
-    c.loop-id.invariant c.in_ok-least.ensures

@@ -1,6 +1,0 @@
-use Rattle.std.proofs.Common.{◌∙◌, ap}
-use Rattle.sf_constraints.specs.Leaving.{is_leaving}
-use Rattle.sf_constraints.proofs.leaving.Leaving.has.Goals as goal
-
-pub returns : goal.returns
-returns c = c.contains.ensures ∙ c.self.invariant c.args.place c.args.id ∙ ap (λ slots. is_leaving slots c.args.place c.args.id) c.self.view_is

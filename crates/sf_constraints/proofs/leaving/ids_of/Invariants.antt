@@ -1,7 +1,0 @@
-use Rattle.std.proofs.Common.{take}
-use Rattle.sf_constraints.specs.Leaving.{HasIds}
-use Rattle.sf_constraints.proofs.leaving.ids_of.Given as goal
-
--- the features of the exchanges so far
-abbrev pub invariant-loop-slot : goal.invariant-loop-slot
-invariant-loop-slot l = HasIds l.ids (take l.slot-index l.slots)

@@ -1,9 +1,0 @@
-use Rattle.std.proofs.Common.{◌≡◌, filter, map, take}
-use Rattle.sf_constraints.specs.declared.breaks.Break.TheVariants.{Pair}
-use Rattle.sf_constraints.specs.Breaks.{least_from}
-use Rattle.sf_constraints.specs.Looks.{is_partnered}
-use Rattle.sf_constraints.proofs.pairs.least_beside.Given as goal
-
--- the least of the pairs so far
-abbrev pub invariant-loop-other : goal.invariant-loop-other
-invariant-loop-other l = l.least ≡ least_from l.initial.least (map (λ i. Pair i l.id) (filter (is_partnered l.between l.id) (take l.other-index l.other-items)))

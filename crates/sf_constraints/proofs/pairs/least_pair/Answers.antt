@@ -1,9 +1,0 @@
-use Rattle.std.proofs.Common.{None}
-use Rattle.sf_constraints.specs.Looks.{pairs_of_slot}
-use Rattle.sf_constraints.proofs.LoopLaws.{flat-more-item}
-use Rattle.sf_constraints.proofs.pairs.least_pair.Goals as goal
-
-pub loop-slot-preserved : goal.loop-slot-preserved
-loop-slot-preserved c =
-    flat-more-item (pairs_of_slot c.args.between.now) c.args.made.now c.loop-slot.slot-index c.slot-item.result None c.loop-slot.least c.in_ok-least.least c.loop-slot-test.true c.slot-item.is
-    c.loop-slot.invariant c.in_ok-least.ensures

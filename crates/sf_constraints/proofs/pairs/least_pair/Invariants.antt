@@ -1,8 +1,0 @@
-use Rattle.std.proofs.Common.{◌≡◌, None, flat_map, take}
-use Rattle.sf_constraints.specs.Breaks.{least_from}
-use Rattle.sf_constraints.specs.Looks.{pairs_of_slot}
-use Rattle.sf_constraints.proofs.pairs.least_pair.Given as goal
-
--- the least of the pairs of the exchanges so far
-abbrev pub invariant-loop-slot : goal.invariant-loop-slot
-invariant-loop-slot l = l.least ≡ least_from None (flat_map (pairs_of_slot l.between) (take l.slot-index l.made))

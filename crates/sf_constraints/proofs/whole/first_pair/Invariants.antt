@@ -1,8 +1,0 @@
-use Rattle.std.proofs.Common.{◌≡◌, flat_map}
-use Rattle.sf_constraints.specs.Looks.{pairs_of_entry}
-use Rattle.sf_constraints.specs.Rules.{first_of}
-use Rattle.sf_constraints.proofs.whole.first_pair.Given as goal
-
--- what is first of the features left is first of all
-abbrev pub invariant-loop-id : goal.invariant-loop-id
-invariant-loop-id l = first_of (flat_map (pairs_of_entry l.between) l.id-iterator) ≡ first_of (flat_map (pairs_of_entry l.between) l.between.first.now.features)

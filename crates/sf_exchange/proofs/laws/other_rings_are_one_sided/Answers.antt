@@ -1,5 +1,0 @@
-use Rattle.sf_exchange.proofs.ExchangeLaws.{other_rings_are_one_sided}
-use Rattle.sf_exchange.proofs.laws.other_rings_are_one_sided.Goals as goal
-
-pub returns : goal.returns
-returns c = other_rings_are_one_sided

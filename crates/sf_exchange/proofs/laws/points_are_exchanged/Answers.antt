@@ -1,5 +1,0 @@
-use Rattle.sf_exchange.proofs.PointLaws.{points_are_exchanged}
-use Rattle.sf_exchange.proofs.laws.points_are_exchanged.Goals as goal
-
-pub returns : goal.returns
-returns c = points_are_exchanged

@@ -1,5 +1,0 @@
-use Rattle.sf_exchange.proofs.KeptLaws.{polygons_are_kept}
-use Rattle.sf_exchange.proofs.laws.polygons_are_kept.Goals as goal
-
-pub returns : goal.returns
-returns c = polygons_are_kept

@@ -1,5 +1,0 @@
-use Rattle.sf_ruled.proofs.RuledLaws.{refusals_name_breaks}
-use Rattle.sf_ruled.proofs.laws.refusals_name_breaks.Goals as goal
-
-pub returns : goal.returns
-returns c = refusals_name_breaks

@@ -1,5 +1,0 @@
-use Rattle.sf_ruled.proofs.RuledLaws.{ruled_steps_keep_rules}
-use Rattle.sf_ruled.proofs.laws.ruled_steps_keep_rules.Goals as goal
-
-pub returns : goal.returns
-returns c = ruled_steps_keep_rules

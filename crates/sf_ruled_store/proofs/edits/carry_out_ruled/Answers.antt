@@ -1,0 +1,17 @@
+use Rattle.std.proofs.Common.{◌≡◌, true, Err, sym, subst}
+use Rattle.sf_steps.specs.Steps.{edit_layer}
+use Rattle.sf_changes.specs.Changes.{OfEdit}
+use Rattle.sf_ruled_store.specs.declared.refusal.Refusal.TheVariants.{LayerRuled}
+use Rattle.sf_ruled_store.specs.Outcomes.{ruled}
+use Rattle.sf_ruled_store.specs.Ruled.{OfChange, ruled_step}
+use Rattle.sf_ruled_store.specs.Undos.{names_layer}
+use Rattle.sf_ruled_store.proofs.CallLaws.{dropped-refused}
+use Rattle.sf_ruled_store.proofs.edits.carry_out_ruled.Goals as goal
+
+pub returns-in-DropLayer-clause-refused : goal.returns-in-DropLayer-clause-refused
+returns-in-DropLayer-clause-refused c =
+    let store = c.args.store.now in
+    let rules = c.args.rules.now in
+    subst (λ edit. ruled_step (ruled store rules) (OfChange (OfEdit edit)) ≡ Err LayerRuled) (sym c.in-DropLayer.is)
+    (dropped-refused store rules c.in-DropLayer.name c.is_well_formed.ensures c.requires.settled
+    (subst (λ edit. names_layer (edit_layer edit) rules ≡ true) c.in-DropLayer.is c.requires.named))

@@ -1,0 +1,162 @@
+-- Steps of contents with rules: what takes them back, and what makes them again.
+use Rattle.std.specs.Prelude.{◌≡◌, ◌<◌, ◌≤◌, ◌-◌, ℕ, Bool, true, false, ◌||◌, List, [], ◌∷◌, bytes_eq, insert, length, map, remove, take, None, Ok, Result, IsOk, IsTrue}
+use Rattle.std.specs.List.{AllByRecursion, list_all, list_any}
+use Rattle.sf_features.specs.Columns.{IsDistinct}
+use Rattle.sf_features.specs.Names.{is_name}
+use Rattle.sf_steps.specs.declared.answer.Answer.{Answer}
+use Rattle.sf_steps.specs.declared.edit.Edit.{Edit}
+use Rattle.sf_steps.specs.declared.edit.Edit.TheVariants.{AddFeature, DeleteFeature, ReplaceGeometry, InsertVertex, MoveVertex, RemoveVertex, DropLayer, RenameLayer}
+use Rattle.sf_steps.specs.Steps.{edit_layer, step}
+use Rattle.sf_steps.specs.Inverses.{Fits, described, frees_only}
+use Rattle.sf_groups.specs.declared.member.Member.{Member}
+use Rattle.sf_groups.specs.Members.{together}
+use Rattle.sf_changes.specs.Changes.{FitsRedo, FitsUndo, FreesOnly, OfEdit, OfGroup, TakesNoMemory, redone_by, undone_by}
+use Rattle.sf_changes.specs.declared.redo.Redo.TheVariants as content_redos
+use Rattle.sf_rules.specs.declared.rule.Rule.{Rule}
+use Rattle.sf_rules.specs.Rules.{first_broken}
+use Rattle.sf_ruled_store.specs.declared.undo.Undo.{Undo}
+use Rattle.sf_ruled_store.specs.declared.undo.Undo.TheVariants as undos
+use Rattle.sf_ruled_store.specs.declared.redo.Redo.{Redo}
+use Rattle.sf_ruled_store.specs.declared.redo.Redo.TheVariants as redos
+use Rattle.sf_ruled_store.specs.declared.refusal.Refusal.{Refusal}
+use Rattle.sf_ruled_store.specs.Ruled.{OfChange, Ruled, has_layers, rules_max, ruled_step, with_rule}
+
+-- ---- which rules an edit is a matter of
+
+-- whether a rule names a layer
+abbrev pub is_of_layer : List ℕ → Rule → Bool
+is_of_layer name rule = bytes_eq name rule.first || bytes_eq name rule.second
+
+abbrev pub names_layer : List ℕ → List Rule → Bool
+names_layer name rules = list_any (is_of_layer name) rules
+
+-- whether an edit puts a geometry into its layer, changes one or removes one
+abbrev pub changes_geometries : Edit → Bool
+changes_geometries (AddFeature name geometry) = true
+changes_geometries (DeleteFeature name id) = true
+changes_geometries (ReplaceGeometry name id geometry) = true
+changes_geometries (InsertVertex name id part ring index point) = true
+changes_geometries (MoveVertex name id part ring index point) = true
+changes_geometries (RemoveVertex name id part ring index) = true
+changes_geometries edit = false
+
+-- whether it drops its layer, or gives it another name
+abbrev pub ends_name : Edit → Bool
+ends_name (DropLayer name) = true
+ends_name (RenameLayer name new_name) = true
+ends_name edit = false
+
+-- whether it gives its layer another name
+abbrev pub is_renaming : Edit → Bool
+is_renaming (RenameLayer name new_name) = true
+is_renaming edit = false
+
+-- no rule sees the edit: it is of a layer that none names, or leaves its name and its geometries as they are
+abbrev pub IsUnseen : List Rule → Edit → Type 0
+IsUnseen rules edit =
+    IsTrue (names_layer (edit_layer edit) rules) → (changes_geometries edit ≡ false) × (ends_name edit ≡ false)
+
+-- an edit as the only one of a group
+abbrev pub alone : Edit → List Member
+alone edit = record { edit = edit; of_last = false } ∷ []
+
+-- ---- contents in which rules hold, as is computed
+
+-- their names are names, of which no two are one, and there are not too many
+pub record AreNamed (rules : List Rule) : Type 0 where
+  pub few : length rules ≤ rules_max
+  pub named : AllByRecursion (λ rule. IsTrue (is_name rule.name)) rules
+  pub distinct : IsDistinct bytes_eq (map (λ rule. rule.name) rules)
+
+-- rules are named, their layers are all there, and none is broken
+pub record IsSettled (ruled : Ruled) : Type 0 where
+  pub named : AreNamed ruled.rules
+  pub layers : list_all (has_layers ruled.content) ruled.rules ≡ true
+  pub held : first_broken ruled.content ruled.rules ≡ None
+
+-- ---- what takes a step back
+
+-- what is led back to
+abbrev pub undone_under : Ruled → Undo → Ruled
+undone_under ruled (undos.Change undo) = record ruled { content = undone_by ruled.content undo }
+undone_under ruled (undos.Renamed inverse rules) = record { content = described ruled.content inverse; rules = rules }
+undone_under ruled undos.AddedRule = record ruled { rules = take (length ruled.rules - 1) ruled.rules }
+undone_under ruled (undos.DroppedRule place rule) = record ruled { rules = insert ruled.rules place rule }
+
+abbrev pub CanUndo : Ruled → Undo → Type 0
+CanUndo ruled (undos.Change undo) = FitsUndo ruled.content undo
+CanUndo ruled (undos.Renamed inverse rules) = Fits ruled.content inverse
+CanUndo ruled undos.AddedRule = 0 < length ruled.rules
+CanUndo ruled (undos.DroppedRule place rule) = place ≤ length ruled.rules
+
+-- it can be carried out, and rules hold then
+pub record FitsUndoUnder (ruled : Ruled) (undo : Undo) : Type 0 where
+  pub can : CanUndo ruled undo
+  pub settled : IsSettled (undone_under ruled undo)
+
+-- it only removes and exchanges, for which no memory is needed
+abbrev pub FreesOnlyUnder : Ruled → Undo → Type 0
+FreesOnlyUnder ruled (undos.Change undo) = FreesOnly ruled.content undo
+FreesOnlyUnder ruled (undos.Renamed inverse rules) = IsTrue (frees_only ruled.content inverse)
+FreesOnlyUnder ruled undos.AddedRule = Unit {0}
+FreesOnlyUnder ruled (undos.DroppedRule place rule) = ⊥
+
+-- ---- what makes it again
+
+-- what is led to again
+abbrev pub redone_under : Ruled → Redo → Ruled
+redone_under ruled (redos.Change redo) = record ruled { content = redone_by ruled.content redo }
+redone_under ruled (redos.Renamed edit rules) =
+    record { content = redone_by ruled.content (content_redos.Edit edit); rules = rules }
+redone_under ruled (redos.AddRule rule) = with_rule ruled rule
+redone_under ruled (redos.DropRule place) = record ruled { rules = remove ruled.rules place }
+
+abbrev pub CanRedo : Ruled → Redo → Type 0
+CanRedo ruled (redos.Change redo) = FitsRedo ruled.content redo
+CanRedo ruled (redos.Renamed edit rules) = IsOk (step ruled.content edit)
+CanRedo ruled (redos.AddRule rule) = Unit {0}
+CanRedo ruled (redos.DropRule place) = place < length ruled.rules
+
+pub record FitsRedoUnder (ruled : Ruled) (redo : Redo) : Type 0 where
+  pub can : CanRedo ruled redo
+  pub settled : IsSettled (redone_under ruled redo)
+
+abbrev pub TakesNoMemoryUnder : Ruled → Redo → Type 0
+TakesNoMemoryUnder ruled (redos.Change redo) = TakesNoMemory ruled.content redo
+TakesNoMemoryUnder ruled (redos.Renamed edit rules) = ⊥
+TakesNoMemoryUnder ruled (redos.AddRule rule) = ⊥
+TakesNoMemoryUnder ruled (redos.DropRule place) = Unit {0}
+
+-- ---- what the calls give
+
+-- an edit leads from old to new with this answer, and the undo takes it back
+pub record IsEdited (old : Ruled) (edit : Edit) (answer : Answer) (undo : Undo) (new : Ruled) : Type 0 where
+  pub led : ruled_step old (OfChange (OfEdit edit)) ≡ Ok new
+  pub answered : step old.content edit ≡ Ok (new.content, answer)
+  pub back : undone_under new undo ≡ old
+  pub fits : FitsUndoUnder new undo
+
+-- a group leads from old to new and gives these identifiers, and the undo takes it back
+pub record IsGrouped (old : Ruled) (members : List Member) (ids : List ℕ) (undo : Undo) (new : Ruled) : Type 0 where
+  pub led : ruled_step old (OfChange (OfGroup members)) ≡ Ok new
+  pub gave : together old.content members ≡ Ok (new.content, ids)
+  pub back : undone_under new undo ≡ old
+  pub fits : FitsUndoUnder new undo
+
+-- a step on rules leads from old to new, and the undo takes it back
+pub record IsLed (old : Ruled) (result : Result Ruled Refusal) (undo : Undo) (new : Ruled) : Type 0 where
+  pub led : result ≡ Ok new
+  pub back : undone_under new undo ≡ old
+  pub fits : FitsUndoUnder new undo
+
+-- a step is taken back from old to new, and the redo makes it again
+pub record TakesBackUnder (old : Ruled) (undo : Undo) (redo : Redo) (new : Ruled) : Type 0 where
+  pub undone : new ≡ undone_under old undo
+  pub again : redone_under new redo ≡ old
+  pub fits : FitsRedoUnder new redo
+
+-- a step is made again from old to new, and the undo takes it back
+pub record MakesAgainUnder (old : Ruled) (redo : Redo) (undo : Undo) (new : Ruled) : Type 0 where
+  pub redone : new ≡ redone_under old redo
+  pub back : undone_under new undo ≡ old
+  pub fits : FitsUndoUnder new undo

@@ -1,5 +1,0 @@
-use Rattle.sf_rules.proofs.FirstLaws.{simplicity-over_plane}
-use Rattle.sf_rules.proofs.laws.simplicity_is_over_the_plane.Goals as goal
-
-pub returns : goal.returns
-returns c = simplicity-over_plane

@@ -1,5 +1,0 @@
-use Rattle.sf_rules.proofs.VerdictLaws.{verdict-one}
-use Rattle.sf_rules.proofs.laws.verdict_is_one.Goals as goal
-
-pub returns : goal.returns
-returns c = verdict-one
