@@ -22,10 +22,10 @@ use Rattle.sf_valid_rules.specs.Validity.{IsValid}
 use Rattle.sf_interiors.proofs.ParityLaws.{odd-append, on-edges}
 use Rattle.sf_interiors.proofs.RingLaws.{ring-chain}
 use Rattle.sf_interiors.proofs.SideLaws.{differ}
-use Rattle.sf_paths.specs.Paths.{AreApart, parity}
-use Rattle.sf_paths.proofs.PathLaws.{edge_has_one_parity}
-use Rattle.sf_paths.proofs.SlantLaws.{end_on_edge, is_grid}
-use Rattle.sf_paths.proofs.UprightLaws.{IsClearUp, IsUp, up}
+use Rattle.sf_interiors.specs.Paths.{AreApart, parity}
+use Rattle.sf_interiors.proofs.PathLaws.{edge_has_one_parity}
+use Rattle.sf_interiors.proofs.SlantLaws.{end_on_edge, is_grid}
+use Rattle.sf_interiors.proofs.UprightLaws.{IsClearUp, IsUp, up}
 use Rattle.sf_relate.specs.declared.place.Place.{Place}
 use Rattle.sf_relate.specs.declared.place.Place.TheVariants.{Interior, Boundary}
 use Rattle.sf_relate.specs.declared.shape.Shape.{Shape}

@@ -56,7 +56,7 @@ use Rattle.sf_relate.specs.Places.{shape_of}
 use Rattle.sf_relate.proofs.AreasLaws.{by-edges, first-thin, second-thin}
 use Rattle.sf_relate.proofs.EnvelopeLaws.{valid-closed}
 use Rattle.sf_relate.proofs.FoundLaws.{nothing-holds}
-use Rattle.sf_paths.proofs.SlantLaws.{end_on_edge, is_grid}
+use Rattle.sf_interiors.proofs.SlantLaws.{end_on_edge, is_grid}
 use Rattle.sf_relate.proofs.MostLaws.{wider-triangle}
 use Rattle.sf_relate.proofs.OverlapLaws.{on-boundary}
 use Rattle.sf_relate.proofs.ToldLaws.{exterior-from, outside-both}

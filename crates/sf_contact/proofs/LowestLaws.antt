@@ -12,8 +12,8 @@ use Rattle.sf_grid.proofs.FractionLaws.{le-trans}
 use Rattle.sf_plane.proofs.CombineLaws.{start_on_edge}
 use Rattle.sf_interiors.proofs.AlongLaws.{column-of}
 use Rattle.sf_interiors.proofs.InsideLaws.{upright-on}
-use Rattle.sf_paths.proofs.SlantLaws.{above_of, above_of-on, above_of-point, end_on_edge, is_grid, run_of}
-use Rattle.sf_paths.proofs.UprightLaws.{IsUp}
+use Rattle.sf_interiors.proofs.SlantLaws.{above_of, above_of-on, above_of-point, end_on_edge, is_grid, run_of}
+use Rattle.sf_interiors.proofs.UprightLaws.{IsUp}
 
 -- ---- heights in a column
 

@@ -17,7 +17,7 @@ use Rattle.sf_valid_rules.specs.Rules.{Rule, line_rules, polygon_rules, ring_rul
 use Rattle.sf_valid_rules.specs.Validity.{IsValid}
 use Rattle.sf_valid_rules.proofs.MemberLaws.{each-of_flat}
 use Rattle.sf_plane.proofs.CombineLaws.{start_on_edge}
-use Rattle.sf_paths.proofs.SlantLaws.{is_grid}
+use Rattle.sf_interiors.proofs.SlantLaws.{is_grid}
 use Rattle.sf_relate.specs.Contact.{SharePoint, is_in}
 use Rattle.sf_contact.specs.EdgeContact.{Share}
 use Rattle.sf_relate.specs.Matrices.{matrix_of}

@@ -14,3 +14,7 @@ pub mod OpenLaws
 pub mod SquareLaws
 pub mod DimensionLaws
 pub mod VertexLaws
+pub mod ClearLaws
+pub mod SlantLaws
+pub mod UprightLaws
+pub mod PathLaws

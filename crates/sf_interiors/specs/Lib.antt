@@ -1,3 +1,4 @@
 pub mod Apart
 pub mod Dimensions
 pub mod Vertices
+pub mod Paths

@@ -3,7 +3,7 @@
 use Rattle.std.proofs.Common.{◌≡◌, refl, ap, sym, ◌∙◌, subst, Bool, true, false, ◌&&◌, ◌||◌, List, [], ◌∷◌}
 use Rattle.std.specs.Prelude.{Option, Some, unwrap_or, ℕ}
 use Rattle.std.proofs.lemmas.Bool.{and_from, both_ways, false_from_ne_true}
-use Rattle.sf_crossed.proofs.PartLaws.{area-outside}
+use Rattle.sf_linework.proofs.CrossedPartLaws.{area-outside}
 use Rattle.sf_geometry.specs.declared.geometry.Geometry.{Geometry}
 use Rattle.sf_geometry.specs.declared.geometry.Geometry.TheVariants.{LineString, MultiLineString, MultiPoint, MultiPolygon, Point, Polygon}
 use Rattle.sf_geometry.specs.PointSets.{in_boundary, in_exterior, in_interior}

@@ -6,8 +6,8 @@ use Rattle.std.proofs.lemmas.Bool.{and_from, and_parts, both_ways, cases_Bool, f
 use Rattle.std.proofs.lemmas.Int.{clamps, ints}
 use Rattle.sf_along.proofs.EdgeLaws.{lengths}
 use Rattle.sf_along.specs.Covers.{IsEnd, LieAlong, has_edge, lies_in_one}
-use Rattle.sf_crossed.proofs.EndLaws.{is-outside}
-use Rattle.sf_crossed.proofs.PartLaws.{first-inside, second-inside}
+use Rattle.sf_linework.proofs.CrossedEndLaws.{is-outside}
+use Rattle.sf_linework.proofs.CrossedPartLaws.{first-inside, second-inside}
 use Rattle.sf_geometry.specs.declared.geometry.Geometry.{Geometry}
 use Rattle.sf_geometry.specs.Parts.{edge_of, edges_of}
 use Rattle.sf_geometry.specs.PointSets.{in_boundary, in_exterior, in_interior}

@@ -4,3 +4,7 @@ pub mod TurnedLaws
 pub mod BesideLaws
 pub mod CoverLaws
 pub mod PointsLaws
+pub mod PreparedLaws
+pub mod CrossedEndLaws
+pub mod CrossedPartLaws
+pub mod CrossedLaws

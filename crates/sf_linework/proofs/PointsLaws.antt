@@ -17,7 +17,7 @@ use Rattle.sf_geometry.specs.Envelope.{extent_at, extents_meet}
 use Rattle.sf_geometry.specs.Lists.{is_same}
 use Rattle.sf_geometry.specs.Parts.{edge_of, edges_of, ends_of}
 use Rattle.sf_geometry.specs.PointSets.{in_boundary, in_exterior, in_interior, is_among}
-use Rattle.sf_crossed.proofs.EndLaws.{is-outside}
+use Rattle.sf_linework.proofs.CrossedEndLaws.{is-outside}
 use Rattle.sf_edge_tree.specs.Boxes.{extent_of_edge}
 use Rattle.sf_interiors.proofs.DimensionLaws.{interior_has_dimension, is_grid}
 use Rattle.sf_interiors.proofs.InsideLaws.{IsOff}
@@ -32,7 +32,7 @@ use Rattle.sf_plane.specs.declared.dim.Dim.{Dim}
 use Rattle.sf_plane.specs.declared.dim.Dim.TheVariants as dims
 use Rattle.sf_plane.specs.Dimension.{HasDimension, HasPoint, HasSegment, PointSet}
 use Rattle.sf_plane.specs.Unions.{IsUnionOfCells}
-use Rattle.sf_crossed.proofs.CallerLemmas.{none-said, off-box}
+use Rattle.sf_linework.proofs.PreparedLaws.{none-said, off-box}
 use Rattle.sf_relate.proofs.CommonBoxLaws.{edge-is-in}
 use Rattle.sf_relate.proofs.NeighbourLaws.{same-on-grid}
 use Rattle.sf_relate.proofs.SetLaws.{boundary_union, exterior_union, interior_union, matrices_are_over_the_plane, second_has}

@@ -7,7 +7,7 @@ use Rattle.sf_known.specs.Known.{AreAtMost, Holds}
 use Rattle.sf_known.specs.Patterns.{is_filled}
 use Rattle.sf_known.specs.Transposed.{known_transposed, transposed}
 use Rattle.sf_plane.specs.declared.dim.Dim.{Dim}
-use Rattle.sf_crossed.proofs.CallerLemmas.{matrices_are_transposed}
+use Rattle.sf_linework.proofs.PreparedLaws.{matrices_are_transposed}
 use Rattle.sf_relate.specs.Matrices.{matrix_of}
 
 -- nine entries that are at most others are so by columns too

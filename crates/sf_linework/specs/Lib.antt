@@ -3,3 +3,4 @@ pub mod Alongside
 pub mod Beside
 pub mod Cover
 pub mod Points
+pub mod Crossed

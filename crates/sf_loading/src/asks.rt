@@ -5,9 +5,9 @@ ghost use Rattle.sf_format.specs.Stored.{Matching, Named};
 ghost use Rattle.sf_format.specs.Format.{ask as read_ask, asked as read_asked, asked_by, predicate_of_byte};
 ghost use Rattle.sf_loading.specs.Streaming.{Gives};
 
+use super::fields::present;
 use super::halt::Halt;
 use super::numbers::{number_u8, require};
-use super::rules::present;
 use sf_format::{Ask, Defect};
 use sf_known::{Pattern, Predicate};
 use sf_streams::Window;

@@ -11,9 +11,9 @@ ghost use Rattle.sf_format.specs.Format.{allowed as allowed_of, column as column
 ghost use Rattle.sf_loading.specs.Streaming.{Gives};
 ghost use Rattle.sf_loading.specs.Types.{AreTypesOf};
 
+use super::fields::{allowed, present};
 use super::halt::Halt;
 use super::numbers::{number_u8, number_u16};
-use super::rules::{allowed, present};
 use super::texts::column_name;
 use sf_features::{Column, ColumnType};
 use sf_format::Defect;

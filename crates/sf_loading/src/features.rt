@@ -9,10 +9,10 @@ ghost use Rattle.sf_loading.specs.Streaming.{Gives};
 ghost use Rattle.sf_loading.specs.Types.{AreTypesOf, feature_above};
 
 use super::columns::ColumnTypes;
+use super::fields::allowed;
 use super::geometries::geometry;
 use super::halt::Halt;
 use super::numbers::{number_u16, number_u32};
-use super::rules::allowed;
 use super::values::values;
 use sf_features::Feature;
 use sf_format::Defect;

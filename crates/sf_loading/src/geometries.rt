@@ -13,9 +13,9 @@ ghost use Rattle.sf_format.specs.Readings.{field, number};
 ghost use Rattle.sf_format.specs.Format.{admitted as admitted_of, allowed as allowed_of, geometry as geometry_of, row_max, without_fault};
 ghost use Rattle.sf_loading.specs.Streaming.{Gives, Judges};
 
+use super::fields::allowed;
 use super::halt::Halt;
 use super::numbers::{number_u32, require};
-use super::rules::allowed;
 use sf_format::Defect;
 use sf_geometry::Geometry;
 use sf_layers::LayerKind;

@@ -12,9 +12,9 @@ ghost use Rattle.sf_loading.specs.Layers.{IsBare, layer_after_counters};
 
 use super::columns::{column_count, columns};
 use super::features::{feature_count, features};
+use super::fields::{allowed, present};
 use super::halt::Halt;
 use super::numbers::{number_u8, number_u16, number_u32};
-use super::rules::{allowed, present};
 use super::texts::layer_name;
 use sf_features::Text;
 use sf_format::Defect;

@@ -4,9 +4,9 @@
 mod asks;
 mod columns;
 mod features;
+mod fields;
 mod geometries;
 mod halt;
-mod kept;
 mod layers;
 mod load_fault;
 mod loading;

@@ -7,12 +7,12 @@ ghost use Rattle.sf_format.specs.Readings.{bytes, field, number};
 ghost use Rattle.sf_loading.specs.Loading.{FailsBy, Loads};
 ghost use Rattle.sf_loading.specs.Streaming.{Ends, Gives, Judges};
 
+use super::fields::allowed;
 use super::halt::Halt;
-use super::kept::ruled;
 use super::layers::layers;
 use super::load_fault::LoadFault;
 use super::numbers::{number_u8, require};
-use super::rules::allowed;
+use super::rules::ruled;
 use sf_format::{Defect, Ruled, Version};
 use sf_streams::Window;
 use sf_wkb::Grid;

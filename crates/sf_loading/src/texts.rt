@@ -8,9 +8,9 @@ ghost use Rattle.sf_format.specs.Readings.{field, number};
 ghost use Rattle.sf_format.specs.Format.{allowed as allowed_of, fresh_column_name, fresh_layer_name, fresh_rule_name, known_layer_name, name as name_of};
 ghost use Rattle.sf_loading.specs.Streaming.{Gives, GivesText, IsTextOf, Judges};
 
+use super::fields::allowed;
 use super::halt::Halt;
 use super::numbers::{number_u8, require};
-use super::rules::allowed;
 use sf_features::{Text, is_name};
 use sf_format::{Defect, KeptRules};
 use sf_layers::{Layer, Store};

@@ -15,9 +15,9 @@ ghost use Rattle.sf_loading.specs.Streaming.{Gives, IsTextOf, Judges};
 ghost use Rattle.sf_loading.specs.Types.{AreTypesOf, GivesColumn, value_above};
 
 use super::columns::ColumnTypes;
+use super::fields::allowed;
 use super::halt::Halt;
 use super::numbers::{number_i64, number_u16};
-use super::rules::allowed;
 use super::texts::text;
 use sf_features::{AttrValue, ColumnType, Feature, Text};
 use sf_format::Defect;

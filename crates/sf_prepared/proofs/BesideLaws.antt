@@ -14,7 +14,7 @@ use Rattle.sf_grid.proofs.CallerLemmas.{dif, lies, lt_from_test, mul, mul_nonneg
 use Rattle.sf_grid.proofs.OrderLaws.{less_is}
 use Rattle.sf_geometry.specs.declared.extent.Extent.{Extent}
 use Rattle.sf_geometry.specs.Parts.{edge_of}
-use Rattle.sf_paths.specs.Paths.{IsOffBox}
+use Rattle.sf_interiors.specs.Paths.{IsOffBox}
 use Rattle.sf_plane.specs.Boxes.{in_box}
 use Rattle.sf_validity.specs.Beside.{box_of_extent}
 use Rattle.sf_prepared.specs.Places.{AreClear, IsBoxLeft, IsLeft}

@@ -13,7 +13,7 @@ use Rattle.sf_geometry.specs.Envelope.{extents_meet}
 use Rattle.sf_geometry.specs.Lists.{edges_of as edges_of_list}
 use Rattle.sf_geometry.specs.Parts.{LiesOnGrid, edge_of, edges_of, joined, points_of}
 use Rattle.sf_geometry.specs.Size.{IsSized}
-use Rattle.sf_paths.specs.Paths.{IsOffBox}
+use Rattle.sf_interiors.specs.Paths.{IsOffBox}
 use Rattle.sf_plane.proofs.BoxLaws.{common_point_meets, edge_in_box}
 use Rattle.sf_polygons.proofs.SizeLaws.{few-edges}
 use Rattle.sf_validity.specs.Beside.{box_of_extent}

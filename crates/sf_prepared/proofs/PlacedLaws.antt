@@ -20,8 +20,8 @@ use Rattle.sf_interiors.proofs.InsideLaws.{IsInside, IsOff}
 use Rattle.sf_interiors.proofs.ParityLaws.{odd-append, on-edges}
 use Rattle.sf_interiors.proofs.RingLaws.{balanced-rings, ring-chain}
 use Rattle.sf_interiors.proofs.SideLaws.{differ}
-use Rattle.sf_paths.specs.Paths.{IsOffBox, parity}
-use Rattle.sf_paths.proofs.PathLaws.{box_has_one_parity}
+use Rattle.sf_interiors.specs.Paths.{IsOffBox, parity}
+use Rattle.sf_interiors.proofs.PathLaws.{box_has_one_parity}
 use Rattle.sf_plane.specs.Boxes.{Box, in_box}
 use Rattle.sf_valid_rules.specs.Validity.{IsValid}
 use Rattle.sf_validity.specs.Beside.{box_of_extent}

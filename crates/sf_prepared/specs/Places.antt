@@ -8,7 +8,7 @@ use Rattle.sf_geometry.specs.declared.extent.Extent.{Extent}
 use Rattle.sf_geometry.specs.declared.geometry.Geometry.{Geometry}
 use Rattle.sf_geometry.specs.Envelope.{envelope_of}
 use Rattle.sf_geometry.specs.Parts.{edges_of}
-use Rattle.sf_paths.specs.Paths.{IsOffBox}
+use Rattle.sf_interiors.specs.Paths.{IsOffBox}
 use Rattle.sf_valid_rules.specs.Validity.{IsValid}
 use Rattle.sf_validity.specs.Beside.{box_of_extent}
 use Rattle.sf_relate.specs.Contact.{is_in}

@@ -4,7 +4,7 @@ ghost use Rattle.std.specs.Prelude.{◌≡◌, map, not, IsTrue};
 ghost use Rattle.sf_geometry.specs.Envelope.{extents_meet};
 ghost use Rattle.sf_geometry.specs.Parts.{edge_of};
 ghost use Rattle.sf_edge_tree.specs.Boxes.{extent_of_edge};
-ghost use Rattle.sf_paths.specs.Paths.{IsOffBox};
+ghost use Rattle.sf_interiors.specs.Paths.{IsOffBox};
 ghost use Rattle.sf_validity.specs.Beside.{box_of_extent};
 ghost use Rattle.sf_prepared.specs.Places.{AreClear, IsBoxLeft, IsLeft};
 

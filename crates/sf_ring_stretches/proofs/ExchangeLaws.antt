@@ -10,8 +10,8 @@ use Rattle.sf_plane.specs.Boxes.{Box, HasEnds, IsClosedChain, in_box}
 use Rattle.sf_plane.proofs.BoxLaws.{edge_in_box}
 use Rattle.sf_polygons.proofs.TestLaws.{any-append}
 use Rattle.sf_valid_rules.specs.Shapes.{on_both, share_piece}
-use Rattle.sf_paths.specs.Paths.{IsOffBox, parity}
-use Rattle.sf_paths.proofs.PathLaws.{box_has_one_parity}
+use Rattle.sf_interiors.specs.Paths.{IsOffBox, parity}
+use Rattle.sf_interiors.proofs.PathLaws.{box_has_one_parity}
 use Rattle.sf_ring_stretches.specs.Exchange.{IsExchanged, OtherRingsAreOneSided, RingsAgreeOutside, SharesAreKept}
 use Rattle.sf_ring_stretches.proofs.OneLaws.{parity-kept}
 

@@ -13,7 +13,7 @@ use Rattle.sf_slabs.proofs.EachLaws.{each-append}
 use Rattle.sf_valid_rules.specs.Conditions.{Applies, AtPoint, AtTwoPoints, any_two}
 use Rattle.sf_valid_rules.specs.Shapes.{in_hole_outside, in_two_holes, in_two_polygons, share_piece}
 use Rattle.sf_interiors.proofs.RingLaws.{ring-chain}
-use Rattle.sf_paths.proofs.SlantLaws.{is_grid}
+use Rattle.sf_interiors.proofs.SlantLaws.{is_grid}
 use Rattle.sf_ring_stretches.specs.Exchange.{IsExchanged}
 use Rattle.sf_ring_stretches.specs.Kept.{IsBeside, IsOff, IsPolygonBeside, OneIsExchanged, PolygonsAreKept, Shell, Hole}
 use Rattle.sf_ring_stretches.proofs.ExchangeLaws.{off-line, other_rings_are_one_sided, rings_agree_outside, shares_are_kept}

@@ -11,7 +11,7 @@ use Rattle.sf_plane.proofs.BoxLaws.{ring_in_box}
 use Rattle.sf_interiors.proofs.ChainLaws.{odd-count}
 use Rattle.sf_interiors.proofs.ParityLaws.{odd-append}
 use Rattle.sf_interiors.proofs.SideLaws.{differ}
-use Rattle.sf_paths.specs.Paths.{parity}
+use Rattle.sf_interiors.specs.Paths.{parity}
 
 -- ---- truths that differ
 differ-swap : (a b : Bool) → differ a b ≡ differ b a

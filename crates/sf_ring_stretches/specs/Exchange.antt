@@ -8,7 +8,7 @@ use Rattle.sf_geometry.specs.Lists.{edges_of, tight}
 use Rattle.sf_geometry.specs.PointSets.{in_ring, on_line, within_ring}
 use Rattle.sf_plane.specs.Boxes.{Box, HasEnds, IsChain, IsClosedChain, boxes_meet, in_box}
 use Rattle.sf_valid_rules.specs.Shapes.{share_piece}
-use Rattle.sf_paths.specs.Paths.{IsOffBox}
+use Rattle.sf_interiors.specs.Paths.{IsOffBox}
 
 -- the edges of the two rings are the same but for a stretch, which leads from one point to another within the box
 pub record IsExchanged (box : Box) (r s : List Coordinates) : Type 0 where

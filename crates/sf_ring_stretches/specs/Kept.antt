@@ -8,7 +8,7 @@ use Rattle.sf_geometry.specs.PointSets.{in_polygon, in_ring}
 use Rattle.sf_plane.specs.Boxes.{Box, in_box}
 use Rattle.sf_valid_rules.specs.Rules.{polygon_rules}
 use Rattle.sf_valid_rules.specs.Validity.{NoneApplies}
-use Rattle.sf_paths.specs.Paths.{IsOffBox}
+use Rattle.sf_interiors.specs.Paths.{IsOffBox}
 use Rattle.sf_ring_stretches.specs.Exchange.{IsExchanged}
 
 -- a closed ring that has no point of the box

@@ -19,7 +19,7 @@ use Rattle.sf_geometry.proofs.ListLaws.{edges-step, not-true}
 use Rattle.sf_plane.specs.Boxes.{Box, HasEnds, boxes_meet, in_box}
 use Rattle.sf_plane.proofs.BoxLaws.{common_point_meets, ring_in_box}
 use Rattle.sf_interiors.proofs.RingLaws.{ring-chain}
-use Rattle.sf_paths.specs.Paths.{IsOffBox}
+use Rattle.sf_interiors.specs.Paths.{IsOffBox}
 use Rattle.sf_ring_stretches.specs.Exchange.{AreIn}
 use Rattle.sf_ring_stretches.proofs.PointLaws.{boxes_apart_are_off}
 use Rattle.sf_validity.specs.Beside.{IsApart, box_of_extent, stood}

@@ -21,7 +21,7 @@ use Rattle.sf_valid_rules.specs.Validity.{IsFirstOf, IsValid, NoneApplies}
 use Rattle.sf_valid_rules.specs.declared.fault.Fault.TheVariants.{RingNotSimple}
 use Rattle.sf_valid_rules.proofs.MemberLaws.{each-of_flat}
 use Rattle.sf_strands.specs.Tight.{IsTight}
-use Rattle.sf_paths.proofs.SlantLaws.{is_grid}
+use Rattle.sf_interiors.proofs.SlantLaws.{is_grid}
 use Rattle.sf_ring_stretches.specs.Exchange.{AreIn}
 use Rattle.sf_ring_stretches.specs.Kept.{IsBeside, IsOff, IsPolygonBeside, OneIsExchanged, Shell, Hole}
 use Rattle.sf_ring_stretches.proofs.ExchangeLaws.{off-line}

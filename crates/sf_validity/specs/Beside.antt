@@ -7,7 +7,7 @@ use Rattle.sf_geometry.specs.declared.extent.Extent.{Extent}
 use Rattle.sf_geometry.specs.Lists.{edges_of, is_closed}
 use Rattle.sf_geometry.specs.PointSets.{in_ring}
 use Rattle.sf_plane.specs.Boxes.{Box, in_box}
-use Rattle.sf_paths.specs.Paths.{IsOffBox}
+use Rattle.sf_interiors.specs.Paths.{IsOffBox}
 use Rattle.sf_ring_stretches.specs.Exchange.{AreIn}
 use Rattle.sf_validity.specs.declared.changed.Stretch.{Stretch}
 

@@ -5,7 +5,7 @@ ghost use Rattle.std.specs.Prelude.{◌≡◌, ◌∷◌, [], IfSome, IsTrue};
 ghost use Rattle.std.specs.List.{AllByRecursion};
 ghost use Rattle.sf_geometry.specs.Lists.{edges_of};
 ghost use Rattle.sf_geometry.specs.Parts.{polygons_of as polygons_of_geometry};
-ghost use Rattle.sf_paths.specs.Paths.{IsOffBox};
+ghost use Rattle.sf_interiors.specs.Paths.{IsOffBox};
 ghost use Rattle.sf_ring_stretches.specs.Exchange.{AreIn};
 ghost use Rattle.sf_validity.specs.Beside.{AreOthersApart, AreRingsApart, IsAlone, IsApart, IsFrontOff, box_of_extent, stood, stretch_of as stretch_of_ring};
 ghost use Rattle.sf_validity.specs.Changed.{IsInside};

@@ -1,5 +1,6 @@
 //! How a run ends before its time: its status, and its last words.
-use sf_drawing::{LoadFault, RunFault};
+use super::running::RunFault;
+use sf_loading::LoadFault;
 use sf_picture::{AskedFault, DrawFault};
 use std::{fmt, io};
 

@@ -3,9 +3,10 @@
 #![tactic(auto)]
 
 mod ending;
+mod running;
 
 use ending::Ending;
-use sf_drawing::draw_from;
+use running::draw_from;
 use sf_picture::{Asked, AskedFault, options};
 use std::process::ExitCode;
 use std::rt::Env;

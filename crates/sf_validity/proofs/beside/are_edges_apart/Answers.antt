@@ -2,7 +2,7 @@ use Rattle.std.proofs.Common.{◌∙◌, ap, sym, ◌+◌, ◌∷◌, drop}
 use Rattle.std.specs.List.{AllByRecursion}
 use Rattle.std.proofs.lemmas.List.{drop_more}
 use Rattle.sf_geometry.specs.Lists.{edges_of}
-use Rattle.sf_paths.specs.Paths.{IsOffBox}
+use Rattle.sf_interiors.specs.Paths.{IsOffBox}
 use Rattle.sf_validity.specs.Beside.{box_of_extent}
 use Rattle.sf_validity.proofs.BesideLaws.{edge-next}
 use Rattle.sf_validity.proofs.beside.are_edges_apart.Goals as goal

@@ -1,3 +1,0 @@
--- What a caller cites of the laws of a prepared geometry, passed on from one place. Declares nothing.
-pub use Rattle.sf_prepared.proofs.EdgeLaws.{none-said, off-box}
-pub use Rattle.sf_prepared.proofs.TransposedLaws.{matrices_are_transposed}

@@ -1,4 +1,0 @@
-pub mod CallerLemmas
-pub mod EndLaws
-pub mod PartLaws
-pub mod CrossedLaws

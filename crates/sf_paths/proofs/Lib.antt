@@ -1,4 +1,0 @@
-pub mod ClearLaws
-pub mod SlantLaws
-pub mod UprightLaws
-pub mod PathLaws

@@ -1,5 +1,0 @@
-use Rattle.sf_paths.proofs.PathLaws.{edge_has_one_parity as law}
-use Rattle.sf_paths.proofs.laws.edge_has_one_parity.Goals as goal
-
-pub returns : goal.returns
-returns c = law
