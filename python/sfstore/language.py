@@ -33,6 +33,7 @@ __all__ = [
     "Command",
     "Touched",
     "edits_of",
+    "parted",
     "words_of_line",
 ]
 
@@ -54,7 +55,7 @@ PREDICATES = [
 ]
 """What may be asked of a feature's geometry and a given one."""
 
-LINE_MAX = 131_072
+LINE_MAX = 4_194_304
 """How many bytes a line has at most, without its line feed."""
 
 EDITOR_MAX = 255
@@ -75,10 +76,10 @@ INT_MIN, INT_MAX = -(2**63), 2**63 - 1
 TEXT_MAX = 255
 """How many bytes of UTF-8 a text of a column has at most."""
 
-GRID_MIN, GRID_MAX = -8_388_608, 8_388_607
+GRID_MIN, GRID_MAX = -1_073_741_824, 1_073_741_823
 """From where to where coordinates go."""
 
-POINTS_MAX = 4_096
+POINTS_MAX = 65_536
 """How many points a geometry has at most."""
 
 NAME = re.compile(r"[A-Za-z][A-Za-z0-9_]{0,31}")
@@ -253,11 +254,20 @@ def edits_of(*touched: Touched) -> frozenset[str]:
     return frozenset(command.word for command in COMMANDS if command.touches in touched)
 
 
+def parted(line: str) -> list[str]:
+    """The words of a line as the program parts them: by spaces and tabs, and by nothing else.
+
+    >>> parted(" @7 save\\u00a0 \\t")
+    ['@7', 'save\\xa0']
+    """
+    return [word for word in re.split("[ \t]+", line.removesuffix("\r")) if word]
+
+
 def words_of_line(line: str) -> list[str]:
     """The words of a line as the program parts them, without the editor that it names.
 
     >>> words_of_line(" @7 add\\twells  POINT (3 4) ")
     ['add', 'wells', 'POINT', '(3', '4)']
     """
-    words = [word for word in re.split("[ \t]+", line.removesuffix("\r")) if word]
+    words = parted(line)
     return words[1:] if words and _ADDRESS.fullmatch(words[0]) else words

@@ -1,4 +1,4 @@
-"""The file of a store, as docs/use/FORMAT.md of the project has it: read, and written as version 2, which has no rules.
+"""The file of a store, as docs/use/FORMAT.md of the project has it: read, and written as version 4, without rules.
 
 What is written here is for the program to load: it decides whether it is a file of a store.
 """
@@ -6,8 +6,10 @@ What is written here is for the program to load: it decides whether it is a file
 from __future__ import annotations
 
 import struct
+from array import array
+from collections.abc import Iterator, Sequence
 from dataclasses import dataclass, field
-from typing import BinaryIO, NamedTuple, Union
+from typing import BinaryIO, NamedTuple, Union, overload
 
 from sfstore.language import PREDICATES
 from sfstore.refusals import BAD_FIELDS
@@ -29,8 +31,9 @@ __all__ = [
 INT, TEXT = 1, 2
 """The types of columns in a file."""
 
-_MAGIC = b"SFSTORE2\x18"
-_VERSIONS = {b"SFSTORE1": 1, b"SFSTORE2": 2, b"SFSTORE3": 3}
+_MAGIC = b"SFSTORE4\x1f"
+_NO_RULES = struct.pack(">H", 0)
+_VERSIONS = {b"SFSTORE1": 1, b"SFSTORE2": 2, b"SFSTORE3": 3, b"SFSTORE4": 4}
 _FORMS: dict[int, RuleForm] = {1: "never", 2: "each"}
 
 
@@ -61,11 +64,12 @@ class FileLayer:
     next_id: int
     next_column: int
     columns: list[FileColumn] = field(default_factory=list)
-    features: list[FileFeature] = field(default_factory=list)
+    features: Sequence[FileFeature] = field(default_factory=list)
+    """Those that were read stand in the file's bytes, and are made anew whenever they are asked for."""
 
 
 def write(file: BinaryIO, layers: list[FileLayer]) -> None:
-    """Writes a file of version 2. `struct.error` where a number has no place in its field."""
+    """Writes a file of version 4. `struct.error` where a number has no place in its field."""
     file.write(_MAGIC + struct.pack(">I", len(layers)))
     for layer in layers:
         numbers = layer.kind, layer.next_id, layer.next_column, len(layer.columns)
@@ -74,6 +78,7 @@ def write(file: BinaryIO, layers: list[FileLayer]) -> None:
             file.write(struct.pack(">HB", column.number, column.type) + _name(column.name))
         file.write(struct.pack(">I", len(layer.features)))
         file.writelines(map(_feature, layer.features))
+    file.write(_NO_RULES)
 
 
 def _name(name: str) -> bytes:
@@ -133,6 +138,73 @@ def fault_words(path: str, last: str) -> str:
     return f"place {place}, {name}: {BAD_FIELDS.get(number, 'it is wrong')} ({number})"
 
 
+_HEAD, _SHORT, _LONG = struct.Struct(">II"), struct.Struct(">H"), struct.Struct(">q")
+
+
+def _behind_feature(data: bytes, at: int, types: dict[int, int]) -> int:
+    """The place behind a feature, of which no field is asked for."""
+    _, length = _HEAD.unpack_from(data, at)
+    at += 8 + length
+    (count,) = _SHORT.unpack_from(data, at)
+    at += 2
+    for _ in range(count):
+        (column,) = _SHORT.unpack_from(data, at)
+        if types.get(column) == INT:
+            at += 10
+        else:
+            (length,) = _SHORT.unpack_from(data, at + 2)
+            at += 4 + length
+    return at
+
+
+class _Features(Sequence[FileFeature]):
+    """Features in the bytes of a file that was read: memory holds the bytes, and a place for each."""
+
+    def __init__(self, data: bytes, places: array[int], types: dict[int, int]) -> None:
+        self._data = data
+        self._places = places
+        self._types = types
+
+    def __eq__(self, other: object) -> bool:
+        return isinstance(other, Sequence) and len(self) == len(other) and all(map(FileFeature.__eq__, self, other))
+
+    def __len__(self) -> int:
+        return len(self._places)
+
+    def __iter__(self) -> Iterator[FileFeature]:
+        return map(self._at, self._places)
+
+    @overload
+    def __getitem__(self, index: int) -> FileFeature: ...
+
+    @overload
+    def __getitem__(self, index: slice) -> list[FileFeature]: ...
+
+    def __getitem__(self, index: int | slice) -> FileFeature | list[FileFeature]:
+        if isinstance(index, slice):
+            return list(map(self._at, self._places[index]))
+        return self._at(self._places[index])
+
+    def _at(self, at: int) -> FileFeature:
+        """The feature at a place."""
+        data = self._data
+        identifier, length = _HEAD.unpack_from(data, at)
+        geometry, at = data[at + 8 : at + 8 + length], at + 8 + length
+        (count,) = _SHORT.unpack_from(data, at)
+        at += 2
+        values: dict[int, Union[int, str]] = {}
+        for _ in range(count):
+            (column,) = _SHORT.unpack_from(data, at)
+            if self._types.get(column) == INT:
+                (values[column],) = _LONG.unpack_from(data, at + 2)
+                at += 10
+            else:
+                (length,) = _SHORT.unpack_from(data, at + 2)
+                values[column] = data[at + 4 : at + 4 + length].decode("utf-8")
+                at += 4 + length
+        return FileFeature(identifier, geometry, values)
+
+
 class _Found(Exception):
     """The field that was looked for is reached."""
 
@@ -172,8 +244,16 @@ class _Reader:
         columns = range(self._number("H", "number of columns"))
         layer.columns = [self._column() for _ in columns]
         types = {column.number: column.type for column in layer.columns}
-        features = range(self._number("I", "number of features"))
-        layer.features = [self._feature(types) for _ in features]
+        places = array("Q")
+        for _ in range(self._number("I", "number of features")):
+            places.append(self._at)
+            if self._wanted is None:
+                self._at = _behind_feature(self._data, self._at, types)
+            else:
+                self._feature(types)
+        if self._at > len(self._data):
+            raise ValueError("the file ends in a feature")
+        layer.features = _Features(self._data, places, types)
         return layer
 
     def _column(self) -> FileColumn:
@@ -183,18 +263,16 @@ class _Reader:
             self._text("B", "name of a column"),
         )
 
-    def _feature(self, types: dict[int, int]) -> FileFeature:
-        number = self._number("I", "identifier of a feature")
-        length = self._number("I", "length of a geometry")
-        geometry = self._bytes(length, "geometry")
-        values: dict[int, Union[int, str]] = {}
+    def _feature(self, types: dict[int, int]) -> None:
+        """Reads beyond a feature, whose fields are looked at."""
+        self._number("I", "identifier of a feature")
+        self._bytes(self._number("I", "length of a geometry"), "geometry")
         for _ in range(self._number("H", "number of values")):
             column = self._number("H", "column number of a value")
             if types.get(column) == INT:
-                values[column] = self._number("q", "whole number of a value")
+                self._number("q", "whole number of a value")
             else:
-                values[column] = self._text("H", "text of a value")
-        return FileFeature(number, geometry, values)
+                self._text("H", "text of a value")
 
     def _rule(self) -> Rule:
         name = self._text("B", "name of a rule")

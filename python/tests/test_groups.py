@@ -19,6 +19,8 @@ from sfstore import Added, JournalError, ProgramEnded, Refused, Store, groups, l
 LEFT = "POLYGON ((0 0, 10 0, 10 10, 0 10, 0 0))"
 RIGHT = "POLYGON ((10 0, 20 0, 20 10, 10 10, 10 0))"
 WHOLE = "POLYGON ((0 0, 20 0, 20 10, 0 10, 0 0))"
+# 30 of these are more than a line.
+LONG = f"LINESTRING ({', '.join(f'{k} 0' for k in range(20_000))})"
 MADE = [
     "layer add p polygon",
     "layer add w point",
@@ -343,9 +345,10 @@ class OnOneLine(GroupCase):
         self.assert_refused(36, "NotYours", self.store.undo)
 
     def test_a_text_that_is_longer_than_a_line(self):
-        text = groups.text_of(["add w POINT (1 1)"] * 10_000)
+        self.store.add_layer("long")
+        text = groups.text_of([f"add long {LONG}"] * 30)
         self.assertGreater(len(text), language.LINE_MAX)
-        self.assertEqual(self.store.run(text), "ok " + " ".join(map(str, range(1, 10_001))))
+        self.assertEqual(self.store.run(text), "ok " + " ".join(map(str, range(1, 31))))
 
     def test_a_refusal_names_the_line(self):
         [refused] = self.store.run_all(["together 2\rdelete p 1\rdelete p 1"])
@@ -441,7 +444,7 @@ class Lines(TestCase):
         lines = [
             "layer add w point", "together 2\radd w POINT (1 1)\radd w POINT (2 2)\r", "@2 together 1\rdelete w 1",
             "together 2\rdelete w 2\rdelete w 2", "together 2\rdelete w 2", "together 2\r\rdelete w 2",
-            "together 1\radd w " + " " * 131_072 + "POINT (1 1)", "together 1", "delete w\r2", "show w", "undo", "@2 undo",
+            "together 1\radd w " + " " * 4_194_304 + "POINT (1 1)", "together 1", "delete w\r2", "show w", "undo", "@2 undo",
         ]
         wanted = [
             "ok", "ok 1 2", "ok", "refused 21 NoFeature member 2", "refused 31 BadCommand", "refused 31 BadCommand member 1",
@@ -598,19 +601,19 @@ class Kept(TestCase):
         with self.store() as store:
             store.add_layer("w")
             with store.together() as group:
-                for k in range(9_000):
-                    group.add("w", f"POINT ({k} 0)")
+                for _ in range(30):
+                    group.add("w", LONG)
             # A second program makes the copy of the file and the records.
             store.copy(self.folder / "copy.sfs")
             self.assertGreater(len(store.unsaved_lines[1]), language.LINE_MAX)
             store.close(save=False)
         with self.store() as store:
-            self.assertEqual((store.recovered.edits, len(store.show("w"))), (2, 9_000))
+            self.assertEqual((store.recovered.edits, len(store.show("w"))), (2, 30))
             store.undo()
             self.assertEqual(store.show("w"), [])
             store.redo()
         with Store(PROGRAM, load=self.path) as saved, Store(PROGRAM, load=self.folder / "copy.sfs") as copied:
-            self.assertEqual(len(saved.show("w")), 9_000)
+            self.assertEqual(len(saved.show("w")), 30)
             self.assertEqual(saved.show("w"), copied.show("w"))
 
     def test_a_save_inside_is_no_member(self):

@@ -10,6 +10,7 @@ import re
 import resource
 import shutil
 import signal
+import socket
 import subprocess
 import sys
 import textwrap
@@ -31,6 +32,7 @@ from sfstore.language import MEMBERS
 from sfstore.replica.lines import EDITS, QUESTIONS, asked
 from sfstore.replica.links import Link, LinkLost, LogRefused, servers_of
 from sfstore.replica.servers import Pair, Server
+from sfstore.replica.session import _door
 
 SCHEMA = (FOLDER / "sfstore" / "replica" / "log.sql").read_text()
 APPEND = "SELECT sfstore.append(ARRAY[gen_random_uuid()], ARRAY[%s])"
@@ -43,6 +45,23 @@ def refused(number, name, line):
 def shown(outcomes):
     """Answers, with refusals as texts that can be compared."""
     return [str(it) if isinstance(it, Refused) else it for it in outcomes]
+
+
+class Door(TestCase):
+    def test_what_is_no_socket_stays(self):
+        path = self.folder / "socket"
+        path.write_text("precious")
+        with self.assertRaisesRegex(OSError, "it is no socket, and stays"), _door(path):
+            pass
+        self.assertEqual(path.read_text(), "precious")
+
+    def test_a_socket_that_was_left_gives_way(self):
+        path = self.folder / "socket"
+        with socket.socket(socket.AF_UNIX) as left:
+            left.bind(str(path))
+        with _door(path), socket.socket(socket.AF_UNIX) as connection:
+            connection.connect(str(path))
+        self.assertFalse(path.exists())
 
 
 class Lines(TestCase):
@@ -330,7 +349,7 @@ class Sessions(ReplicaCase):
         return said.returncode, said.stdout, said.stderr
 
     def test_lines_and_answers(self):
-        lines = b"layer add w point\n\n \t\nadd w POINT (3 4)\r\n\xff\xfe\nshow w\na\0b\n@9 undo\n" + b"9" * 140_000 + b"\nundo"
+        lines = b"layer add w point\n\n \t\nadd w POINT (3 4)\r\n\xff\xfe\nshow w\na\0b\n@9 undo\n" + b"9" * 4_194_305 + b"\nundo"
         said = self.session("ann", lines)
         answers = b"ok\nok 1\nrefused 31 BadCommand\nrows 1\n1 POINT (3 4)\nrefused 31 BadCommand\n"
         answers += b"refused 101 OtherEditor\nrefused 33 LineTooLong\nok\n"

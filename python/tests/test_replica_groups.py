@@ -142,7 +142,7 @@ class Groups(ReplicaCase):
 
     def test_how_long_a_group_may_be(self):
         ann, ben = self.town("ann", "ben")
-        blanks = " " * 128_980
+        blanks = " " * 516_000
         longest = groups.text_of([f"add w {blanks}POINT ({k} 1)" for k in range(31)])
         longest += " " * (GROUP_BYTES - len(longest))
         self.assertEqual(len(ann.run(longest).split()), 32)
@@ -152,7 +152,7 @@ class Groups(ReplicaCase):
         ann.run_all([longest] * 3)
         ben.follow()
         self.assertEqual(len(ben.run("show w")), 124)
-        [refused] = ann.run_all([groups.text_of(["delete w 1", "delete w 2" + " " * 131_072])])
+        [refused] = ann.run_all([groups.text_of(["delete w 1", "delete w 2" + " " * 4_194_304])])
         self.assertEqual(refused.answer, "refused 33 LineTooLong member 2")
 
     def test_a_group_that_is_tried_again_stands_once(self):
@@ -180,7 +180,7 @@ class Sessions(ReplicaCase):
             b"layer add w point", b"together 2", b"add w POINT (1 1)\r", b" \t", b"vertex move w last 0 0 0 2 2", b"show w",
             b"@1 together 1", b"delete w 1", b"undo", b"@9 together 1", b"delete w 1", b"together 0", b"show w",
             b"together 2\radd w POINT (5 5)\radd w POINT (6 6)", b"undo",
-            b"together 3", b"delete w 1", b"\xff", b"9" * 140_000, b"together 2", b"9" * 140_000, b"undo",
+            b"together 3", b"delete w 1", b"\xff", b"9" * 4_194_305, b"together 2", b"9" * 4_194_305, b"undo",
             b"together 1", b"delete w\r1", b"together 1", b"a\0b", b"together 2", b"add w POINT (x 1)", b"undo", b"show w",
         ]
         answers = [
@@ -200,14 +200,14 @@ class Sessions(ReplicaCase):
             (b"add w POINT (1 1)\nundo\n", b"refused 31 BadCommand member 2"),
             (b"add w POINT (1 1)\nset v last x 5\n", b"refused 31 BadCommand member 2"),
             (b"add w POINT (x 1)\n", b"refused 2 Syntax member 1"),
-            (b"9" * 140_000 + b"\n", b"refused 33 LineTooLong member 1"),
+            (b"9" * 4_194_305 + b"\n", b"refused 33 LineTooLong member 1"),
         ):
             said = self.session("ann", b"layers\ntogether 3\n" + behind)
             self.assertEqual((said.stdout.splitlines()[-1], said.returncode), (answer, 0), behind[:40])
         self.assertEqual(self.ask("SELECT count(*) FROM sfstore.log"), [(0,)])
 
     def test_a_group_that_the_log_could_not_take(self):
-        line = b"add w " + b" " * 130_000 + b"POINT (1 1)\n"
+        line = b"add w " + b" " * 420_000 + b"POINT (1 1)\n"
         said = self.session("ann", b"layer add w point\ntogether 40\n" + line * 40 + b"show w\ntogether 50\n" + line * 45)
         self.assertEqual(said.stdout.splitlines(), [b"ok", b"refused 33 LineTooLong", b"rows 0", b"refused 33 LineTooLong"])
 

@@ -7,19 +7,19 @@ use Rattle.sf_grid.specs.Plane.{Coordinates}
 use Rattle.sf_grid.proofs.CallerLemmas.{eq_from_test}
 use Rattle.sf_along.specs.Runs.{height_of, offset_of, rise_of, slope_of, width_of}
 
-pub slanted-slope : (u v : Coordinates) (w r q : ℤ) → int_eq u.x v.x ≡ false → w ≡ width_of u v → r ≡ rise_of u v → q ≡ int_div_euclid (r *ℤ pos (2 ^ 38)) w → q ≡ slope_of u v
+pub slanted-slope : (u v : Coordinates) (w r q : ℤ) → int_eq u.x v.x ≡ false → w ≡ width_of u v → r ≡ rise_of u v → q ≡ int_div_euclid (r *ℤ pos (2 ^ 31)) w → q ≡ slope_of u v
 slanted-slope u v w r q n e f g =
     g
-    ∙ ap (λ z. int_div_euclid (r *ℤ pos (2 ^ 38)) z) e
-    ∙ ap (λ z. int_div_euclid (z *ℤ pos (2 ^ 38)) (width_of u v)) f
-    ∙ ap (λ t. cond t (pos (2 ^ 63 - 1)) (int_div_euclid (rise_of u v *ℤ pos (2 ^ 38)) (width_of u v))) (sym n)
+    ∙ ap (λ z. int_div_euclid (r *ℤ pos (2 ^ 31)) z) e
+    ∙ ap (λ z. int_div_euclid (z *ℤ pos (2 ^ 31)) (width_of u v)) f
+    ∙ ap (λ t. cond t (pos (2 ^ 63 - 1)) (int_div_euclid (rise_of u v *ℤ pos (2 ^ 31)) (width_of u v))) (sym n)
 
-pub slanted-height : (u v : Coordinates) (w o q : ℤ) → int_eq u.x v.x ≡ false → w ≡ width_of u v → o ≡ offset_of u v → q ≡ int_div_euclid (o *ℤ pos (2 ^ 14)) w → q ≡ height_of u v
+pub slanted-height : (u v : Coordinates) (w o q : ℤ) → int_eq u.x v.x ≡ false → w ≡ width_of u v → o ≡ offset_of u v → q ≡ int_div_euclid (o *ℤ pos 2) w → q ≡ height_of u v
 slanted-height u v w o q n e f g =
     g
-    ∙ ap (λ z. int_div_euclid (o *ℤ pos (2 ^ 14)) z) e
-    ∙ ap (λ z. int_div_euclid (z *ℤ pos (2 ^ 14)) (width_of u v)) f
-    ∙ ap (λ t. cond t u.x (int_div_euclid (offset_of u v *ℤ pos (2 ^ 14)) (width_of u v))) (sym n)
+    ∙ ap (λ z. int_div_euclid (o *ℤ pos 2) z) e
+    ∙ ap (λ z. int_div_euclid (z *ℤ pos 2) (width_of u v)) f
+    ∙ ap (λ t. cond t u.x (int_div_euclid (offset_of u v *ℤ pos 2) (width_of u v))) (sym n)
 
 -- two coordinates whose bits differ
 pub apart : (a b c d : ℤ) → a ≡ c → b ≡ d → (of_z w32 a ≡ of_z w32 b → ⊥) → int_eq c d ≡ false

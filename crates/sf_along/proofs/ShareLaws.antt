@@ -94,16 +94,16 @@ one-slope u v s t p h = by_tests (int_eq u.x v.x) refl (int_eq s.x t.x) refl
     crossed w r w' r' e = omega (arith, ints)
 
     by_tests : (m : Bool) → int_eq u.x v.x ≡ m → (n : Bool) → int_eq s.x t.x ≡ n →
-        cond m (pos (2 ^ 63 - 1)) (int_div_euclid (rise_of u v *ℤ pos (2 ^ 38)) (width_of u v))
-        ≡ cond n (pos (2 ^ 63 - 1)) (int_div_euclid (rise_of s t *ℤ pos (2 ^ 38)) (width_of s t))
+        cond m (pos (2 ^ 63 - 1)) (int_div_euclid (rise_of u v *ℤ pos (2 ^ 31)) (width_of u v))
+        ≡ cond n (pos (2 ^ 63 - 1)) (int_div_euclid (rise_of s t *ℤ pos (2 ^ 31)) (width_of s t))
     by_tests true e true f = refl
     by_tests true e false f = absurd (both-upright u v s t p h e f)
     by_tests false e true f = absurd (both-upright s t u v p (flip u v s t p h) f e)
     by_tests false e false f =
-        same_quotient (rise_of u v *ℤ pos (2 ^ 38)) (rise_of s t *ℤ pos (2 ^ 38)) (width_of u v) (width_of s t)
+        same_quotient (rise_of u v *ℤ pos (2 ^ 31)) (rise_of s t *ℤ pos (2 ^ 31)) (width_of u v) (width_of s t)
         (goes-right u v h.first_forward e)
         (goes-right s t h.second_forward f)
-        (scaled (rise_of u v) (rise_of s t) (width_of u v) (width_of s t) (pos (2 ^ 38)) (crossed (width_of u v) (rise_of u v) (width_of s t) (rise_of s t) h.parallel))
+        (scaled (rise_of u v) (rise_of s t) (width_of u v) (width_of s t) (pos (2 ^ 31)) (crossed (width_of u v) (rise_of u v) (width_of s t) (rise_of s t) h.parallel))
 
 -- ---- the same height
 -- offsets are as the widths
@@ -154,17 +154,17 @@ one-height u v s t p h = by_tests (int_eq u.x v.x) refl (int_eq s.x t.x) refl
     positive d k = omega (arith, ints)
 
     by_tests : (m : Bool) → int_eq u.x v.x ≡ m → (n : Bool) → int_eq s.x t.x ≡ n →
-        cond m u.x (int_div_euclid (offset_of u v *ℤ pos (2 ^ 14)) (width_of u v))
-        ≡ cond n s.x (int_div_euclid (offset_of s t *ℤ pos (2 ^ 14)) (width_of s t))
+        cond m u.x (int_div_euclid (offset_of u v *ℤ pos 2) (width_of u v))
+        ≡ cond n s.x (int_div_euclid (offset_of s t *ℤ pos 2) (width_of s t))
     by_tests true e true f =
         eq_from_mul u.x s.x p.d h.is_point.positive (sym (upright-x u v p h.first_forward e h.on_first) ∙ upright-x s t p h.second_forward f h.on_second)
     by_tests true e false f = absurd (both-upright u v s t p h e f)
     by_tests false e true f = absurd (both-upright s t u v p (flip u v s t p h) f e)
     by_tests false e false f =
-        same_quotient (offset_of u v *ℤ pos (2 ^ 14)) (offset_of s t *ℤ pos (2 ^ 14)) (width_of u v) (width_of s t)
+        same_quotient (offset_of u v *ℤ pos 2) (offset_of s t *ℤ pos 2) (width_of u v) (width_of s t)
         (goes-right u v h.first_forward e)
         (goes-right s t h.second_forward f)
-        (scaled (offset_of u v) (offset_of s t) (width_of u v) (width_of s t) (pos (2 ^ 14))
+        (scaled (offset_of u v) (offset_of s t) (width_of u v) (width_of s t) (pos 2)
         (offsets (width_of u v) (rise_of u v) (width_of s t) (rise_of s t) u.x u.y s.x s.y p.x p.y (pos p.d) (positive p.d h.is_point.positive) h.on_first h.on_second h.parallel))
 
 -- ---- each begins before the other ends

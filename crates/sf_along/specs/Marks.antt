@@ -9,7 +9,7 @@ use Rattle.sf_along.specs.Runs.{GoTogether, IsRun}
 
 -- the place of a line with these numbers
 abbrev pub place_at : ℤ → ℤ → ℕ
-place_at slope height = bit_and (bit_xor (bit_xor (unsigned_abs slope) (unsigned_abs height)) (unsigned_abs height / 2 ^ 14)) (2 ^ 15 - 1)
+place_at slope height = bit_and (bit_xor (bit_xor (unsigned_abs slope) (unsigned_abs height)) (unsigned_abs height / 2)) (2 ^ 15 - 1)
 
 -- that of r's line
 abbrev pub place_of : Run → ℕ

@@ -23,13 +23,13 @@ rise_of u v = v.y -ℤ u.y
 abbrev pub offset_of : Coordinates → Coordinates → ℤ
 offset_of u v = u.y *ℤ width_of u v -ℤ u.x *ℤ rise_of u v
 
--- its slope, in parts of 2 ^ -38, rounded down; the greatest number where it is upright
+-- its slope, in parts of 2 ^ -31, rounded down; the greatest number where it is upright
 abbrev pub slope_of : Coordinates → Coordinates → ℤ
-slope_of u v = if int_eq u.x v.x then pos (2 ^ 63 - 1) else int_div_euclid (rise_of u v *ℤ pos (2 ^ 38)) (width_of u v)
+slope_of u v = if int_eq u.x v.x then pos (2 ^ 63 - 1) else int_div_euclid (rise_of u v *ℤ pos (2 ^ 31)) (width_of u v)
 
--- its height at the origin, in parts of 2 ^ -14, rounded down; its x where it is upright
+-- its height at the origin, in half grid steps, rounded down; its x where it is upright
 abbrev pub height_of : Coordinates → Coordinates → ℤ
-height_of u v = if int_eq u.x v.x then u.x else int_div_euclid (offset_of u v *ℤ pos (2 ^ 14)) (width_of u v)
+height_of u v = if int_eq u.x v.x then u.x else int_div_euclid (offset_of u v *ℤ pos 2) (width_of u v)
 
 -- ---- runs
 abbrev pub run_between : Bool → Coordinates → Coordinates → Run

@@ -12,11 +12,11 @@ use sf_grid::edges::{comes_before, meet, on_edge};
 use sf_grid::{GridPoint, Meet};
 use std::alloc::{AllocError, Global};
 
-/// Slopes are counted in parts of 2^-38: the steepest, of 2^24 - 1 grid steps on one, is less than 2^62 of them.
-const SLOPE_STEPS: i64 = 1 << 38;
+/// Slopes are counted in parts of 2^-31: the steepest, of 2^31 - 1 grid steps on one, is less than 2^62 of them.
+const SLOPE_STEPS: i64 = 1 << 31;
 
-/// Heights are counted in parts of 2^-14 grid steps: the greatest, of less than 2^48 grid steps, is less than 2^62 of them.
-const HEIGHT_STEPS: i64 = 1 << 14;
+/// Heights are counted in half grid steps: the greatest, of less than 2^62 grid steps, is less than 2^63 of them.
+const HEIGHT_STEPS: i64 = 2;
 
 /// How many places a table has in which lines are marked.
 pub(crate) const PLACES: usize = 1 << 15;

@@ -393,7 +393,7 @@ pub record IsRecorded (pieces : List Piece) (heads : List Head) (ns : List ℕ) 
 
 -- from two lists of such groups, what the first walk measured and an empty listing of that room, to slices of its heads and numbers after the second walk
 pub IsRecorded-walk : (pieces : List Piece) (first second : List ℕ) (measured : Measured) (start end : Listing) (heads : List Head) (ns : List ℕ) →
-    length pieces ≤ 65535 → first ≡ numbers 0 (length pieces) → second ≡ numbers 0 (length pieces) →
+    length pieces ≤ 16777215 → first ≡ numbers 0 (length pieces) → second ≡ numbers 0 (length pieces) →
     measured ≡ fold measure (record { cells = 0; numbers = 0 }) (map (item_of first) (cells pieces)) → HasMeasuredRoom measured start →
     end ≡ fold record_item start (map (item_of second) (cells pieces)) → heads ≡ end.heads → ns ≡ end.numbers → IsRecorded pieces heads ns
 IsRecorded-walk pieces first second measured start end heads ns few first_own second_own measures room walked are_heads are_numbers =

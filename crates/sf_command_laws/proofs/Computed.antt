@@ -67,7 +67,7 @@ value_cleared = refl
 vertex_inserted : command_of (codes "vertex insert wells 1 2 3 4294967295 +1.00 -0") ≡ Ok (0, Edit (edits.InsertVertex (codes "wells") 1 2 3 4294967295 (record { x = pos 1; y = pos 0 })))
 vertex_inserted = refl
 
-vertex_moved : command_of (codes "vertex move wells 1 0 0 2 -8388608 8388607.") ≡ Ok (0, Edit (edits.MoveVertex (codes "wells") 1 0 0 2 (record { x = negsuc 8388607; y = pos 8388607 })))
+vertex_moved : command_of (codes "vertex move wells 1 0 0 2 -1073741824 1073741823.") ≡ Ok (0, Edit (edits.MoveVertex (codes "wells") 1 0 0 2 (record { x = negsuc 1073741823; y = pos 1073741823 })))
 vertex_moved = refl
 
 vertex_removed : command_of (codes "vertex remove wells 1 0 0 2") ≡ Ok (0, Edit (edits.RemoveVertex (codes "wells") 1 0 0 2))
@@ -138,7 +138,7 @@ geometries_asked = (refl, refl, refl)
 -- wrong words come before a wrong text, and the form of both coordinates before the fault of either
 faults_of_words : (command_of (codes "replace wells x POINT") ≡ Err BadCommand) × (command_of (codes "replace wells 7 POINT") ≡ Err Syntax)
     × (command_of (codes "vertex move wells 1 0 0 0 1.5 x") ≡ Err BadCommand) × (command_of (codes "vertex move wells 4294967296 0 0 0 1.5 1") ≡ Err BadCommand)
-    × (command_of (codes "vertex move wells 1 0 0 0 1.5 8388608") ≡ Err OffGrid) × (command_of (codes "vertex move wells 1 0 0 0 8388608 1.5") ≡ Err OutOfRange)
+    × (command_of (codes "vertex move wells 1 0 0 0 1.5 1073741824") ≡ Err OffGrid) × (command_of (codes "vertex move wells 1 0 0 0 1073741824 1.5") ≡ Err OutOfRange)
     × (command_of (codes "vertex drop wells 1 0 0 0") ≡ Err BadCommand) × (command_of (codes "layers wells") ≡ Err BadCommand) × (command_of (codes "column add wells depth real") ≡ Err BadCommand)
 faults_of_words = (refl, refl, refl, refl, refl, refl, refl, refl, refl)
 

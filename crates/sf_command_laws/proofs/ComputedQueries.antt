@@ -57,7 +57,7 @@ words_before_texts = (refl, refl, refl, refl, refl)
 
 -- the faults of a text come before those of a geometry
 faults_of_texts : IsRefused (codes "relate p 3 POINT (1") Syntax × IsRefused (codes "match p ********* POINT (1.5 0)") OffGrid
-    × IsRefused (codes "query p equals POINT (8388608 0)") OutOfRange × IsRefused (codes "query p equals POINT EMPTY") Empty
+    × IsRefused (codes "query p equals POINT (1073741824 0)") OutOfRange × IsRefused (codes "query p equals POINT EMPTY") Empty
     × IsRefused (codes "query p equals POINT Z (1 2 3)") UnsupportedType × IsRefused (codes "query p equals LINESTRING (1 1, 1 1") Syntax
     × IsRefused (codes "query p equals LINESTRING (1 1, 1 1.5)") OffGrid
 faults_of_texts = (refl, refl, refl, refl, refl, refl, refl)

@@ -18,7 +18,7 @@ use Rattle.sf_wkt.specs.Grammar.{read}
 use Rattle.sf_wkt.specs.Tokens.{coordinate_of}
 use Rattle.sf_wkt.proofs.Sized.{read_is_sized}
 use Rattle.sf_wkb.specs.declared.fault.WkbFault.{WkbFault}
-use Rattle.sf_wkb.specs.declared.grid.Grid.TheVariants.{Bits24}
+use Rattle.sf_wkb.specs.declared.grid.Grid.TheVariants.{Bits31}
 use Rattle.sf_wkb.specs.Grammar.{read as read_bytes}
 use Rattle.sf_wkb.proofs.Sized.{read_is_sized as bytes_are_sized}
 use Rattle.sf_rules.specs.declared.rule.Form.{Form}
@@ -83,7 +83,7 @@ bytes_bring layer (Ok geometry) good = good.1
 bytes_bring layer (Err fault) good = tt
 
 hex_brings : (layer : List ℕ) (r : Result (List ℕ) FromHexError) → Brings (hex_command layer r)
-hex_brings layer (Ok bytes) = bytes_bring layer (read_bytes bytes) (bytes_are_sized Bits24 bytes)
+hex_brings layer (Ok bytes) = bytes_bring layer (read_bytes bytes) (bytes_are_sized Bits31 bytes)
 hex_brings layer (Err fault) = tt
 
 by_on_grid : (x y : Option (Result ℤ WktFault)) → ((n : ℤ) → x ≡ Some (Ok n) → IsCoordinate n) → ((n : ℤ) → y ≡ Some (Ok n) → IsCoordinate n) → IfOk (point_by x y) IsOnGrid

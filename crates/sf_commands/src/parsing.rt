@@ -23,7 +23,7 @@ use sf_words::{Naming, Verb, Words, addressed, verb_of};
 use std::alloc::Global;
 
 /// The command of a line with the number of the editor who gives it, 0 where its first word names none; or the
-/// refusal that the line alone decides: `LineTooLong` above 131,072 bytes, `BadCommand` for wrong words or a wrong
+/// refusal that the line alone decides: `LineTooLong` above 4,194,304 bytes, `BadCommand` for wrong words or a wrong
 /// number of them, an editor's word that names none before all others, then `BadPattern` for a pattern that is none,
 /// then `Syntax` for a text that is no hexadecimal, the faults of a well-known text or binary, and those of a
 /// coordinate, x before y; last, of a geometry that features are compared with, its first fault. `Memory` may come in

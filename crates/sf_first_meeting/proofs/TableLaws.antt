@@ -365,7 +365,7 @@ step ps vs active k n new t s l v m =
 
 -- ---- the start
 abbrev least : ℤ
-least = negsuc 562949953421312
+least = negsuc 9223372036854775807
 
 least-before : (c : Coordinates) → IsOnGrid c → least <ℤ place c
 least-before c g = omega (arith, ints, g.0.0, g.0.1, g.1.0, g.1.1)

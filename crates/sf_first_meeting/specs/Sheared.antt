@@ -8,7 +8,7 @@ use Rattle.sf_first_meeting.specs.Numbered.{point_of}
 
 -- more than two heights on the grid differ
 abbrev pub shear_factor : ℕ
-shear_factor = 16777216
+shear_factor = 4294967296
 
 -- the place of a point: its order by x and then y
 abbrev pub place : Coordinates → ℤ

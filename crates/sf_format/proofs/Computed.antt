@@ -14,7 +14,7 @@ use Rattle.sf_layers.specs.declared.layer_kind.LayerKind.TheVariants.{Any, Only}
 use Rattle.sf_format.specs.Defects.{number_of}
 use Rattle.sf_format.specs.Readings.{Fault}
 use Rattle.sf_format.specs.Format.{content_of}
-use Rattle.sf_format.specs.Canonical.{canonical, first_canonical}
+use Rattle.sf_format.specs.Canonical.{canonical, first_canonical, second_canonical}
 
 -- a content, or the place and the number of the first fault
 abbrev answer : Result Content Fault → Result Content (ℕ × ℕ)
@@ -70,11 +70,24 @@ second_of text = codes "SFSTORE2" ++ 24 ∷ drop 8 text
 pub first_bytes : first_canonical wells ≡ saved
 first_bytes = refl
 
-pub saved_bytes : canonical wells ≡ second_of saved
+-- the same bytes behind the front of the fourth version, and no rules
+abbrev fourth_of : List ℕ → List ℕ
+fourth_of text = codes "SFSTORE4" ++ 31 ∷ (drop 8 text ++ 0 ∷ 0 ∷ [])
+
+pub second_bytes : second_canonical wells ≡ second_of saved
+second_bytes = refl
+
+pub saved_bytes : canonical wells ≡ fourth_of saved
 saved_bytes = refl
 
-pub second_length : length (canonical wells) ≡ 63
-second_length = refl
+pub fourth_length : length (canonical wells) ≡ 65
+fourth_length = refl
+
+pub fourth_loads : load (fourth_of saved) ≡ Ok wells
+fourth_loads = refl
+
+pub fourth_without_rules : load (codes "SFSTORE4" ++ 31 ∷ drop 8 saved) ≡ Err (63, 7)
+fourth_without_rules = refl
 
 pub second_loads : load (second_of saved) ≡ Ok wells
 second_loads = refl
@@ -82,10 +95,10 @@ second_loads = refl
 pub saved_bytes_load : load saved ≡ Ok wells
 saved_bytes_load = refl
 
-pub new_store : canonical [] ≡ codes "SFSTORE2" ++ 24 ∷ 0 ∷ 0 ∷ 0 ∷ 0 ∷ []
+pub new_store : canonical [] ≡ codes "SFSTORE4" ++ 31 ∷ 0 ∷ 0 ∷ 0 ∷ 0 ∷ 0 ∷ 0 ∷ []
 new_store = refl
 
--- ---- the two versions
+-- ---- the versions
 
 pub second_exhausted_length : length (second_of (full_layer 1 1 0)) ≡ 28
 second_exhausted_length = refl
@@ -102,7 +115,13 @@ other_grid = refl
 pub grid_missing : load (codes "SFSTORE2") ≡ Err (8, 7)
 grid_missing = refl
 
-pub no_version : load (codes "SFSTORE4" ++ 24 ∷ drop 8 saved) ≡ Err (0, 34)
+pub grid_of_the_second_version : load (codes "SFSTORE4" ++ 24 ∷ drop 8 saved) ≡ Err (8, 34)
+grid_of_the_second_version = refl
+
+pub grid_of_the_fourth_version : load (codes "SFSTORE2" ++ 31 ∷ drop 8 saved) ≡ Err (8, 34)
+grid_of_the_fourth_version = refl
+
+pub no_version : load (codes "SFSTORE5" ++ 31 ∷ drop 8 saved) ≡ Err (0, 34)
 no_version = refl
 
 -- the file with the x 524288
@@ -115,6 +134,17 @@ far_in_first = refl
 pub far_in_second : load (second_of far_saved)
     ≡ Ok ((codes "wells", record { kind = Only kinds.Point; next_id = 2; next_column = 1; columns = []; features = (1, plain_feature (Point (record { x = pos 524288; y = pos 4 }))) ∷ [] }) ∷ [])
 far_in_second = refl
+
+-- the file with the x 8388608, which has more than 24 bits
+abbrev farther_saved : List ℕ
+farther_saved = take 44 saved ++ 0 ∷ 0 ∷ 0 ∷ 0 ∷ 0 ∷ 0 ∷ 96 ∷ 65 ∷ drop 52 saved
+
+pub farther_in_second : load (second_of farther_saved) ≡ Err (40, 4)
+farther_in_second = refl
+
+pub farther_in_fourth : load (fourth_of farther_saved)
+    ≡ Ok ((codes "wells", record { kind = Only kinds.Point; next_id = 2; next_column = 1; columns = []; features = (1, plain_feature (Point (record { x = pos 8388608; y = pos 4 }))) ∷ [] }) ∷ [])
+farther_in_fourth = refl
 
 -- each front of the bytes ends within a field
 abbrev is_cut_at : ℕ → Result Content Fault → Bool
@@ -130,6 +160,9 @@ every_front_is_cut = refl
 
 pub every_front_of_second_is_cut : fronts_are_cut 63 (second_of saved) ≡ true
 every_front_of_second_is_cut = refl
+
+pub every_front_of_fourth_is_cut : fronts_are_cut 65 (fourth_of saved) ≡ true
+every_front_of_fourth_is_cut = refl
 
 pub other_first_byte : load (wells_bytes 84 1 21 1) ≡ Err (0, 34)
 other_first_byte = refl
@@ -279,10 +312,10 @@ point_among_lines = refl
 pub unreadable_among_lines : load (take 18 (wells_bytes 83 1 21 7) ++ 2 ∷ drop 19 (wells_bytes 83 1 21 7)) ≡ Err (39, 6)
 unreadable_among_lines = refl
 
-pub longest_geometry_and_more : load (take 35 saved ++ 0 ∷ 2 ∷ 0 ∷ 1 ∷ []) ≡ Err (35, 9)
+pub longest_geometry_and_more : load (take 35 saved ++ 0 ∷ 32 ∷ 0 ∷ 1 ∷ []) ≡ Err (35, 9)
 longest_geometry_and_more = refl
 
-pub longest_geometry_cut_off : load (take 35 saved ++ 0 ∷ 2 ∷ 0 ∷ 0 ∷ []) ≡ Err (39, 7)
+pub longest_geometry_cut_off : load (take 35 saved ++ 0 ∷ 32 ∷ 0 ∷ 0 ∷ []) ≡ Err (39, 7)
 longest_geometry_cut_off = refl
 
 -- a geometry with the other order of bytes is read, and written in the canonical one

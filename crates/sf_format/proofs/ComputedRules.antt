@@ -1,5 +1,5 @@
 -- Worked files with rules, computed from the definitions alone.
-use Rattle.std.proofs.Common.{◌≡◌, ℕ, pos, List, [], ◌∷◌, ◌++◌, length, drop, Result, Ok, Err, codes, refl}
+use Rattle.std.proofs.Common.{◌≡◌, ℕ, pos, List, [], ◌∷◌, ◌++◌, length, drop, take, Result, Ok, Err, codes, refl}
 use Rattle.sf_geometry.specs.declared.geometry.Geometry.TheVariants.{Point}
 use Rattle.sf_geometry.specs.declared.kind.Kind.TheVariants as kinds
 use Rattle.sf_known.specs.declared.letter.Letter.TheVariants.{Any, Filled, Empty, Zero, One, Two}
@@ -14,7 +14,7 @@ use Rattle.sf_ruled_store.specs.Ruled.{Ruled}
 use Rattle.sf_format.specs.Defects.{number_of}
 use Rattle.sf_format.specs.Readings.{Fault}
 use Rattle.sf_format.specs.Format.{ruled_content_of}
-use Rattle.sf_format.specs.Canonical.{canonical, canonical_ruled, rule_bytes}
+use Rattle.sf_format.specs.Canonical.{canonical, canonical_ruled, rule_bytes, third_canonical}
 
 -- a content with rules, or the place and the number of the first fault
 abbrev answer : Result Ruled Fault → Result Ruled (ℕ × ℕ)
@@ -44,12 +44,16 @@ apart_bytes = refl
 pub inside_bytes : rule_bytes inside ≡ 2 ∷ codes "in" ++ 2 ∷ 1 ∷ 98 ∷ 5 ∷ 1 ∷ 97 ∷ []
 inside_bytes = refl
 
-pub without_rules_as_before : canonical_ruled (record { content = wells; rules = [] }) ≡ canonical wells
-without_rules_as_before = refl
+pub without_rules_as_content : canonical_ruled (record { content = wells; rules = [] }) ≡ canonical wells
+without_rules_as_content = refl
 
--- the bytes up to the number of rules are those of a store without them, but for the version
+-- the bytes up to the number of rules
 abbrev layers_part : List ℕ
-layers_part = codes "SFSTORE3" ++ drop 8 (canonical wells)
+layers_part = take 74 (canonical wells)
+
+-- the same of the third version
+abbrev third_part : List ℕ
+third_part = codes "SFSTORE3" ++ 24 ∷ drop 9 layers_part
 
 pub layers_length : length layers_part ≡ 74
 layers_length = refl
@@ -60,7 +64,13 @@ kept_bytes = refl
 pub kept_loads : load (canonical_ruled kept) ≡ Ok kept
 kept_loads = refl
 
--- a file of the third version with these bytes behind the layers
+pub third_bytes : third_canonical kept ≡ third_part ++ 0 ∷ 2 ∷ (rule_bytes apart ++ rule_bytes inside)
+third_bytes = refl
+
+pub third_loads : load (third_canonical kept) ≡ Ok kept
+third_loads = refl
+
+-- a file with these bytes behind the layers
 abbrev with_rules : List ℕ → List ℕ
 with_rules rest = layers_part ++ rest
 

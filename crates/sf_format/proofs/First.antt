@@ -6,7 +6,7 @@ use Rattle.sf_layers.specs.Content.{Content}
 use Rattle.sf_ruled_store.specs.Ruling.{Rule}
 use Rattle.sf_streams.specs.Streams.{Left}
 use Rattle.sf_format.specs.declared.version.Version.{Version}
-use Rattle.sf_format.specs.declared.version.Version.TheVariants.{First, Second, Third}
+use Rattle.sf_format.specs.declared.version.Version.TheVariants.{First, Second, Third, Fourth}
 use Rattle.sf_format.specs.declared.defect.Defect.{Defect}
 use Rattle.sf_format.specs.declared.defect.Defect.TheVariants.{BadFile}
 use Rattle.sf_format.specs.Readings.{Reads, Reading, ◌>>=◌, and_then, done, bytes, field, judged, number, end}
@@ -47,7 +47,7 @@ by_test false place here rest other x e = absurd cc
 
 -- what the other versions make of the first bytes
 abbrev later_version : List ℕ → Result Version Defect
-later_version text = cond (bytes_eq text (codes "SFSTORE2")) (Ok Second) (allowed (bytes_eq text (codes "SFSTORE3")) BadFile Third)
+later_version text = cond (bytes_eq text (codes "SFSTORE2")) (Ok Second) (cond (bytes_eq text (codes "SFSTORE3")) (Ok Third) (allowed (bytes_eq text (codes "SFSTORE4")) BadFile Fourth))
 
 by_front : (r : Reads (List ℕ)) (place : ℕ) (rest : Left) (x : Unit {0}) → and_then r (λ text here. judged place here (begins (codes "SFSTORE1") text)) ≡ Ok (x, rest)
     → and_then r (λ text here. judged place here (version_of text)) ≡ Ok (First, rest)

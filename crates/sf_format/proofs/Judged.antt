@@ -35,12 +35,12 @@ use Rattle.sf_layers.specs.Content.{Content, LayerContent, admits, has_layer}
 use Rattle.sf_layers.specs.WellFormed.{layers_max}
 use Rattle.sf_streams.specs.Streams.{Left}
 use Rattle.sf_format.specs.declared.version.Version.{Version}
-use Rattle.sf_format.specs.declared.version.Version.TheVariants.{First, Second, Third}
+use Rattle.sf_format.specs.declared.version.Version.TheVariants.{First, Second, Third, Fourth}
 use Rattle.sf_format.specs.declared.defect.Defect.{Defect}
 use Rattle.sf_format.specs.declared.defect.Defect.TheVariants.{Truncated, TooManyVertices, Invalid, LayerExists, BadName, NoColumn, ColumnExists, WrongValue, WrongKind, IdsExhausted, ColumnsExhausted, BadFile, NoLayer, RuleExists, BadPattern, RuleBroken}
 use Rattle.sf_format.specs.Readings.{Reads, Reading, and_then, ◌>>=◌, done, bytes, judged, field, number, sized, items, end}
 use Rattle.sf_format.specs.Laws.{FilesAreJudgedOverThePlane, HasFaultyGeometry}
-use Rattle.sf_format.specs.Format.{RowReading, row_max, allowed, present, last_number, name, kind_of_byte, type_of_byte, fresh_number, fresh_column_name, column, without_fault, admitted, geometry, typed_value, next_column_of, value, next_of, feature, fresh_layer_name, layer, layers, ask, asked_by, form_of_byte, fresh_rule_name, held_rule, known_layer_name, predicate_of_byte, rule, rules_in, unbroken, head, version_of, on_grid, grid_of, value_of}
+use Rattle.sf_format.specs.Format.{RowReading, row_max, allowed, present, last_number, name, kind_of_byte, type_of_byte, fresh_number, fresh_column_name, column, without_fault, admitted, geometry, typed_value, next_column_of, value, next_of, feature, fresh_layer_name, layer, layers, ask, asked_by, form_of_byte, fresh_rule_name, held_rule, known_layer_name, predicate_of_byte, rule, rules_in, unbroken, head, version_of, on_grid, grid_of, value_of, rules}
 use Rattle.sf_format.proofs.Again.{at}
 use Rattle.sf_format.proofs.Continuations.{column_after_type, column_after_number, value_after_column, geometry_after_size, feature_after_count, feature_after_geometry, feature_after_id, layer_after_feature_count, layer_after_columns, layer_after_column_count, layer_after_next_column, layer_after_next_id, layer_after_kind, layer_after_name, rule_after_ask, rule_after_first, rule_after_form, rule_after_name, file_after_head, file_after_layers, file_after_rules}
 use Rattle.sf_format.proofs.Loaded.{GivesSized}
@@ -296,23 +296,32 @@ Finds-held : (row : RowReading) (text : List ℕ) (content : Content) (earlier :
 Finds-held row text content earlier = Finds-field row text (rule content earlier) (unbroken content) (Finds-kept row text content earlier)
     (λ r. allowed_other (not (is_some (break_of content r))) RuleBroken r rule_broken)
 
+Finds-all_rules : (row : RowReading) (text : List ℕ) (content : Content) → Finds row text (rules content)
+Finds-all_rules row text content =
+    Finds-then row text (number 2) (λ count. items (held_rule content) count []) (Finds-number row text 2)
+    (λ count. Finds-items row text (held_rule content) (Finds-held row text content) count [])
+
 Finds-rules : (row : RowReading) (text : List ℕ) (version : Version) (content : Content) → Finds row text (rules_in version content)
 Finds-rules row text First content = Finds-done {T = List Rule} row text []
 Finds-rules row text Second content = Finds-done {T = List Rule} row text []
-Finds-rules row text Third content =
-    Finds-then row text (number 2) (λ count. items (held_rule content) count []) (Finds-number row text 2)
-    (λ count. Finds-items row text (held_rule content) (Finds-held row text content) count [])
+Finds-rules row text Third content = Finds-all_rules row text content
+Finds-rules row text Fourth content = Finds-all_rules row text content
 
 -- ---- the front and the end of a file, which have no fault of shape
 
 version_other : (word : List ℕ) → IfErr (version_of word) IsOther
 version_other word = by_first (bytes_eq word (codes "SFSTORE1"))
   where
-    by_second : (b : Bool) → IfErr (cond b (Ok Second) (allowed (bytes_eq word (codes "SFSTORE3")) BadFile Third)) IsOther
-    by_second true = tt
-    by_second false = allowed_other (bytes_eq word (codes "SFSTORE3")) BadFile Third bad_file
+    by_third : (b : Bool) → IfErr (cond b (Ok Third) (allowed (bytes_eq word (codes "SFSTORE4")) BadFile Fourth)) IsOther
+    by_third true = tt
+    by_third false = allowed_other (bytes_eq word (codes "SFSTORE4")) BadFile Fourth bad_file
 
-    by_first : (b : Bool) → IfErr (cond b (Ok First) (cond (bytes_eq word (codes "SFSTORE2")) (Ok Second) (allowed (bytes_eq word (codes "SFSTORE3")) BadFile Third))) IsOther
+    by_second : (b : Bool) → IfErr (cond b (Ok Second) (cond (bytes_eq word (codes "SFSTORE3")) (Ok Third) (allowed (bytes_eq word (codes "SFSTORE4")) BadFile Fourth))) IsOther
+    by_second true = tt
+    by_second false = by_third (bytes_eq word (codes "SFSTORE3"))
+
+    by_first : (b : Bool) → IfErr (cond b (Ok First) (cond (bytes_eq word (codes "SFSTORE2")) (Ok Second)
+        (cond (bytes_eq word (codes "SFSTORE3")) (Ok Third) (allowed (bytes_eq word (codes "SFSTORE4")) BadFile Fourth)))) IsOther
     by_first true = tt
     by_first false = by_second (bytes_eq word (codes "SFSTORE2"))
 
@@ -320,6 +329,7 @@ Finds-grid : (row : RowReading) (text : List ℕ) (version : Version) → Finds 
 Finds-grid row text First = Finds-done row text First
 Finds-grid row text Second = Finds-rule row text 1 (λ byte. allowed (nat_eq byte 24) BadFile Second) (λ byte. allowed_other (nat_eq byte 24) BadFile Second bad_file)
 Finds-grid row text Third = Finds-rule row text 1 (λ byte. allowed (nat_eq byte 24) BadFile Third) (λ byte. allowed_other (nat_eq byte 24) BadFile Third bad_file)
+Finds-grid row text Fourth = Finds-rule row text 1 (λ byte. allowed (nat_eq byte 31) BadFile Fourth) (λ byte. allowed_other (nat_eq byte 31) BadFile Fourth bad_file)
 
 Finds-head : (row : RowReading) (text : List ℕ) → Finds row text head
 Finds-head row text = Finds-then row text (field (bytes 8) version_of) on_grid (Finds-field row text (bytes 8) version_of (Finds-bytes row text 8) version_other) (Finds-grid row text)

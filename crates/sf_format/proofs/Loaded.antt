@@ -42,7 +42,7 @@ use Rattle.sf_ruled_store.proofs.HeldLaws.{rules_are_over_the_plane}
 use Rattle.sf_ruled_store.specs.Ruled.{Ruled, has_layers}
 use Rattle.sf_streams.specs.Streams.{Left}
 use Rattle.sf_format.specs.declared.version.Version.{Version}
-use Rattle.sf_format.specs.declared.version.Version.TheVariants.{First, Second, Third}
+use Rattle.sf_format.specs.declared.version.Version.TheVariants.{First, Second, Third, Fourth}
 use Rattle.sf_format.specs.declared.defect.Defect.{Defect}
 use Rattle.sf_format.specs.declared.defect.Defect.TheVariants.{TooManyVertices, LayerExists, NoColumn, ColumnExists, WrongValue, WrongKind, IdsExhausted, ColumnsExhausted, BadFile}
 use Rattle.sf_format.specs.Readings.{Fault, Reads, done, bytes, field, number, sized, items, end}
@@ -336,6 +336,7 @@ grid-promises : (version : Version) → Promises (on_grid version) (λ v. Unit {
 grid-promises First = Promises-done (λ v. Unit {0}) First tt
 grid-promises Second = Promises-rule 1 (λ byte. allowed (nat_eq byte 24) BadFile Second) (λ v. Unit {0}) (λ x y fits e. tt)
 grid-promises Third = Promises-rule 1 (λ byte. allowed (nat_eq byte 24) BadFile Third) (λ v. Unit {0}) (λ x y fits e. tt)
+grid-promises Fourth = Promises-rule 1 (λ byte. allowed (nat_eq byte 31) BadFile Fourth) (λ v. Unit {0}) (λ x y fits e. tt)
 
 head-promises : Promises head (λ version. Unit {0})
 head-promises = Promises-then (field (bytes 8) version_of) on_grid (λ version. Unit {0}) (λ version. Unit {0})

@@ -17,7 +17,7 @@ use Rattle.sf_geometry.specs.declared.geometry.Geometry.{Geometry}
 use Rattle.sf_geometry.specs.declared.kind.Kind.TheVariants as kinds
 use Rattle.sf_geometry.specs.Kinds.{kind_of}
 use Rattle.sf_valid_rules.specs.Verdicts.{first_fault}
-use Rattle.sf_wkb.specs.declared.grid.Grid.TheVariants.{Bits20, Bits24}
+use Rattle.sf_wkb.specs.declared.grid.Grid.TheVariants.{Bits20, Bits24, Bits31}
 use Rattle.sf_wkb.specs.Grammar.{read_in, canonical as canonical_wkb}
 use Rattle.sf_features.specs.declared.column.Column.{Column}
 use Rattle.sf_features.specs.declared.column_type.ColumnType.{ColumnType}
@@ -36,12 +36,13 @@ use Rattle.sf_layers.proofs.Kept.{none_or}
 use Rattle.sf_ruled_store.specs.Ruling.{Rule}
 use Rattle.sf_ruled_store.specs.Ruled.{Ruled}
 use Rattle.sf_format.specs.declared.version.Version.{Version}
-use Rattle.sf_format.specs.declared.version.Version.TheVariants.{First, Second, Third}
+use Rattle.sf_format.specs.declared.version.Version.TheVariants.{First, Second, Third, Fourth}
 use Rattle.sf_format.specs.declared.defect.Defect.TheVariants.{TooManyVertices, LayerExists, NoColumn, ColumnExists, WrongValue, WrongKind, IdsExhausted, ColumnsExhausted, BadFile}
-use Rattle.sf_format.specs.Readings.{Fault, and_then, bytes, field, number, sized, items}
-use Rattle.sf_format.specs.Format.{RowReading, row_max, allowed, present, last_number, name, kind_of_byte, type_of_byte, fresh_number, fresh_column_name, column, without_fault, admitted, geometry, typed_value, next_column_of, value, next_of, feature, fresh_layer_name, layer, layers, content_in, content_of, ruled_content_of, head, version_of, on_grid, grid_of, rules_in, value_of}
-use Rattle.sf_format.specs.Canonical.{behind_length, kind_byte, type_byte, column_bytes, typed_bytes, value_bytes, feature_bytes, layer_bytes, layers_bytes, canonical, canonical_with, front, ruled_front, rules_bytes}
-use Rattle.sf_format.specs.Laws.{CanonicalBytesLoad, CanonicalBytesDiffer, FirstCanonicalBytesLoad, IsRuledWell, RuledBytesDiffer, RuledBytesLoad}
+use Rattle.sf_wkb.specs.declared.grid.Grid.{Grid}
+use Rattle.sf_format.specs.Readings.{Fault, and_then, bytes, field, number, sized, items, Reading, done}
+use Rattle.sf_format.specs.Format.{RowReading, row_max, allowed, present, last_number, name, kind_of_byte, type_of_byte, fresh_number, fresh_column_name, column, without_fault, admitted, geometry, typed_value, next_column_of, value, next_of, feature, fresh_layer_name, layer, layers, content_in, content_of, ruled_content_of, head, version_of, on_grid, grid_of, rules_in, value_of, rules}
+use Rattle.sf_format.specs.Canonical.{behind_length, kind_byte, type_byte, column_bytes, typed_bytes, value_bytes, feature_bytes, layer_bytes, layers_bytes, canonical, front, rules_bytes}
+use Rattle.sf_format.specs.Laws.{CanonicalBytesLoad, CanonicalBytesDiffer, FirstCanonicalBytesLoad, IsRuledWell, RuledBytesDiffer, RuledBytesLoad, SecondCanonicalBytesLoad, ThirdCanonicalBytesLoad, AreIn}
 use Rattle.sf_format.proofs.Again.{at, Again, Again-done, Again-then, Again-made, Again-value, Again-bytes, Again-field, Again-number, Again-number_field, Again-sized, EachAgain, Again-items}
 use Rattle.sf_format.proofs.Continuations.{column_after_type, column_after_number, value_after_column, geometry_after_size, feature_after_count, feature_after_geometry, feature_after_id, layer_after_feature_count, layer_after_columns, layer_after_column_count, layer_after_next_column, layer_after_next_id, layer_after_kind, layer_after_name, file_after_head, file_after_layers, file_after_rules}
 use Rattle.sf_format.proofs.Counts.{below_from_cmp, column-count, feature-count, value-count}
@@ -303,38 +304,60 @@ plain-again : (version : Version) (front : List ℕ) (content : Content) → Aga
 plain-again version front content first second third =
     ap (λ (t : List ℕ). ruled_content_of (front ++ t)) (sym (append-nil (layers_bytes content))) ∙ whole-again version front [] content [] first second third
 
-second-head : Again head front Second
+second-head : Again head (codes "SFSTORE2" ++ 24 ∷ []) Second
 second-head = Again-then (field (bytes 8) version_of) on_grid (codes "SFSTORE2") (24 ∷ []) Second Second
     (Again-field (bytes 8) version_of (codes "SFSTORE2") (codes "SFSTORE2") Second (Again-bytes 8 (codes "SFSTORE2") refl) refl)
     (Again-number_field 1 24 (λ byte. allowed (nat_eq byte 24) BadFile Second) Second (omega arith) refl)
 
-third-head : Again head ruled_front Third
+third-head : Again head (codes "SFSTORE3" ++ 24 ∷ []) Third
 third-head = Again-then (field (bytes 8) version_of) on_grid (codes "SFSTORE3") (24 ∷ []) Third Third
     (Again-field (bytes 8) version_of (codes "SFSTORE3") (codes "SFSTORE3") Third (Again-bytes 8 (codes "SFSTORE3") refl) refl)
     (Again-number_field 1 24 (λ byte. allowed (nat_eq byte 24) BadFile Third) Third (omega arith) refl)
 
+fourth-head : Again head (codes "SFSTORE4" ++ 31 ∷ []) Fourth
+fourth-head = Again-then (field (bytes 8) version_of) on_grid (codes "SFSTORE4") (31 ∷ []) Fourth Fourth
+    (Again-field (bytes 8) version_of (codes "SFSTORE4") (codes "SFSTORE4") Fourth (Again-bytes 8 (codes "SFSTORE4") refl) refl)
+    (Again-number_field 1 31 (λ byte. allowed (nat_eq byte 31) BadFile Fourth) Fourth (omega arith) refl)
+
 first-head : Again head (codes "SFSTORE1") First
 first-head place rest = ap (λ r. and_then r on_grid) (Again-field (bytes 8) version_of (codes "SFSTORE1") (codes "SFSTORE1") First (Again-bytes 8 (codes "SFSTORE1") refl) refl place rest)
 
--- a content without rules
-plain-loads : (content : Content) → IsWellFormed content → ruled_content_of (canonical content) ≡ Ok (record { content = content; rules = [] })
-plain-loads content is = plain-again Second front content second-head (content-again (read_in Bits24) content (wide-rows content is) is) (Again-done {T = List Rule} [])
+-- the layers and the rules of a well-formed content with rules, of a version that has both, behind its head
+ruled-again : (version : Version) (front : List ℕ) (ruled : Ruled) → Again head front version → IsRuledWell ruled → AllByRecursion (HasRows (read_in (grid_of version))) (values_of ruled.content)
+    → ((content : Content) → rules_in version content ≡ rules content) → ruled_content_of (front ++ (layers_bytes ruled.content ++ rules_bytes ruled.rules)) ≡ Ok ruled
+ruled-again version front ruled first is rows same =
+    whole-again version front (rules_bytes ruled.rules) ruled.content ruled.rules first (content-again (read_in (grid_of version)) ruled.content rows is.content)
+    (subst (λ (read : Reading (List Rule)). Again read (rules_bytes ruled.rules) ruled.rules) (sym (same ruled.content))
+    (rules-again ruled.content ruled.rules is.content.named is.settled.named.few is.rules is.settled.named.distinct is.settled.layers is.settled.held))
 
 pub ruled-loads : RuledBytesLoad
-ruled-loads ruled is = by ruled.content ruled.rules is
-  where
-    by : (content : Content) (kept : List Rule) → IsRuledWell (record { content = content; rules = kept }) → ruled_content_of (canonical_with content kept) ≡ Ok (record { content = content; rules = kept })
-    by content [] is = plain-loads content is.content
-    by content (rule ∷ later) is =
-        whole-again Third ruled_front (rules_bytes (rule ∷ later)) content (rule ∷ later) third-head (content-again (read_in Bits24) content (wide-rows content is.content) is.content)
-        (rules-again content (rule ∷ later) is.content.named is.settled.named.few is.rules is.settled.named.distinct is.settled.layers is.settled.held)
+ruled-loads ruled is = ruled-again Fourth front ruled fourth-head is (wide-rows ruled.content is.content) (λ content. refl)
+
+pub third-canonical-loads : ThirdCanonicalBytesLoad
+third-canonical-loads ruled is on = ruled-again Third (codes "SFSTORE3" ++ 24 ∷ []) ruled third-head is (narrow-rows Bits24 ruled.content is.content on) (λ content. refl)
+
+-- a content without rules
+plain-loads : (content : Content) → IsWellFormed content → ruled_content_of (canonical content) ≡ Ok (record { content = content; rules = [] })
+plain-loads content is =
+    whole-again Fourth front (rules_bytes []) content [] fourth-head (content-again (read_in Bits31) content (wide-rows content is) is)
+    (rules-again content [] is.named (omega arith) tt tt refl refl)
 
 pub canonical-loads : CanonicalBytesLoad
 canonical-loads content is = ap content_in (plain-loads content is)
 
+-- a version without rules, behind its head
+earlier-loads : (version : Version) (grid : Grid) (front : List ℕ) (content : Content) → Again head front version → grid_of version ≡ grid → rules_in version content ≡ done {T = List Rule} []
+    → IsWellFormed content → AreIn grid content → content_of (front ++ layers_bytes content) ≡ Ok content
+earlier-loads version grid front content first same none is on =
+    ap content_in (plain-again version front content first
+    (content-again (read_in (grid_of version)) content (narrow-rows (grid_of version) content is (subst (λ g. AreIn g content) (sym same) on)) is)
+    (subst (λ (read : Reading (List Rule)). Again read [] []) (sym none) (Again-done {T = List Rule} [])))
+
 pub first-canonical-loads : FirstCanonicalBytesLoad
-first-canonical-loads content is narrow =
-    ap content_in (plain-again First (codes "SFSTORE1") content first-head (content-again (read_in Bits20) content (narrow-rows content is narrow) is) (Again-done {T = List Rule} []))
+first-canonical-loads content is on = earlier-loads First Bits20 (codes "SFSTORE1") content first-head refl refl is on
+
+pub second-canonical-loads : SecondCanonicalBytesLoad
+second-canonical-loads content is on = earlier-loads Second Bits24 (codes "SFSTORE2" ++ 24 ∷ []) content second-head refl refl is on
 
 done_is : (a b : Content) → ◌≡◌ {A = Result Content Fault} (Ok a) (Ok b) → a ≡ b
 done_is a b same = cc

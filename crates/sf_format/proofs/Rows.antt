@@ -9,7 +9,7 @@ use Rattle.sf_valid_rules.proofs.FirstLaws.{first_fault-over_plane}
 use Rattle.sf_valid_rules.proofs.VerdictLaws.{verdict-one}
 use Rattle.sf_geometry.specs.Parts.{points_of}
 use Rattle.sf_wkb.specs.declared.grid.Grid.{Grid}
-use Rattle.sf_wkb.specs.declared.grid.Grid.TheVariants.{Bits20, Bits24}
+use Rattle.sf_wkb.specs.declared.grid.Grid.TheVariants.{Bits31}
 use Rattle.sf_wkb.specs.Words.{IsIn}
 use Rattle.sf_wkb.specs.Grammar.{read_in, canonical as canonical_wkb}
 use Rattle.sf_wkb.proofs.Lengths.{canonical_bytes_are_few}
@@ -17,7 +17,7 @@ use Rattle.sf_wkb.proofs.RoundTrip.{on_wide, round_trip_in}
 use Rattle.sf_layers.specs.Content.{Content, LayerContent}
 use Rattle.sf_layers.specs.WellFormed.{IsFeature, IsLayer, IsWellFormed}
 use Rattle.sf_format.specs.Format.{RowReading, row_max}
-use Rattle.sf_format.specs.Laws.{IsNarrow}
+use Rattle.sf_format.specs.Laws.{AreIn}
 
 -- the canonical bytes of a geometry may stand in a file and are read as it, and it has no fault
 pub record IsRow (row : RowReading) (g : Geometry) : Type 0 where
@@ -44,17 +44,17 @@ all_two P Q R so [] first second = tt
 all_two P Q R so (x ∷ xs) first second = (so x first.0 second.0, all_two P Q R so xs first.1 second.1)
 
 -- those of a well-formed content can
-pub wide-rows : (content : Content) → IsWellFormed content → AllByRecursion (HasRows (read_in Bits24)) (values_of content)
+pub wide-rows : (content : Content) → IsWellFormed content → AllByRecursion (HasRows (read_in Bits31)) (values_of content)
 wide-rows content is =
-    all_two IsLayer IsLayer (HasRows (read_in Bits24))
-    (λ l fits same. all_two (IsFeature l.kind l.columns) (IsFeature l.kind l.columns) (λ f. IsRow (read_in Bits24) f.geometry)
-    (λ f good same. row-in Bits24 f.geometry good.valid (on_wide (points_of f.geometry) good.on_grid)) (values_of l.features) fits.features fits.features)
+    all_two IsLayer IsLayer (HasRows (read_in Bits31))
+    (λ l fits same. all_two (IsFeature l.kind l.columns) (IsFeature l.kind l.columns) (λ f. IsRow (read_in Bits31) f.geometry)
+    (λ f good same. row-in Bits31 f.geometry good.valid (on_wide (points_of f.geometry) good.on_grid)) (values_of l.features) fits.features fits.features)
     (values_of content) is.layers is.layers
 
--- on the grid of 20 bits those of a content of such points can
-pub narrow-rows : (content : Content) → IsWellFormed content → IsNarrow content → AllByRecursion (HasRows (read_in Bits20)) (values_of content)
-narrow-rows content is narrow =
-    all_two IsLayer (λ l. AllByRecursion (λ f. AllByRecursion (IsIn Bits20) (points_of f.geometry)) (values_of l.features)) (HasRows (read_in Bits20))
-    (λ l fits few. all_two (IsFeature l.kind l.columns) (λ f. AllByRecursion (IsIn Bits20) (points_of f.geometry)) (λ f. IsRow (read_in Bits20) f.geometry)
-    (λ f good on. row-in Bits20 f.geometry good.valid on) (values_of l.features) fits.features few)
+-- on one of the grids those of a content whose points are on it can
+pub narrow-rows : (grid : Grid) (content : Content) → IsWellFormed content → AreIn grid content → AllByRecursion (HasRows (read_in grid)) (values_of content)
+narrow-rows grid content is narrow =
+    all_two IsLayer (λ l. AllByRecursion (λ f. AllByRecursion (IsIn grid) (points_of f.geometry)) (values_of l.features)) (HasRows (read_in grid))
+    (λ l fits few. all_two (IsFeature l.kind l.columns) (λ f. AllByRecursion (IsIn grid) (points_of f.geometry)) (λ f. IsRow (read_in grid) f.geometry)
+    (λ f good on. row-in grid f.geometry good.valid on) (values_of l.features) fits.features few)
     (values_of content) is.layers narrow

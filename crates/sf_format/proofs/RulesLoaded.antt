@@ -15,7 +15,7 @@ use Rattle.sf_ruled_store.specs.Ruling.{Rule}
 use Rattle.sf_ruled_store.specs.Ruling.{break_of, broken_from, broken_or}
 use Rattle.sf_ruled_store.specs.Ruled.{has_layers, has_rule, rules_max}
 use Rattle.sf_format.specs.declared.version.Version.{Version}
-use Rattle.sf_format.specs.declared.version.Version.TheVariants.{First, Second, Third}
+use Rattle.sf_format.specs.declared.version.Version.TheVariants.{First, Second, Third, Fourth}
 use Rattle.sf_format.specs.declared.defect.Defect.TheVariants.{BadFile, BadPattern, NoLayer, RuleBroken, RuleExists}
 use Rattle.sf_format.specs.Readings.{◌>>=◌, bytes, done, field, number, items}
 use Rattle.sf_format.specs.Format.{ask, asked_by, form_of_byte, fresh_rule_name, held_rule, known_layer_name, name, predicate_of_byte, present, rule, rules, rules_in, unbroken}
@@ -153,6 +153,7 @@ rules-promise content left rs rest fits e =
 
 pub rules-in-promise : (version : Version) (content : Content) → Promises (rules_in version content) (AreKept content)
 rules-in-promise Third content = rules-promise content
+rules-in-promise Fourth content = rules-promise content
 rules-in-promise First content = Promises-done (AreKept content) [] (none-held content, omega arith)
 rules-in-promise Second content = Promises-done (AreKept content) [] (none-held content, omega arith)
 

@@ -99,26 +99,31 @@ rules_bytes rules = big_bytes 2 (length rules) ++ flat_map rule_bytes rules
 
 -- ---- files
 
--- the bytes at the front of a file that is written for a store without rules: those of the second version, and the byte of the grid
+-- the bytes at the front of a file that is written: those of the fourth version, and the byte of the grid
 abbrev pub front : List ℕ
-front = codes "SFSTORE2" ++ 24 ∷ []
-
--- and for a store with rules: those of the third
-abbrev pub ruled_front : List ℕ
-ruled_front = codes "SFSTORE3" ++ 24 ∷ []
-
--- the canonical bytes of a content without rules
-abbrev pub canonical : Content → List ℕ
-canonical content = front ++ layers_bytes content
+front = codes "SFSTORE4" ++ 31 ∷ []
 
 -- the canonical bytes of a content with these rules
 abbrev pub canonical_with : Content → List Rule → List ℕ
-canonical_with content [] = canonical content
-canonical_with content (rule ∷ rules) = ruled_front ++ (layers_bytes content ++ rules_bytes (rule ∷ rules))
+canonical_with content rules = front ++ (layers_bytes content ++ rules_bytes rules)
 
 abbrev pub canonical_ruled : Ruled → List ℕ
 canonical_ruled ruled = canonical_with ruled.content ruled.rules
 
+-- the canonical bytes of a content without rules
+abbrev pub canonical : Content → List ℕ
+canonical content = canonical_with content []
+
+-- ---- files that earlier programs wrote
+
 -- the bytes that the first version has for a content
 abbrev pub first_canonical : Content → List ℕ
 first_canonical content = codes "SFSTORE1" ++ layers_bytes content
+
+-- those of the second version
+abbrev pub second_canonical : Content → List ℕ
+second_canonical content = (codes "SFSTORE2" ++ 24 ∷ []) ++ layers_bytes content
+
+-- those of the third version, for a content with rules
+abbrev pub third_canonical : Ruled → List ℕ
+third_canonical ruled = (codes "SFSTORE3" ++ 24 ∷ []) ++ (layers_bytes ruled.content ++ rules_bytes ruled.rules)

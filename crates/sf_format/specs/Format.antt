@@ -14,7 +14,7 @@ use Rattle.sf_ruled_store.specs.Ruling.{Ask}
 use Rattle.sf_ruled_store.specs.Ruling.{Matching, Named}
 use Rattle.sf_wkb.specs.declared.fault.WkbFault.{WkbFault}
 use Rattle.sf_wkb.specs.declared.grid.Grid.{Grid}
-use Rattle.sf_wkb.specs.declared.grid.Grid.TheVariants.{Bits20, Bits24}
+use Rattle.sf_wkb.specs.declared.grid.Grid.TheVariants.{Bits20, Bits24, Bits31}
 use Rattle.sf_wkb.specs.Grammar.{read_in}
 use Rattle.sf_features.specs.Names.{is_name}
 use Rattle.sf_features.specs.Columns.{named, numbered}
@@ -35,14 +35,14 @@ use Rattle.sf_ruled_store.specs.Ruling.{Never, Each}
 use Rattle.sf_ruled_store.specs.Ruling.{break_of}
 use Rattle.sf_ruled_store.specs.Ruled.{Ruled, has_rule}
 use Rattle.sf_format.specs.declared.version.Version.{Version}
-use Rattle.sf_format.specs.declared.version.Version.TheVariants.{First, Second, Third}
+use Rattle.sf_format.specs.declared.version.Version.TheVariants.{First, Second, Third, Fourth}
 use Rattle.sf_format.specs.declared.defect.Defect.{Defect}
 use Rattle.sf_format.specs.declared.defect.Defect.TheVariants.{TooManyVertices, Wkb, Invalid, LayerExists, BadName, NoColumn, ColumnExists, WrongValue, WrongKind, IdsExhausted, ColumnsExhausted, BadFile, NoLayer, RuleExists, BadPattern, RuleBroken}
 use Rattle.sf_format.specs.Readings.{Fault, Reads, Reading, ◌>>=◌, done, bytes, field, number, sized, items, end}
 
 -- how many bytes a binary geometry of a file has at most
 abbrev pub row_max : ℕ
-row_max = 131072
+row_max = 2097152
 
 -- how binary geometries are read
 abbrev pub RowReading : Type 0
@@ -230,12 +230,20 @@ abbrev pub version_of : List ℕ → Result Version Defect
 version_of text =
     if bytes_eq text (codes "SFSTORE1") then Ok First
     else if bytes_eq text (codes "SFSTORE2") then Ok Second
-    else allowed (bytes_eq text (codes "SFSTORE3")) BadFile Third
+    else if bytes_eq text (codes "SFSTORE3") then Ok Third
+    else allowed (bytes_eq text (codes "SFSTORE4")) BadFile Fourth
 
--- the byte of the grid, which files of the first version don't have; it is 24
+-- how many bits a coordinate has with its sign
+abbrev pub bits_of : Version → ℕ
+bits_of First = 20
+bits_of Second = 24
+bits_of Third = 24
+bits_of Fourth = 31
+
+-- the byte of the grid, which says these; files of the first version don't have it
 abbrev pub on_grid : Version → Reading Version
 on_grid First = done First
-on_grid version = field (number 1) (λ byte. allowed (nat_eq byte 24) BadFile version)
+on_grid version = field (number 1) (λ byte. allowed (nat_eq byte (bits_of version)) BadFile version)
 
 -- the bytes at the front that say which version follows
 abbrev pub head : Reading Version
@@ -243,15 +251,18 @@ head = do
   version ← field (bytes 8) version_of
   on_grid version
 
--- the grid of the binary geometries: the first version has 20 bits
+-- the grid of the binary geometries
 abbrev pub grid_of : Version → Grid
 grid_of First = Bits20
-grid_of version = Bits24
+grid_of Second = Bits24
+grid_of Third = Bits24
+grid_of Fourth = Bits31
 
 -- the rules of a file of a version, behind its layers
 abbrev pub rules_in : Version → Content → Reading (List Rule)
-rules_in Third content = rules content
-rules_in version content = done []
+rules_in First content = done []
+rules_in Second content = done []
+rules_in version content = rules content
 
 -- a whole file
 abbrev pub file : Reading Ruled

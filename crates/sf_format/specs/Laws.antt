@@ -6,7 +6,8 @@ use Rattle.sf_geometry.specs.declared.geometry.Geometry.{Geometry}
 use Rattle.sf_geometry.specs.Parts.{points_of}
 use Rattle.sf_valid_rules.specs.declared.fault.Fault.{Fault as ShapeFault}
 use Rattle.sf_valid_rules.specs.Validity.{IsFirstFault}
-use Rattle.sf_wkb.specs.declared.grid.Grid.TheVariants.{Bits20}
+use Rattle.sf_wkb.specs.declared.grid.Grid.{Grid}
+use Rattle.sf_wkb.specs.declared.grid.Grid.TheVariants.{Bits20, Bits24}
 use Rattle.sf_wkb.specs.Grammar.{read_in}
 use Rattle.sf_wkb.specs.Words.{IsIn}
 use Rattle.sf_features.specs.Columns.{IsDistinct}
@@ -23,7 +24,7 @@ use Rattle.sf_format.specs.declared.version.Version.{Version}
 use Rattle.sf_format.specs.declared.defect.Defect.TheVariants.{Invalid}
 use Rattle.sf_format.specs.Readings.{Fault}
 use Rattle.sf_format.specs.Format.{content_of, first_content_of, grid_of, head, ruled_content_of, second_content_of}
-use Rattle.sf_format.specs.Canonical.{canonical, canonical_ruled, first_canonical}
+use Rattle.sf_format.specs.Canonical.{canonical, canonical_ruled, first_canonical, second_canonical, third_canonical}
 
 -- ---- rules
 
@@ -86,13 +87,21 @@ CanonicalBytesDiffer = (a b : Content) → IsWellFormed a → IsWellFormed b →
 abbrev pub FirstVersionLoads : Type 0
 FirstVersionLoads = (text : List ℕ) (content : Content) → first_content_of text ≡ Ok content → ruled_content_of text ≡ without_rules (Ok content)
 
--- all points of a content are of 20 bits
-abbrev pub IsNarrow : Content → Type 0
-IsNarrow content = AllByRecursion (λ layer. AllByRecursion (λ feature. AllByRecursion (IsIn Bits20) (points_of feature.geometry)) (values_of layer.features)) (values_of content)
+-- all points of a content are on a grid
+abbrev pub AreIn : Grid → Content → Type 0
+AreIn grid content = AllByRecursion (λ layer. AllByRecursion (λ feature. AllByRecursion (IsIn grid) (points_of feature.geometry)) (values_of layer.features)) (values_of content)
 
--- the bytes that the first version has for a content of such points load as it
+-- the bytes that the first version has for a content whose points are of 20 bits load as it
 abbrev pub FirstCanonicalBytesLoad : Type 0
-FirstCanonicalBytesLoad = (content : Content) → IsWellFormed content → IsNarrow content → content_of (first_canonical content) ≡ Ok content
+FirstCanonicalBytesLoad = (content : Content) → IsWellFormed content → AreIn Bits20 content → content_of (first_canonical content) ≡ Ok content
+
+-- those that the second version has for a content whose points are of 24 bits load as it
+abbrev pub SecondCanonicalBytesLoad : Type 0
+SecondCanonicalBytesLoad = (content : Content) → IsWellFormed content → AreIn Bits24 content → content_of (second_canonical content) ≡ Ok content
+
+-- and those that the third version has for such a content with rules
+abbrev pub ThirdCanonicalBytesLoad : Type 0
+ThirdCanonicalBytesLoad = (ruled : Ruled) → IsRuledWell ruled → AreIn Bits24 ruled.content → ruled_content_of (third_canonical ruled) ≡ Ok ruled
 
 -- only well-formed contents have files
 abbrev pub FilesAreWellFormed : Type 0

@@ -12,7 +12,7 @@ pub enum Defect {
     Truncated,
     /// A byte follows the last field.
     Trailing,
-    /// The length of a binary geometry is above 131,072.
+    /// The length of a binary geometry is above 2,097,152.
     TooManyVertices,
     /// The bytes of a binary geometry have no geometry.
     Wkb(WkbFault),
@@ -38,7 +38,7 @@ pub enum Defect {
     /// A column number is 0, used before or not below the layer's next one, or these are too few for
     /// the columns.
     ColumnsExhausted,
-    /// The first eight bytes aren't those of a file of a store, the byte of the grid isn't 24, or the byte is of no form of a
+    /// The first eight bytes aren't those of a file of a store, the byte of the grid isn't that of their version, or the byte is of no form of a
     /// rule.
     BadFile,
     /// No layer of the file has the name.

@@ -1,5 +1,5 @@
 //! Laws of the definitions, each proved as the contract of a function that does nothing.
-ghost use Rattle.sf_format.specs.Laws.{CanonicalBytesLoad, CanonicalBytesDiffer, FirstVersionLoads, FirstVersionIsKept, FirstCanonicalBytesLoad, FilesAreJudgedOverThePlane, FilesAreRuledWell, FilesAreWellFormed, RuledBytesDiffer, RuledBytesLoad, RulesOfFilesHold, SecondVersionIsKept};
+ghost use Rattle.sf_format.specs.Laws.{CanonicalBytesLoad, CanonicalBytesDiffer, FirstVersionLoads, FirstVersionIsKept, FirstCanonicalBytesLoad, FilesAreJudgedOverThePlane, FilesAreRuledWell, FilesAreWellFormed, RuledBytesDiffer, RuledBytesLoad, RulesOfFilesHold, SecondCanonicalBytesLoad, SecondVersionIsKept, ThirdCanonicalBytesLoad};
 
 /// The canonical bytes of a well-formed content with rules load as it.
 pub fn ruled_bytes_load()
@@ -49,6 +49,16 @@ pub fn second_version_is_kept()
 /// The bytes that the first version has for a content whose points are of 20 bits load as it.
 pub fn first_canonical_bytes_load()
     ensures { FirstCanonicalBytesLoad }
+{}
+
+/// The bytes that the second version has for a content whose points are of 24 bits load as it.
+pub fn second_canonical_bytes_load()
+    ensures { SecondCanonicalBytesLoad }
+{}
+
+/// The bytes that the third version has for a content with rules whose points are of 24 bits load as it.
+pub fn third_canonical_bytes_load()
+    ensures { ThirdCanonicalBytesLoad }
 {}
 
 /// Only well-formed contents have files.

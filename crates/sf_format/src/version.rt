@@ -7,4 +7,6 @@ pub enum Version {
     Second,
     /// Coordinates of 24 bits, and rules behind the layers.
     Third,
+    /// Coordinates of 31 bits, and rules behind the layers: the version that is written.
+    Fourth,
 }

@@ -1,4 +1,4 @@
--- How large a geometry may be: no list is empty, and its points are at most 4,096.
+-- How large a geometry may be: no list is empty, and its points are at most 65,536.
 use Rattle.std.specs.Prelude.{ℕ, ◌≤◌, Bool, false, ◌||◌, ◌==◌, List, Option, Some, None, length, nat_le, if◌then◌else◌, IsFalse}
 use Rattle.std.specs.List.{list_any}
 use Rattle.sf_geometry.specs.declared.geometry.Geometry.{Geometry}
@@ -9,7 +9,7 @@ use Rattle.sf_geometry.specs.Parts.{points_of}
 
 -- how many points a geometry has at most, repeats and closing points counted
 abbrev pub points_max : ℕ
-points_max = 4096
+points_max = 65536
 
 abbrev pub is_empty : {X : Type 0} → List X → Bool
 is_empty xs = length xs == 0

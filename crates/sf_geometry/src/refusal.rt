@@ -7,7 +7,7 @@ pub enum Refusal {
     Memory,
     /// A list of the geometry is empty, or would be.
     Empty,
-    /// The geometry has more than 4,096 points, or would have.
+    /// The geometry has more than 65,536 points, or would have.
     TooManyVertices,
     /// The geometry has no such vertex.
     NoVertex,

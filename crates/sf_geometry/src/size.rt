@@ -11,10 +11,10 @@ use super::sequence::Sequence;
 use sf_grid::GridPoint;
 
 /// How many points a geometry has at most.
-pub(crate) const POINTS_MAX: usize = 4096;
+pub(crate) const POINTS_MAX: usize = 65_536;
 
 impl Geometry {
-    /// Whether no list of the geometry is empty and its points are at most 4,096.
+    /// Whether no list of the geometry is empty and its points are at most 65,536.
     ///
     /// # Errors
     ///

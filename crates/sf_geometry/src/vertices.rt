@@ -42,7 +42,7 @@ impl Geometry {
     ///
     /// # Errors
     ///
-    /// `NoVertex` where there is no such place, `TooManyVertices` where the geometry has 4,096
+    /// `NoVertex` where there is no such place, `TooManyVertices` where the geometry has 65,536
     /// points already, else `Memory` where none is found. The geometry is then as it was.
     pub fn insert_vertex(
         &mut self,

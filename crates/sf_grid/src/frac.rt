@@ -1,8 +1,8 @@
 ghost use Rattle.std.specs.Prelude.{◌≡◌, ◌≤◌, ◌<◌, unsigned_abs};
 ghost use Rattle.sf_grid.specs.Bounds.{denominator_end, numerator_bound};
-ghost use Rattle.sf_grid.specs.Fraction.{IsFraction, fraction_cmp};
+ghost use Rattle.sf_grid.specs.Fraction.{IsFraction, fraction_cmp, fraction_eq};
 
-use crate::exact::wide_product;
+use crate::exact::{are_products_equal, products_order};
 use std::cmp::Ordering;
 use std::marker::Model;
 
@@ -60,8 +60,13 @@ impl Frac {
     pub fn compare(&self, other: &Frac) -> Ordering
         ensures { result ≡ fraction_cmp self.now other.now }
     {
-        let left = wide_product(self.num, i128::from(other.den));
-        let right = wide_product(other.num, i128::from(self.den));
-        left.cmp(&right)
+        products_order(self.num, other.den as i64, other.num, self.den as i64)
+    }
+
+    /// Whether both are one number, whatever their fractions' terms.
+    pub fn is_same(&self, other: &Frac) -> bool
+        ensures { result ≡ fraction_eq self.now other.now }
+    {
+        are_products_equal(self.num, other.den as i64, other.num, self.den as i64)
     }
 }

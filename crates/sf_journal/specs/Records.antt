@@ -1,17 +1,31 @@
 -- The journal of a store: a head that names the file which it goes on from, and a record for each edit since.
-use Rattle.std.specs.Prelude.{ℕ, List, [], ◌∷◌, ◌++◌, length, codes, decimal}
+use Rattle.std.specs.Prelude.{ℕ, ◌+◌, ◌==◌, Bool, false, ◌&&◌, List, [], ◌∷◌, ◌++◌, length, codes, decimal, nat_eq}
+use Rattle.std.specs.List.{position, starts_with}
+use Rattle.std.specs.Option.{option_map_or}
 use Rattle.std.specs.Int.{w64, to_be_bytes}
 use Rattle.sha2.specs.Sha256.{sha256}
 use Rattle.hex.specs.Hex.{encode_lower}
 use Rattle.sf_journal.specs.Crc.{crc, crc_on}
 
+-- what each head begins with
+abbrev pub head_front : List ℕ
+head_front = codes "sfstore-journal 3 "
+
 -- the head that names a file by its length in bytes and its SHA-256
 abbrev pub head_with : ℕ → List ℕ → List ℕ
-head_with size digest = codes "sfstore-journal 3 " ++ (decimal size ++ (codes " " ++ (encode_lower digest ++ codes "\n")))
+head_with size digest = head_front ++ (decimal size ++ (codes " " ++ (encode_lower digest ++ codes "\n")))
 
 -- the head of the journal that goes on from a file of these bytes; a file that isn't there has none
 abbrev pub head_of : List ℕ → List ℕ
 head_of file = head_with (length file) (sha256 file)
+
+-- the first line feed of bytes is the last of them
+abbrev pub is_one_line : List ℕ → Bool
+is_one_line bytes = option_map_or (λ place. place + 1 == length bytes) (position (λ byte. byte == 10) bytes) false
+
+-- bytes are one line that begins as a head does, of whatever file: no record stands behind it
+abbrev pub is_head_alone : List ℕ → Bool
+is_head_alone bytes = starts_with nat_eq bytes head_front && is_one_line bytes
 
 -- the sum behind a text: the CRC-64 of the head and of all texts up to this one, each with its line feed
 abbrev pub sum_with : ℕ → List ℕ → ℕ

@@ -8,5 +8,5 @@ pub mod laws;
 mod sums;
 
 pub use file_sums::{SumFault, sum_of};
-pub use heads::{FileSum, head};
+pub use heads::{FileSum, head, is_head_alone};
 pub use sums::{MARK_LEN, Sum};

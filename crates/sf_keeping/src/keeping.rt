@@ -53,8 +53,8 @@ fn asks_for_save(line: &LineBuffer) -> bool
 /// is kept.
 fn make_room<D: Desk>(pending: &mut Pending, desk: &mut D, text: usize) -> Result<(), KeepFault>
     requires { text ≤ line_max }
-    ensures records { OnOk result (length pending.new.records + 131090 ≤ 262144) }
-    ensures answers { OnOk result (length pending.new.answers + (text + 48) ≤ 262144) }
+    ensures records { OnOk result (length pending.new.records + 4194322 ≤ 8388608) }
+    ensures answers { OnOk result (length pending.new.answers + (text + 48) ≤ 8388608) }
     ensures ok { OnOk result (Stays (D.calls desk.old) (D.calls desk.new) pending.old pending.new) }
     ensures broken { OnErr result (Breaks (D.calls desk.old) (D.calls desk.new) pending.old) }
 {
@@ -152,8 +152,8 @@ fn keep_short<D: Desk>(
 /// Has the record of a text wait that was accepted, and its answer behind that. There is room for both.
 fn keep_answered(pending: &mut Pending, text: &[u8], answer: &[u8]) -> Result<(), KeepFault>
     requires line { length text.now ≤ line_max }
-    requires records { length pending.old.records + 131090 ≤ 262144 }
-    requires answers { length pending.old.answers + (length text.now + 48) ≤ 262144 }
+    requires records { length pending.old.records + 4194322 ≤ 8388608 }
+    requires answers { length pending.old.answers + (length text.now + 48) ≤ 8388608 }
     ensures ok { OnOk result (pending.new ≡ with_answer (with_text pending.old text.now) answer.now) }
 {
     // Of an edit no answer is longer, and of a group each identifier is shorter than its member: this never comes.

@@ -11,7 +11,7 @@ use std::alloc::{AllocError, Global};
 use std::marker::Model;
 
 /// Room for records and for answers, in bytes each: for the longest record, and for many short ones.
-const ROOM: usize = 262_144;
+const ROOM: usize = 8_388_608;
 
 /// How long a record is at most, in bytes.
 const RECORD_MAX: usize = MARK_LEN + LINE_MAX + 1;
@@ -33,8 +33,8 @@ impl Model for Pending {
 
     ghost view = { λ a. record { sum = a.sum; records = a.records.items; answers = a.answers.items } };
 
-    ghost invariant = { λ a. (length a.records.items ≤ 262144) × (262144 ≤ vec_capacity a.records)
-        × (length a.answers.items ≤ 262144) × (262144 ≤ vec_capacity a.answers) };
+    ghost invariant = { λ a. (length a.records.items ≤ 8388608) × (8388608 ≤ vec_capacity a.records)
+        × (length a.answers.items ≤ 8388608) × (8388608 ≤ vec_capacity a.answers) };
 }
 
 impl Pending {
@@ -60,21 +60,21 @@ impl Pending {
 
     /// Whether there is room for the longest record.
     pub(crate) fn has_room_for_a_record(&self) -> bool
-        ensures { result ≡ nat_le (length self.now.records + 131090) 262144 }
+        ensures { result ≡ nat_le (length self.now.records + 4194322) 8388608 }
     {
         self.records.len() <= ROOM - RECORD_MAX
     }
 
     /// Whether there is room for an answer of so many bytes.
     pub(crate) fn has_room_for(&self, answer: usize) -> bool
-        ensures { result ≡ nat_le (length self.now.answers + answer) 262144 }
+        ensures { result ≡ nat_le (length self.now.answers + answer) 8388608 }
     {
         answer <= ROOM - self.answers.len()
     }
 
     /// A text more is to be kept.
     pub(crate) fn keep(&mut self, text: &[u8])
-        requires { length self.old.records + 18 + length text.now ≤ 262144 }
+        requires { length self.old.records + 18 + length text.now ≤ 8388608 }
         ensures { self.new ≡ with_text self.old text.now }
     {
         self.sum = self.sum.with(text);
@@ -87,7 +87,7 @@ impl Pending {
 
     /// An answer more is to be put out.
     pub(crate) fn put(&mut self, answer: &[u8])
-        requires { length self.old.answers + length answer.now ≤ 262144 }
+        requires { length self.old.answers + length answer.now ≤ 8388608 }
         ensures { self.new ≡ with_answer self.old answer.now }
     {
         self.answers.extend_from_slice(answer).unwrap();

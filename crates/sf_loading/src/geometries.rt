@@ -26,7 +26,7 @@ use std::alloc::Global;
 use std::io::Read;
 
 /// How many bytes a binary geometry has at most.
-const ROW_MAX: u32 = 131_072;
+const ROW_MAX: u32 = 2_097_152;
 
 /// The length of a binary geometry.
 fn row_size<R: Read>(window: &mut Window, reader: &mut R) -> Result<u32, Halt>

@@ -2,7 +2,7 @@
 ghost use Rattle.std.specs.Prelude.{◌≡◌, IfErr, IfOk, nat_eq};
 ghost use Rattle.sf_streams.specs.Streams.{nothing_ahead};
 ghost use Rattle.sf_format.specs.declared.defect.Defect.TheVariants.{BadFile};
-ghost use Rattle.sf_format.specs.Format.{allowed as allowed_of, file as read_file, grid_of as grid_of_version, head as read_head, version_of as read_version};
+ghost use Rattle.sf_format.specs.Format.{allowed as allowed_of, bits_of as bits_of_version, file as read_file, grid_of as grid_of_version, head as read_head, version_of as read_version};
 ghost use Rattle.sf_format.specs.Readings.{bytes, field, number};
 ghost use Rattle.sf_loading.specs.Loading.{FailsBy, Loads};
 ghost use Rattle.sf_loading.specs.Streaming.{Ends, Gives, Judges};
@@ -28,8 +28,8 @@ const SECOND: &[u8; 8] = b"SFSTORE2";
 /// The first bytes of each file of the third version.
 const THIRD: &[u8; 8] = b"SFSTORE3";
 
-/// The byte of the grid in a file of the second version and of the third: coordinates of so many bits.
-const GRID_BITS: u8 = 24;
+/// The first bytes of each file of the fourth version.
+const FOURTH: &[u8; 8] = b"SFSTORE4";
 
 /// The version that the bytes at a place say.
 fn version_of(place: u64, front: &[u8]) -> Result<Version, Halt>
@@ -41,6 +41,8 @@ fn version_of(place: u64, front: &[u8]) -> Result<Version, Halt>
         Ok(Version::Second)
     } else if front == THIRD.as_slice() {
         Ok(Version::Third)
+    } else if front == FOURTH.as_slice() {
+        Ok(Version::Fourth)
     } else {
         Err(Halt::Found(place, Defect::BadFile))
     }
@@ -58,14 +60,25 @@ fn version<R: Read>(window: &mut Window, reader: &mut R) -> Result<Version, Halt
     version
 }
 
+/// How many bits a coordinate has with its sign, in a file of a version.
+fn bits_of(version: Version) -> u8
+    ensures { result ≡ bits_of_version version }
+{
+    match version {
+        Version::First => 20,
+        Version::Second | Version::Third => 24,
+        Version::Fourth => 31,
+    }
+}
+
 /// The version, where the byte behind it is that of the grid.
 fn on_grid<R: Read>(window: &mut Window, reader: &mut R, version: Version) -> Result<Version, Halt>
-    ensures { Gives (λ version. version) (field (number 1) (λ byte. allowed_of (nat_eq byte 24) BadFile version))
+    ensures { Gives (λ version. version) (field (number 1) (λ byte. allowed_of (nat_eq byte (bits_of_version version)) BadFile version))
         (R.remaining reader.old) (R.remaining reader.new) window.old window.new result }
 {
     let place = window.place();
     let byte = number_u8(window, reader)?;
-    allowed(byte == GRID_BITS, place, Defect::BadFile, version)
+    allowed(byte == bits_of(version), place, Defect::BadFile, version)
 }
 
 /// The bytes at the front of a file: its version.
@@ -78,6 +91,7 @@ fn head<R: Read>(window: &mut Window, reader: &mut R) -> Result<Version, Halt>
         Version::First => Ok(Version::First),
         Version::Second => on_grid(window, reader, Version::Second),
         Version::Third => on_grid(window, reader, Version::Third),
+        Version::Fourth => on_grid(window, reader, Version::Fourth),
     }
 }
 
@@ -88,6 +102,7 @@ fn grid_of(version: Version) -> Grid
     match version {
         Version::First => Grid::Bits20,
         Version::Second | Version::Third => Grid::Bits24,
+        Version::Fourth => Grid::Bits31,
     }
 }
 

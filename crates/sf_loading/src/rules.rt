@@ -151,5 +151,6 @@ pub(crate) fn ruled<R: Read>(
         Version::First => Ok(Ruled::from_store(alloc, store)),
         Version::Second => Ok(Ruled::from_store(alloc, store)),
         Version::Third => rules(alloc, window, reader, store),
+        Version::Fourth => rules(alloc, window, reader, store),
     }
 }

@@ -1,6 +1,6 @@
 -- Beside the headline, which says nothing of the words of the command line.
 -- The command of the program, and what its words ask for, by clap's own definitions.
-use Rattle.std.specs.Prelude.{◌≡◌, ℕ, List, [], Option, Some, Result, Ok, Err, codes}
+use Rattle.std.specs.Prelude.{◌≡◌, ℕ, true, List, [], Option, Some, Result, Ok, Err, codes}
 use Rattle.clap.specs.declared.builder.action.ArgAction.TheVariants.{SetTrue}
 use Rattle.clap.specs.Words.{App, Row, Rule, Kinds, IsAmong, new_app, new_rule, with_rule, matches_of, fault_of, first_of, kind_of}
 use Rattle.sf_options.specs.declared.asked.Options.{Options}
@@ -15,11 +15,15 @@ option_rule name = record (new_rule name) { long = Some name; value_names = 1 }
 abbrev pub flag_rule : List ℕ → Rule
 flag_rule name = record (new_rule name) { long = Some name; action = Some SetTrue }
 
+-- a command with a version, which `--version` asks for
+abbrev pub with_version : App → App
+with_version app = record app { top = record app.top { has_version = true } }
+
 -- the options that load and save a file
 abbrev pub two_files : App
-two_files = with_rule (with_rule (new_app (codes "sfstore")) (option_rule (codes "load"))) (option_rule (codes "save"))
+two_files = with_rule (with_rule (with_version (new_app (codes "sfstore"))) (option_rule (codes "load"))) (option_rule (codes "save"))
 
--- the program's command: three options with a file, and a flag
+-- the program's command: three options with a file, a flag, and a version
 abbrev pub program : App
 program = with_rule (with_rule two_files (option_rule (codes "store"))) (flag_rule (codes "keep"))
 

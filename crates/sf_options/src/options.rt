@@ -2,7 +2,7 @@
 ghost use Rattle.std.specs.Prelude.{◌≡◌, ℕ, List, map, codes, IfOk, string_bytes};
 ghost use Rattle.std.specs.Option.{option_map};
 ghost use Rattle.clap.specs.Words.{app_of, found_of, first_value, FailsBy};
-ghost use Rattle.sf_options.specs.Options.{program, two_files, program_matches, program_faults, given, IsRefusedBy};
+ghost use Rattle.sf_options.specs.Options.{program, two_files, program_matches, program_faults, given, with_version, IsRefusedBy};
 
 use super::asked::{Options, OptionsFault};
 use clap::error::ErrorKind;
@@ -13,25 +13,30 @@ use std::alloc::{AllocError, Global};
 const ABOUT: &str =
     "A store of vector map features in named layers, where every edit can be undone exactly.\nReads a line of a command at a time from standard input, and answers each on standard output.";
 
+/// The version, with the toolchain that proves and builds it.
+const VERSION: &str = "0.1.0 (rattle-kit-13f)";
+
 /// An example, and the commands by their words.
 const EXAMPLE_AND_COMMANDS: &str = "Examples:
   sfstore --load parcels.sfs --save parcels.sfs < edits
   sfstore --store parcels.sfs < edits
 
-Commands, one on a line:
+Commands, one on a line; `man sfstore` and docs/use/CONSOLE.md have their answers:
   layer add|drop|rename|move   column add|drop   layers   columns
   add   addhex   delete   replace   vertex insert|move|remove   set   unset
   rule add|drop   rules   undo   redo   save
   show   get   find   check   hex   box   simple   relate   match   query   join
 
-A line may begin with the editor who gives it, from @1 to @255: @2 undo.
-`man sfstore`, and docs/use/CONSOLE.md, have the commands with their answers.";
+A line may begin with the editor who gives it, from @1 to @255: @2 undo.";
 
-/// The command with its texts for the user, which change nothing of what it takes.
+/// The command with its version, and with its texts for the user, which change nothing of what it takes.
 fn described<'a>(command: Command<'a>) -> Command<'a>
-    ensures { app_of result ≡ app_of command.entry }
+    ensures { app_of result ≡ with_version (app_of command.entry) }
 {
-    command.about(ABOUT).after_help(EXAMPLE_AND_COMMANDS)
+    command
+        .version(VERSION)
+        .about(ABOUT)
+        .after_help(EXAMPLE_AND_COMMANDS)
 }
 
 /// The command with the options that load and save a file.

@@ -192,14 +192,14 @@ fits-all (pos n) low high = let few : min n (2 ^ 31 - 1) ≡ n = omega (arith, i
 fits-all (negsuc n) low high = let few : min n (2 ^ 31 - 1) ≡ n = omega (arith, ints, low) in ap negsuc few
 
 -- a margin is far below the end of the numbers
-margin-small : (box : Extent) → IsBoxOnGrid box → margin_of box ≤ 838861
+margin-small : (box : Extent) → IsBoxOnGrid box → margin_of box ≤ 107374182
 margin-small box on = omega (arith, ints, on.min_x, on.min_y, on.max_x, on.max_y)
 
 pub round-frame : (box : Extent) (frame : Frame) (margin : ℕ) → IsBoxOnGrid box → margin ≡ margin_of box
     → frame.left ≡ saturate_signed w32 (box.min_x -ℤ pos margin) → frame.top ≡ saturate_signed w32 (box.max_y +ℤ pos margin)
     → frame.wide ≡ side box.min_x box.max_x margin → frame.high ≡ side box.min_y box.max_y margin → IsFrameRound box frame
 round-frame box frame margin on is left top wide high =
-    let small : margin ≤ 838861 = omega (arith, is, margin-small box on) in
+    let small : margin ≤ 107374182 = omega (arith, is, margin-small box on) in
     let at_left : saturate_signed w32 (box.min_x -ℤ pos margin) ≡ box.min_x -ℤ pos margin =
     fits-all (box.min_x -ℤ pos margin) (omega (arith, ints, small, on.min_x)) (omega (arith, ints, small, on.min_x)) in
     let at_top : saturate_signed w32 (box.max_y +ℤ pos margin) ≡ box.max_y +ℤ pos margin =

@@ -1,6 +1,6 @@
 -- Beside the headline, which says nothing of pictures.
 -- The command of the program, and what its words ask for, by clap's own definitions.
-use Rattle.std.specs.Prelude.{◌≡◌, ◌<◌, FitsSigned, ◌^◌, ◌≤ℤ◌, ◌==◌, ◌&&◌, ℕ, ℤ, pos, negsuc, Bool, false, List, [], ◌∷◌, Option, Some, None, Result, Ok, Err, codes, unwrap_or}
+use Rattle.std.specs.Prelude.{◌≡◌, ◌<◌, FitsSigned, ◌^◌, ◌≤ℤ◌, ◌==◌, ◌&&◌, ℕ, ℤ, pos, negsuc, Bool, false, true, List, [], ◌∷◌, Option, Some, None, Result, Ok, Err, codes, unwrap_or}
 use Rattle.std.specs.List.{list_any}
 use Rattle.std.specs.Char.{is_ascii_digit}
 use Rattle.std.specs.Int.{w32}
@@ -31,9 +31,13 @@ window_rule = record (option_rule (codes "window") 4) { parser = Some (Signed (n
 abbrev pub width_rule : Rule
 width_rule = record (option_rule (codes "width") 1) { parser = Some (Signed (pos 1) (pos 100000)) }
 
--- the program's command: three options
+-- a command with a version, which `--version` asks for
+abbrev pub with_version : App → App
+with_version app = record app { top = record app.top { has_version = true } }
+
+-- the program's command: three options, and a version
 abbrev pub program : App
-program = with_rule (with_rule (with_rule (new_app (codes "sfmap")) layer_rule) window_rule) width_rule
+program = with_rule (with_rule (with_rule (with_version (new_app (codes "sfmap"))) layer_rule) window_rule) width_rule
 
 -- the matches of the command on these words
 abbrev pub program_matches : List (List ℕ) → List Row

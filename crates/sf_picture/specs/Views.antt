@@ -119,7 +119,7 @@ HasAllShown choice content view =
 abbrev pub bar_lengths : List ℕ
 bar_lengths =
     1 ∷ 2 ∷ 5 ∷ 10 ∷ 20 ∷ 50 ∷ 100 ∷ 200 ∷ 500 ∷ 1000 ∷ 2000 ∷ 5000 ∷ 10000 ∷ 20000 ∷ 50000 ∷ 100000 ∷ 200000 ∷ 500000
-    ∷ 1000000 ∷ 2000000 ∷ []
+    ∷ 1000000 ∷ 2000000 ∷ 5000000 ∷ 10000000 ∷ 20000000 ∷ 50000000 ∷ 100000000 ∷ 200000000 ∷ 500000000 ∷ []
 
 -- the greatest of some lengths that is at most a limit, or one step
 abbrev pub longest_within : List ℕ → ℕ → ℕ

@@ -2,7 +2,7 @@
 ghost use Rattle.std.specs.Prelude.{◌≡◌, ℤ, [], codes, option_map, false, map, string_bytes, IfNone, IfOk, IfSome};
 ghost use Rattle.std.specs.List.{list_any};
 ghost use Rattle.clap.specs.Words.{app_of, found_of, rows_of, rule_of, FailsBy};
-ghost use Rattle.sf_picture.specs.Options.{Answers, IsBox, IsNumber, IsReadAs, IsRefusedBy, IsWidth, IsWindow, has_negative as has_negative_number, is_negative as is_negative_number, layer_rule, program, program_faults, program_matches, values_of, width_rule, window_rule};
+ghost use Rattle.sf_picture.specs.Options.{Answers, IsBox, IsNumber, IsReadAs, IsRefusedBy, IsWidth, IsWindow, has_negative as has_negative_number, is_negative as is_negative_number, layer_rule, program, program_faults, program_matches, values_of, width_rule, window_rule, with_version};
 
 use super::asked::{Asked, AskedFault};
 use super::choice::Choice;
@@ -14,6 +14,9 @@ use std::alloc::{AllocError, Global};
 /// What the program is.
 const ABOUT: &str =
     "Draws a map of the store of a file: reads the file from standard input, and writes a picture, as scalable vector graphics (SVG), to standard output.";
+
+/// The version, with the toolchain that proves and builds it.
+const VERSION: &str = "0.1.0 (rattle-kit-13f)";
 
 /// An example, and what the picture has.
 const EXAMPLE: &str = "Example:
@@ -68,11 +71,11 @@ fn width_option<'a>(alloc: Global) -> Arg<'a>
         .help("How wide the picture is, up to 100000 [default: 800]")
 }
 
-/// The command with its texts for the user, which change nothing of what it takes.
+/// The command with its version, and with its texts for the user, which change nothing of what it takes.
 fn described<'a>(command: Command<'a>) -> Command<'a>
-    ensures { app_of result ≡ app_of command.entry }
+    ensures { app_of result ≡ with_version (app_of command.entry) }
 {
-    command.about(ABOUT).after_help(EXAMPLE)
+    command.version(VERSION).about(ABOUT).after_help(EXAMPLE)
 }
 
 /// The command: three options.

@@ -1,3 +1,4 @@
+ghost use Rattle.sf_strips.specs.Pieces.{pieces_max};
 ghost use Rattle.std.specs.Prelude.{◌≡◌, ◌++◌, ◌∷◌, [], ◌≤◌, length, map, OnErr, OnOk};
 ghost use Rattle.sf_classes.specs.Classes.{WereHanded};
 ghost use Rattle.sf_strips.specs.declared.piece.Piece.TheVariants.{Dot};
@@ -75,7 +76,7 @@ impl GroupedPieces {
         areal: &[bool],
         sink: &mut S,
     ) -> Result<(), AllocError>
-        requires few { length self.now ≤ 65535 }
+        requires few { length self.now ≤ pieces_max }
         requires groups_in_range { HasGroups self.now }
         ensures ok { OnOk result (WereHanded (pieces_of self.now) (groups_of self.now) areal.now
             S.after (S.content sink.old) (S.content sink.new)) }

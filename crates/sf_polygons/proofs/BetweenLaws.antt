@@ -255,17 +255,17 @@ lone (rings ∷ others ∷ polygons) l h = absurd (omega (arith, l))
 
 -- ---- what the code has before its walk
 pub record IsReady (polygons : List (List (List Coordinates))) (colours : List ℕ) : Type 0 where
-  pub few : length (joined (joined polygons)) ≤ 4096
+  pub few : length (joined (joined polygons)) ≤ 65536
   pub sound : NoneApplies (flat_map ring_rules (joined polygons))
   pub colouring : IsColouring (map polygon_box polygons) colours
 
-pub few-polygon_boxes : (polygons : List (List (List Coordinates))) (boxes : List (Option Extent)) → length (joined (joined polygons)) ≤ 4096 → boxes ≡ map polygon_box polygons
+pub few-polygon_boxes : (polygons : List (List (List Coordinates))) (boxes : List (Option Extent)) → length (joined (joined polygons)) ≤ 65536 → boxes ≡ map polygon_box polygons
     → count_by is_some boxes < 2 ^ 32
 few-polygon_boxes polygons boxes few b =
     at_most (count_by is_some boxes) (length (flat_map joined polygons)) (length (joined (joined polygons)))
     (subst (λ bs. count_by is_some bs ≤ length (flat_map joined polygons)) (sym b) (few-boxes joined polygons)) (ap length (all-joined polygons)) few
   where
-    at_most : (a b c : ℕ) → a ≤ b → b ≡ c → c ≤ 4096 → a < 2 ^ 32
+    at_most : (a b c : ℕ) → a ≤ b → b ≡ c → c ≤ 65536 → a < 2 ^ 32
     at_most a b c h k l = omega (arith, h, k, l)
 
     joined-append : (xs ys : List (List Coordinates)) → joined (xs ++ ys) ≡ joined xs ++ joined ys
@@ -276,12 +276,12 @@ few-polygon_boxes polygons boxes few b =
     all-joined [] = refl
     all-joined (p ∷ ps) = ap (λ qs. joined p ++ qs) (all-joined ps) ∙ sym (joined-append p (joined ps))
 
-pub few-polygon_pieces : (polygons : List (List (List Coordinates))) (colours : List ℕ) → IsReady polygons colours → length (pieces_in (polygons_in polygons colours)) ≤ 65535
+pub few-polygon_pieces : (polygons : List (List (List Coordinates))) (colours : List ℕ) → IsReady polygons colours → length (pieces_in (polygons_in polygons colours)) ≤ 16777215
 few-polygon_pieces polygons colours r =
     at_most (length (pieces_in (polygons_in polygons colours))) (length (joined (rings_of (polygons_in polygons colours)))) (length (joined (joined polygons)))
     (few-pieces (polygons_in polygons colours)) (ap (λ rs. length (joined rs)) (rings-are polygons colours (r.colouring.one_each ∙ length-map polygons polygon_box))) r.few
   where
-    at_most : (a b c : ℕ) → a ≤ b → b ≡ c → c ≤ 4096 → a ≤ 65535
+    at_most : (a b c : ℕ) → a ≤ b → b ≡ c → c ≤ 65536 → a ≤ 16777215
     at_most a b c h k l = omega (arith, h, k, l)
 
 pub grouped-polygons : (polygons : List (List (List Coordinates))) (colours : List ℕ) → IsReady polygons colours → HasGroups (pieces_in (polygons_in polygons colours))

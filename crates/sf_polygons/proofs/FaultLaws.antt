@@ -23,20 +23,20 @@ joined-append : (xs ys : List (List Coordinates)) → joined (xs ++ ys) ≡ join
 joined-append xs ys = flat_map-append (λ ring. ring) xs ys
 
 pub few-points : (polygons : List (List (List Coordinates))) (k : ℕ) (rings : List (List Coordinates)) → k < length polygons → rings ≡ slice_index_or polygons k rings
-    → length (joined (joined polygons)) ≤ 4096 → length (joined rings) ≤ 4096
+    → length (joined (joined polygons)) ≤ 65536 → length (joined rings) ≤ 65536
 few-points [] k rings l e h = absurd (omega (arith, l))
 few-points (first ∷ polygons) zero rings l e h =
     part (length (joined rings)) (length (joined (joined polygons))) (length (joined (first ++ joined polygons)))
     (ap length (joined-append first (joined polygons)) ∙ length-append (joined first) (joined (joined polygons)) ∙ ap (λ rs. length (joined rs) + length (joined (joined polygons))) (sym e)) h
   where
-    part : (a b c : ℕ) → c ≡ a + b → c ≤ 4096 → a ≤ 4096
+    part : (a b c : ℕ) → c ≡ a + b → c ≤ 65536 → a ≤ 65536
     part a b c k m = omega (arith, k, m)
 few-points (first ∷ polygons) (suc k) rings l e h =
     few-points polygons k rings (omega (arith, l)) e
     (part (length (joined first)) (length (joined (joined polygons))) (length (joined (first ++ joined polygons)))
     (ap length (joined-append first (joined polygons)) ∙ length-append (joined first) (joined (joined polygons))) h)
   where
-    part : (a b c : ℕ) → c ≡ a + b → c ≤ 4096 → b ≤ 4096
+    part : (a b c : ℕ) → c ≡ a + b → c ≤ 65536 → b ≤ 65536
     part a b c m n = omega (arith, m, n)
 
 pub sound-rings : (polygons : List (List (List Coordinates))) (k : ℕ) (rings : List (List Coordinates)) → k < length polygons → rings ≡ slice_index_or polygons k rings

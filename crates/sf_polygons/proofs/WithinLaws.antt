@@ -267,17 +267,17 @@ ring-faults shell holes colours found sound h handed =
 -- ---- what the code has before its walk
 pub record IsReady (rings : List (List Coordinates)) (shell : List Coordinates) (holes : List (List Coordinates)) (colours : List ℕ) : Type 0 where
   pub split : rings ≡ shell ∷ holes
-  pub few : length (joined rings) ≤ 4096
+  pub few : length (joined rings) ≤ 65536
   pub sound : NoneApplies (flat_map ring_rules rings)
   pub colouring : IsColouring (map box_of holes) colours
 
 pub few-hole_boxes : (rings : List (List Coordinates)) (shell : List Coordinates) (holes : List (List Coordinates)) (boxes : List (Option Extent)) → rings ≡ shell ∷ holes
-    → length (joined rings) ≤ 4096 → boxes ≡ map box_of holes → count_by is_some boxes < 2 ^ 32
+    → length (joined rings) ≤ 65536 → boxes ≡ map box_of holes → count_by is_some boxes < 2 ^ 32
 few-hole_boxes rings shell holes boxes e few b =
     at_most (count_by is_some boxes) (length (joined holes)) (length shell) (length (joined rings))
     (subst (λ bs. count_by is_some bs ≤ length (joined holes)) (sym b) (few-boxes (λ ps. ps) holes)) (ap (λ rs. length (joined rs)) e ∙ length-append shell (joined holes)) few
   where
-    at_most : (a b c d : ℕ) → a ≤ b → d ≡ c + b → d ≤ 4096 → a < 2 ^ 32
+    at_most : (a b c d : ℕ) → a ≤ b → d ≡ c + b → d ≤ 65536 → a < 2 ^ 32
     at_most a b c d h k l = omega (arith, h, k, l)
 
 pub small-colours : (rings : List (List Coordinates)) (shell : List Coordinates) (holes : List (List Coordinates)) (colours : List ℕ) → IsReady rings shell holes colours
@@ -290,17 +290,17 @@ small-colours rings shell holes colours r =
     (ap (λ rs. length (joined rs)) r.split ∙ length-append shell (joined holes)) r.few)
     (each-below (map box_of holes) colours r.colouring))
   where
-    small : (c m n j s d : ℕ) → c < m → m ≡ n → n ≤ j → d ≡ s + j → d ≤ 4096 → c + 1 < 2 ^ 32
+    small : (c m n j s d : ℕ) → c < m → m ≡ n → n ≤ j → d ≡ s + j → d ≤ 65536 → c + 1 < 2 ^ 32
     small c m n j s d a b e f g = omega (arith, a, b, e, f, g)
 
 pub few-ring_pieces : (rings : List (List Coordinates)) (shell : List Coordinates) (holes : List (List Coordinates)) (colours : List ℕ) → IsReady rings shell holes colours
-    → length (pieces_in (rings_in shell holes colours)) ≤ 65535
+    → length (pieces_in (rings_in shell holes colours)) ≤ 16777215
 few-ring_pieces rings shell holes colours r =
     let same = rings-are shell holes colours (r.colouring.one_each ∙ length-map holes box_of) in
     at_most (length (pieces_in (rings_in shell holes colours))) (length (joined (rings_of (rings_in shell holes colours)))) (length (joined rings)) (few-pieces (rings_in shell holes colours))
     (ap (λ rs. length (joined rs)) (same ∙ sym r.split)) r.few
   where
-    at_most : (a b c : ℕ) → a ≤ b → b ≡ c → c ≤ 4096 → a ≤ 65535
+    at_most : (a b c : ℕ) → a ≤ b → b ≡ c → c ≤ 65536 → a ≤ 16777215
     at_most a b c h k l = omega (arith, h, k, l)
 
 pub grouped-rings : (rings : List (List Coordinates)) (shell : List Coordinates) (holes : List (List Coordinates)) (colours : List ℕ) → IsReady rings shell holes colours

@@ -1,5 +1,6 @@
 //! The faults of polygons among one another.
 
+ghost use Rattle.sf_geometry.specs.Size.{points_max};
 ghost use Rattle.std.specs.Prelude.{◌≡◌, ◌++◌, ◌==◌, ◌≤◌, IfOk, OnOk, length, map};
 ghost use Rattle.std.specs.List.{flat_map, list_all};
 ghost use Rattle.sf_geometry.specs.Parts.{joined};
@@ -22,7 +23,7 @@ pub(crate) fn faults_between(
     alloc: Global,
     polygons: &[Sequence<Sequence<GridPoint>>],
 ) -> Result<PolygonFaults, AllocError>
-    requires few { length (joined (joined polygons.now)) ≤ 4096 }
+    requires few { length (joined (joined polygons.now)) ≤ points_max }
     requires sound { NoneApplies (flat_map ring_rules (joined polygons.now)) }
     ensures { IfOk result (λ found. ArePolygonFaults polygons.now found) }
 {

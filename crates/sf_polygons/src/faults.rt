@@ -1,5 +1,6 @@
 //! The first fault of polygons.
 
+ghost use Rattle.sf_geometry.specs.Size.{points_max};
 ghost use Rattle.std.specs.Prelude.{◌≡◌, ◌≤◌, IfOk, length};
 ghost use Rattle.std.specs.List.{flat_map};
 ghost use Rattle.sf_geometry.specs.Parts.{joined};
@@ -21,7 +22,7 @@ pub fn first_fault(
     alloc: Global,
     polygons: &[Sequence<Sequence<GridPoint>>],
 ) -> Result<Option<Fault>, AllocError>
-    requires few { length (joined (joined polygons.now)) ≤ 4096 }
+    requires few { length (joined (joined polygons.now)) ≤ points_max }
     requires rings { NoneApplies (flat_map ring_rules (joined polygons.now)) }
     ensures { IfOk result (λ fault. IsFirstIn (polygon_rules polygons.now) fault) }
 {
@@ -35,7 +36,7 @@ fn faults_within_each(
     alloc: Global,
     polygons: &[Sequence<Sequence<GridPoint>>],
 ) -> Result<RingFaults, AllocError>
-    requires few { length (joined (joined polygons.now)) ≤ 4096 }
+    requires few { length (joined (joined polygons.now)) ≤ points_max }
     requires sound { NoneApplies (flat_map ring_rules (joined polygons.now)) }
     ensures { IfOk result (λ found. AreRingFaults polygons.now found) }
 {

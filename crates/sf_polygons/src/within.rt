@@ -1,5 +1,6 @@
 //! The faults of one polygon's rings.
 
+ghost use Rattle.sf_geometry.specs.Size.{points_max};
 ghost use Rattle.std.specs.Prelude.{◌≡◌, ◌∷◌, ◌++◌, ◌<◌, ◌≤◌, [], ◌+◌, ◌^◌, IfOk, OnOk, length, map};
 ghost use Rattle.std.specs.List.{All, flat_map};
 ghost use Rattle.sf_geometry.specs.Parts.{joined};
@@ -22,7 +23,7 @@ pub(crate) fn faults_within(
     alloc: Global,
     rings: &[Sequence<GridPoint>],
 ) -> Result<RingFaults, AllocError>
-    requires few { length (joined rings.now) ≤ 4096 }
+    requires few { length (joined rings.now) ≤ points_max }
     requires sound { NoneApplies (flat_map ring_rules rings.now) }
     ensures { IfOk result (λ found. AreRingFaults (rings.now ∷ []) found) }
 {

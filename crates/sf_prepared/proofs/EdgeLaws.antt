@@ -66,14 +66,14 @@ few-of (MultiLineString lines) = few-lists lines
 few-of (Polygon rings) = few-lists rings
 few-of (MultiPolygon polygons) = few-lists (joined polygons)
 
-pub few-pairs : (geometry found : Geometry) (pairs : List (Coordinates × Coordinates)) → IsSized geometry → found ≡ geometry → map edge_of pairs ≡ edges_of found → length pairs ≤ 4096
+pub few-pairs : (geometry found : Geometry) (pairs : List (Coordinates × Coordinates)) → IsSized geometry → found ≡ geometry → map edge_of pairs ≡ edges_of found → length pairs ≤ 65536
 few-pairs geometry found pairs sized is edges =
     bound (length pairs) (length (points_of geometry)) (up (sym (length-map pairs edge_of) ∙ ap (λ (es : List Line). length es) (edges ∙ ap edges_of is)) (few-of geometry)) sized.few
   where
     up : {m n k : ℕ} → m ≡ n → n ≤ k → m ≤ k
     up e h = omega (arith, e, h)
 
-    bound : (m n : ℕ) → m ≤ n → n ≤ 4096 → m ≤ 4096
+    bound : (m n : ℕ) → m ≤ n → n ≤ 65536 → m ≤ 65536
     bound m n h k = omega (arith, h, k)
 
 -- ---- the edges of a geometry on the grid

@@ -142,7 +142,7 @@ nearby-long b extent pairs w s are =
     (each-kept (λ e. e.a ≢ e.b) (λ pair. extents_meet (extent_of_edge pair) (columns_over extent)) pairs
     (subst (AllByRecursion (λ (e : Line). e.a ≢ e.b)) (sym (are ∙ r.edges)) (long-edges r.rings)))
 
-nearby-few : (b : Geometry) (extent : Extent) (pairs : List (Coordinates × Coordinates)) → IsValid b → AreEdgesOf b pairs → length (nearby extent pairs) ≤ 4096
+nearby-few : (b : Geometry) (extent : Extent) (pairs : List (Coordinates × Coordinates)) → IsValid b → AreEdgesOf b pairs → length (nearby extent pairs) ≤ 65536
 nearby-few b extent pairs w are = chain (fewer pairs) (few-pairs b b pairs w.sized refl are)
   where
     chain : {l m n : ℕ} → l ≤ m → m ≤ n → l ≤ n
@@ -242,7 +242,7 @@ area-beyond a b pairs v w s are k =
 -- ---- as they are called
 -- what a walk over these edges in place of the area's asks of them
 pub record AreEnough (a b : Geometry) (edges : List (Coordinates × Coordinates)) : Type 0 where
-  pub few : length edges ≤ 4096
+  pub few : length edges ≤ 65536
   pub long : AllByRecursion (λ pair. is_same pair.0 pair.1 ≡ false) edges
   pub places : TellPlaces a b (map edge_of edges)
   pub beyond : ReachesBeyond a b

@@ -20,7 +20,7 @@ pub enum Refusal {
     Truncated,
     /// Bytes are left over.
     Trailing,
-    /// A geometry has more than 4,096 points.
+    /// A geometry has more than 65,536 points.
     TooManyVertices,
     /// A line has fewer than two different points in a row.
     ShortLine,
@@ -68,7 +68,7 @@ pub enum Refusal {
     BadCommand,
     /// The text is no DE-9IM pattern.
     BadPattern,
-    /// The line has more than 131,072 bytes before its line feed.
+    /// The line has more than 4,194,304 bytes before its line feed.
     LineTooLong,
     /// The bytes are no file of the store.
     BadFile,

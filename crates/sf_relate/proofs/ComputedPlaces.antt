@@ -70,7 +70,7 @@ unfolding text items at
 point_in_square = refl
 
 far_line_misses_point : text (Point (at (pos 0) (pos 0)))
-    (LineString (at (negsuc 8388607) (negsuc 8388607) ∷ at (pos 8388607) (pos 8388606) ∷ [])) ≡ codes "FF0FFF102"
+    (LineString (at (negsuc 1073741823) (negsuc 1073741823) ∷ at (pos 1073741823) (pos 1073741822) ∷ [])) ≡ codes "FF0FFF102"
 unfolding text items at
 far_line_misses_point = refl
 

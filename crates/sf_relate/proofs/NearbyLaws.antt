@@ -372,7 +372,7 @@ groups-nearby a es v =
     two some (inl none) = absurd (omega (arith, some, none, length-map (ends_of a) pieces.Dot))
     two some (inr pair) = omega (arith, length-nearby a es, some-piece a v, pair)
 
-pub can-nearby : (a : Geometry) (pairs : List (Coordinates × Coordinates)) (ms : List Marked) → IsValid a → length pairs ≤ 4096 → ms ≡ nearby_grouped a (map edge_of pairs) → CanWalk ms
+pub can-nearby : (a : Geometry) (pairs : List (Coordinates × Coordinates)) (ms : List Marked) → IsValid a → length pairs ≤ 65536 → ms ≡ nearby_grouped a (map edge_of pairs) → CanWalk ms
 can-nearby a pairs ms v few e =
     subst CanWalk (sym e)
     (record {

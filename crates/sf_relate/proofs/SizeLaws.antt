@@ -66,7 +66,7 @@ length-all a b =
     ∙ ap (λ k. k + length (grouped 0 2 a)) (length-grouped 1 3 b)
     ∙ ap (λ k. (length (pieces_of b) + length (ends_of b)) + k) (length-grouped 0 2 a)
 
-few-all : (a b : Geometry) → IsValid a → IsValid b → length (all_grouped a b) ≤ 65535
+few-all : (a b : Geometry) → IsValid a → IsValid b → length (all_grouped a b) ≤ 16777215
 few-all a b v w = omega (arith, length-all a b, few-with_ends a, few-with_ends b, v.sized.few, w.sized.few)
 
 -- ---- a valid geometry has a piece
@@ -146,7 +146,7 @@ grouped-all a b v w =
 
 -- ---- what a walk over the pieces of two geometries needs
 pub record CanWalk (ms : List Marked) : Type 0 where
-  pub few : length ms ≤ 65535
+  pub few : length ms ≤ 16777215
   pub groups_in_range : HasGroups ms
 
 pub can-walk : (a b : Geometry) (ms : List Marked) → IsValid a → IsValid b → ms ≡ all_grouped a b → CanWalk ms

@@ -1,6 +1,7 @@
 //! The matrix of a geometry with an area, by a walk over those edges of the area alone that can be on a point of
 //! the geometry or above one.
 
+ghost use Rattle.sf_geometry.specs.Size.{points_max};
 ghost use Rattle.std.specs.Prelude.{◌≡◌, ◌≤◌, ◌++◌, IfOk, IsFalse, OnOk, length, map};
 ghost use Rattle.std.specs.List.{AllByRecursion};
 ghost use Rattle.sf_geometry.specs.Lists.{is_same};
@@ -40,7 +41,7 @@ pub fn relate_nearby(
     edges: &[(GridPoint, GridPoint)],
 ) -> Result<Matrix, AllocError>
     requires areal { shape_of area.now ≡ Areas }
-    requires few { length edges.now ≤ 4096 }
+    requires few { length edges.now ≤ points_max }
     requires long { AllByRecursion (λ pair. IsFalse (is_same pair.0 pair.1)) edges.now }
     requires places { TellPlaces a.now area.now (map edge_of edges.now) }
     requires beyond { ReachesBeyond a.now area.now }

@@ -2,8 +2,8 @@
 ghost use Rattle.std.specs.Prelude.{◌≡◌, ◌++◌, flat_map, OnErr, OnOk};
 ghost use Rattle.byteorder.specs.Endian.{big_bytes};
 ghost use Rattle.sf_known.specs.Patterns.{pattern_text};
-ghost use Rattle.sf_format.specs.Canonical.{ask_bytes, form_byte as form_byte_of, predicate_byte as predicate_byte_of, rule_bytes};
-ghost use Rattle.sf_saving.specs.Parts.{letter_bytes, rules_part};
+ghost use Rattle.sf_format.specs.Canonical.{ask_bytes, form_byte as form_byte_of, predicate_byte as predicate_byte_of, rule_bytes, rules_bytes};
+ghost use Rattle.sf_saving.specs.Parts.{letter_bytes};
 ghost use Rattle.sf_streams.specs.Streams.{Puts, WritesFront};
 
 use super::fields::put_name;
@@ -124,21 +124,17 @@ fn put_each<W: Write>(output: &mut Output, writer: &mut W, rules: &[Rule]) -> Re
     Ok(())
 }
 
-/// Puts the rules of a store behind their number, and nothing where there is none. Their number has two bytes, as there are
-/// never more.
+/// Puts the rules of a store behind their number, which has two bytes, as there are never more.
 pub(crate) fn put_rules<W: Write>(
     output: &mut Output,
     writer: &mut W,
     rules: &[Rule],
 ) -> Result<(), WriteFault>
     ensures ok { OnOk result (Puts (W.contents writer.old) (W.contents writer.new) output.old output.new
-        (rules_part rules.now)) }
+        (rules_bytes rules.now)) }
     ensures broken { OnErr result (WritesFront (W.contents writer.old) (W.contents writer.new)
-        (output.old ++ rules_part rules.now)) }
+        (output.old ++ rules_bytes rules.now)) }
 {
-    if rules.is_empty() {
-        return Ok(());
-    }
     output.put_u16(writer, (rules.len() % 65536) as u16)?;
     put_each(output, writer, rules)
 }

@@ -1,33 +1,22 @@
 //! The bytes of a store with rules to a writer.
-ghost use Rattle.std.specs.Prelude.{◌≡◌, OnErr, OnOk};
+ghost use Rattle.std.specs.Prelude.{OnErr, OnOk};
 ghost use Rattle.std.specs.Io.KnownBytes.{Appends};
 ghost use Rattle.sf_format.specs.Canonical.{canonical_ruled};
-ghost use Rattle.sf_saving.specs.Parts.{front_with};
 ghost use Rattle.sf_streams.specs.Streams.{WritesFront};
 
 use super::layers::put_layers;
 use super::rules::put_rules;
 use super::save_fault::SaveFault;
-use sf_format::{Rule, Ruled};
+use sf_format::Ruled;
 use sf_streams::Output;
 use std::alloc::Global;
 use std::io::Write;
 
-/// The bytes at the front of a file without rules: of the second version, with coordinates of 24 bits.
-const FRONT: &str = "SFSTORE2\x18";
-
-/// Those of a file with rules: of the third version.
-const RULED_FRONT: &str = "SFSTORE3\x18";
+/// The bytes at the front of a file: of the fourth version, with coordinates of 31 bits.
+const FRONT: &str = "SFSTORE4\x1f";
 
 /// How many bytes a binary geometry has at most.
-const ROW_MAX: usize = 131_072;
-
-/// The bytes at the front of a file with these rules.
-fn front(rules: &[Rule]) -> &'static str
-    ensures { result.now ≡ front_with rules.now }
-{
-    if rules.is_empty() { FRONT } else { RULED_FRONT }
-}
+const ROW_MAX: usize = 2_097_152;
 
 /// Writes the canonical bytes of a store with its rules, and flushes the writer.
 ///
@@ -42,7 +31,7 @@ pub fn save<W: Write>(alloc: Global, ruled: &Ruled, writer: &mut W) -> Result<()
     let mut output = Output::new(alloc)?;
     let mut row = Vec::with_capacity(alloc, ROW_MAX)?;
     let rules = ruled.rules().as_slice();
-    output.put(writer, front(rules).as_bytes())?;
+    output.put(writer, FRONT.as_bytes())?;
     put_layers(&mut output, &mut row, writer, ruled.store())?;
     put_rules(&mut output, writer, rules)?;
     output.finish(writer)?;

@@ -121,7 +121,7 @@ cells-two_squares : cells two_squares ≡
 cells-two_squares = refl
 
 abbrev wide : List Piece
-wide = (Edge (at (negsuc 8388607) (negsuc 8388607)) (at (pos 8388607) (pos 8388606))) ∷ (Edge (at (negsuc 8388607) (pos 8388607)) (at (pos 8388607) (negsuc 8388607))) ∷ (Dot (at (pos 3) (pos 5))) ∷ []
+wide = (Edge (at (negsuc 1073741823) (negsuc 1073741823)) (at (pos 1073741823) (pos 1073741822))) ∷ (Edge (at (negsuc 1073741823) (pos 1073741823)) (at (pos 1073741823) (negsuc 1073741823))) ∷ (Dot (at (pos 3) (pos 5))) ∷ []
 
 cells-wide : cells wide ≡
     cell 2 ([]) ([])

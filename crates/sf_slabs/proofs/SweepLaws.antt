@@ -167,7 +167,7 @@ room-fewer n m k l c h i r =
     less : (n m c : ℕ) → m ≤ n → n ≤ c → m ≤ c
     less n m c h i = omega arith
 
-pub few-moved : (a a' b c c' p : ℕ) → a' ≡ a → c' ≡ c → a ≤ p → c ≤ p → p ≤ 65535 → b ≤ 131070 → a' + b + c' < 2 ^ 32
+pub few-moved : (a a' b c c' p : ℕ) → a' ≡ a → c' ≡ c → a ≤ p → c ≤ p → p ≤ 16777215 → b ≤ 33554430 → a' + b + c' < 2 ^ 32
 few-moved a a' b c c' p e f h k l m = omega arith
 
 pub fewer-moved : (c c' a a' : ℕ) → c' ≡ c → a' ≡ a → c ≤ a - 1 → c' ≤ a' - 1
@@ -218,11 +218,11 @@ all_vertices-few k (p ∷ ps) =
     counted : (a b c n : ℕ) → a ≡ b + c → b ≤ 2 → c ≤ 2 * n → a ≤ 2 * suc n
     counted a b c n e h k = omega arith
 
-pub vertices-few : (pieces : List Piece) (vs : List Vertex) → length pieces ≤ 65535 → IsPermutation (all_vertices 0 pieces) vs → length vs ≤ 131070
+pub vertices-few : (pieces : List Piece) (vs : List Vertex) → length pieces ≤ 16777215 → IsPermutation (all_vertices 0 pieces) vs → length vs ≤ 33554430
 vertices-few pieces vs h p = counted (length vs) (length (all_vertices 0 pieces)) (length pieces) (length_permutation (all_vertices 0 pieces) vs p) (all_vertices-few 0 pieces) h
   where
-    counted : (a b n : ℕ) → a ≡ b → b ≤ 2 * n → n ≤ 65535 → a ≤ 131070
+    counted : (a b n : ℕ) → a ≡ b → b ≤ 2 * n → n ≤ 16777215 → a ≤ 33554430
     counted a b n e h k = omega arith
 
-pub few-number : (a b c : ℕ) → a ≡ b → c ≡ b → c ≤ 131070 → a ≤ 131070
+pub few-number : (a b c : ℕ) → a ≡ b → c ≡ b → c ≤ 33554430 → a ≤ 33554430
 few-number a b c e f h = omega arith

@@ -1,5 +1,6 @@
 //! The cells of a list of pieces.
 
+ghost use Rattle.sf_strips.specs.Pieces.{pieces_max};
 ghost use Rattle.std.specs.Prelude.{◌≡◌, ◌≤◌, length, IfOk};
 ghost use Rattle.std.specs.List.{All};
 ghost use Rattle.sf_cells.specs.Cells.{cells};
@@ -15,7 +16,7 @@ use std::alloc::{AllocError, Global};
 /// measures, and the second one records them in room that was made in between.
 pub fn decompose(alloc: Global, pieces: &[Piece]) -> Result<Vec<Cell>, AllocError>
     requires have_length { All HasLength pieces.now }
-    requires few { length pieces.now ≤ 65535 }
+    requires few { length pieces.now ≤ pieces_max }
     ensures { IfOk result (λ found. found.items ≡ cells pieces.now) }
 {
     let groups = own_groups(alloc, pieces.len())?;
@@ -35,7 +36,7 @@ pub fn decompose(alloc: Global, pieces: &[Piece]) -> Result<Vec<Cell>, AllocErro
 
 /// A group of its own for each of so many pieces.
 fn own_groups(alloc: Global, pieces: usize) -> Result<Vec<u32>, AllocError>
-    requires { pieces ≤ 65535 }
+    requires { pieces ≤ pieces_max }
     ensures { IfOk result (λ groups. groups.items ≡ numbers 0 pieces) }
 {
     let mut groups = Vec::with_capacity(alloc, pieces)?;

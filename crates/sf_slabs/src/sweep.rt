@@ -1,5 +1,6 @@
 //! The sweep over the columns of a list of pieces, from the left.
 
+ghost use Rattle.sf_strips.specs.Pieces.{pieces_max, vertices_max};
 ghost use Rattle.std.specs.Prelude.{◌≡◌, ℕ, ◌≤◌, ◌<◌, List, [], None, Some, length, map, IfOk, OnErr, OnOk};
 ghost use Rattle.std.specs.List.{All, fold, prefix_len};
 ghost use Rattle.std.specs.List.Sorted.{IsPermutation, IsSortedBy};
@@ -42,8 +43,8 @@ impl Sweep {
         sink: &mut S,
     )
         requires ready { IsReady pieces.now groups.now (length vertices.now) self.old }
-        requires few { length pieces.now ≤ 65535 }
-        requires few_vertices { length vertices.now ≤ 131070 }
+        requires few { length pieces.now ≤ pieces_max }
+        requires few_vertices { length vertices.now ≤ vertices_max }
         requires one_group_each { length groups.now ≡ length pieces.now }
         requires coming { IsComing pieces.now x.now (Some x.now)
             self.old.order.items self.old.contacts.items }
@@ -70,7 +71,7 @@ impl Sweep {
     /// Hands out the cells of the slab right of the last column.
     fn slab<S: CellSink>(&mut self, pieces: &[Piece], groups: &[u32], sink: &mut S)
         requires ready { IsReady pieces.now groups.now 0 self.old }
-        requires few { length pieces.now ≤ 65535 }
+        requires few { length pieces.now ≤ pieces_max }
         requires one_group_each { length groups.now ≡ length pieces.now }
         requires slab { IsSlabOf pieces.now self.old.order.items self.old.contacts.items }
         ensures ready { (n : ℕ) → IsReady pieces.now groups.now n self.old
@@ -100,8 +101,8 @@ impl Sweep {
         vertices: usize,
         groups: usize,
     ) -> Result<Sweep, AllocError>
-        requires few { pieces ≤ 65535 }
-        requires few_vertices { vertices ≤ 131070 }
+        requires few { pieces ≤ pieces_max }
+        requires few_vertices { vertices ≤ vertices_max }
         ensures ready { IfOk result (λ s. (ps : List Piece) → length ps ≡ pieces
             → (gs : List ℕ) → group_count_of gs ≡ groups → IsReady ps gs vertices s) }
         ensures order { IfOk result (λ s. s.order.items ≡ []) }
@@ -133,8 +134,8 @@ impl Sweep {
         sink: &mut S,
     )
         requires ready { IsReady pieces.now groups.now (length vertices.now) self.old }
-        requires few { length pieces.now ≤ 65535 }
-        requires few_vertices { length vertices.now ≤ 131070 }
+        requires few { length pieces.now ≤ pieces_max }
+        requires few_vertices { length vertices.now ≤ vertices_max }
         requires one_group_each { length groups.now ≡ length pieces.now }
         requires no_edge { self.old.order.items ≡ [] }
         requires no_contact { self.old.contacts.items ≡ [] }
@@ -186,7 +187,7 @@ pub fn walk<S: CellSink>(
     sink: &mut S,
 ) -> Result<(), AllocError>
     requires have_length { All HasLength pieces.now }
-    requires few { length pieces.now ≤ 65535 }
+    requires few { length pieces.now ≤ pieces_max }
     requires one_group_each { length groups.now ≡ length pieces.now }
     requires groups_in_range { All (λ g. g < length pieces.now) groups.now }
     ensures ok { OnOk result (S.content sink.new ≡ fold S.after (S.content sink.old)
@@ -205,8 +206,8 @@ pub fn walk_sorted<S: CellSink>(
     vertices: &[Vertex],
     sink: &mut S,
 ) -> Result<(), AllocError>
-    requires few { length pieces.now ≤ 65535 }
-    requires few_vertices { length vertices.now ≤ 131070 }
+    requires few { length pieces.now ≤ pieces_max }
+    requires few_vertices { length vertices.now ≤ vertices_max }
     requires one_group_each { length groups.now ≡ length pieces.now }
     requires all { IsPermutation (all_vertices 0 pieces.now) vertices.now }
     requires in_order { IsSortedBy vertex_before vertices.now }

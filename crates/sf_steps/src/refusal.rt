@@ -11,7 +11,7 @@ pub enum Refusal {
     Memory,
     /// A list of the geometry is empty, or would be.
     Empty,
-    /// The geometry has more than 4,096 points, or would have.
+    /// The geometry has more than 65,536 points, or would have.
     TooManyVertices,
     /// The geometry isn't valid, or would not be: its first fault.
     Invalid(Fault),

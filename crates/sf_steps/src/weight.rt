@@ -7,7 +7,7 @@ use sf_layers::{Feature, Layer};
 /// How many points and values the feature holds.
 pub(crate) fn feature_weight(feature: &Feature) -> u64
     ensures weight { result ≡ feature_weight_of feature.now }
-    ensures bound { result < 2 ^ 17 }
+    ensures bound { result < 2 ^ 21 }
 {
     let points = feature.valid().geometry().point_count();
     (points + feature.value_count()) as u64

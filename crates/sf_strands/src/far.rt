@@ -1,5 +1,6 @@
 //! Lines and rings of edges that reach far, by a sweep over their vertices.
 
+ghost use Rattle.sf_geometry.specs.Size.{points_max};
 ghost use Rattle.std.specs.Prelude.{◌↔◌, ◌≤◌, IfOk, IsTrue, length};
 ghost use Rattle.sf_valid_rules.specs.Conditions.{Applies, Condition};
 ghost use Rattle.sf_valid_rules.specs.Shapes.{meets_itself as meets_itself_at};
@@ -14,7 +15,7 @@ use std::alloc::{AllocError, Global};
 /// Whether a line or ring, given as a tight list, meets itself. It fails only where memory is wanting.
 pub(crate) fn some_far_pair_meets(alloc: Global, points: &[GridPoint]) -> Result<bool, AllocError>
     requires tight { IsTight points.now }
-    requires few { length points.now ≤ 4096 }
+    requires few { length points.now ≤ points_max }
     ensures { IfOk result (λ found. IsTrue found ↔ Applies (Condition.AtPoint (meets_itself_at points.now))) }
 {
     let Some(doubt) = first_meeting(alloc, points)? else {

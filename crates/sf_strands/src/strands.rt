@@ -1,6 +1,8 @@
 //! The strands of lines at the points of the plane, counted by one walk over their pieces. A line has
 //! a strand at a point for each of its edges there, but the two edges at a joint are one strand.
 
+ghost use Rattle.sf_geometry.specs.Size.{points_max};
+ghost use Rattle.sf_strips.specs.Pieces.{pieces_max};
 ghost use Rattle.std.specs.Prelude.{◌≡◌, ◌↔◌, ◌++◌, ◌≤◌, IfOk, IsTrue, OnOk, length, map, slice_index};
 ghost use Rattle.sf_strips.specs.declared.piece.Piece.TheVariants.{Dot};
 ghost use Rattle.sf_pieces.specs.Marked.{HasGroups, item_at, marked};
@@ -65,7 +67,7 @@ fn push_dots(
 /// some point.
 pub(crate) fn two_strands_meet(alloc: Global, points: &[GridPoint]) -> Result<bool, AllocError>
     requires tight { IsTight points.now }
-    requires few { length points.now ≤ 4096 }
+    requires few { length points.now ≤ points_max }
     ensures { IfOk result (λ found. IsTrue found ↔ Applies (Condition.AtPoint (meets_itself points.now))) }
 {
     let mut strands = GroupedPieces::new(alloc);
@@ -75,7 +77,7 @@ pub(crate) fn two_strands_meet(alloc: Global, points: &[GridPoint]) -> Result<bo
 
 /// Whether two strands are at some point, not both of them ends.
 pub(crate) fn some_tangle(alloc: Global, strands: &GroupedPieces) -> Result<bool, AllocError>
-    requires few { length strands.now ≤ 65535 }
+    requires few { length strands.now ≤ pieces_max }
     requires groups_in_range { HasGroups strands.now }
     ensures { IfOk result (λ found. IsTrue found
         ↔ Applies (Condition.AtPoint (λ p. is_tangled_item (item_at strands.now p)))) }

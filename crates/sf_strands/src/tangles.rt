@@ -1,3 +1,4 @@
+ghost use Rattle.sf_geometry.specs.Size.{points_max};
 ghost use Rattle.std.specs.Prelude.{◌↔◌, ◌≤◌, IfOk, IsTrue, length};
 ghost use Rattle.sf_geometry.specs.Parts.{joined};
 ghost use Rattle.sf_valid_rules.specs.Conditions.{Applies, Condition};
@@ -21,7 +22,7 @@ const PAIRS_MAX: usize = 12;
 /// Whether a line or ring meets itself: whether two of its edges share a point that isn't their
 /// common vertex as neighbours. It fails only where memory is wanting.
 pub fn meets_itself(alloc: Global, points: &[GridPoint]) -> Result<bool, AllocError>
-    requires few { length points.now ≤ 4096 }
+    requires few { length points.now ≤ points_max }
     ensures { IfOk result (λ found. IsTrue found ↔ Applies (Condition.AtPoint (meets_itself_at points.now))) }
 {
     let points = tight(alloc, points)?;
@@ -31,7 +32,7 @@ pub fn meets_itself(alloc: Global, points: &[GridPoint]) -> Result<bool, AllocEr
 /// Whether a line or ring, given as a tight list, meets itself.
 fn does_tight_meet_itself(alloc: Global, points: &[GridPoint]) -> Result<bool, AllocError>
     requires tight { IsTight points.now }
-    requires few { length points.now ≤ 4096 }
+    requires few { length points.now ≤ points_max }
     ensures { IfOk result (λ found. IsTrue found ↔ Applies (Condition.AtPoint (meets_itself_at points.now))) }
 {
     if points.len() <= PAIRS_MAX + 1 {
@@ -47,7 +48,7 @@ fn does_tight_meet_itself(alloc: Global, points: &[GridPoint]) -> Result<bool, A
 /// Whether one of the lines meets itself, or two of them meet at a point where not both end. It
 /// fails only where memory is wanting.
 pub fn are_tangled(alloc: Global, lines: &[Sequence<GridPoint>]) -> Result<bool, AllocError>
-    requires few { length (joined lines.now) ≤ 4096 }
+    requires few { length (joined lines.now) ≤ points_max }
     ensures { IfOk result (λ found. IsTrue found ↔ Applies (Condition.AtPoint (are_tangled_at lines.now))) }
 {
     let mut strands = GroupedPieces::new(alloc);

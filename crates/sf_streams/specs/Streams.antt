@@ -14,7 +14,7 @@ nothing_ahead = record { place = 0; bytes = [] }
 
 -- how many bytes can be looked at together
 abbrev pub ahead_max : ℕ
-ahead_max = 131072
+ahead_max = 2097152
 
 -- what is left after so many bytes
 abbrev pub without_front : ℕ → Left → Left

@@ -9,7 +9,7 @@ use std::io::Read;
 use std::marker::Model;
 
 /// How many bytes can be looked at together, in bytes.
-pub const AHEAD_MAX: usize = 131_072;
+pub const AHEAD_MAX: usize = 2_097_152;
 
 /// The bytes of a reader that were read and not gone past, with the place in the input of the first of
 /// them. It has room for the longest field from the beginning. A reader is named at each call, and
@@ -32,7 +32,7 @@ impl Model for Window {
 
     ghost view = { λ a. record { place = a.place; bytes = drop a.start a.bytes.items } };
 
-    ghost invariant = { λ a. (a.start ≤ length a.bytes.items) × (196608 ≤ vec_capacity a.bytes)
+    ghost invariant = { λ a. (a.start ≤ length a.bytes.items) × (2162688 ≤ vec_capacity a.bytes)
         × (a.place + (length a.bytes.items - a.start) ≤ a.reads * 65536) × (a.reads ≤ 1000000000) };
 }
 
@@ -138,6 +138,10 @@ fn drop_front(bytes: &mut Vec<u8>, count: usize)
     ensures items { bytes.new.items ≡ drop count bytes.old.items }
     ensures capacity { vec_capacity bytes.new ≡ vec_capacity bytes.old }
 {
+    if count == 0 {
+        // A long field takes many reads: nothing moves between them.
+        return;
+    }
     let len = bytes.len() - count;
     bytes.as_mut_slice().copy_within(count.., 0);
     bytes.truncate(len);

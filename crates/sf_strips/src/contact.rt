@@ -56,7 +56,7 @@ impl Contact {
     {
         match self {
             Contact::Throughout => true,
-            Contact::Ahead(p) => p.x().compare(x) == Ordering::Equal,
+            Contact::Ahead(p) => p.x().is_same(x),
             Contact::Never => false,
         }
     }

@@ -1,5 +1,6 @@
 //! The grid points of the pieces, at which things begin and end.
 
+ghost use Rattle.sf_strips.specs.Pieces.{pieces_max};
 ghost use Rattle.std.specs.Prelude.{◌≡◌, ◌+◌, ◌*◌, ◌≤◌, [], ◌∷◌, ◌++◌, IfOk, length, vec_capacity, vec_len};
 ghost use Rattle.std.specs.List.Sorted.{IsPermutation, IsSortedBy};
 ghost use Rattle.std.specs.Ordering.{is_lt};
@@ -56,7 +57,7 @@ impl Vertex {
     pub fn is_in(&self, x: &Frac) -> bool
         ensures { result ≡ in_column x.now self.now }
     {
-        FracPoint::of(self.at).x().compare(x) == Ordering::Equal
+        FracPoint::of(self.at).x().is_same(x)
     }
 
     /// Columns from the left, each from the top.
@@ -72,7 +73,7 @@ impl Vertex {
 
 /// The vertices of the pieces, columns from the left, each from the top.
 pub fn vertices(alloc: Global, pieces: &[Piece]) -> Result<Vec<Vertex>, AllocError>
-    requires few { length pieces.now ≤ 65535 }
+    requires few { length pieces.now ≤ pieces_max }
     ensures all { IfOk result (λ found. IsPermutation (all_vertices 0 pieces.now) found.items) }
     ensures in_order { IfOk result (λ found. IsSortedBy vertex_before found.items) }
 {
@@ -84,7 +85,7 @@ pub fn vertices(alloc: Global, pieces: &[Piece]) -> Result<Vec<Vertex>, AllocErr
 
 /// The vertices of the pieces, in the order of the pieces.
 fn push_all(found: &mut Vec<Vertex>, pieces: &[Piece])
-    requires few { length pieces.now ≤ 65535 }
+    requires few { length pieces.now ≤ pieces_max }
     requires room { vec_len found.old + 2 * length pieces.now ≤ vec_capacity found.old }
     ensures { found.new.items ≡ found.old.items ++ all_vertices 0 pieces.now }
 {

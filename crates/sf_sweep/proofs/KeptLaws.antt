@@ -38,7 +38,7 @@ none-there zero k d = refl
 none-there (suc n) zero d = refl
 none-there (suc n) (suc k) d = none-there n k d
 
-pub kept-none : (n : ℕ) (contacts : List Contact) (tree : List (Option Point)) → n ≤ 65535 → contacts ≡ replicate n Never → tree ≡ replicate (2 * n) None → AreKept contacts tree
+pub kept-none : (n : ℕ) (contacts : List Contact) (tree : List (Option Point)) → n ≤ 16777215 → contacts ≡ replicate n Never → tree ≡ replicate (2 * n) None → AreKept contacts tree
 kept-none n contacts tree few e f =
     let size : length contacts ≡ n = ap length e ∙ length-replicate n Never in
     let none : (k : ℕ) → place_at tree k ≡ None = λ k. ap (λ t. place_at t k) f ∙ none-there (2 * n) k None in

@@ -1,5 +1,6 @@
 -- Internal: who wants to trust the program need not read this file.
 -- The first of points that are kept by pieces: a tree, each place of which has the earlier of those at twice that place and at the next one.
+use Rattle.sf_strips.specs.Pieces.{pieces_max}
 use Rattle.std.specs.Prelude.{◌≡◌, ℕ, ◌+◌, ◌*◌, ◌≤◌, ◌<◌, List, Option, None, Some, [], ◌∷◌, length, slice_index_or, if◌then◌else◌}
 use Rattle.sf_grid.specs.Plane.{IsPoint, Point}
 use Rattle.sf_strips.specs.declared.contact.Contact.{Contact}
@@ -29,7 +30,7 @@ HasPoints tree = (k : ℕ) → 1 ≤ k → IsPointIn (place_at tree k)
 
 -- the leaves of the tree have, by pieces, the points at which their edges meet the next ones
 pub record AreKept (contacts : List Contact) (tree : List (Option Point)) : Type 0 where
-  pub few : length contacts ≤ 65535
+  pub few : length contacts ≤ pieces_max
   pub len : length tree ≡ 2 * length contacts
   pub firsts : IsTree (length contacts) tree
   pub leaves : (k : ℕ) → k < length contacts → place_at tree (length contacts + k) ≡ ahead_of (slice_index_or contacts k Never)

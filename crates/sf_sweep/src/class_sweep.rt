@@ -1,5 +1,6 @@
 //! A sweep over columns that looks only at those places of a column at which something happens.
 
+ghost use Rattle.sf_strips.specs.Pieces.{pieces_max, vertices_max};
 ghost use Rattle.std.specs.Prelude.{◌≡◌, ◌+◌, ◌≤◌, ◌<◌, ◌++◌, ◌^◌, [], None, take, drop, length, map, vec_len, IfOk};
 ghost use Rattle.std.specs.List.{All};
 ghost use Rattle.sf_strips.specs.Fronts.{AreApart, AreContacts, pieces_of};
@@ -46,8 +47,8 @@ impl<R: Row> ClassSweep<R> {
         vertices: usize,
         groups: usize,
     ) -> Result<ClassSweep<R>, AllocError>
-        requires few { pieces ≤ 65535 }
-        requires few_vertices { vertices ≤ 131070 }
+        requires few { pieces ≤ pieces_max }
+        requires few_vertices { vertices ≤ vertices_max }
         ensures { IfOk result (λ q. IsFresh pieces vertices groups q) }
     {
         let front = Front::new(alloc, pieces)?;

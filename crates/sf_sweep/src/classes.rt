@@ -1,5 +1,6 @@
 //! Items that represent the cells of pieces, by a sweep that hands out only what an event changes.
 
+ghost use Rattle.sf_strips.specs.Pieces.{pieces_max, vertices_max};
 ghost use Rattle.std.specs.Prelude.{◌≡◌, ◌-◌, ◌<◌, ◌≤◌, ◌↔◌, ◌++◌, false, length, replicate, take, IsTrue, OnErr, OnOk};
 ghost use Rattle.std.specs.List.{All};
 ghost use Rattle.sf_cells.specs.Groups.{group_count as group_count_of};
@@ -19,7 +20,7 @@ const SHORT: usize = 8;
 
 const LONG: usize = 64;
 
-/// One more than a geometry of 4,096 points has rings, each of four points at least.
+/// More groups than that are rings whose boxes all meet: a walk over all cells takes less room than their rows.
 const LONGEST: usize = 1025;
 
 /// How many edges are over a vertex on the average, at most, where `walk` is quicker.
@@ -41,7 +42,7 @@ pub fn walk_classes<S: CellSink>(
     sink: &mut S,
 ) -> Result<(), AllocError>
     requires have_length { All HasLength pieces.now }
-    requires few { length pieces.now ≤ 65535 }
+    requires few { length pieces.now ≤ pieces_max }
     requires one_group_each { length groups.now ≡ length pieces.now }
     requires groups_in_range { All (λ g. g < length pieces.now) groups.now }
     ensures ok { OnOk result (WereHanded pieces.now groups.now areal.now S.after
@@ -70,7 +71,7 @@ fn sweep_in_rows<R: Row, S: CellSink>(
     sink: &mut S,
 ) -> Result<(), AllocError>
     requires have_length { All HasLength pieces.now }
-    requires few { length pieces.now ≤ 65535 }
+    requires few { length pieces.now ≤ pieces_max }
     requires one_group_each { length groups.now ≡ length pieces.now }
     requires groups_in_range { All (λ g. g < length pieces.now) groups.now }
     requires fewer_groups { group_count_of groups.now < R.width }
@@ -106,7 +107,7 @@ struct Crowd {
 /// each one counts those that began before it. Where all pieces are along the axes `walk` has the vertices' columns alone:
 /// where level and upright edges cross, there is one already.
 fn is_walk_quicker(vertices: &[Vertex]) -> bool
-    requires few { length vertices.now ≤ 131070 }
+    requires few { length vertices.now ≤ vertices_max }
 {
     let crowd = crowd_of(vertices);
     crowd.over_vertices <= FEW * vertices.len()

@@ -1,5 +1,6 @@
 //! The order of the edges right of the last point of the sweep, changed at one place.
 
+ghost use Rattle.sf_strips.specs.Pieces.{pieces_max};
 ghost use Rattle.std.specs.Prelude.{◌≡◌, ◌+◌, ◌-◌, ◌≤◌, ◌<◌, ◌++◌, [], take, drop, length, replicate, vec_capacity, vec_len, IfOk};
 ghost use Rattle.sf_strips.specs.declared.contact.Contact.TheVariants.{Never};
 ghost use Rattle.std.specs.List.{All};
@@ -24,7 +25,7 @@ pub struct Front {
 impl Front {
     /// No edge, and room for one of each of so many pieces.
     pub fn new(alloc: Global, pieces: usize) -> Result<Front, AllocError>
-        requires few { pieces ≤ 65535 }
+        requires few { pieces ≤ pieces_max }
         ensures no_edge { IfOk result (λ f. f.order.items ≡ []) }
         ensures no_meeting { IfOk result (λ f. f.meetings ≡ replicate pieces Never) }
         ensures room { IfOk result (λ f. pieces ≤ vec_capacity f.order) }

@@ -1,5 +1,6 @@
 //! What each edge of an order does with the next one, by pieces, and the first point at which two meet.
 
+ghost use Rattle.sf_strips.specs.Pieces.{pieces_max};
 ghost use Rattle.std.specs.Prelude.{◌≡◌, ◌≤◌, ◌<◌, length, replicate, slice_set, IfNone as OnNone, IfOk, IfSome};
 ghost use Rattle.sf_strips.specs.declared.contact.Contact.TheVariants.{Never};
 ghost use Rattle.sf_grid.specs.Plane.{IsPoint};
@@ -35,7 +36,7 @@ impl Model for Meetings {
 impl Meetings {
     /// A place for each of so many pieces, none of which meets another one.
     pub fn new(alloc: Global, pieces: usize) -> Result<Meetings, AllocError>
-        requires few { pieces ≤ 65535 }
+        requires few { pieces ≤ pieces_max }
         ensures { IfOk result (λ m. m ≡ replicate pieces Never) }
     {
         Ok(Meetings {

@@ -1,5 +1,6 @@
 //! The first of the points ahead at which neighbours meet, kept by pieces, one of which changes at a time.
 
+ghost use Rattle.sf_strips.specs.Pieces.{pieces_max};
 ghost use Rattle.std.specs.Prelude.{◌≡◌, ℕ, ◌+◌, ◌*◌, ◌≤◌, ◌<◌, true, length, slice_set};
 ghost use Rattle.sf_sweep.specs.Nearest.{IsTree, earlier, place_at};
 ghost use Rattle.sf_sweep.specs.Tables.{point_before};
@@ -10,7 +11,7 @@ use std::cmp::Ordering;
 /// Puts a point, or none, in a place of the leaves of a tree, and the first of every two on the way
 /// to its root, as far as that is another one than before.
 pub fn set(tree: &mut [Option<FracPoint>], count: usize, leaf: usize, point: Option<FracPoint>)
-    requires few { count ≤ 65535 }
+    requires few { count ≤ pieces_max }
     requires len { length tree.old ≡ 2 * count }
     requires leaf { count ≤ leaf }
     requires within { leaf < 2 * count }

@@ -77,7 +77,7 @@ fn difference(from: i32, to: i32) -> i128
 fn distance(from: i32, to: &Frac) -> i128
     requires from { IsCoordinate from }
     ensures value { result ≡ to.now.num -ℤ from *ℤ pos to.now.den }
-    ensures bound { unsigned_abs result ≤ 2 ^ 74 }
+    ensures bound { unsigned_abs result ≤ 2 ^ 94 }
 {
     to.num() - product(i128::from(from), i128::from(to.den()))
 }
@@ -86,7 +86,7 @@ fn distance(from: i32, to: &Frac) -> i128
 /// those that stand for places.
 fn product(a: i128, b: i128) -> i128
     requires first_small { unsigned_abs a ≤ difference_bound }
-    requires second_small { unsigned_abs b ≤ 2 ^ 74 }
+    requires second_small { unsigned_abs b ≤ 2 ^ 94 }
     ensures value { result ≡ a *ℤ b }
     ensures bound { unsigned_abs result ≤ difference_bound * unsigned_abs b }
 {

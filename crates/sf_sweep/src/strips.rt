@@ -1,5 +1,6 @@
 //! The sweep over a column, window by window, and from column to column.
 
+ghost use Rattle.sf_strips.specs.Pieces.{pieces_max, vertices_max};
 ghost use Rattle.std.specs.Prelude.{◌≡◌, ◌+◌, ◌≤◌, ◌<◌, ◌^◌, [], length, replicate, IfNone as OnNone, IfSome};
 ghost use Rattle.std.specs.List.{prefix_len};
 ghost use Rattle.std.specs.List.Sorted.{IsPermutation, IsSortedBy};
@@ -64,8 +65,8 @@ impl<R: Row> ClassSweep<R> {
         areal: &[bool],
         vertices: &[Vertex],
     )
-        requires few { length pieces.now ≤ 65535 }
-        requires few_vertices { length vertices.now ≤ 131070 }
+        requires few { length pieces.now ≤ pieces_max }
+        requires few_vertices { length vertices.now ≤ vertices_max }
         requires one_group_each { length groups.now ≡ length pieces.now }
         requires ready { IsReady R.width areal.now groups.now self.old.odd self.old.tallies }
         requires all { IsPermutation (all_vertices 0 pieces.now) vertices.now }

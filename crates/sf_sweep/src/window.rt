@@ -9,7 +9,6 @@ ghost use Rattle.std.specs.Ordering.{int_eq};
 use crate::nearest::comes_before;
 use sf_grid::{Frac, FracPoint};
 use sf_strips::{Role, Vertex};
-use std::cmp::Ordering;
 
 /// A part of a column in which something happens: its highest and its lowest point, and how many
 /// vertices it has.
@@ -27,7 +26,7 @@ pub fn next_window(near: Option<FracPoint>, x: &Frac, rest: &[Vertex]) -> Option
 {
     match near {
         Some(point) => {
-            if point.x().compare(x) == Ordering::Equal && precedes(&point, rest) {
+            if point.x().is_same(x) && precedes(&point, rest) {
                 Some(crossing(point))
             } else {
                 vertex_window(rest)

@@ -4,7 +4,7 @@ use Rattle.std.specs.List.{list_any}
 
 -- how many bytes a line has at most
 abbrev pub line_max : ℕ
-line_max = 131072
+line_max = 4194304
 
 -- the bytes of a line before its line feed, and whether it has one
 pub record Line : Type 0 where

@@ -5,7 +5,7 @@ use std::alloc::{AllocError, Global};
 use std::marker::Model;
 
 /// How many bytes a line has at most, before its line feed.
-pub const LINE_MAX: usize = 131_072;
+pub const LINE_MAX: usize = 4_194_304;
 
 /// The bytes of a line that has not ended yet, or a mark that they are too many for a line. It has room
 /// for the longest line from the beginning.

@@ -3,7 +3,7 @@
 ghost use Rattle.std.specs.Prelude.{◌≤◌, ◌++◌, IfErr, OnOk, length};
 ghost use Rattle.std.specs.List.{flat_map};
 ghost use Rattle.sf_geometry.specs.Parts.{joined};
-ghost use Rattle.sf_geometry.specs.Size.{IsSized};
+ghost use Rattle.sf_geometry.specs.Size.{IsSized, points_max};
 ghost use Rattle.sf_valid_rules.specs.Rules.{line_rules, polygon_rules, ring_rules};
 ghost use Rattle.sf_valid_rules.specs.Validity.{IsValid, NoneApplies};
 ghost use Rattle.sf_validity.specs.Refusals.{Refuses, RefusesBy};
@@ -58,7 +58,7 @@ fn check_line(points: &[GridPoint]) -> Result<(), Refusal>
 
 /// Checks polygons: all their rings, from the first on, and then how these lie to one another.
 fn check_polygons(alloc: Global, polygons: &[Sequence<Sequence<GridPoint>>]) -> Result<(), Refusal>
-    requires few { length (joined (joined polygons.now)) ≤ 4096 }
+    requires few { length (joined (joined polygons.now)) ≤ points_max }
     ensures valid { OnOk result
         (NoneApplies (flat_map ring_rules (joined polygons.now) ++ polygon_rules polygons.now)) }
     ensures refused { IfErr result
@@ -75,7 +75,7 @@ fn check_polygons(alloc: Global, polygons: &[Sequence<Sequence<GridPoint>>]) -> 
 
 /// Checks rings, from the first on.
 fn check_rings(alloc: Global, rings: &[Sequence<GridPoint>]) -> Result<(), Refusal>
-    requires few { length (joined rings.now) ≤ 4096 }
+    requires few { length (joined rings.now) ≤ points_max }
     ensures valid { OnOk result (NoneApplies (flat_map ring_rules rings.now)) }
     ensures refused { IfErr result (RefusesBy (flat_map ring_rules rings.now)) }
 {
@@ -87,7 +87,7 @@ fn check_rings(alloc: Global, rings: &[Sequence<GridPoint>]) -> Result<(), Refus
 
 /// Checks a ring by itself.
 fn check_ring(alloc: Global, points: &[GridPoint]) -> Result<(), Refusal>
-    requires few { length points.now ≤ 4096 }
+    requires few { length points.now ≤ points_max }
     ensures valid { OnOk result (NoneApplies (ring_rules points.now)) }
     ensures refused { IfErr result (RefusesBy (ring_rules points.now)) }
 {

@@ -8,7 +8,7 @@ pub enum Refusal {
     Memory,
     /// A list of the geometry would be empty.
     Empty,
-    /// The geometry would have more than 4,096 points.
+    /// The geometry would have more than 65,536 points.
     TooManyVertices,
     /// The geometry has no such vertex.
     NoVertex,

@@ -92,7 +92,7 @@ impl Valid {
     ///
     /// # Errors
     ///
-    /// `NoVertex` where there is no such place, `TooManyVertices` where the geometry has 4,096
+    /// `NoVertex` where there is no such place, `TooManyVertices` where the geometry has 65,536
     /// points already; else the first fault that the geometry would have, or `Memory` where none
     /// is found. The geometry is then as it was.
     pub fn insert_vertex(

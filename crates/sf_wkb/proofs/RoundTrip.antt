@@ -19,7 +19,7 @@ use Rattle.sf_wkb.specs.declared.fault.WkbFault.TheVariants as faults
 use Rattle.sf_wkb.specs.declared.order.Order.{Order}
 use Rattle.sf_wkb.specs.declared.order.Order.TheVariants.{LittleEndian}
 use Rattle.sf_wkb.specs.declared.grid.Grid.{Grid}
-use Rattle.sf_wkb.specs.declared.grid.Grid.TheVariants.{Bits24}
+use Rattle.sf_wkb.specs.declared.grid.Grid.TheVariants.{Bits31}
 use Rattle.sf_wkb.specs.Words.{in_grid, IsIn, word_of, whole_in}
 use Rattle.sf_wkb.specs.Grammar.{Left, Reads, ◌>>=◌, with_rest, next, order, number, code_of, any_code, code, count, coordinate, point, items, listed, line, rings, member, made, body, ending, read, read_in, header, point_bytes, list_bytes, line_bytes, rings_bytes, canonical}
 use Rattle.sf_geometry.proofs.Filled.{GoodList, GoodLineOf, GoodLinesOf, one, total, good_line_of, good_lines_of, good_polygons_of, total_line, total_lines, total_polygons}
@@ -238,9 +238,9 @@ module _ (grid : Grid) where
       let few : total (total (total one)) polygons ≤ points_max = let count = total_polygons polygons in omega (arith, count, sized.few) in
       read_whole kinds.MultiPolygon (list_bytes (λ rs. header kinds.Polygon ++ rings_bytes rs) polygons) (MultiPolygon polygons) _ (alone (listed LittleEndian (member kinds.Polygon rings)) (list_bytes (λ rs. header kinds.Polygon ++ rings_bytes rs)) (total (total (total one))) (GoodList (GoodLinesOf (IsIn grid))) polygons_back MultiPolygon polygons (good_polygons_of (IsIn grid) polygons sized.filled on) few)
 
-pub on_wide : (ps : List Coordinates) → AllByRecursion IsOnGrid ps → AllByRecursion (IsIn Bits24) ps
+pub on_wide : (ps : List Coordinates) → AllByRecursion IsOnGrid ps → AllByRecursion (IsIn Bits31) ps
 on_wide [] all = tt
 on_wide (p ∷ ps) all = ((grind (arith, ints, all), grind (arith, ints, all)), on_wide ps all.1)
 
 pub round_trip : (g : Geometry) → IsSized g → AllByRecursion IsOnGrid (points_of g) → read (canonical g) ≡ Ok g
-round_trip g sized on = round_trip_in Bits24 g sized (on_wide (points_of g) on)
+round_trip g sized on = round_trip_in Bits31 g sized (on_wide (points_of g) on)

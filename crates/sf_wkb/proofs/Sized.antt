@@ -16,7 +16,7 @@ use Rattle.sf_wkb.specs.declared.fault.WkbFault.{WkbFault}
 use Rattle.sf_wkb.specs.declared.fault.WkbFault.TheVariants as faults
 use Rattle.sf_wkb.specs.declared.order.Order.{Order}
 use Rattle.sf_wkb.specs.declared.grid.Grid.{Grid}
-use Rattle.sf_wkb.specs.declared.grid.Grid.TheVariants.{Bits20, Bits24}
+use Rattle.sf_wkb.specs.declared.grid.Grid.TheVariants.{Bits20, Bits24, Bits31}
 use Rattle.sf_wkb.specs.Words.{in_grid, signed, is_negative, exponent_of, fraction_of, whole_by, whole_of_fields}
 use Rattle.sf_wkb.specs.Grammar.{Left, Reads, ◌>>=◌, with_rest, next, order, number, any_code, code, count, coordinate, point, items, listed, line, rings, member, made, body, ending, read_in}
 use Rattle.sf_geometry.proofs.Filled.{GoodList, GoodLine, GoodLines, one, total, total_line, total_lines, total_polygons, filled_line, filled_lines, filled_polygons, lines_on_grid, polygons_on_grid}
@@ -55,6 +55,7 @@ by_zero false r n e = inr e
 pub on_either : (grid : Grid) (n : ℤ) → in_grid grid n ≡ true → IsCoordinate n
 on_either Bits20 n test = grind (arith, ints)
 on_either Bits24 n test = grind (arith, ints)
+on_either Bits31 n test = grind (arith, ints)
 
 in_range : (grid : Grid) (m n : ℤ) → in_grid grid m ≡ true → m ≡ n → IsCoordinate n
 in_range grid m n test same = subst IsCoordinate same (on_either grid m test)
@@ -68,7 +69,7 @@ by_exponent grid negative exponent fraction n e =
     in_range grid m n found.0 found.1
 
 zero_or : (n : ℤ) (r : Result ℤ WkbFault) → ((pos 0 ≡ n) ⊎ (r ≡ Ok n)) → (r ≡ Ok n → IsCoordinate n) → IsCoordinate n
-zero_or n r (inl zero_is) other = in_range Bits24 (pos 0) n refl zero_is
+zero_or n r (inl zero_is) other = in_range Bits31 (pos 0) n refl zero_is
 zero_or n r (inr found) other = other found
 
 pub fields_ok : (grid : Grid) (negative : Bool) (exponent fraction : ℕ) (n : ℤ) → whole_of_fields (in_grid grid) negative exponent fraction ≡ Ok n → IsCoordinate n

@@ -1,4 +1,4 @@
--- What is read on the grid of 20 bits is read on the whole grid too.
+-- What is read on one of the grids is read on the whole grid too.
 use Rattle.std.proofs.Common.{◌≡◌, ℕ, zero, suc, ◌/◌, ◌%◌, ◌^◌, ◌+◌, ◌-◌, ℤ, pos, Bool, true, false, not, ◌&&◌, ◌==◌, nat_lt, List, [], ◌∷◌, length, take, drop, ◌⊎◌, inl, inr, Result, Ok, Err, if◌then◌else◌, refl, sym, ap, ◌∙◌, subst, arith}
 use Rattle.std.proofs.lemmas.Int.{ints}
 use Rattle.sf_grid.specs.Bounds.{IsCoordinate, is_coordinate}
@@ -10,7 +10,7 @@ use Rattle.sf_geometry.specs.declared.kind.Kind.TheVariants as kinds
 use Rattle.sf_wkb.specs.declared.fault.WkbFault.{WkbFault}
 use Rattle.sf_wkb.specs.declared.fault.WkbFault.TheVariants as faults
 use Rattle.sf_wkb.specs.declared.grid.Grid.{Grid}
-use Rattle.sf_wkb.specs.declared.grid.Grid.TheVariants.{Bits20, Bits24}
+use Rattle.sf_wkb.specs.declared.grid.Grid.TheVariants.{Bits31}
 use Rattle.sf_wkb.specs.declared.order.Order.{Order}
 use Rattle.sf_wkb.specs.Words.{in_grid, signed, is_negative, exponent_of, fraction_of, whole_by, whole_of_fields}
 use Rattle.sf_wkb.specs.Grammar.{Left, Reads, ◌>>=◌, with_rest, next, order, number, any_code, code, count, coordinate, point, items, listed, line, rings, member, made, body, ending, read, read_in}
@@ -44,14 +44,14 @@ fields_wide grid negative exponent fraction n =
     (unless (nat_lt 1074 exponent) faults.OutOfRange _ _ n n
     (unless (not (fraction % unit == 0)) faults.OffGrid _ _ n n (by_range grid m n (in_grid grid m) refl)))))
 
-coordinate_wide : (grid : Grid) (o : Order) (bytes : List ℕ) (n : ℤ) → coordinate grid o bytes ≡ Ok n → coordinate Bits24 o bytes ≡ Ok n
+coordinate_wide : (grid : Grid) (o : Order) (bytes : List ℕ) (n : ℤ) → coordinate grid o bytes ≡ Ok n → coordinate Bits31 o bytes ≡ Ok n
 coordinate_wide grid o bytes n e = let word : ℕ = number o 8 bytes in fields_wide grid (is_negative word) (exponent_of word) (fraction_of word) n e
 
 -- ---- fields
 
 -- the same place on the whole grid
 abbrev wide : Left → Left
-wide left = record left { grid = Bits24 }
+wide left = record left { grid = Bits31 }
 
 -- what is read on any grid is read on the whole one
 abbrev Widens : {T : Type 0} → (Left → Reads T) → Type 0
@@ -96,8 +96,8 @@ point_wide o left rest p e =
     let grid : Grid = left.grid in
     let a = bind_ok (next 8 (coordinate grid o) left) (with_x grid o) (p, rest) e in
     let b = bind_ok (next 8 (coordinate grid o) a.0.1) (with_y a.0.0) (p, rest) a.2 in
-    ap (λ r. r >>= with_x Bits24 o) (next_wide 8 (coordinate grid o) (coordinate Bits24 o) (coordinate_wide grid o) left a.0.1 a.0.0 a.1)
-    ∙ ap (λ r. r >>= with_y a.0.0) (next_wide 8 (coordinate grid o) (coordinate Bits24 o) (coordinate_wide grid o) a.0.1 b.0.1 b.0.0 b.1)
+    ap (λ r. r >>= with_x Bits31 o) (next_wide 8 (coordinate grid o) (coordinate Bits31 o) (coordinate_wide grid o) left a.0.1 a.0.0 a.1)
+    ∙ ap (λ r. r >>= with_y a.0.0) (next_wide 8 (coordinate grid o) (coordinate Bits31 o) (coordinate_wide grid o) a.0.1 b.0.1 b.0.0 b.1)
     ∙ ap widened b.2
 
 abbrev with_first : {T : Type 0} → T → List T × Left → Reads (List T)
@@ -162,9 +162,9 @@ with_kind o coded = body coded.0 o coded.1 >>= with_geometry
 abbrev with_start : Order × Left → Result Geometry WkbFault
 with_start ordered = next 4 (any_code ordered.0) ordered.1 >>= with_kind ordered.0
 
-pub narrow_is_wide : (bytes : List ℕ) (g : Geometry) → read_in Bits20 bytes ≡ Ok g → read bytes ≡ Ok g
-narrow_is_wide bytes g e =
-    let start : Left = record { bytes = bytes; points = 0; grid = Bits20 } in
+pub narrow_is_wide : (grid : Grid) (bytes : List ℕ) (g : Geometry) → read_in grid bytes ≡ Ok g → read bytes ≡ Ok g
+narrow_is_wide grid bytes g e =
+    let start : Left = record { bytes = bytes; points = 0; grid = grid } in
     let a = bind_ok (next 1 order start) with_start g e in
     let b = bind_ok (next 4 (any_code a.0.0) a.0.1) (with_kind a.0.0) g a.2 in
     let c = bind_ok (body b.0.0 a.0.0 b.0.1) with_geometry g b.2 in

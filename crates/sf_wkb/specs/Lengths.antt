@@ -14,6 +14,6 @@ canonical_len (MultiPoint ps) = 5 + 4 + (5 + 16) * length ps
 canonical_len (MultiLineString lines) = 5 + 4 + (5 + 4) * length lines + 16 * length (joined lines)
 canonical_len (MultiPolygon polygons) = 5 + 4 + (5 + 4) * length polygons + 4 * length (joined polygons) + 16 * length (joined (joined polygons))
 
--- the most that they are for a sized geometry: 9 and 29 for each of 4,096 points, each of which is a polygon of its own
+-- the most that they are for a sized geometry: 9 and 29 for each of 65,536 points, each of which is a polygon of its own
 abbrev pub canonical_len_max : ℕ
-canonical_len_max = 118793
+canonical_len_max = 1900553

@@ -31,7 +31,7 @@ pub enum WkbFault {
     #[error("bytes stand after the geometry")]
     Trailing,
     /// A count says that there are more points than a geometry may have.
-    #[error("the geometry has more than 4096 points")]
+    #[error("the geometry has more than 65536 points")]
     TooManyVertices,
 }
 

@@ -29,7 +29,7 @@ pub enum WktFault {
     #[error("the first word is no keyword of a geometry that is read")]
     UnsupportedType,
     /// There are more points than a geometry may have.
-    #[error("the geometry has more than 4096 points")]
+    #[error("the geometry has more than 65536 points")]
     TooManyVertices,
 }
 

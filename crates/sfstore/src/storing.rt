@@ -5,21 +5,17 @@ use sf_folder::{
     Chosen, Folder, Known, Lock, Name, Places, Seen, Source, StoreFolder, choose, renew, save,
     take_lock,
 };
-use sf_journal::{FileSum, Sum, SumFault, head, sum_of};
+use sf_journal::{FileSum, Sum, SumFault, head, is_head_alone, sum_of};
 use sf_keeping::{
     Desk, Editor, Input, KeepFault, Pending, ReplayFault, Replayed, Stop, replay, serve_kept,
 };
 use sf_layers::Store;
 use sf_run::{LoadFault, Ruled, SaveFault, load};
 use sf_streams::{WriteFault, flush, send};
-use sf_text_lines::line_feed;
 use std::alloc::Global;
 use std::fs::{File, Files, OpenFile};
 use std::io::{ErrorKind, Read, Seek, SeekFrom, Write};
 use std::{fs, io, mem};
-
-/// What each head of a journal begins with.
-const HEAD_FRONT: &str = "sfstore-journal 3 ";
 
 /// The journal of a folder, and an output.
 #[derive(Drop)]
@@ -254,13 +250,10 @@ fn chosen_of(alloc: Global, file: &FileSum, journals: &Journals) -> Result<Chose
     }
 }
 
-/// Whether a journal is a head, of whatever file, and nothing behind it.
+/// Whether a journal that is there has a head alone.
 fn has_no_edits(journal: Option<&[u8]>) -> bool {
     match journal {
-        Some(bytes) => {
-            bytes.starts_with(HEAD_FRONT.as_bytes())
-                && line_feed(bytes) == bytes.len().checked_sub(1)
-        }
+        Some(bytes) => is_head_alone(bytes),
         None => true,
     }
 }

@@ -10,6 +10,7 @@ import time
 from collections.abc import Callable
 from pathlib import Path
 
+from sfstore.commandline import add_version
 from sfstore.journal import JournalError
 from sfstore.replica import owning
 from sfstore.replica.demo import demonstrate
@@ -69,6 +70,7 @@ def _parser() -> argparse.ArgumentParser:
         epilog="Status 0: done; 1: not all that was asked for holds; 2: wrong words; 3: the log or the folder can't be "
         "used; 4: lines are not acknowledged; 5: the replica stopped. More: man sfstore-replica, docs/use/REPLICAS.md",
     )
+    add_version(parser)
     commands = parser.add_subparsers(required=True, metavar="COMMAND", title="commands", prog="sfstore-replica")
     _add_run(commands.add_parser("run", help="follow the log, and answer lines of the console"))
     _add_owning(commands)

@@ -102,7 +102,8 @@ class Person:
                 stdin=subprocess.PIPE,
                 stdout=subprocess.PIPE,
                 stderr=said,
-                env={**os.environ, "PYTHONPATH": path},
+                # No module of the folder that it is started in is run before those that are meant.
+                env={**os.environ, "PYTHONPATH": path, "PYTHONSAFEPATH": "1"},
                 bufsize=0,
             )
 

@@ -12,10 +12,10 @@ from sfstore.language import EDITS, MEMBERS, QUESTIONS
 
 __all__ = ["EDITS", "GROUP_BYTES", "LINE_MAX", "QUESTIONS", "Asked", "asked"]
 
-LINE_MAX = 131_067
+LINE_MAX = 4_194_299
 """How many bytes a line of the log may have: the console's most, without ``@255`` and a blank."""
 
-GROUP_BYTES = 4_000_000
+GROUP_BYTES = 16_000_000
 """How many bytes a group may have as an entry of the log, as one text."""
 
 _FRONT = re.compile("[ \t]*(?:@([0-9]{1,3})[ \t]+)?([^ \t]*)")

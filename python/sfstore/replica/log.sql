@@ -39,17 +39,17 @@ CREATE TABLE sfstore.head (
 -- Whether a text is a group of edits of features: its head, and as many members as that says, with carriage returns
 -- between them. Each member is a line that may be one.
 CREATE FUNCTION sfstore.is_group(line text) RETURNS bool LANGUAGE sql IMMUTABLE AS $$
-  SELECT CASE WHEN octet_length(line) <= 4000000 AND line ~ '^[ \t]*together[ \t]+[0-9]{1,10}[ \t]*\r' THEN (
+  SELECT CASE WHEN octet_length(line) <= 16000000 AND line ~ '^[ \t]*together[ \t]+[0-9]{1,10}[ \t]*\r' THEN (
     SELECT count(*) FILTER (WHERE part ~ '^[ \t]*(add|addhex|delete|replace|vertex|set|unset)([ \t]|$)') = count(*)
       AND count(*) = substring(line FROM '[0-9]+')::bigint AND count(*) BETWEEN 1 AND 65535
     FROM unnest((string_to_array(line, E'\r'))[2:]) AS part
   ) ELSE false END
 $$;
 
--- Whether a line is one that edits a store, or a group of such. The console takes 131,072 bytes of a line; `@255 ` goes
+-- Whether a line is one that edits a store, or a group of such. The console takes 4,194,304 bytes of a line; `@255 ` goes
 -- before it.
 CREATE FUNCTION sfstore.is_edit(line text) RETURNS bool LANGUAGE sql IMMUTABLE AS $$
-  SELECT position(E'\n' IN line) = 0 AND (sfstore.is_group(line) OR octet_length(line) <= 131067
+  SELECT position(E'\n' IN line) = 0 AND (sfstore.is_group(line) OR octet_length(line) <= 4194299
     AND line ~ '^[ \t]*(layer|column|add|addhex|delete|replace|vertex|set|unset|rule|undo|redo)([ \t]|\r?$)')
 $$;
 

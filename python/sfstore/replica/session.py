@@ -11,6 +11,7 @@ from collections.abc import Callable, Iterator
 from pathlib import Path
 
 from sfstore.groups import size_of
+from sfstore.language import LINE_MAX
 from sfstore.replica.lines import GROUP_BYTES
 from sfstore.replica.links import LogRefused
 from sfstore.replica.log import LogUnreachable
@@ -20,7 +21,7 @@ from sfstore.store import Refused
 __all__ = ["listen", "serve"]
 
 # The console's most, without its line feed.
-_LINE_BYTES = 131_072
+_LINE_BYTES = LINE_MAX
 _READ_BYTES = 1 << 16
 _IDLE_SECONDS = 1.0
 # How long lines may wait while others write.

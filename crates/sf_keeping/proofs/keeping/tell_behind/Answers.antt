@@ -15,10 +15,10 @@ pub returns-in_err-answer-clause-broken : goal.returns-in_err-answer-clause-brok
 returns-in_err-answer-clause-broken g c = OnErr-from c.from_residual-in_err-answer.result (λ machine line told.
     BreaksWithin-answered _ _ _ _ c.commit.new.self machine line c.args.answer.now _ (Stays-commit _ _ _ _ c.in_ok-commit.ensures.ok c.in_ok-commit.ensures.emptied)
     c.in_ok-commit.ensures.emptied told
-    (some-without-room c.commit.new.self.answers c.args.answer.now 262144 (ap (λ w. w.answers) c.in_ok-commit.ensures.emptied) (sym c.has_room_for.ensures ∙ c.if-has_room_for.false)) c.answer.ensures)
+    (some-without-room c.commit.new.self.answers c.args.answer.now 8388608 (ap (λ w. w.answers) c.in_ok-commit.ensures.emptied) (sym c.has_room_for.ensures ∙ c.if-has_room_for.false)) c.answer.ensures)
 
 pub returns-clause-ok : goal.returns-clause-ok
 returns-clause-ok g c = λ machine line told.
     GoesOnBy-answered _ _ _ _ c.commit.new.self machine line c.args.answer.now _ (Stays-commit _ _ _ _ c.in_ok-commit.ensures.ok c.in_ok-commit.ensures.emptied)
     c.in_ok-commit.ensures.emptied told
-    (some-without-room c.commit.new.self.answers c.args.answer.now 262144 (ap (λ w. w.answers) c.in_ok-commit.ensures.emptied) (sym c.has_room_for.ensures ∙ c.if-has_room_for.false)) c.answer.ensures
+    (some-without-room c.commit.new.self.answers c.args.answer.now 8388608 (ap (λ w. w.answers) c.in_ok-commit.ensures.emptied) (sym c.has_room_for.ensures ∙ c.if-has_room_for.false)) c.answer.ensures

@@ -1,7 +1,7 @@
 use Rattle.std.proofs.Common.{subst}
 use Rattle.std.proofs.lemmas.Result.{err_from_is_err_and}
 use Rattle.sf_format.specs.declared.version.Version.{Version}
-use Rattle.sf_format.specs.declared.version.Version.TheVariants.{First, Second, Third}
+use Rattle.sf_format.specs.declared.version.Version.TheVariants.{First, Second, Third, Fourth}
 use Rattle.sf_format.specs.Readings.{bytes, done, field}
 use Rattle.sf_format.specs.Format.{head, on_grid, version_of}
 use Rattle.sf_loading.specs.Streaming.{Takes}
@@ -27,3 +27,8 @@ pub returns-in-Third : goal.returns-in-Third
 returns-in-Third g c =
     let taken = subst (λ (v : Version). Takes (field (bytes 8) version_of) v (g.R.Read.remaining c.args.reader.now) (g.R.Read.remaining c.version.new.reader) c.args.window.now c.version.new.window) c.in-Third.is c.in_ok-version.ensures in
     Reaches-after head (on_grid Third) (λ v. done v) c.on_grid-in-Third.result _ _ _ _ _ _ (Goes-then (field (bytes 8) version_of) on_grid Third _ _ _ _ taken) c.on_grid-in-Third.ensures
+
+pub returns-in-Fourth : goal.returns-in-Fourth
+returns-in-Fourth g c =
+    let taken = subst (λ (v : Version). Takes (field (bytes 8) version_of) v (g.R.Read.remaining c.args.reader.now) (g.R.Read.remaining c.version.new.reader) c.args.window.now c.version.new.window) c.in-Fourth.is c.in_ok-version.ensures in
+    Reaches-after head (on_grid Fourth) (λ v. done v) c.on_grid-in-Fourth.result _ _ _ _ _ _ (Goes-then (field (bytes 8) version_of) on_grid Fourth _ _ _ _ taken) c.on_grid-in-Fourth.ensures

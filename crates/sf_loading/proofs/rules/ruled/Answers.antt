@@ -18,3 +18,8 @@ pub returns-in-Third-clause-gives : goal.returns-in-Third-clause-gives
 returns-in-Third-clause-gives g c =
     subst (λ (v : Version). Gives (λ (r : Ruled). r.rules) (rules_in v c.args.store) (g.R.Read.remaining c.args.reader.now) (g.R.Read.remaining c.rules.new.reader) c.args.window.now c.rules.new.window c.rules.result)
     (sym c.in-Third.is) c.rules.ensures.gives
+
+pub returns-in-Fourth-clause-gives : goal.returns-in-Fourth-clause-gives
+returns-in-Fourth-clause-gives g c =
+    subst (λ (v : Version). Gives (λ (r : Ruled). r.rules) (rules_in v c.args.store) (g.R.Read.remaining c.args.reader.now) (g.R.Read.remaining c.rules-in-Fourth.new.reader) c.args.window.now c.rules-in-Fourth.new.window c.rules-in-Fourth.result)
+    (sym c.in-Fourth.is) c.rules-in-Fourth.ensures.gives

@@ -40,7 +40,7 @@ returns-then-are_zero c =
 pub walk-requires-clause-few : goal.walk-requires-clause-few
 walk-requires-clause-few c =
     let at = goal.at.walk-requires-clause-few c in
-    subst (λ (ms : List Marked). length ms ≤ 65535) (sym (pieces c)) (few-polygon_pieces c.args.polygons.now c.in_ok-colours.colours.items (ready at.After-deref-2))
+    subst (λ (ms : List Marked). length ms ≤ 16777215) (sym (pieces c)) (few-polygon_pieces c.args.polygons.now c.in_ok-colours.colours.items (ready at.After-deref-2))
 
 pub walk-requires-clause-groups_in_range : goal.walk-requires-clause-groups_in_range
 walk-requires-clause-groups_in_range c =

@@ -10,7 +10,7 @@ use Rattle.sf_polygons.proofs.faults.faults_within_each.Goals as goal
 
 pub faults_within-requires-clause-few : goal.faults_within-requires-clause-few
 faults_within-requires-clause-few c =
-    let P : List (List Coordinates) → Type 0 = λ rings. length (joined rings) ≤ 4096 in
+    let P : List (List Coordinates) → Type 0 = λ rings. length (joined rings) ≤ 65536 in
     subst P (sym c.as_slice.ensures) (few-points c.args.polygons.now c.loop-rings.rings-index c.rings-item.result c.loop-rings-test.true c.rings-item.is c.requires.few)
 
 pub faults_within-requires-clause-sound : goal.faults_within-requires-clause-sound

@@ -37,7 +37,7 @@ push_holes-requires-clause-small c =
 pub walk-requires-clause-few : goal.walk-requires-clause-few
 walk-requires-clause-few c =
     let at = goal.at.walk-requires-clause-few c in
-    subst (λ (ms : List Marked). length ms ≤ 65535) (sym (pieces c)) (few-ring_pieces c.args.rings.now c.in-Some.shell.now c.in-Some.holes.now c.in_ok-colours.colours.items (ready at.After-deref-2))
+    subst (λ (ms : List Marked). length ms ≤ 16777215) (sym (pieces c)) (few-ring_pieces c.args.rings.now c.in-Some.shell.now c.in-Some.holes.now c.in_ok-colours.colours.items (ready at.After-deref-2))
 
 pub walk-requires-clause-groups_in_range : goal.walk-requires-clause-groups_in_range
 walk-requires-clause-groups_in_range c =

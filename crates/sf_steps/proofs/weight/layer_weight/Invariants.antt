@@ -6,4 +6,4 @@ use Rattle.sf_steps.proofs.weight.layer_weight.Given as goal
 abbrev pub invariant-loop-feature : goal.invariant-loop-feature
 invariant-loop-feature l =
     (l.weight + sum_by (λ entry. feature_weight entry.1) l.feature-iterator ≡ sum_by (λ entry. feature_weight entry.1) l.layer.features + length l.layer.columns)
-    × (l.weight + 2 ^ 17 * length l.feature-iterator ≤ 2 ^ 63 + 2 ^ 49)
+    × (l.weight + 2 ^ 21 * length l.feature-iterator ≤ 2 ^ 63 + 2 ^ 53)

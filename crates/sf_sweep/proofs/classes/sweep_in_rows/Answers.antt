@@ -10,12 +10,12 @@ use Rattle.sf_sweep.proofs.classes.sweep_in_rows.Goals as goal
 pub is_walk_quicker-requires : goal.is_walk_quicker-requires
 is_walk_quicker-requires g c =
     record {
-      few = subst (λ vs. length vs ≤ 131070) (sym c.as_slice.ensures.value) (vertices-few c.args.pieces.now c.in_ok-vertices.vertices.items c.requires.few c.in_ok-vertices.ensures.all);
+      few = subst (λ vs. length vs ≤ 33554430) (sym c.as_slice.ensures.value) (vertices-few c.args.pieces.now c.in_ok-vertices.vertices.items c.requires.few c.in_ok-vertices.ensures.all);
     }
 
 pub walk_sorted-requires-clause-few_vertices : goal.walk_sorted-requires-clause-few_vertices
 walk_sorted-requires-clause-few_vertices g c =
-    subst (λ vs. length vs ≤ 131070) (sym c.as_slice-then-is_walk_quicker.ensures.value)
+    subst (λ vs. length vs ≤ 33554430) (sym c.as_slice-then-is_walk_quicker.ensures.value)
     (vertices-few c.args.pieces.now c.in_ok-vertices.vertices.items c.requires.few c.in_ok-vertices.ensures.all)
 
 pub new-requires-clause-few_vertices : goal.new-requires-clause-few_vertices
@@ -25,7 +25,7 @@ new-requires-clause-few_vertices g c =
 
 pub run-requires-clause-few_vertices : goal.run-requires-clause-few_vertices
 run-requires-clause-few_vertices g c =
-    subst (λ vs. length vs ≤ 131070) (sym c.as_slice-3.ensures.value)
+    subst (λ vs. length vs ≤ 33554430) (sym c.as_slice-3.ensures.value)
     (vertices-few c.args.pieces.now c.in_ok-vertices.vertices.items c.requires.few c.in_ok-vertices.ensures.all)
 
 pub run-requires-clause-ready : goal.run-requires-clause-ready
