@@ -20,7 +20,11 @@ import sys
 from collections.abc import Iterator
 from pathlib import Path
 
-PROGRAM = Path(__file__).resolve().parent.parent / "crates" / "sfstore" / "out" / "sfstore"
+sys.path.insert(0, str(Path(__file__).resolve().parent.parent / "tools"))
+
+from programs import path_of  # noqa: E402
+
+PROGRAM = path_of("sfstore")
 ROUNDS = 2_500
 FEATURES = 40
 SEED = 20_261_125

@@ -9,17 +9,14 @@
     bench/calls.py texts 1               reading and writing text and binary
     bench/calls.py --copy FOLDER --of CHECKOUT     leaves the program, over the crates of a checkout, for bench/unproved.py
 
-The program stands in bench/calls, beside the crates that the gate proves: to prove it costs as much as a large crate,
-and it promises nothing. Its files end in `.in`, since the gate takes none of Rattle's outside of a crate. Together with
-those of the crate sf_bench, which has the shapes, they make that crate in a copy of the checkout in a temporary folder,
-where `rt run` proves and runs it: it begins with what `rt check` has kept here.
+The program stands in bench/calls, and is not proved: to prove it costs as much as a large crate, and it promises nothing.
+Together with the files of the crate sf_bench of tests/crates, which has the shapes, its files make that crate in a copy of
+the checkout in a temporary folder, where `rt run` proves and runs it: it begins with what `rt check` has kept here.
 """
 
 from __future__ import annotations
 
 import argparse
-import re
-import shutil
 import subprocess
 import sys
 import tempfile
@@ -27,6 +24,10 @@ from collections.abc import Sequence
 from pathlib import Path
 
 TOP = Path(__file__).resolve().parent.parent
+sys.path.insert(0, str(TOP / "tools"))
+
+import checkouts  # noqa: E402
+
 CALLS = TOP / "bench" / "calls"
 CRATE = "sf_bench"
 CHOICES = ["grid", "cells", "classes", "validity", "matrices", "texts"]
@@ -37,24 +38,10 @@ BELOW = (
 )
 
 
-def crates_with_calls(text: str) -> str:
-    """The text of crates.txt, with the program in the place of the crate that it is made of. An older version lacks some crates."""
-    lines = [line for line in text.splitlines() if not re.match(rf"{CRATE}\b", line)]
-    listed = {line.partition(":")[0] for line in lines}
-    return "\n".join([*lines, f"{CRATE}: {' '.join(name for name in BELOW.split() if name in listed)}", ""])
-
-
 def copied(folder: Path, checkout: Path = TOP) -> Path:
     """Puts a copy of a checkout's crates into a folder, with the program in it, and gives the program's folder."""
-    shutil.copytree(checkout / "crates", folder / "crates", ignore=shutil.ignore_patterns("must-fail", "out"))
-    shutil.copy(checkout / "HANDLES", folder)
-    text = (checkout / "crates.txt").read_text(encoding="utf-8")
-    (folder / "crates.txt").write_text(crates_with_calls(text), encoding="utf-8")
-    for source in CALLS.rglob("*.in"):
-        place = folder / "crates" / CRATE / source.relative_to(CALLS).with_suffix("")
-        place.parent.mkdir(parents=True, exist_ok=True)
-        shutil.copy(source, place)
-    return folder / "crates" / CRATE
+    checkouts.copied(folder, checkout)
+    return checkouts.joined(folder, CRATE, BELOW.split(), checkouts.CRATES / CRATE, CALLS)
 
 
 def main(words: Sequence[str]) -> int:

@@ -8,7 +8,6 @@ Each line has the seconds of the program for all edits alone and as groups, the 
 
 from __future__ import annotations
 
-import os
 import random
 import subprocess
 import sys
@@ -17,7 +16,11 @@ import time
 from collections.abc import Sequence
 from pathlib import Path
 
-PROGRAM = Path(os.environ.get("SFSTORE") or Path(__file__).resolve().parent.parent / "crates/sfstore/out/sfstore")
+sys.path.insert(0, str(Path(__file__).resolve().parent.parent / "tools"))
+
+from programs import path_of  # noqa: E402
+
+PROGRAM = path_of("sfstore")
 RUNS = 5
 SQUARES, SIZES = 100_000, (1, 2, 3, 10, 100, 10_000)
 MILLION, LARGE = 1_000_000, 10_000

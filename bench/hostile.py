@@ -27,8 +27,12 @@ from concurrent.futures import ThreadPoolExecutor
 from dataclasses import dataclass
 from pathlib import Path
 
-PROGRAM = Path(__file__).resolve().parent.parent / "crates" / "sfstore" / "out" / "sfstore"
-LINE_MAX = 131_072
+sys.path.insert(0, str(Path(__file__).resolve().parent.parent / "tools"))
+
+from programs import path_of  # noqa: E402
+
+PROGRAM = path_of("sfstore")
+LINE_MAX = 4_194_304
 GROUP_MAX = 65_535
 SESSION_LINES = 500
 SECONDS = 60
@@ -106,7 +110,7 @@ LINES = [
     b"set a 1 depth -12",
     b"set a 2 label 'it''s old'",
     b"unset a 1 depth",
-    b"replace a 2 POINT (8388607 -8388608)",
+    b"replace a 2 POINT (1073741823 -1073741824)",
     b"vertex insert a 1 0 0 1 45 -3",
     b"vertex move a 1 0 0 2 91 91",
     b"vertex remove a 1 0 1 0",
@@ -144,7 +148,7 @@ LINES = [
 ]
 
 WORDS = [
-    b"a", b"b", b"c", b"0", b"1", b"2", b"4294967295", b"4294967296", b"-1", b"8388607", b"8388608", b"-8388608",
+    b"a", b"b", b"c", b"0", b"1", b"2", b"4294967295", b"4294967296", b"-1", b"1073741823", b"1073741824", b"-1073741824",
     b"-8388609", b"1.5", b"1e9", b"EMPTY", b"POINT", b"POLYGON", b"(", b")", b"((", b"))", b",", b"'", b"''", b"@0",
     b"@1", b"@256", b"@", b"int", b"text", b"any", b"T********", b"*********", b"within", b"touches", b"\xff",
     b"\xc3\xa4", b"\0", b"\r", b"\t", b"\n", b"undo", b"redo", b"last", b"together", b"together 2", b"99999999999999999999",

@@ -38,7 +38,9 @@ NAMES = re.compile(r"(note: )?(\./)?proofs/.*(has no field|is not in scope|has n
 # What it says of a text of the crate that it cannot read, as `rt` tells that.
 ERROR = re.compile(r"(?:\./)?(?:src|specs)/\S+:\d+:\d+: error: (`[^`]*`: )?(.*)")
 UNREAD = re.compile(r"is not in scope|has no field|is no name|operand is missing|expected the end|cannot continue")
-LIMITS = re.compile(r"antt ran out of|outgrew the memory limit|stopped at the step limit")
+LIMITS = re.compile(r"antt ran out of|outgrew the memory limit|stopped at the step limit|stopped after \d+ seconds")
+# Seconds in which a check ends, on a machine that has other work too: most take thirty.
+SECONDS = 1_800
 
 
 @dataclass(frozen=True)
@@ -57,8 +59,11 @@ def newest() -> dict[str, Path]:
 
 
 def unpack(folder: Path) -> None:
-    """Puts the libraries that were kept into a folder."""
+    """Puts the libraries that were kept into a folder, of the crates that it has none of yet."""
+    there = {library.stem for library in folder.iterdir()}
     for crate, record in newest().items():
+        if crate in there:
+            continue
         for number, (path, _) in enumerate(json.loads(record.read_text(encoding="utf-8"))["files"]):
             if path.startswith(f"rlib/{crate}.rlib/"):
                 place = folder / path.removeprefix("rlib/")
@@ -97,6 +102,17 @@ def words(crate: str, root: str, libraries: Path, only: Sequence[str]) -> Iterat
         yield from ("--only", module)
 
 
+def ended(command: list[str], room: Path) -> subprocess.CompletedProcess[str]:
+    """A command run in a folder. One that does not end is stopped."""
+    nothing = subprocess.DEVNULL
+    try:
+        return subprocess.run(
+            command, cwd=room, stdin=nothing, capture_output=True, text=True, errors="replace", timeout=SECONDS, check=False
+        )
+    except subprocess.TimeoutExpired:
+        return subprocess.CompletedProcess(command, 3, "", f"the check was stopped after {SECONDS} seconds")
+
+
 def checked(plant: Plant, libraries: Path, only: Sequence[str]) -> subprocess.CompletedProcess[str]:
     """A check of a copy of the crate with a plant in it."""
     with tempfile.TemporaryDirectory(prefix="sfstore-kept-") as name:
@@ -108,8 +124,7 @@ def checked(plant: Plant, libraries: Path, only: Sequence[str]) -> subprocess.Co
             text = (room / file).read_text(encoding="utf-8")
             (room / file).write_text(planted(plant, file, text), encoding="utf-8")
         root = "src/lib.rt" if (room / "src/lib.rt").exists() else "src/main.rt"
-        command = list(words(plant.crate, root, libraries, only))
-        return subprocess.run(command, cwd=room, stdin=subprocess.DEVNULL, capture_output=True, text=True, errors="replace", check=False)
+        return ended(list(words(plant.crate, root, libraries, only)), room)
 
 
 def is_unread(line: str) -> bool:
@@ -138,8 +153,8 @@ def tried(libraries: Path, plant: Plant) -> Tried:
     """Tries a plant: the functions of its files, and the crate where these don't refuse it."""
     whole: list[str] = []
     for only in (modules(plant), whole):
-        ended = checked(plant, libraries, only)
-        found, said = judged(ended.returncode, ended.stdout + ended.stderr)
+        check = checked(plant, libraries, only)
+        found, said = judged(check.returncode, check.stdout + check.stderr)
         if found not in ("proved", "not tried"):
             break
     return Tried(plant, found, said)

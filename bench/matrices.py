@@ -41,8 +41,12 @@ GEOMETRIES = [
     " ((10 10, 20 10, 20 20, 10 20, 10 10)))",
 ]
 
-# Less than any distance between things apart in geometries on a small grid.
-ASIDE = Fraction(1, 10**12)
+# Less than any distance between things apart in geometries on the grid, times an edge's length.
+ASIDE = Fraction(1, 2**200)
+# Further than any coordinate of the grid.
+FAR = Fraction(2**40)
+
+GRID_MIN, GRID_MAX = -(2**30), 2**30 - 1
 
 INTERIOR, BOUNDARY, EXTERIOR = range(3)
 
@@ -142,7 +146,7 @@ def samples(a, b):
     """A place in each part of the plane, with the part's dimension."""
     every = edges(a) + edges(b)
     points = set(dots(a) + dots(b))
-    yield 2, (Fraction(10**6), Fraction(10**6))
+    yield 2, (FAR, FAR)
     for p in points:
         yield 0, p
     for edge in every:
@@ -226,6 +230,47 @@ def dense_text(rng):
     return f"MULTIPOLYGON (({star_ring(rng, turns, center, (16, 7))}), ({star_ring(rng, turns, aside, (16, 6))}))"
 
 
+def wide_points(rng):
+    """Some places across the whole grid: its corners, others a step beside them, on one line, and anywhere."""
+    corners = [(x, y) for x in (GRID_MIN, GRID_MAX) for y in (GRID_MIN, GRID_MAX)]
+    beside = [(min(GRID_MAX, max(GRID_MIN, x + rng.randint(-2, 2))), min(GRID_MAX, max(GRID_MIN, y + rng.randint(-2, 2)))) for x, y in corners]
+    anywhere = [(rng.randint(GRID_MIN, GRID_MAX), rng.randint(GRID_MIN, GRID_MAX)) for _ in range(4)]
+    step = (rng.randint(1, 2**26), rng.randint(-(2**26), 2**26))
+    on_line = [(k * step[0], k * step[1]) for k in rng.sample(range(-15, 16), 4)]
+    return [*rng.sample(corners, 2), *rng.sample(beside, 2), *anywhere, *on_line]
+
+
+def wide_text(rng, places):
+    """A text of edges between some of these places; some are not valid."""
+
+    def text(chosen):
+        return ", ".join(f"{x} {y}" for x, y in chosen)
+
+    def ring():
+        corners = rng.sample(places, rng.randint(3, 5))
+        return f"({text([*corners, corners[0]])})"
+
+    kind = rng.randrange(6)
+    if kind == 0:
+        return f"POINT ({text(rng.sample(places, 1))})"
+    if kind == 1:
+        return f"MULTIPOINT ({', '.join(f'({text([place])})' for place in rng.sample(places, 3))})"
+    if kind == 2:
+        return f"LINESTRING ({text(rng.sample(places, rng.randint(2, 5)))})"
+    if kind == 3:
+        return f"MULTILINESTRING ({', '.join(f'({text(rng.sample(places, rng.randint(2, 3)))})' for _ in range(3))})"
+    if kind == 4:
+        return f"POLYGON ({ring()})"
+    return f"MULTIPOLYGON (({ring()}), ({ring()}))"
+
+
+def wide_pairs(rng, count):
+    """Pairs of geometries with edges across the whole grid, which often have places and pieces of lines in common."""
+    for _ in range(count):
+        places = wide_points(rng)
+        yield wide_text(rng, places), wide_text(rng, places)
+
+
 def answers(program, lines):
     done = subprocess.run([program], input="\n".join(lines) + "\n", capture_output=True, text=True, check=True)
     return done.stdout.splitlines()
@@ -265,6 +310,7 @@ def main():
         print("%d compared, %d wrong" % compare(program, pairs))
         dense = [(dense_text(rng), dense_text(rng)) for _ in range(600)]
         print("dense: %d compared, %d wrong" % compare(program, dense))
+        print("across the grid: %d compared, %d wrong" % compare(program, list(wide_pairs(rng, 34_000))))
 
 
 if __name__ == "__main__":

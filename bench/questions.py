@@ -18,9 +18,14 @@ import math
 import random
 import resource
 import subprocess
+import sys
 from pathlib import Path
 
-PROGRAM = Path(__file__).resolve().parent.parent / "crates" / "sfstore" / "out" / "sfstore"
+sys.path.insert(0, str(Path(__file__).resolve().parent.parent / "tools"))
+
+from programs import path_of  # noqa: E402
+
+PROGRAM = path_of("sfstore")
 FEATURES = 400
 RUNS = 3
 WINDOW = "POLYGON ((-1000 -10, 500000 -10, 500000 10, -1000 10, -1000 -10))"

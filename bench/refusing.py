@@ -8,7 +8,7 @@ how many features a query looks at and how many steps are in past and future. Gr
 
     bench/refusing.py
 
-rt run is needed once in crates/sf_refusing: it builds the program. tests/test_refusing.py has what has to hold.
+The program is made first, of the crate of tests/crates, where it isn't there yet. tests/test_refusing.py has what has to hold.
 """
 
 from __future__ import annotations
@@ -19,11 +19,21 @@ import sys
 import tempfile
 from collections.abc import Iterator
 from dataclasses import dataclass
+from functools import lru_cache
 from pathlib import Path
 
 from growths import REFUSED, REFUSING, Call, Ended, answers, library, met_run, sent
 
-PROGRAM = Path(__file__).resolve().parent.parent / "crates" / "sf_refusing" / "out" / "sf_refusing"
+sys.path.insert(0, str(Path(__file__).resolve().parent.parent / "tools"))
+
+import tried as made_for_tests  # noqa: E402
+
+
+@lru_cache(maxsize=1)
+def program() -> Path:
+    """The program, made first where it isn't there yet."""
+    return made_for_tests.program("sf_refusing")
+
 
 MARKED = (
     REFUSING
@@ -152,7 +162,7 @@ class Trial:
 
     def ample(self, line: str) -> Told:
         """What is told where all growths are granted."""
-        return self.told(Call(PROGRAM).run(sent(self.lines(line)), {}))
+        return self.told(Call(program()).run(sent(self.lines(line)), {}))
 
 
 def look(each: Iterator[list[str]]) -> Look:
@@ -223,7 +233,7 @@ def scarce_runs(path: Path, lines: list[str], has_rest: bool) -> Iterator[tuple[
     others = {"REST": "1"} if has_rest else {}
     # Within one line there are few, so no run is begun that may not be needed.
     for number in itertools.count(1):
-        ended = met_run(path, Call(PROGRAM), sent(lines), {"WITHIN": str(number), **others})
+        ended = met_run(path, Call(program()), sent(lines), {"WITHIN": str(number), **others})
         if ended is None:
             return
         yield number, ended
@@ -326,8 +336,6 @@ def summary(path: Path, trials: list[Trial], has_rest: bool) -> str:
 
 def main() -> None:
     """Refuses each growth of each trial."""
-    if not PROGRAM.is_file():
-        sys.exit(f"{PROGRAM} is missing: run `rt run` in crates/sf_refusing first")
     with tempfile.TemporaryDirectory() as folder:
         path = library(Path(folder), MARKED)
         for has_rest in (False, True):

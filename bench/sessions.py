@@ -19,9 +19,13 @@ import time
 from itertools import chain, zip_longest
 from pathlib import Path
 
-PROGRAM = Path(__file__).resolve().parent.parent / "crates/sfstore/out/sfstore"
+sys.path.insert(0, str(Path(__file__).resolve().parent.parent / "tools"))
+
+from programs import path_of  # noqa: E402
+
+PROGRAM = path_of("sfstore")
 SIZES = [1_000, 10_000, 100_000, 1_000_000]
-GRID = 8_388_608
+GRID = 1_073_741_824
 
 
 def point(n):

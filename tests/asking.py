@@ -4,10 +4,15 @@ from __future__ import annotations
 
 import re
 import subprocess
+import sys
 from collections.abc import Sequence
 from pathlib import Path
 
-STORE = Path(__file__).resolve().parent.parent / "crates" / "sfstore" / "out" / "sfstore"
+sys.path.insert(0, str(Path(__file__).resolve().parent.parent / "tools"))
+
+from programs import path_of  # noqa: E402
+
+STORE = path_of("sfstore")
 
 # Seconds in which a session ends on a busy machine.
 SECONDS = 300

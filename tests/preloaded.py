@@ -11,12 +11,12 @@ from pathlib import Path
 from typing import ClassVar
 
 TOP = Path(__file__).resolve().parent.parent
-sys.path.insert(0, str(TOP / "bench"))
+sys.path[:0] = [str(TOP / "bench"), str(TOP / "tools")]
 
-from growths import Call, library, sent
+from growths import Call, library, sent  # noqa: E402
+from programs import path_of  # noqa: E402
 
-STORE = TOP / "crates" / "sfstore" / "out" / "sfstore"
-PICTURE = TOP / "crates" / "sfmap" / "out" / "sfmap"
+STORE, PICTURE = path_of("sfstore"), path_of("sfmap")
 
 # A read or a write that fails, or a write that takes nothing, the calls counted from 1. It fails once: who takes it
 # for nothing and goes on ends well. Or all calls for the same file fail from then on. Who reads a file again that could not

@@ -1,47 +1,171 @@
 #!/usr/bin/env python3
-"""Runs the tests of the Python module, the package and the examples, and counts them with those of the gate.
+"""Runs the tests beside the gate's: of the Python module, the package, the documents and the examples.
 
-    tests/run.py GATE
+    tests/run.py --gate FILE --turns FILE    all, and counts with them what the gate, and wrong bodies behind it, came to
+                                 (the files have what `rt ci` and bench/turns.py printed)
+    tests/run.py --quick         those that take some minutes and need the programs alone, several files side by side
+    tests/run.py NAME ..         a file (test_journal), a class or a test of it (test_journal.Case.test_x), or all whose
+                                 names have a word in them
 
-The file GATE has what the gate printed. The last line that is printed counts all tests.
+The last line counts all tests. Programs that are missing are made without proofs, but for --gate.
 """
 
 from __future__ import annotations
 
+import argparse
+import os
 import re
+import signal
+import subprocess
 import sys
 import unittest
+from collections.abc import Iterator
+from concurrent.futures import ThreadPoolExecutor
 from pathlib import Path
 
 TOP = Path(__file__).resolve().parent.parent
+FOLDERS = (TOP / "python" / "tests", TOP / "tests")
+sys.path.insert(0, str(TOP / "tools"))
+
+import building  # noqa: E402
+import gated  # noqa: E402
+import programs  # noqa: E402
+
+# What --quick leaves out, by what it waits for or needs.
+LONG = {
+    "a browser": {"test_page", "test_page_meanwhile"},
+    "QGIS": {"test_qgis", "test_qgis_whole"},
+    "PostgreSQL": {"test_replica", "test_replica_groups", "test_replica_model", "test_web_socket"},
+    "other packages": {"test_pages", "test_package"},
+    "rt try": {"test_crate_rows", "test_refusing"},
+    "much work": {
+        "test_faults",
+        "test_group_sessions",
+        "test_growths",
+        "test_hostile",
+        "test_joins",
+        "test_millions",
+        "test_saved_whole",
+        "test_sizes",
+        "test_speeds",
+        "test_store_faults",
+        "test_store_kept",
+    },
+}
+COUNTED = re.compile(r"^(\d+) passed, (\d+) failed", re.MULTILINE)
 
 
-def gate_counts(path: str) -> tuple[int, int]:
-    """How many tests of the gate passed and failed, as its last line says. Without one, one failed."""
-    last = Path(path).read_text(errors="replace").rstrip("\n").rpartition("\n")[2]
-    found = re.fullmatch("(?:.* )?([0-9]+) passed, ([0-9]+) failed", last)
-    return (int(found[1]), int(found[2])) if found else (0, 1)
+def files() -> list[str]:
+    """The names of all files of tests."""
+    return sorted(path.stem for folder in FOLDERS for path in folder.glob("test_*.py"))
 
 
 def suite() -> unittest.TestSuite:
-    """All tests beside the gate's."""
+    """All tests."""
     whole = unittest.TestSuite()
-    for folder in (TOP / "python" / "tests", TOP / "tests"):
+    for folder in FOLDERS:
         whole.addTests(unittest.TestLoader().discover(str(folder), top_level_dir=str(folder)))
     return whole
 
 
-def main() -> None:
-    passed, failed = gate_counts(sys.argv[1])
-    result = unittest.TextTestRunner(stream=sys.stdout, buffer=True).run(suite())
+def each(tests: unittest.TestSuite) -> Iterator[unittest.TestCase]:
+    """The single tests of a suite."""
+    for test in tests:
+        if isinstance(test, unittest.TestSuite):
+            yield from each(test)
+        else:
+            yield test
+
+
+def files_with(word: str) -> list[str]:
+    """The files of tests that have a word in them."""
+    paths = (path for folder in FOLDERS for path in folder.glob("test_*.py"))
+    return sorted(path.stem for path in paths if word in path.read_text(encoding="utf-8"))
+
+
+def named(names: list[str]) -> unittest.TestSuite:
+    """The tests that are asked for. Files that have nothing to do with it are not read: some look for much at first."""
+    sys.path[:0] = [str(folder) for folder in FOLDERS]
+    whole = [name for name in names if name.partition(".")[0] in files()]
+    found = unittest.TestSuite(unittest.TestLoader().loadTestsFromNames(whole))
+    for word in set(names) - set(whole):
+        tests = unittest.TestLoader().loadTestsFromNames(files_with(word))
+        found.addTests(test for test in each(tests) if word in test.id().partition(".")[2])
+    return found
+
+
+def run(tests: unittest.TestSuite, passed: int = 0, failed: int = 0, ending: str = "") -> int:
+    """Runs tests, and counts them with others."""
+    result = unittest.TextTestRunner(stream=sys.stdout, buffer=True).run(tests)
     bad = len(result.failures) + len(result.errors) + len(result.unexpectedSuccesses)
     passed += result.testsRun - bad - len(result.skipped)
     failed += bad
     for test, reason in result.skipped:
         print(f"skipped: {test}: {reason}")
-    print(f"{passed} passed, {failed} failed")
-    sys.exit(failed != 0)
+    print(f"{passed} passed, {failed} failed{ending}")
+    return int(failed != 0)
+
+
+def of_programs() -> str:
+    """Over which programs tests have run."""
+    others = [name for name in programs.NAMES if name.upper() in os.environ]
+    if others:
+        return f", over other programs ({', '.join(name.upper() for name in others)})"
+    made = programs.current()
+    if made is None:
+        return ", over programs of other crates"
+    return ", over the proved programs" if made.proved else ", over programs that are NOT PROVED"
+
+
+def run_apart(name: str) -> tuple[int, int]:
+    """Runs a file of tests in a process of its own, prints what it said, and gives how many passed and failed."""
+    ended = subprocess.run([sys.executable, __file__, "--apart", name], stdout=subprocess.PIPE, stderr=subprocess.STDOUT, text=True, check=False)
+    found = COUNTED.findall(ended.stdout)
+    print(f"== {name}\n{ended.stdout}", end="", flush=True)
+    return (int(found[-1][0]), int(found[-1][1])) if found else (0, 1)
+
+
+def counted(file: Path) -> tuple[int, int]:
+    """How many passed and failed of what another command has tried. Where it has said nothing, one failed."""
+    return gated.counts(file.read_text(encoding="utf-8", errors="replace")) if file.is_file() else (0, 1)
+
+
+def quick() -> int:
+    """Runs those that take some minutes."""
+    chosen = sorted(set(files()) - set().union(*LONG.values()))
+    with ThreadPoolExecutor(min(4, os.cpu_count() or 1)) as pool:
+        counts = list(pool.map(run_apart, chosen))
+    failed = sum(bad for _, bad in counts)
+    for name, (_, bad) in zip(chosen, counts):
+        if bad:
+            print(f"failed: {name}: {bad}")
+    print(f"{sum(good for good, _ in counts)} passed, {failed} failed, without the gate and {len(files()) - len(chosen)} long files{of_programs()}")
+    return int(failed != 0)
+
+
+def main() -> int:
+    """Runs what is asked for."""
+    parser = argparse.ArgumentParser(description=__doc__, formatter_class=argparse.RawDescriptionHelpFormatter)
+    parser.add_argument("--gate", type=Path)
+    parser.add_argument("--turns", type=Path)
+    parser.add_argument("--quick", action="store_true")
+    parser.add_argument("--apart", action="store_true", help=argparse.SUPPRESS)
+    parser.add_argument("names", nargs="*")
+    asked = parser.parse_args()
+    # A shell ignores it for what it starts in the background, and tests interrupt what they start.
+    signal.signal(signal.SIGINT, signal.default_int_handler)
+    if asked.gate:
+        counts = [counted(file) for file in (asked.gate, asked.turns) if file]
+        return run(suite(), sum(good for good, _ in counts), sum(bad for _, bad in counts))
+    if not asked.apart and not any(name.upper() in os.environ for name in programs.NAMES):
+        building.ensured()
+    if asked.quick:
+        return quick()
+    tests = named(asked.names)
+    if not asked.names or not tests.countTestCases():
+        parser.error("no such test")
+    return run(tests, ending=of_programs())
 
 
 if __name__ == "__main__":
-    main()
+    sys.exit(main())

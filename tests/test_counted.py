@@ -8,11 +8,11 @@ from pathlib import Path
 from unittest import mock
 
 TOP = Path(__file__).resolve().parent.parent
-sys.path.insert(0, str(TOP / "bench"))
+sys.path[:0] = [str(TOP / "bench"), str(TOP / "tools")]
 
+import compiling  # noqa: E402
 import counted  # noqa: E402
 import questions  # noqa: E402
-import unproved  # noqa: E402
 
 CHECKED = """\
 define internal void @"rattle-llvm-checks::Overflow"(i8 %a0) #7 {
@@ -49,7 +49,7 @@ define void @main() {
 
 class Counted(unittest.TestCase):
     def test_checks_pass_at_once(self) -> None:
-        self.assertEqual(unproved.without_checks(CHECKED), UNCHECKED)
+        self.assertEqual(compiling.stripped(CHECKED), UNCHECKED)
 
     def test_what_is_repeated_is_found(self) -> None:
         for lines, wanted in ((["a"], 1), (["a"] * 6, 1), (["a", "b"] * 3, 2), (["a", "b", "a"], 3)):

@@ -19,7 +19,7 @@ CRATES = TOP / "crates"
 PAGES = [*sorted(TOP.glob("*.md")), *sorted((TOP / "docs").rglob("*.md"))]
 
 # What is named and made only by a build, or stands for a name.
-NOT_THERE = {"out/costs.md", "out/programs/sfstore", "crates/sfstore/out/sfstore", "crates/*/out/rlib", "out/rlib", "crates/NAME"}
+NOT_THERE = {"out/costs.md", "out/programs", "out/programs/sfstore", "out/programs/MADE", "crates/*/out/rlib", "out/rlib", "crates/NAME"}
 
 
 def crates() -> dict[str, list[str]]:
@@ -75,6 +75,20 @@ class Documents(unittest.TestCase):
         for page in PAGES:
             for named in re.findall(r"sfstore_([0-9.]+)_amd64\.deb", page.read_text()):
                 self.assertEqual(named, version, page.name)
+
+    def test_the_gate_stays_within_its_costs(self):
+        """Two hours of a processor, by the table: what is tried besides is tried in turn (bench/turns.py)."""
+        text = (TOP / "docs" / "build" / "COSTS.md").read_text()
+        rows = re.findall(r"^\| `(\w+)` \| (\d*) ?\| (\d*) ?\| (\d*) ?\| (\d+) \|$", text, re.MULTILINE)
+        costs = {name: [int(number or 0) for number in numbers] for name, *numbers in rows}
+        self.assertGreater(len(costs), 40)
+        for name, (proof, tests, bodies, together) in costs.items():
+            self.assertEqual(proof + tests + bodies, together, name)
+        trying = {crate for crate in crates() if list((CRATES / crate / "must-fail").glob("*"))}
+        self.assertEqual({name for name, numbers in costs.items() if numbers[2]}, trying & set(costs))
+        whole = re.search(r"^\| all \| (\d*) ?\| (\d*) ?\| (\d*) ?\| (\d+) \|$", text, re.MULTILINE)
+        self.assertLessEqual(abs(sum(numbers[3] for numbers in costs.values()) - int(whole[4])), len(costs))
+        self.assertLessEqual(int(whole[4]), 120 * 60)
 
     def test_every_file_of_definitions_is_listed(self):
         text = (TOP / "docs" / "trust" / "DEFINITIONS.md").read_text()
@@ -192,6 +206,20 @@ class Map(unittest.TestCase):
         self.text = (TOP / "docs" / "MAP.md").read_text()
         self.picture = self.text.split("```")[1]
         self.rows = re.findall(r"^\| `(\w+)` \|[^|]*\|([^|]*)\|", self.text, re.MULTILINE)
+
+    def test_the_way_of_a_line_leads_to_functions(self):
+        rows = re.findall(r"^\| \d+ \|.*$", self.text, re.MULTILINE)
+        self.assertEqual([int(row.split("|")[1]) for row in rows], list(range(1, len(rows) + 1)))
+        for row in rows:
+            place = None
+            for named in re.findall(r"`([^`]+)`", "|".join(row.split("|")[3:])):
+                file, _, function = named.rpartition(": ")
+                place = file or place
+                if place is None or named.startswith("--"):
+                    continue
+                crate, _, module = place.partition("/")
+                code = (CRATES / crate / "src" / f"{module}.rt").read_text()
+                self.assertRegex(code, rf"\b(fn|struct|enum|trait) {function}\b", named)
 
     def test_every_crate_stands_in_the_picture_once(self):
         self.assertEqual(sorted(re.findall(r"\bsf\w+", self.picture)), sorted(crates()))

@@ -12,12 +12,13 @@ from importlib.util import find_spec
 from pathlib import Path
 
 TOP = Path(__file__).resolve().parent.parent
-sys.path.insert(0, str(TOP / "python"))
+sys.path[:0] = [str(TOP / "python"), str(TOP / "tools")]
 
+from programs import path_of  # noqa: E402
 from sfstore import Store  # noqa: E402
 
 EXAMPLES = TOP / "examples"
-PROGRAM = TOP / "crates" / "sfstore" / "out" / "sfstore"
+PROGRAM = path_of("sfstore")
 
 AFTERNOON = """\
 16 parcels along First Street went to the town

@@ -63,11 +63,12 @@ def long_lines() -> list[str]:
 
 def long_file() -> bytes:
     """The file of that layer, by docs/use/FORMAT.md."""
-    file = b"SFSTORE2\x18" + struct.pack(">IB1sBIHHHB", 1, 1, b"m", 4, 5, 2, 1, 1, 1) + b"\x01n" + struct.pack(">I", 4)
+    file = b"SFSTORE4\x1f" + struct.pack(">IB1sBIHHHB", 1, 1, b"m", 4, 5, 2, 1, 1, 1) + b"\x01n" + struct.pack(">I", 4)
     for number, points in enumerate((SMALL, BIG, SMALL, BIG), 1):
         geometry = multi_point(points)
         file += struct.pack(">II", number, len(geometry)) + geometry + struct.pack(">HHq", 1, 1, -number)
-    return file
+    # No rules.
+    return file + bytes(2)
 
 
 class Failed(Preloaded):

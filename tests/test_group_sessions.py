@@ -9,6 +9,7 @@ from __future__ import annotations
 import copy
 import random
 import subprocess
+import sys
 import tempfile
 import unittest
 from collections.abc import Sequence
@@ -16,7 +17,11 @@ from dataclasses import dataclass, field
 from pathlib import Path
 
 TOP = Path(__file__).resolve().parent.parent
-STORE = TOP / "crates" / "sfstore" / "out" / "sfstore"
+sys.path.insert(0, str(TOP / "tools"))
+
+from programs import path_of  # noqa: E402
+
+STORE = path_of("sfstore")
 SESSIONS, REOPENED, STEPS = 2_000, 200, 30
 # Editor 9 makes the layers, and takes nothing back.
 MAKER = 9
@@ -212,7 +217,7 @@ class Groups(unittest.TestCase):
             self.assertEqual((Path(folder) / "map.sfs.journal").read_bytes().count(b"\n"), 10)
 
     def test_a_line_too_long_is_a_member_refused(self) -> None:
-        long = "x" * 131_073
+        long = "x" * 4_194_305
         lines = [*HEAD, "together 2\nadd a POINT (1 1)\n" + long, f"together 1\n{long}", f"together 2\nfoo\n{long}", "show a"]
         wanted = ["refused 33 LineTooLong member 2", "refused 33 LineTooLong member 1", "refused 31 BadCommand member 1", "rows 0"]
         self.assertEqual(run(lines), [*["ok"] * 3, *wanted])

@@ -8,7 +8,11 @@ import unittest
 from pathlib import Path
 
 TOP = Path(__file__).resolve().parent.parent
-STORE = TOP / "crates" / "sfstore" / "out" / "sfstore"
+sys.path.insert(0, str(TOP / "tools"))
+
+from programs import path_of  # noqa: E402
+
+STORE = path_of("sfstore")
 POINT = bytes.fromhex("01 01000000 000000000000f03f 0000000000000040")
 REFUSED_BINARIES = [
     # a byte of order that is none, a member of another kind
@@ -16,7 +20,7 @@ REFUSED_BINARIES = [
     ("01 04000000 01000000 01 02000000", "refused 6 UnsupportedType"),
     # counts of points and of rings that are too large, a ring without points
     ("01 03000000 01000000 ffffffff", "refused 9 TooManyVertices"),
-    ("01 03000000 01100000", "refused 9 TooManyVertices"),
+    ("01 03000000 01000100", "refused 9 TooManyVertices"),
     ("01 03000000 01000000 00000000", "refused 5 Empty"),
 ]
 

@@ -13,14 +13,15 @@ import unittest
 from pathlib import Path
 
 TOP = Path(__file__).resolve().parent.parent
-sys.path.insert(0, str(TOP / "package"))
+sys.path[:0] = [str(TOP / "package"), str(TOP / "tools")]
 
 import manual  # noqa: E402
+from programs import path_of  # noqa: E402
 
 # The programs that are proved: their help is in crates.
 PROVED = {
-    "sfstore": Path(os.environ.get("SFSTORE") or TOP / "crates" / "sfstore" / "out" / "sfstore"),
-    "sfmap": TOP / "crates" / "sfmap" / "out" / "sfmap",
+    "sfstore": path_of("sfstore"),
+    "sfmap": path_of("sfmap"),
 }
 SCREEN = (80, 24)
 

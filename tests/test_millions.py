@@ -7,13 +7,18 @@ answers so from some number of features, rows or steps on is refused here, up to
 from __future__ import annotations
 
 import subprocess
+import sys
 import tempfile
 import unittest
 from collections.abc import Iterable, Iterator
 from pathlib import Path
 
 TOP = Path(__file__).resolve().parent.parent
-STORE = TOP / "crates" / "sfstore" / "out" / "sfstore"
+sys.path.insert(0, str(TOP / "tools"))
+
+from programs import path_of  # noqa: E402
+
+STORE = path_of("sfstore")
 COUNT = 1_000_000
 ACROSS = 1_000
 SECONDS = 300

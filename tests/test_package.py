@@ -19,6 +19,14 @@ sys.path.insert(0, str(Path(__file__).resolve().parent))
 
 from shown import TOP, Shown  # noqa: E402
 
+sys.path.insert(0, str(TOP / "tools"))
+
+import programs  # noqa: E402
+
+MADE = programs.current()
+# Of programs that aren't proved a package is made only where that is asked for.
+WORDS = [] if MADE and MADE.proved else ["--unproved"]
+VERSION = (TOP / "package" / "VERSION").read_text().strip() + ("" if MADE and MADE.proved else "~unproved")
 
 # Stands in for `rt` where programs are built: gives those of the checkout, and another one in the place of one of them.
 STAND_IN = """\
@@ -26,25 +34,25 @@ STAND_IN = """\
 [ "$1" = run ] || exec {rt} "$@"
 name=$(basename "$PWD")
 mkdir -p out
-cp {top}/crates/$name/out/$name out/$name
+cp {top}/out/programs/$name out/$name
 [ "$name" != "{spoilt}" ] || echo other >> out/$name
 """
 
 
 def built() -> Path:
     """Makes the package, and gives its path."""
-    said = subprocess.run([TOP / "package" / "build"], check=True, capture_output=True, text=True).stdout
+    said = subprocess.run([TOP / "package" / "build", *WORDS], check=True, capture_output=True, text=True).stdout
     return TOP / said.split(" ")[0]
 
 
 def can_be_made() -> bool:
-    """Whether Debian's tools are here, and a checkout that git reads."""
-    if not all(map(shutil.which, ("dpkg-deb", "git", "rt"))):
+    """Whether Debian's tools are here, programs of the crates as they stand, and a checkout that git reads."""
+    if MADE is None or not all(map(shutil.which, ("dpkg-deb", "git", "rt"))):
         return False
     return subprocess.run(["git", "rev-parse", "HEAD"], cwd=TOP, capture_output=True).returncode == 0
 
 
-@unittest.skipUnless(can_be_made(), "no Debian tools, or no checkout that git reads")
+@unittest.skipUnless(can_be_made(), "no Debian tools, no programs of these crates, or no checkout that git reads")
 class Package(unittest.TestCase):
     @classmethod
     def setUpClass(cls):
@@ -154,8 +162,9 @@ class Package(unittest.TestCase):
             digest = hashlib.sha256((self.root / "usr/bin" / name).read_bytes()).hexdigest()
             self.assertIn(f"sha256 of {name}: {digest}\n", said)
         self.assertIn(f"commit: {commit.stdout.strip()}", said)
-        self.assertRegex(said, "gate: [0-9]+ passed, [0-9]+ failed\n")
+        self.assertIn(f"gate: {MADE.gate}\n", said)
         self.assertIn("toolchain: rattle-kit", said)
+        self.assertEqual(said.startswith("NOT PROVED: "), not MADE.proved)
 
     def test_the_copyright_is_in_it(self):
         said = (self.documents / "copyright").read_text()
@@ -169,11 +178,19 @@ class Package(unittest.TestCase):
             self.assertTrue((page.parent / link).exists(), f"{page.name}: {link}")
 
     def test_the_version_stands_in_one_place(self):
-        version = (TOP / "package" / "VERSION").read_text().strip()
-        field = subprocess.run(
-            ["dpkg-deb", "--field", self.package, "Version"], check=True, capture_output=True, text=True
-        )
-        self.assertEqual(field.stdout.strip(), version)
+        self.assertEqual(self.field("Version"), VERSION)
+        self.assertTrue(self.package.name.startswith(f"sfstore_{VERSION}_"))
+
+    def field(self, name):
+        """A field of the package's control file."""
+        words = ["dpkg-deb", "--field", self.package, name]
+        return subprocess.run(words, check=True, capture_output=True, text=True).stdout.strip()
+
+    def test_the_package_depends_on_what_its_commands_start(self):
+        starting = {path.read_bytes().split(b"\n")[0] for path in (self.root / "usr/bin").iterdir() if path.read_bytes().startswith(b"#!")}
+        self.assertEqual(starting, {b"#!/usr/bin/python3"})
+        self.assertRegex(self.field("Depends"), r"\bpython3\b")
+        self.assertRegex(self.field("Recommends"), "python3-gdal")
 
     def test_the_same_program_makes_the_same_package(self):
         first = self.package.read_bytes()
@@ -188,15 +205,71 @@ class Package(unittest.TestCase):
             words = [TOP / "package" / "build", "--twice"]
             return subprocess.run(words, env={**os.environ, "PATH": path}, capture_output=True, text=True)
 
+    @unittest.skipUnless(MADE and MADE.proved, "the programs are not proved")
     def test_two_clones_with_the_same_programs(self):
         said = self.built_twice()
         self.assertEqual((said.returncode, said.stderr), (0, ""))
         self.assertIn("two fresh clones give the same programs, byte for byte\n", said.stdout)
 
+    @unittest.skipUnless(MADE and MADE.proved, "the programs are not proved")
     def test_a_clone_with_another_program(self):
         said = self.built_twice("sfmap")
         self.assertEqual((said.returncode, said.stdout), (1, ""))
         self.assertEqual(said.stderr, "package/build: the first fresh clone gives another sfmap\n")
+
+
+class Missing(unittest.TestCase):
+    """What package/build says in a checkout that lacks something."""
+
+    def setUp(self):
+        folder = tempfile.TemporaryDirectory()
+        self.addCleanup(folder.cleanup)
+        self.checkout = Path(folder.name) / "checkout"
+        # Of the crates one is enough: what is said of programs is compared with all that are there.
+        for name in ("package", "tools", "docs", "examples"):
+            shutil.copytree(TOP / name, self.checkout / name, ignore=shutil.ignore_patterns("__pycache__"))
+        shutil.copytree(TOP / "crates" / "sf_grid" / "src", self.checkout / "crates" / "sf_grid" / "src")
+        for name in ("crates.txt", "HANDLES"):
+            shutil.copy(TOP / name, self.checkout)
+        (self.checkout / "python").mkdir()
+        shutil.copytree(TOP / "python" / "sfstore", self.checkout / "python" / "sfstore")
+
+    def said(self, *words):
+        """What it says as it ends with a fault."""
+        ended = subprocess.run([self.checkout / "package" / "build", *words], capture_output=True, text=True)
+        self.assertEqual((ended.returncode, ended.stdout), (1, ""))
+        return ended.stderr
+
+    def put(self, proved, crates=None):
+        """Puts programs there that are of the checkout's crates, or of others."""
+        lines = "import programs, sys\nprint(programs.crates_sum(sys.argv[1] == 'yes'), programs.kit(), sep='\\n')"
+        asked = subprocess.run([sys.executable, "-c", lines, proved], cwd=self.checkout / "tools", check=True, capture_output=True, text=True)
+        now, kit = asked.stdout.splitlines()
+        place = self.checkout / "out" / "programs"
+        place.mkdir(parents=True)
+        for name in ("sfstore", "sfmap"):
+            (place / name).write_text("#!/bin/sh\n")
+        (place / "MADE").write_text(f"commit: 123\ncrates: {crates or now}\ntoolchain: {kit}\nproved: {proved}\ngate: 9 passed, 0 failed\n")
+
+    def test_all_that_is_missing_is_named_at_once(self):
+        said = self.said()
+        for path in ("out/programs/sfstore", "out/programs/sfmap"):
+            self.assertIn(f"\n    {path}\n", said)
+        self.assertIn("./test", said)
+
+    def test_programs_that_are_not_proved_are_refused(self):
+        self.put("no, for trying alone")
+        self.assertIn("proved programs: those that are there are not proved", self.said())
+
+    def test_programs_of_other_crates_are_refused(self):
+        self.put("yes", "0" * 64)
+        self.assertIn("those that are there are of commit 123", self.said())
+        self.assertIn("those that are there are of commit 123", self.said("--unproved"))
+
+    def test_programs_without_a_word_of_what_they_are_are_refused(self):
+        self.put("yes")
+        (self.checkout / "out" / "programs" / "MADE").unlink()
+        self.assertIn("out/programs/MADE, which says what the programs are", self.said("--unproved"))
 
 
 if __name__ == "__main__":

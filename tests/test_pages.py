@@ -16,15 +16,16 @@ sys.path.insert(0, str(Path(__file__).resolve().parent))
 
 from shown import TOP, Shown  # noqa: E402
 
-sys.path.insert(0, str(TOP / "python"))
+sys.path[:0] = [str(TOP / "python"), str(TOP / "tools")]
 
+from programs import path_of  # noqa: E402
 from sfstore import language, refusals  # noqa: E402
 from sfstore.replica import servers  # noqa: E402
 
 DOCS = TOP / "docs"
 PROGRAMS = {
-    "sfstore": Path(os.environ.get("SFSTORE") or TOP / "crates" / "sfstore" / "out" / "sfstore"),
-    "sfmap": TOP / "crates" / "sfmap" / "out" / "sfmap",
+    "sfstore": path_of("sfstore"),
+    "sfmap": path_of("sfmap"),
 }
 COMMANDS = {
     "sfstore-import": "sfstore.exchange.importing",

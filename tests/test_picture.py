@@ -6,14 +6,18 @@ import importlib.util
 import re
 import shutil
 import subprocess
+import sys
 import tempfile
 import unittest
 from pathlib import Path
 from xml.etree import ElementTree
 
 TOP = Path(__file__).resolve().parent.parent
-STORE = TOP / "crates" / "sfstore" / "out" / "sfstore"
-PROGRAM = TOP / "crates" / "sfmap" / "out" / "sfmap"
+sys.path.insert(0, str(TOP / "tools"))
+
+from programs import path_of  # noqa: E402
+
+STORE, PROGRAM = path_of("sfstore"), path_of("sfmap")
 SVG = "{http://www.w3.org/2000/svg}"
 
 # A layer of all kinds: a square with a hole, a line, a point, and their Multi forms.
@@ -66,7 +70,7 @@ MAP = b"""\
 VIEWS = {
     ("-10 -20 90 30", 500): ([-10, 30, 100, 50], 250, 310, "20 grid steps", 100),
     ("5 5 5 5", 800): ([5, 5, 1, 1], 800, 860, "1 grid step", 800),
-    ("-8388608 0 8388607 1", 1_000): ([-8388608, 1, 16_777_215, 1], 1, 61, "2000000 grid steps", 119),
+    ("-1073741824 0 1073741823 1", 1_000): ([-1073741824, 1, 2_147_483_647, 1], 1, 61, "500000000 grid steps", 232),
 }
 
 # Words, and whether they show the point.
@@ -252,7 +256,7 @@ class Pictures(unittest.TestCase):
                 self.assertEqual(list(paths(picture(self.file, *words))), shown)
                 self.assertEqual(self.box(*words), ([-6, 9, 22, 10], 440, 200))
         self.assertEqual(list(paths(picture(self.file, "--layer", "wells", *window, "--width", "440"))), [])
-        far = ("--layer", "wells", "--layer", "shapes", "--width", "22", "--window", "-8388608", "-8388608", "-1", "5")
+        far = ("--layer", "wells", "--layer", "shapes", "--width", "22", "--window", "-1073741824", "-1073741824", "-1", "5")
         self.assertEqual(list(paths(picture(self.file, *far))), ["shapes-2"])
 
     def test_faults_beside_negative_numbers(self):
@@ -289,9 +293,9 @@ class Pictures(unittest.TestCase):
         self.assertEqual(int(root.get("height")), 840)
 
     def test_the_farthest_coordinates(self):
-        lines = b"layer add a point\nadd a POINT (-8388608 -8388608)\nadd a POINT (8388607 8388607)\n"
+        lines = b"layer add a point\nadd a POINT (-1073741824 -1073741824)\nadd a POINT (1073741823 1073741823)\n"
         found = paths(picture(file_of(lines)))
-        self.assertEqual([path for _, path in found.values()], ["M-8388608 -8388608h0", "M8388607 8388607h0"])
+        self.assertEqual([path for _, path in found.values()], ["M-1073741824 -1073741824h0", "M1073741823 1073741823h0"])
 
     @unittest.skipIf(lacks_browser(), "chromium or python3-pil is missing")
     def test_a_browser_draws_far_places_to_half_a_pixel(self):

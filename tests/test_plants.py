@@ -6,6 +6,7 @@ import sys
 import tempfile
 import unittest
 from pathlib import Path
+from unittest import mock
 
 TOP = Path(__file__).resolve().parent.parent
 sys.path.insert(0, str(TOP / "bench"))
@@ -75,6 +76,11 @@ class Plants(unittest.TestCase):
         for wanted, (status, output) in cases.items():
             with self.subTest(wanted):
                 self.assertEqual(kept.judged(status, output)[0], wanted)
+
+    def test_a_check_that_does_not_end_is_stopped(self) -> None:
+        with mock.patch.object(kept, "SECONDS", 1):
+            ended = kept.ended(["sleep", "60"], TOP)
+        self.assertEqual(kept.judged(ended.returncode, ended.stdout + ended.stderr)[0], "refused by a limit")
 
     def test_a_plant_is_looked_at_by_its_modules(self) -> None:
         named = {plant.name: plant for plant in self.plants}

@@ -20,7 +20,7 @@ STEPS = 340_000_000
 def below() -> dict[str, list[str]]:
     """The crates that each crate lists."""
     lines = (TOP / "crates.txt").read_text(encoding="utf-8").splitlines()
-    pairs = [line.split(":") for line in lines if not line.startswith("#")]
+    pairs = [line.split(":") for line in lines if line and not line.startswith("#")]
     return {name: listed.split() for name, listed in pairs}
 
 

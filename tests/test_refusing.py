@@ -22,6 +22,7 @@ an index of thousands is kept.
 
 from __future__ import annotations
 
+import shutil
 import subprocess
 import unittest
 
@@ -31,7 +32,6 @@ from growths import REFUSED, answers, sent
 from refusing import (
     COLUMNS,
     MARKED,
-    PROGRAM,
     ROWS,
     Trial,
     Wanted,
@@ -40,6 +40,7 @@ from refusing import (
     is_accepted,
     moving_trials,
     naming_trials,
+    program,
     removal_ends,
     removals,
     scarce_runs,
@@ -48,7 +49,7 @@ from refusing import (
 )
 
 
-@unittest.skipUnless(PROGRAM.is_file(), "sf_refusing is not built")
+@unittest.skipUnless(shutil.which("rt"), "no toolchain")
 class Refusing(Preloaded):
     """Runs in which growths within one line are refused, one or all from one on."""
 
@@ -139,7 +140,7 @@ THOUSANDS = {
 
 def asked(lines: list[str]) -> list[list[str]]:
     """What the program answers to each line."""
-    ended = subprocess.run([PROGRAM], input=sent(lines), capture_output=True, timeout=600, check=True)
+    ended = subprocess.run([program()], input=sent(lines), capture_output=True, timeout=600, check=True)
     return answers(ended.stdout)
 
 
@@ -148,7 +149,7 @@ def rows_of_points(count: int, across: int) -> list[str]:
     return ["layer add w point", *(f"add w POINT ({number % across} {number // across})" for number in range(count))]
 
 
-@unittest.skipUnless(PROGRAM.is_file(), "sf_refusing is not built")
+@unittest.skipUnless(shutil.which("rt"), "no toolchain")
 class Indexed(unittest.TestCase):
     """How many features queries look at, and what the index of a layer finds, where memory is ample."""
 
@@ -180,13 +181,13 @@ READS_MAX = 1_000_000_000
 """How often a reader is asked at most, by the documents."""
 
 
-@unittest.skipUnless(PROGRAM.is_file(), "sf_refusing is not built")
+@unittest.skipUnless(shutil.which("rt"), "no toolchain")
 class Endless(unittest.TestCase):
     """Readers that give one byte at each call, for ever: some twenty seconds of a calm processor for each way."""
 
     def check(self, line: str) -> None:
         """Asks for the count of calls after which reading is given up."""
-        told = subprocess.run([PROGRAM], input=f"{line}\n", capture_output=True, text=True, timeout=600, check=True)
+        told = subprocess.run([program()], input=f"{line}\n", capture_output=True, text=True, timeout=600, check=True)
         self.assertEqual(told.stdout, f"calls {READS_MAX}\n")
 
     def test_serving_gives_up_a_reader_that_never_ends(self) -> None:

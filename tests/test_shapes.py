@@ -119,7 +119,7 @@ class Shapes(unittest.TestCase):
     def test_simple_geometries_of_other_kinds(self) -> None:
         geometries = {
             f"LINESTRING ({text_of(cut([(-(2**23), 2**23 - 1), (2**23 - 1, -(2**23))], *FINE_OVER_GRID))})": "true",
-            "LINESTRING (-8388608 8388607, 8388607 -8388608)": "true",
+            "LINESTRING (-1073741824 1073741823, 1073741823 -1073741824)": "true",
             "MULTIPOINT ((2 1), (1 2), (1 1))": "true",
             "MULTIPOINT ((2 1), (1 2), (2 1))": "false",
             "MULTIPOLYGON (((0 0, 30 0, 30 30, 0 0), (20 10, 25 10, 25 15, 20 10)))": "true",

@@ -26,7 +26,9 @@ ssize_t __read(int file, void *bytes, size_t count) { return read(file, bytes, c
 """
 
 LAYERS_MAX = 65_535
-LINE_MAX = 131_072
+LINE_MAX = 4_194_304
+POINTS_MAX = 65_536
+NO_VERTEX = "refused 25 NoVertex"
 FEATURES = 40_000
 POINTS = 1_000
 
@@ -42,8 +44,8 @@ def multi_point(points: int) -> str:
 def long_session() -> tuple[str, str]:
     """A session whose input and answers have more than a million bytes each, with its answers."""
     added = [f"ok {number}" for number in range(1, FEATURES + 1)]
-    shown = [f"{number} POINT (-8388608 -8388608)" for number in range(1, FEATURES + 1)]
-    asked = lines_of("layer add w point", *["add w POINT (-8388608 -8388608)"] * FEATURES, "show w")
+    shown = [f"{number} POINT (-1073741824 -1073741824)" for number in range(1, FEATURES + 1)]
+    asked = lines_of("layer add w point", *["add w POINT (-1073741824 -1073741824)"] * FEATURES, "show w")
     return asked, lines_of("ok", *added, f"rows {FEATURES}", *shown)
 
 
@@ -53,16 +55,22 @@ SESSIONS = {
     "the same with one": ("a" * LINE_MAX + "\n", "refused 31 BadCommand\n"),
     "a carriage return is a byte of the line": ("a" * LINE_MAX + "\r\n", "refused 33 LineTooLong\n"),
     "a longer line": ("a" * (LINE_MAX + 1), "refused 33 LineTooLong\n"),
-    "a line behind a longer one": ("a" * 300_000 + "\nundo\n", lines_of("refused 33 LineTooLong", "refused 29 NothingToUndo")),
+    "a line behind a longer one": ("a" * 5_000_000 + "\nundo\n", lines_of("refused 33 LineTooLong", "refused 29 NothingToUndo")),
     "the longest line that adds a point": (
-        lines_of("layer add w any", f"add w POINT (1 {'0' * 131_055}2)", "show w"),
+        lines_of("layer add w any", f"add w POINT (1 {'0' * 4_194_287}2)", "show w"),
         lines_of("ok", "ok 1", "rows 1", "1 POINT (1 2)"),
     ),
     "as many points as a geometry may have, and more": (
         lines_of(
-            "layer add w any", multi_point(4_096), multi_point(4_097), "vertex insert w 1 0 0 0 7 7", "box w 1", "simple w 1"
+            "layer add w any",
+            multi_point(POINTS_MAX),
+            multi_point(POINTS_MAX + 1),
+            "vertex insert w 1 0 0 0 7 7",
+            "vertex insert w 1 1 0 0 7 7",
+            "box w 1",
+            "simple w 1",
         ),
-        lines_of("ok", "ok 1", "refused 9 TooManyVertices", "refused 9 TooManyVertices", "1 2 1 2", "false"),
+        lines_of("ok", "ok 1", "refused 9 TooManyVertices", "refused 9 TooManyVertices", NO_VERTEX, "1 2 1 2", "false"),
     ),
     "a session of a million bytes": long_session(),
 }
@@ -72,10 +80,11 @@ class Sizes(Preloaded):
     source = SINGLE_BYTES
 
     def test_sessions_in_one_piece_and_a_byte_at_a_time(self) -> None:
-        single = {"LD_PRELOAD": str(self.library), "STEP": "1"}
         for name, (text, wanted) in SESSIONS.items():
-            for variables in ({}, single):
-                with self.subTest(name, single=bool(variables)):
+            # A long text a byte at a time would take a minute.
+            few = {"LD_PRELOAD": str(self.library), "STEP": "1" if len(text) < 1_000_000 else "97"}
+            for variables in ({}, few):
+                with self.subTest(name, few=bool(variables)):
                     self.assertEqual(Call(STORE).run(text.encode(), variables).output.decode(), wanted)
 
     def test_the_longest_texts(self) -> None:

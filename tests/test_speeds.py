@@ -21,13 +21,14 @@ from functools import lru_cache
 from pathlib import Path
 
 TOP = Path(__file__).resolve().parent.parent
-sys.path.insert(0, str(TOP / "bench"))
+sys.path[:0] = [str(TOP / "bench"), str(TOP / "tools")]
 
+from programs import path_of  # noqa: E402
 from questions import ROUND, WINDOW, ring  # noqa: E402
 from towns import border, square, squares, street, town  # noqa: E402
 from towns import points as places_in_rows  # noqa: E402
 
-STORE = Path(os.environ.get("SFSTORE") or TOP / "crates" / "sfstore" / "out" / "sfstore")
+STORE = path_of("sfstore")
 RUNS = 2
 # A processor's seconds for one run, where a claim does not hold.
 SECONDS = 300

@@ -5,15 +5,19 @@ from __future__ import annotations
 import math
 import resource
 import subprocess
+import sys
 import tempfile
 import unittest
 from pathlib import Path
 
 TOP = Path(__file__).resolve().parent.parent
-STORE = TOP / "crates" / "sfstore" / "out" / "sfstore"
-PICTURE = TOP / "crates" / "sfmap" / "out" / "sfmap"
+sys.path.insert(0, str(TOP / "tools"))
+
+from programs import path_of  # noqa: E402
+
+STORE, PICTURE = path_of("sfstore"), path_of("sfmap")
 STACK_BYTES = 64 * 1024
-POINTS_MAX = 4_096
+POINTS_MAX = 65_536
 LAYERS_MAX = 65_535
 NO_VARIABLES: dict[str, str] = {}
 

@@ -2,27 +2,84 @@
 
 from __future__ import annotations
 
+import os
+import re
 import shutil
 import subprocess
+import tempfile
 import unittest
 from pathlib import Path
 
 TOP = Path(__file__).resolve().parent.parent
-SCRIPTS = ["bench/calls.py", "bench/counted.py", "bench/kept.py", "bench/planted.py", "bench/plants.py", "bench/unproved.py", "package/manual.py", "package/plugin.py", "tests/api.py", "tests/costs.py", "tests/english.py", "tests/made_pages.py", "tests/shown.py", "tests/trust.py", "tests/wrong_bodies.py", "build-programs"]
+SCRIPTS = [
+    "bench/calls.py",
+    "bench/counted.py",
+    "bench/kept.py",
+    "bench/planted.py",
+    "bench/plants.py",
+    "bench/unproved.py",
+    "build-programs",
+    "package/manual.py",
+    "package/plugin.py",
+    "tests/api.py",
+    "tests/costs.py",
+    "tests/english.py",
+    "tests/made_pages.py",
+    "tests/run.py",
+    "tests/shown.py",
+    "tests/test_crate_rows.py",
+    "tests/trust.py",
+    "tests/wrong_bodies.py",
+    "tools/building.py",
+    "tools/checkouts.py",
+    "tools/compiling.py",
+    "tools/gated.py",
+    "tools/programs.py",
+    "tools/starting.py",
+    "tools/tried.py",
+]
+# Folders whose modules scripts of other folders take.
+SHARED = "bench:tests:tools:python"
+
+STATIC = TOP / "python" / "sfstore" / "web" / "static"
+SCRIPTS_OF_PAGE = sorted(STATIC.glob("*.js"))
+IMPORT = re.compile(r'^import \{([^}]*)\} from "\./([^"]+)"', re.MULTILINE)
+EXPORT = re.compile(r"^export (?:async )?(?:class|function\*?|const|let) (\w+)", re.MULTILINE)
+FLAKE = re.compile(r"(.+?):(\d+):\d+:? .*")
+
+
+def python_files() -> list[Path]:
+    """All files of Python, those without the ending too."""
+    folders = [TOP / name for name in ("bench", "examples", "package", "python", "qgis", "tests", "tools")]
+    found = [path for folder in folders for path in folder.rglob("*.py") if "out" not in path.parts and "build" not in path.parts]
+    return sorted([*found, TOP / "build-programs", TOP / "package" / "build"])
+
+
+def is_wanted(file: Path, line: int) -> bool:
+    """Whether a line says itself that it stands there on purpose: by `noqa`, or by a name that it passes on."""
+    text = file.read_text(encoding="utf-8").splitlines()[line - 1]
+    return "noqa" in text or re.search(r"\bimport (\w+) as \1\b", text) is not None
 
 
 def said(*words: str) -> tuple[int, str]:
     """The status of a command that is run at the top, and what it said."""
-    ended = subprocess.run(words, cwd=TOP, capture_output=True, text=True)
+    ended = subprocess.run(words, cwd=TOP, env={**os.environ, "MYPYPATH": SHARED}, capture_output=True, text=True)
     return ended.returncode, ended.stdout + ended.stderr
 
 
 class Tools(unittest.TestCase):
     @unittest.skipUnless(shutil.which("mypy"), "no mypy")
     def test_types_of_scripts(self) -> None:
-        for script in SCRIPTS:
-            status, text = said("mypy", "--strict", "--cache-dir=/dev/null", script)
-            self.assertEqual(status, 0, text)
+        status, text = said("mypy", "--strict", "--scripts-are-modules", "--cache-dir=/dev/null", *SCRIPTS)
+        self.assertEqual(status, 0, text)
+
+    @unittest.skipUnless(shutil.which("pyflakes3"), "no pyflakes3")
+    def test_code_that_says_nothing_or_what_is_not_there(self) -> None:
+        """Names that nobody defines, and imports and values that nobody takes."""
+        _, text = said("pyflakes3", *map(str, python_files()))
+        told = [FLAKE.fullmatch(line) for line in text.splitlines()]
+        self.assertEqual([found[0] for found in told if found and not is_wanted(Path(found[1]), int(found[2]))], [])
+        self.assertNotIn(None, told, text)
 
     @unittest.skipUnless(shutil.which("bandit"), "no bandit")
     def test_weak_spots_of_the_module_are_answered(self) -> None:
@@ -31,8 +88,33 @@ class Tools(unittest.TestCase):
 
     @unittest.skipUnless(shutil.which("shellcheck"), "no shellcheck")
     def test_mistakes_of_the_shell(self) -> None:
-        status, text = said("shellcheck", "test", ".ci/run")
+        status, text = said("shellcheck", "test", "start", ".ci/run")
         self.assertEqual(status, 0, text)
+
+
+class Page(unittest.TestCase):
+    """The scripts of the page, without a browser."""
+
+    @unittest.skipUnless(shutil.which("node"), "no node")
+    def test_each_script_can_be_read(self) -> None:
+        with tempfile.TemporaryDirectory() as name:
+            for script in SCRIPTS_OF_PAGE:
+                # By this ending it is a module, as for the browser.
+                copy = Path(shutil.copy(script, Path(name) / f"{script.stem}.mjs"))
+                status, text = said("node", "--check", str(copy))
+                self.assertEqual(status, 0, text)
+
+    def test_what_is_imported_is_there(self) -> None:
+        exported = {script.name: set(EXPORT.findall(script.read_text(encoding="utf-8"))) for script in SCRIPTS_OF_PAGE}
+        imports = [
+            (script.name, file, name.split()[0])
+            for script in SCRIPTS_OF_PAGE
+            for names, file in IMPORT.findall(script.read_text(encoding="utf-8"))
+            for name in filter(str.strip, names.split(","))
+        ]
+        self.assertGreater(len(imports), 20)
+        for script, file, imported in imports:
+            self.assertIn(imported, exported.get(file, set()), f"{script}: {file}")
 
 
 if __name__ == "__main__":

@@ -68,7 +68,7 @@ class Words(unittest.TestCase):
     def test_a_new_store_is_saved(self) -> None:
         """The bytes of a store with nothing in it (docs/use/FORMAT.md)."""
         self.run_with("--save new", "")
-        self.assertEqual((self.folder / "new").read_bytes(), b"SFSTORE2\x18\0\0\0\0")
+        self.assertEqual((self.folder / "new").read_bytes(), b"SFSTORE4\x1f\0\0\0\0\0\0")
 
 
 if __name__ == "__main__":

@@ -18,6 +18,10 @@ from pathlib import Path
 from made_pages import settle
 
 TOP = Path(__file__).resolve().parent.parent
+sys.path.insert(0, str(TOP / "bench"))
+
+import turns  # noqa: E402
+
 CRATES = TOP / "crates"
 PAGE = TOP / "docs" / "trust" / "WRONG_BODIES.md"
 
@@ -95,9 +99,13 @@ def page() -> str:
     return "\n".join(parts)
 
 
-INTRODUCTION = """# Wrong bodies
+INTRODUCTION = f"""# Wrong bodies
 
-`must-fail/` of a crate has changes of code that the prover has to refuse: the gate tries each, and fails where one is proved. They show that a contract says what it is there to say. A crate has at most four, those that its users would notice first; `bench/plants.py` tries others, and `rt plant` more where a crate is worked on.
+A wrong body is a change of code that the prover has to refuse. It shows that a contract says what it is there to say. A test, or the gate itself, fails where one is proved.
+
+- Those of `must-fail/`, on this page, are tried by each run of the gate. They are few, of crates where that is cheap, and each promise of the headline has some. A crate has at most four.
+- Those of `bench/plants` are tried behind the gate, over the libraries that it has just proved: at most {turns.CHANGED} of the crates that differ from the commit's first parent, and {turns.OTHERS} of the others. The commit chooses which, so other commits try others (`bench/turns.py`). What is tried stays as much, however many there are.
+- `bench/kept.py` tries all of a crate, and `rt plant` further ones where a crate is worked on.
 
 `tests/wrong_bodies.py --write` makes this page, and a test fails where it is out of date. Beside each wrong body stands the function that it changes, with the clauses of that function's contract.
 """
