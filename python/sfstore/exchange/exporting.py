@@ -15,11 +15,15 @@ from collections.abc import Callable
 from dataclasses import dataclass
 
 from sfstore import files, journal, sidecar
+from sfstore.commandline import add_version
 from sfstore.exchange import ogr, outcome, rulesfile
 from sfstore.exchange.formats import FORMATS, Part, format_of, parts_of, rules_kept
+from sfstore.exchange.geojson import crs_member
 from sfstore.exchange.grid import Grid
-from sfstore.exchange.placing import Place, check_free, placed
-from sfstore.exchange.writing import write_data, write_database
+from sfstore.exchange.placing import Place, placed
+from sfstore.exchange.postgis import write_database
+from sfstore.exchange.writing import write_data
+from sfstore.program import ProgramMissing
 from sfstore.results import Rule
 from sfstore.sidecar import Sidecar
 from sfstore.storefile import FileLayer, fault_words
@@ -28,6 +32,8 @@ from sfstore.storefile import read_with_rules as read_store
 __all__ = ["Wishes", "give_back", "main"]
 
 Say = Callable[[str], object]
+
+NO_CRS = "that the reference system is unknown: programs take degrees"
 
 
 @dataclass(frozen=True)
@@ -50,6 +56,8 @@ class Wishes:
     """The name of its reference system."""
     rules: str | None = None
     """The file that all rules are written to."""
+    is_same_map: bool = False
+    """Whether the side-car is that of the store, though a program has saved the store without it."""
 
 
 def give_back(wishes: Wishes, say: Say) -> None:
@@ -75,6 +83,8 @@ def give_back(wishes: Wishes, say: Say) -> None:
         say(line)
     kept = rules_kept(rules, parts, wanted)
     losses += wanted.losses(parts)
+    if wishes.format == "GeoJSON" and crs_member(found.crs) is None:
+        losses.append("the reference system, which has no code: programs take degrees" if found.crs else NO_CRS)
     if wishes.rules is None:
         losses += [f"the rule {rule.line}" for rule in rules if rule not in kept]
     for loss in losses:
@@ -181,9 +191,12 @@ def _loaded(wishes: Wishes) -> tuple[list[FileLayer], list[Rule], Sidecar]:
     path = wishes.store
     before = files.digest(path) if os.path.exists(path) else ""
     words = [wishes.program, f"--load={path}"]
-    ended = subprocess.run(  # nosec B603: a list of words, of which one is a path.
-        words, stdin=subprocess.DEVNULL, stdout=subprocess.PIPE
-    )
+    try:
+        ended = subprocess.run(  # nosec B603: a list of words, of which one is a path.
+            words, stdin=subprocess.DEVNULL, stdout=subprocess.PIPE
+        )
+    except FileNotFoundError:
+        raise ProgramMissing(words[0]) from None
     if ended.returncode:
         last = ended.stdout.decode("utf-8", "replace").strip()
         raise ogr.ExchangeError(f"{path} does not load: {fault_words(path, last)}")
@@ -203,11 +216,10 @@ def _sidecar(wishes: Wishes) -> Sidecar:
     sidecar.settle(wishes.store)
     path = sidecar.path_of(wishes.store)
     if wishes.grid is not None:
-        if os.path.lexists(path):
-            raise sidecar.SidecarError(f"{path} has the grid already: leave out --grid and --crs")
+        sidecar.check_none(wishes.store)
         crs = ogr.crs_named(wishes.crs) if wishes.crs else None
         return Sidecar(wishes.grid.words, crs, [])
-    found = sidecar.read(wishes.store)
+    found = sidecar.read(wishes.store, wishes.is_same_map)
     try:
         Grid(*found.grid)
     except ValueError as error:
@@ -234,9 +246,11 @@ def _parser() -> argparse.ArgumentParser:
         "--grid", nargs=3, metavar=("OX", "OY", "STEP"), help="the grid of a store that was not imported"
     )
     parser.add_argument("--crs", help="its reference system, such as EPSG:25832")
+    parser.add_argument("--same-map", action="store_true", help="the side-car is the store's for certain")
     parser.add_argument("--rules", metavar="RULES", help="write the rules to this file, for --rules of sfstore-import")
     parser.add_argument("--overwrite", action="store_true", help="replace files of the names that are written")
     parser.add_argument("--program", default="sfstore", help="the program sfstore")
+    add_version(parser)
     return parser
 
 
@@ -249,6 +263,8 @@ def main(words: list[str] | None = None) -> int:
         parser.error("the target names no format: end it with .gpkg, or say --format")
     if asked.crs and not asked.grid:
         parser.error("--crs goes with --grid")
+    if asked.same_map and asked.grid:
+        parser.error("--same-map takes the grid of the side-car: leave out --grid")
     store = os.path.realpath(asked.file)
     if os.path.realpath(asked.target) in (store, sidecar.path_of(store)):
         parser.error("the target is the store's own file")
@@ -268,6 +284,7 @@ def main(words: list[str] | None = None) -> int:
         grid,
         asked.crs,
         asked.rules,
+        asked.same_map,
     )
 
     def work() -> int:

@@ -2,10 +2,12 @@
 
 from __future__ import annotations
 
+import math
 from collections.abc import Callable, Iterable
 from dataclasses import dataclass
 from typing import NamedTuple
 
+from sfstore.exchange.columns import DATE, DATE_TIME, REAL, STRING, Sort, Survey, sort_of, surveyed
 from sfstore.exchange.ogr import printable
 from sfstore.results import Rule
 from sfstore.sidecar import ColumnOrigin, LayerOrigin, Sidecar
@@ -32,6 +34,15 @@ class Part(NamedTuple):
     """The column of the identifiers, where the format has one."""
     geometry_column: str
     """The column of the geometries, where the format has one."""
+    survey: Survey
+    """What the layer has."""
+    sorts: dict[int, Sort]
+    """The types of the columns by their numbers."""
+
+    @property
+    def next_id(self) -> int:
+        """The identifier that the store gives next."""
+        return self.layer.next_id
 
 
 @dataclass(frozen=True)
@@ -61,6 +72,11 @@ class Format:
     """The columns of identifiers and geometries, where the source names none."""
     rules_max: int = 0
     """How many rules of a store it has a place for."""
+    kept_types: frozenset[str] = frozenset((REAL,))
+    """The types of columns that it has beside whole numbers and texts."""
+    keeps_identifiers: bool = True
+    largest_real: float = math.inf
+    """Reals are below it, or their column goes out as texts."""
 
     @property
     def ending(self) -> str:
@@ -122,6 +138,26 @@ def _part(
     name = _layer_name(wanted, names, written)
     if name != wanted:
         told.append(f"the name {printable(wanted)} of a layer: it is {printable(name)} there")
+    columns, lost = _column_names(layer, origin, written)
+    told += lost
+    own, lost = _own_names(origin, set(columns.values()), written)
+    told += lost
+    origins = _column_origins(layer, origin)
+    survey = surveyed(layer, origins)
+    sorts = {
+        column.number: sort_of(
+            column, origins.get(column.number), survey, written.kept_types, written.largest_real
+        )
+        for column in layer.columns
+    }
+    told += _types_lost(layer, origins, survey, sorts, written)
+    identifier_column, geometry_column = own
+    return Part(layer, origin, name, columns, identifier_column, geometry_column, survey, sorts), told
+
+
+def _column_names(layer: FileLayer, origin: LayerOrigin, written: Format) -> tuple[dict[int, str], list[str]]:
+    """The names of columns by their numbers, and those that the format can't keep, in words."""
+    told = []
     taken: set[str] = set(written.reserved_columns)
     columns = {}
     for column in layer.columns:
@@ -133,15 +169,47 @@ def _part(
                 f"the name {printable(wanted)} of a column of {layer.name}: "
                 f"it is {printable(columns[column.number])} there"
             )
-    own = []
-    if written.own_columns:
-        asked = origin.identifier_column, origin.geometry_column
-        for wanted, usual in zip(asked, written.own_columns):
-            own.append(_free(wanted or usual, taken, True, written.longest))
-            if own[-1] != (wanted or usual):
-                shown = printable(wanted or usual)
-                told.append(f"the name {shown} of a column that OGR makes: it is {own[-1]} there")
-    return Part(layer, origin, name, columns, *(own or ["", ""])), told
+    return columns, told
+
+
+def _own_names(origin: LayerOrigin, columns: set[str], written: Format) -> tuple[list[str], list[str]]:
+    """The names of the columns of identifiers and geometries, and what is to be said of them."""
+    if written.own_columns is None:
+        return ["", ""], []
+    told, own = [], []
+    taken = {name.casefold() for name in columns}
+    for known, usual in zip((origin.identifier_column, origin.geometry_column), written.own_columns):
+        wanted = known or usual
+        own.append(_free(wanted, taken, True, written.longest))
+        if own[-1] != wanted:
+            told.append(f"the name {printable(wanted)} of a column that OGR makes: it is {own[-1]} there")
+    return own, told
+
+
+def _column_origins(layer: FileLayer, origin: LayerOrigin) -> dict[int, ColumnOrigin]:
+    """What the columns were in the source, by their numbers."""
+    found = ((column.number, column_origin(origin, column)) for column in layer.columns)
+    return {number: known for number, known in found if known}
+
+
+def _types_lost(
+    layer: FileLayer, origins: dict[int, ColumnOrigin], survey: Survey, sorts: dict[int, Sort], written: Format
+) -> list[str]:
+    """What is to be said of columns that do not go back as the type of the source, though the format has it."""
+    told = []
+    for column in layer.columns:
+        known = origins.get(column.number)
+        texts = survey.texts.get(column.number)
+        if texts is not None and texts.other_form is not None and sorts[column.number].type != STRING:
+            shown = printable(texts.other_form[:40])
+            told.append(f"the form of texts of column {column.name} of {layer.name}, such as {shown!r}")
+        if known is None or known.type not in written.kept_types or sorts[column.number].type == known.type:
+            continue
+        why = ""
+        if texts is not None and texts.other is not None:
+            why = f", since feature {texts.other[0]} has {printable(texts.other[1][:40])!r}"
+        told.append(f"the type {known.type} of column {column.name} of {layer.name}{why}")
+    return told
 
 
 def column_origin(origin: LayerOrigin, column: FileColumn) -> ColumnOrigin | None:
@@ -186,9 +254,8 @@ def _counters(parts: list[Part]) -> list[str]:
     """A loss: the counters, where a round trip would set them back."""
     for part in parts:
         layer = part.layer
-        last = layer.features[-1].id if layer.features else 0
         numbers = [column.number for column in layer.columns]
-        if layer.next_id > last + 1 or numbers != list(range(1, layer.next_column)):
+        if layer.next_id > part.survey.last + 1 or numbers != list(range(1, layer.next_column)):
             return ["that identifiers or column numbers were used before, by what is deleted now"]
     return []
 
@@ -205,11 +272,10 @@ def _geojson_losses(parts: list[Part]) -> list[str]:
     losses = _order(parts) + _counters(parts)
     for part in parts:
         layer = part.layer
-        used = {number for feature in layer.features for number in feature.values}
-        empty = [column.name for column in layer.columns if column.number not in used]
+        empty = [column.name for column in layer.columns if column.number not in part.survey.used]
         if empty:
             losses.append(f"columns of {layer.name} without a value: {', '.join(empty)}")
-        if not layer.features:
+        if not part.survey.count:
             losses.append(f"the kind of {layer.name}, which is empty")
     return losses
 
@@ -222,15 +288,34 @@ def _shapefile_losses(parts: list[Part]) -> list[str]:
     losses = ["identifiers", "the direction of rings", "whether a Multi form has one member"]
     losses += _order(parts) + _counters(parts)
     for part in parts:
-        values = [value for feature in part.layer.features for value in feature.values.values()]
-        texts = [value for value in values if isinstance(value, str)]
-        if any(len(text.encode("utf-8")) > 254 for text in texts):
-            losses.append(f"the 255th byte of texts of {part.layer.name}")
-        if "" in texts:
-            losses.append(f"empty texts of {part.layer.name}: they have no value then")
-        if any(isinstance(value, int) and abs(value) >= 10**18 for value in values):
-            losses.append(f"whole numbers of {part.layer.name} with more than 18 digits")
+        losses += _shapefile_layer_losses(part)
     return losses
+
+
+def _shapefile_layer_losses(part: Part) -> list[str]:
+    """What a Shapefile does not keep of a layer."""
+    name = part.layer.name
+    texts = [part.survey.texts[number] for number, sort in part.sorts.items() if sort.type == STRING]
+    reals = [column.name for column in part.layer.columns if _has_long_reals(part, column.number)]
+    numbers = part.survey.numbers
+    wide = [column.name for column in part.layer.columns if column.number in numbers and _is_wide(part, column.number)]
+    lost = {
+        f"the 255th byte of texts of {name}": any(text.most_bytes > 254 for text in texts),
+        f"empty texts of {name}: they have no value then": any(text.has_empty for text in texts),
+        f"blanks at the begin and end of texts of {name}": any(text.has_blank_end for text in texts),
+        f"digits of {', '.join(wide)} of {name} behind the 15th, since a number has more than 18 characters": bool(wide),
+        f"decimals of {', '.join(reals)} of {name} behind the 15th": bool(reals),
+        f"that {name} has no columns: it gets a column FID": not part.layer.columns,
+    }
+    return [loss for loss, is_lost in lost.items() if is_lost]
+
+
+def _has_long_reals(part: Part, number: int) -> bool:
+    return part.sorts[number].type == REAL and number in part.survey.texts and part.survey.texts[number].has_long_real
+
+
+def _is_wide(part: Part, number: int) -> bool:
+    return part.sorts[number].type != REAL and part.survey.numbers[number].are_wide
 
 
 def rules_kept(rules: list[Rule], parts: Iterable[Part], written: Format) -> list[Rule]:
@@ -254,17 +339,28 @@ FORMATS = {
         reserved_layers=("gpkg_", "sqlite_", "rtree_"),
         own_columns=("fid", "geom"),
         rules_max=RULES_MAX,
+        kept_types=frozenset((REAL, DATE, DATE_TIME)),
     ),
     "PostgreSQL": Format(
         (),
         True,
         _database_losses,
+        is_folded=True,
         longest=63,
-        reserved_columns=frozenset(("ctid", "xmin", "xmax", "cmin", "cmax", "tableoid")),
+        reserved_columns=frozenset(
+            ("ctid", "xmin", "xmax", "cmin", "cmax", "tableoid", "ogc_fid", "wkb_geometry")
+        ),
         own_columns=("ogc_fid", "wkb_geometry"),
+        kept_types=frozenset((REAL, DATE, DATE_TIME, "DateTime without zone")),
     ),
     "GeoJSON": Format((".geojson",), False, _geojson_losses),
-    "FlatGeobuf": Format((".fgb",), False, _flatgeobuf_losses),
+    "FlatGeobuf": Format(
+        (".fgb",),
+        False,
+        _flatgeobuf_losses,
+        kept_types=frozenset((REAL, DATE_TIME)),
+        keeps_identifiers=False,
+    ),
     "ESRI Shapefile": Format(
         (".shp", ".shx", ".dbf", ".prj", ".cpg"),
         False,
@@ -275,6 +371,10 @@ FORMATS = {
         ),
         is_folded=True,
         longest=10,
+        kept_types=frozenset((REAL, DATE)),
+        keeps_identifiers=False,
+        # A number has room for 24 characters, 15 of which are decimals.
+        largest_real=1e15,
     ),
 }
 """The formats by OGR's names."""

@@ -10,13 +10,22 @@ from fractions import Fraction
 
 from sfstore.language import GRID_MAX, GRID_MIN
 
-__all__ = ["LEAST", "MOST", "Grid", "OffGrid", "Outside", "Rounding"]
+__all__ = ["LEAST", "MOST", "NOISE_ULPS", "Grid", "OffGrid", "Outside", "Rounding"]
 
 LEAST, MOST = GRID_MIN, GRID_MAX
 """The coordinates of the store, in steps from the origin."""
 
 # Further than the nearest step can be from the one that a quotient of doubles tells.
 _FAR = 2 * MOST
+
+NOISE_ULPS = 8
+"""How many units in the last place a double may differ from a coordinate of the grid that it is taken for.
+
+Each operation on doubles, as a sum of an origin and steps, is off by half a unit of its largest number.
+"""
+
+# A step has room for so many times what doubles may differ, or nothing is taken for noise.
+_STEPS_OF_NOISE = 1_000
 
 
 class OffGrid(ValueError):
@@ -29,22 +38,30 @@ class Outside(ValueError):
 
 @dataclass
 class Rounding:
-    """How far coordinates were moved to the nearest step, in the units of the source."""
+    """How far coordinates are from the steps that they are taken for, in the units of the source."""
 
+    is_asked: bool = True
+    """Whether coordinates may be moved to the nearest step. Else those alone are taken that differ by noise."""
     moved: int = 0
     """How many coordinates were moved."""
     total: float = 0.0
     """How far all of them together."""
     most: float = 0.0
     """How far the one that was moved furthest."""
+    noisy: int = 0
+    """How many coordinates differed from a step by no more than doubles do."""
+    most_noise: float = 0.0
+    """How far the one that differed most."""
 
 
 class Grid:
     """Steps from an origin, all three exact decimals.
 
     A double is *on* the grid if it is the one nearest to origin + k * step for a whole k. So the
-    double that a step stands for is the one that came in. `ValueError` where a word is no decimal,
-    or the step is not above 0.
+    double that a step stands for is the one that came in. One that differs from that by `NOISE_ULPS` units in the
+    last place at most is taken for it. The units are those of the largest of the double, the origin and the step:
+    whoever has computed it has computed with these. `ValueError` where a word is no decimal, or the step is not
+    above 0.
     """
 
     words: tuple[str, str, str]
@@ -74,8 +91,8 @@ class Grid:
     def steps(self, places: Sequence[float], rounding: Rounding | None = None) -> list[int]:
         """The steps of doubles, x and y in turn.
 
-        `OffGrid` where one is no step, unless ``rounding`` is given: the nearest step is taken
-        then, and counted there. `Outside` where one is too far from the origin.
+        `OffGrid` where one is no step, unless rounding is asked for: the nearest step is taken then. What is moved,
+        or taken for a step, is counted in ``rounding``. `Outside` where one is too far from the origin.
         """
         origin, step, denominator = self._origin, self._step, self._denominator
         near_origin, near_step = self._near_origin, self._near_step
@@ -92,16 +109,31 @@ class Grid:
             if (origin[axis] + k * step) / denominator != place:
                 k = self._nearest(place, axis)
                 moved = abs((origin[axis] + k * step) / denominator - place)
-                if moved and rounding is None:
+                if moved and not self._is_taken(moved, place, axis, rounding):
                     raise OffGrid(f"{'xy'[axis]} {place!r} of point {index // 2}")
-                if moved and rounding is not None:
-                    rounding.moved += 1
-                    rounding.total += moved
-                    rounding.most = max(rounding.most, moved)
             if not LEAST <= k <= MOST:
                 raise Outside(f"{'xy'[axis]} {place!r} of point {index // 2}")
             found.append(k)
         return found
+
+    def noise(self, place: float, axis: int) -> float:
+        """How far a double may be from a step that it is taken for."""
+        noise = NOISE_ULPS * math.ulp(max(abs(place), abs(self._near_origin[axis]), self._near_step))
+        return noise if noise * _STEPS_OF_NOISE <= self._near_step else 0.0
+
+    def _is_taken(self, moved: float, place: float, axis: int, rounding: Rounding | None) -> bool:
+        """Whether a double is taken for a step that it is so far from. That is counted."""
+        if moved <= self.noise(place, axis):
+            if rounding is not None:
+                rounding.noisy += 1
+                rounding.most_noise = max(rounding.most_noise, moved)
+            return True
+        if rounding is None or not rounding.is_asked:
+            return False
+        rounding.moved += 1
+        rounding.total += moved
+        rounding.most = max(rounding.most, moved)
+        return True
 
     @property
     def fractions(self) -> tuple[int, int, int, int]:

@@ -7,18 +7,23 @@ that is not taken is reported by layer, identifier and reason.
 from __future__ import annotations
 
 import argparse
+import contextlib
 import os
 import sys
+from collections import Counter
+from collections.abc import Iterator
 from dataclasses import dataclass, replace
 from functools import partial
 from typing import Any, NamedTuple
 
 from sfstore import sidecar
+from sfstore.commandline import add_version
 from sfstore.exchange import ogr, outcome, rulesfile, wayback
 from sfstore.exchange.adding import Broken, add
 from sfstore.exchange.grid import Grid
 from sfstore.exchange.publishing import check_target, publish
-from sfstore.exchange.reading import LayerImport, Taking, new_name
+from sfstore.exchange.names import new_name
+from sfstore.exchange.reading import LayerImport, Taking
 from sfstore.exchange.reports import FEATURE_FORMATS, Report
 from sfstore.exchange.suggesting import suggestion
 from sfstore.exchange.telling import Brought, BroughtFeature, Telling
@@ -56,6 +61,24 @@ class Wishes:
     """Whether the source may be of any format that OGR opens."""
     rules: str | None = None
     """A file of rules that a new store is to have."""
+    parts_collections: bool = False
+    """Whether each member of a collection becomes a feature."""
+    mends: bool = False
+    """Whether geometries that the program refuses are mended."""
+    is_same_map: bool = False
+    """Whether the side-car is that of the store, though a program has saved the store without it."""
+
+    def taking(self, keeps_identifiers: bool = True) -> Taking:
+        """How features are taken."""
+        return Taking(
+            self.program,
+            self.rounds,
+            self.drops_zm,
+            self.as_text,
+            self.parts_collections,
+            self.mends,
+            keeps_identifiers,
+        )
 
 
 class Result(NamedTuple):
@@ -125,21 +148,41 @@ def bring_in(wishes: Wishes) -> Result:
     check_target(wishes.target, wishes.overwrite)
     rules = [] if wishes.rules is None else rulesfile.read(wishes.rules)
     report = Report()
-    sources = _opened(wishes, report)
-    left = _way_back(sources[0], report)
-    grid = wishes.grid or left.grid
-    if grid is None:
-        raise ogr.ExchangeError("the grid is missing: say --grid OX OY STEP, or ask with --suggest")
-    crs, layers = _of_one_crs(_chosen_layers(sources, wishes.layers, left), report)
-    contents, readings = _read_layers(wishes, layers, grid, left, report)
+    with _heard(wishes, report):
+        sources = _opened(wishes, report)
+        left = _way_back(sources[0], report)
+        grid = wishes.grid or left.grid
+        if grid is None:
+            raise ogr.ExchangeError("the grid is missing: say --grid OX OY STEP, or ask with --suggest")
+        crs, layers = _of_one_crs(_chosen_layers(sources, wishes.layers, left), report)
+        contents, readings = _read_layers(wishes, layers, grid, left, report)
     found = Sidecar(grid.words, crs, [reading.origin() for reading in readings])
     rulings = publish(wishes.target, contents, found, wishes.program, wishes.overwrite, left.rules + rules)
     brought = {
         content.name: Brought(reading.source_name, partial(_features, content, reading))
         for content, reading in zip(contents, readings)
     }
-    Telling(os.path.basename(wishes.source), brought, grid, report).tell(rulings)
+    Telling(_shown_source(wishes), brought, grid, report).tell(rulings)
     return Result(report, crs)
+
+
+def _shown_source(wishes: Wishes) -> str:
+    """The name of a source in the report. That of a database may have a password in it."""
+    return "the database" if wishes.source.startswith("PG:") else os.path.basename(wishes.source)
+
+
+@contextlib.contextmanager
+def _heard(wishes: Wishes, report: Report) -> Iterator[None]:
+    """Reports what OGR warns of while it reads: it may have changed something."""
+    with ogr.hearing() as warnings:
+        try:
+            yield
+        except BaseException:
+            for warning in warnings:
+                print(f"OGR warns: {ogr.printable(warning)}", file=sys.stderr)
+            raise
+    for warning in warnings:
+        report.problem(_shown_source(wishes), None, "OGR warns", warning)
 
 
 def _opened(wishes: Wishes, report: Report) -> list[Any]:
@@ -166,20 +209,30 @@ def _read_layers(
     report: Report,
 ) -> tuple[list[FileLayer], list[LayerImport]]:
     """The layers as the store is to have them, and what has read them."""
-    taking = Taking(wishes.program, wishes.rounds, wishes.drops_zm, wishes.as_text)
     names: set[str] = set()
     contents, readings = [], []
-    for source, layer in layers:
+    for (source, layer), shown in zip(layers, _shown_names(layers)):
         told = left.layer(layer.GetName())
         name = new_name(told.store_name if told else layer.GetName(), names)
         if name != layer.GetName():
-            report.note(layer.GetName(), f"the layer has the name {name}")
-        reading = LayerImport(source, layer, name, grid, taking, told, report)
+            report.note(shown, f"the layer has the name {name}")
+        reading = LayerImport(source, layer, name, grid, wishes.taking(), told, report, shown=shown)
         contents.append(reading.read())
         readings.append(reading)
         if told is not None:
             wayback.take_counters(contents[-1], told)
     return contents, readings
+
+
+def _shown_names(layers: list[_SourceLayer]) -> list[str]:
+    """The names of layers in the report. Those that several have are told apart by their sources."""
+    counts = Counter(layer.name for layer in layers)
+    return [
+        layer.name
+        if counts[layer.name] == 1
+        else f"{layer.name} ({os.path.basename(layer.source.GetDescription())})"
+        for layer in layers
+    ]
 
 
 def add_in(wishes: Wishes) -> Result:
@@ -191,7 +244,8 @@ def add_in(wishes: Wishes) -> Result:
     if not os.path.isfile(path):
         raise ogr.ExchangeError(f"{wishes.target} is no store that is there: leave out --add")
     report = Report()
-    sources = _opened(wishes, report)
+    with _heard(wishes, report):
+        sources = _opened(wishes, report)
     # It is held from here on, so that its layers stay as they are.
     store = Store(path, journal=True, program=wishes.program)
     try:
@@ -202,13 +256,14 @@ def add_in(wishes: Wishes) -> Result:
 
 def _added(wishes: Wishes, store: Store, path: str, sources: list[Any], report: Report) -> Result:
     """Adds sources to a store."""
-    known = _known(path, wishes.grid)
+    known = _known(path, wishes)
     grid = Grid(*known.grid)
     left = _way_back(sources[0], report)
     crs, layers = _of_one_crs(_chosen_layers(sources, wishes.layers, left), report, known.crs)
     if left.rules:
-        report.note(os.path.basename(wishes.source), f"{len(left.rules)} rules of it are left aside")
-    contents, readings = _read_into(wishes, store, layers, known, left, report)
+        report.note(_shown_source(wishes), f"{len(left.rules)} rules of it are left aside")
+    with _heard(wishes, report):
+        contents, readings = _read_into(wishes, store, layers, known, left, report)
     added = add(store, path, wishes.program, contents)
     names = {content.name: reading.source_name for content, reading in zip(contents, readings)}
     if added.refused is not None:
@@ -217,7 +272,7 @@ def _added(wishes: Wishes, store: Store, path: str, sources: list[Any], report: 
             content.name: Brought(names[content.name], partial(_numbered, content, added.identifiers))
             for content in contents
         }
-        telling = Telling(os.path.basename(wishes.source), brought, grid, report)
+        telling = Telling(_shown_source(wishes), brought, grid, report)
         for rule, layer, breaks in added.broken:
             telling.tell_broken(rule, layer, breaks, f"breaks the rule {rule.line}")
         return Result(report, crs, fault=_fault(added.refused, added.broken))
@@ -226,19 +281,18 @@ def _added(wishes: Wishes, store: Store, path: str, sources: list[Any], report: 
     return Result(report, crs, _steps(wishes.target, added.steps))
 
 
-def _known(path: str, grid: Grid | None) -> Sidecar:
+def _known(path: str, wishes: Wishes) -> Sidecar:
     """The side-car of a store, or where it has none one of a grid. `sidecar.SidecarError` for both, and for neither."""
-    if grid is None:
-        found = sidecar.read(path)
+    if wishes.grid is None:
+        found = sidecar.read(path, wishes.is_same_map)
         try:
             Grid(*found.grid)
         except ValueError as error:
             raise sidecar.SidecarError(f"{sidecar.path_of(path)} has no grid: {error}") from None
         return found
     sidecar.settle(path)
-    if os.path.lexists(sidecar.path_of(path)):
-        raise sidecar.SidecarError(f"{sidecar.path_of(path)} has the grid already: leave out --grid")
-    return Sidecar(grid.words, None, [])
+    sidecar.check_none(path)
+    return Sidecar(wishes.grid.words, None, [])
 
 
 def _read_into(
@@ -250,20 +304,24 @@ def _read_into(
     report: Report,
 ) -> tuple[list[FileLayer], list[LayerImport]]:
     """Those layers of a source that a store has, with their features that it takes. The others are reported."""
-    taking = Taking(wishes.program, wishes.rounds, wishes.drops_zm, wishes.as_text, keeps_identifiers=False)
+    taking = wishes.taking(keeps_identifiers=False)
     kinds = {layer.name: layer.kind for layer in store.layers()}
     origins = {origin.source_name: wayback.left_of(origin) for origin in known.layers}
     names: set[str] = set()
     contents, readings = [], []
-    for source, layer in layers:
+    for (source, layer), shown in zip(layers, _shown_names(layers)):
         told = left.layer(layer.GetName()) or origins.get(layer.GetName())
         name = new_name(told.store_name if told else layer.GetName(), names)
         if name not in kinds:
             detail = f"{name}: its {layer.GetFeatureCount()} features are left out"
-            report.problem(layer.GetName(), None, "the store has no such layer", detail)
+            report.problem(shown, None, "the store has no such layer", detail)
             continue
-        reading = LayerImport(source, layer, name, Grid(*known.grid), taking, told, report, kinds[name])
-        contents.append(_fitted(reading.read(), store.columns(name), reading.source_name, report))
+        columns = store.columns(name)
+        types = {column.name: column.type for column in columns}
+        reading = LayerImport(
+            source, layer, name, Grid(*known.grid), taking, told, report, kinds[name], types, shown
+        )
+        contents.append(_fitted(reading.read(), columns, reading.source_name, report))
         readings.append(reading)
     return contents, readings
 
@@ -338,29 +396,37 @@ def parser() -> argparse.ArgumentParser:
     wanted = argparse.ArgumentParser(
         prog="sfstore-import",
         usage="%(prog)s SOURCE FILE --grid OX OY STEP, %(prog)s SOURCE FILE --add, or %(prog)s --suggest SOURCE",
-        description="Makes the store's FILE of SOURCE: a GeoPackage, GeoJSON, FlatGeobuf, Shapefile, or PG:dbname=..",
-        epilog="Status 0: all was taken; 1: written, but something was left out; 2: wrong words; "
+        description="Makes the store's FILE of a .gpkg, .geojson, .fgb, .shp, or of PG:dbname=..",
+        epilog="Status 0: all was taken; 1: not all; 2: wrong words; "
         f"{outcome.EPILOG} More: man sfstore-import, docs/use/EXCHANGE.md",
+        add_help=False,
     )
+    # Without a title a line more of the screen is left.
+    options = wanted.add_argument_group()
+    options.add_argument("-h", "--help", action="help", help="show this help message and exit")
     wanted.add_argument("source", help=argparse.SUPPRESS)
     wanted.add_argument("file", nargs="?", help=argparse.SUPPRESS)
-    wanted.add_argument(
+    options.add_argument(
         "--grid", nargs=3, metavar=("OX", "OY", "STEP"), help="origin and step, in units of the source"
     )
-    wanted.add_argument("--suggest", action="store_true", help="look at the source and propose a grid")
-    wanted.add_argument("--round", action="store_true", help="move coordinates to the nearest step")
-    wanted.add_argument("--drop-zm", action="store_true", help="drop Z and M")
-    wanted.add_argument("--as-text", action="store_true", help="keep columns of other types as texts")
-    wanted.add_argument(
+    options.add_argument("--suggest", action="store_true", help="look at the source and propose a grid")
+    options.add_argument("--round", action="store_true", help="move coordinates to the nearest step")
+    options.add_argument("--drop-zm", action="store_true", help="drop Z and M")
+    options.add_argument("--as-text", action="store_true", help="keep columns of other types as texts")
+    options.add_argument("--part-collections", action="store_true", help="make a feature of each member of a collection")
+    options.add_argument("--mend", action="store_true", help="mend geometries that are refused, and report each")
+    options.add_argument(
         "--layer", action="append", default=[], metavar="NAME", help="a layer of the source; repeated, in drawing order"
     )
-    wanted.add_argument("--any-format", action="store_true", help="read whatever OGR opens")
-    wanted.add_argument("--add", action="store_true", help="add to the store of FILE, as one step of its history")
-    wanted.add_argument("--rules", metavar="RULES", help="add the rules of this file to the new store")
-    wanted.add_argument("--report", metavar="FILE", help="write all that did not fit as text")
-    wanted.add_argument("--faulty", metavar="FILE", help="write what did not fit, .geojson or .gpkg")
-    wanted.add_argument("--overwrite", action="store_true", help="replace files, reports too")
-    wanted.add_argument("--program", default="sfstore", help="the program sfstore")
+    options.add_argument("--any-format", action="store_true", help="read whatever OGR opens")
+    options.add_argument("--add", action="store_true", help="add to the store of FILE, as one step of its history")
+    options.add_argument("--same-map", action="store_true", help="with --add: the side-car is the store's for certain")
+    options.add_argument("--rules", metavar="RULES", help="add the rules of this file to the new store")
+    options.add_argument("--report", metavar="FILE", help="write all that did not fit as text")
+    options.add_argument("--faulty", metavar="FILE", help="write what did not fit, .geojson or .gpkg")
+    options.add_argument("--overwrite", action="store_true", help="replace files, reports too")
+    options.add_argument("--program", default="sfstore", help="the program sfstore")
+    add_version(options)
     return wanted
 
 
@@ -394,6 +460,8 @@ def main(words: list[str] | None = None) -> int:
         return outcome.ended("sfstore-import", lambda: _suggest(asked))
     if asked.file is None:
         wanted.error("the store's file is missing")
+    if asked.same_map and not asked.add:
+        wanted.error("--same-map goes with --add")
     if asked.rules and asked.add:
         wanted.error("--rules goes with a new store, and not with --add")
     _check_files(wanted, asked)
@@ -405,7 +473,7 @@ def _suggest(asked: argparse.Namespace) -> int:
     for name, reason in opened.left_out:
         print(f"{ogr.printable(name)} does not open: {reason}", file=sys.stderr)
     chosen = _chosen_layers(opened.data, asked.layer, wayback.WayBack())
-    print(suggestion([found.layer for found in chosen]), end="")
+    print(suggestion([found.layer for found in chosen], asked.drop_zm, asked.part_collections), end="")
     return 0
 
 
@@ -425,6 +493,9 @@ def _bring_in(asked: argparse.Namespace, grid: Grid | None) -> int:
         asked.program,
         asked.any_format,
         asked.rules,
+        asked.part_collections,
+        asked.mend,
+        asked.same_map,
     )
     report, crs, said, fault = add_in(wishes) if asked.add else bring_in(wishes)
     try:

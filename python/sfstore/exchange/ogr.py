@@ -19,6 +19,9 @@ __all__ = [
     "driver",
     "features",
     "gdal",
+    "hearing",
+    "members",
+    "open_data",
     "open_source",
     "printable",
     "progress",
@@ -38,6 +41,9 @@ Whatever a file is named, it can be of a format that leads to other files or int
 VRT does. None of these does.
 """
 
+# JSON has texts and no dates, and OGR would write those that look like one in another form.
+_OPTIONS = {"GeoJSON": ["DATE_AS_STRING=YES"]}
+
 # How many features are read at a time.
 _BATCH = 500
 
@@ -45,6 +51,12 @@ _BATCH = 500
 _WARNING, _FAILURE = 2, 3
 
 _told_warnings: set[str] = set()
+# Who hears warnings in place of the terminal.
+_hearers: list[list[str]] = []
+# Warnings of values in another form, of which nothing is lost, and of written ones, which are read back.
+_HARMLESS = ("successfully parsed", "not successfully written. Possibly due to too larger number")
+# How many different warnings are heard.
+_HEARD = 100
 
 
 class ExchangeError(Exception):
@@ -70,9 +82,25 @@ def gdal() -> Any:
 
 def _tell_warning(level: int, number: int, text: str) -> None:
     """Tells a warning of OGR, once. What is worse is raised as an exception."""
-    if level == _WARNING and text not in _told_warnings:
+    if level == _WARNING and any(words in text for words in _HARMLESS):
+        return
+    if level == _WARNING and _hearers:
+        if text not in _hearers[-1] and len(_hearers[-1]) < _HEARD:
+            _hearers[-1].append(text)
+    elif level == _WARNING and text not in _told_warnings:
         _told_warnings.add(text)
         print(f"OGR warns: {text}", file=sys.stderr)
+
+
+@contextlib.contextmanager
+def hearing() -> Iterator[list[str]]:
+    """The warnings of OGR from now on, each once, in place of lines on the terminal."""
+    heard: list[str] = []
+    _hearers.append(heard)
+    try:
+        yield heard
+    finally:
+        _hearers.pop()
 
 
 class Source(NamedTuple):
@@ -94,14 +122,24 @@ def open_source(name: str, any_format: bool = False) -> Source:
     except RuntimeError as error:
         found = _opened_files(name, any_format) if os.path.isdir(name) else Source([], [])
         if not found.data:
-            raise ExchangeError(f"{name} does not open: {_reason(name, error)}") from None
+            # The words of a database may have a password among them.
+            shown = "the database" if name.startswith("PG:") else name
+            raise ExchangeError(f"{shown} does not open: {_reason(name, error)}") from None
         return found
 
 
 def _opened(name: str, any_format: bool) -> Any:
+    return open_data(name, None if any_format else list(DRIVERS))
+
+
+def open_data(name: str, drivers: list[str] | None) -> Any:
+    """What one of some drivers opens for reading, or of all. `RuntimeError` where none does."""
     module, _, _ = gdal()
-    drivers: dict[str, Any] = {} if any_format else {"allowed_drivers": list(DRIVERS)}
-    return module.OpenEx(name, module.OF_VECTOR, **drivers)
+    known: dict[str, Any] = {} if drivers is None else {"allowed_drivers": drivers}
+    found = module.IdentifyDriverEx(name, module.OF_VECTOR, **known)
+    if found is not None and found.ShortName in _OPTIONS:
+        known = {"allowed_drivers": [found.ShortName], "open_options": _OPTIONS[found.ShortName]}
+    return module.OpenEx(name, module.OF_VECTOR, **known)
 
 
 def _reason(name: str, error: RuntimeError) -> str:
@@ -168,10 +206,26 @@ def _without_exceptions() -> Iterator[None]:
                 with contextlib.suppress(RuntimeError):
                     each.DontUseExceptions()
                     taken_off.append(each)
-        yield
+        # With the exceptions goes what hears warnings.
+        module.PushErrorHandler(_tell_warning)
+        try:
+            yield
+        finally:
+            module.PopErrorHandler()
     finally:
         for each in reversed(taken_off):
             each.UseExceptions()
+
+
+def members(geometry: Any) -> Iterator[Any]:
+    """The members of a collection and of those in it, or the geometry where it is none or empty."""
+    _, module, _ = gdal()
+    is_collection = int(module.GT_Flatten(geometry.GetGeometryType())) == module.wkbGeometryCollection
+    if not (is_collection and geometry.GetGeometryCount()):
+        yield geometry
+        return
+    for at in range(geometry.GetGeometryCount()):
+        yield from members(geometry.GetGeometryRef(at))
 
 
 def printable(text: str) -> str:

@@ -2,43 +2,36 @@
 
 from __future__ import annotations
 
-import re
-import unicodedata
-from collections.abc import Callable, Iterator
+import os
+from collections.abc import Callable, Iterator, Mapping
 from typing import Any, NamedTuple
 
 from sfstore.exchange import ogr
+from sfstore.exchange.fields import Fields
 from sfstore.exchange.grid import Grid, OffGrid, Outside, Rounding
+from sfstore.exchange.mending import mended
 from sfstore.exchange.reports import Report
 from sfstore.exchange.wayback import LeftLayer
 from sfstore.faults import fault_at
-from sfstore.geometry import NotTaken, Shape, read_wkb, write_wkb, write_wkt
+from sfstore.geometry import KINDS, NotTaken, Shape, read_wkb, write_wkb, write_wkt
+from sfstore.language import IDENTIFIER_MAX, POINTS_MAX
 from sfstore.refusals import words_of
 from sfstore.sidecar import ColumnOrigin, LayerOrigin
-from sfstore.store import Kind, Refused, Store, Value
-from sfstore.storefile import INT, TEXT, FileColumn, FileFeature, FileLayer
+from sfstore.store import Kind, Refused, Store
+from sfstore.storefile import FileColumn, FileFeature, FileLayer
 
-__all__ = ["LayerImport", "Taking", "new_name"]
+__all__ = ["LayerImport", "Taking"]
 
-_NAME = re.compile(r"[A-Za-z][A-Za-z0-9_]{0,31}")
-_NAME_LENGTH = 32
-_WHOLE = re.compile(r"-?[0-9]{1,19}", re.ASCII)
-_CONTROL = re.compile(r"[\x00-\x1f\x7f]")
-_TEXT_BYTES = 255
-_LAST_ID = 4_294_967_294
-
+_LAST_ID = IDENTIFIER_MAX - 1
 # How many features are asked of the program at a time.
 _BATCH = 2_000
+# How much of a feature's name is shown.
+_NAME_SHOWN = 40
 
-# SQLite keeps a value of any kind in a column of any type, and OGR reads it as the type says. These
-# tell the values that are of the column's type.
-_IN_RANGE = "typeof({0}) = 'integer' AND {0} BETWEEN -2147483648 AND 2147483647"
-_FITTING = {
-    "Integer": _IN_RANGE,
-    "Integer64": "typeof({0}) = 'integer'",
-    "Real": "typeof({0}) IN ('real', 'integer')",
-    "String": "typeof({0}) = 'text' AND instr({0}, char(0)) = 0",
-}
+_SHAPEFILE = "ESRI Shapefile"
+# The formats whose files say how many features they have, so that one that was cut is seen.
+_COUNTED = (_SHAPEFILE, "FlatGeobuf")
+_NO_PLACE = "Z or M"
 
 
 class Taking(NamedTuple):
@@ -51,28 +44,25 @@ class Taking(NamedTuple):
     """Whether Z and M are dropped."""
     as_text: bool
     """Whether columns of other types become texts."""
+    parts_collections: bool = False
+    """Whether each member of a collection becomes a feature."""
+    mends: bool = False
+    """Whether geometries that the program refuses are mended."""
     keeps_identifiers: bool = True
     """Whether features have the source's identifiers in the store. Else the store gives its own."""
-
-
-class _Column(NamedTuple):
-    """A column that is taken."""
-
-    place: int
-    """Its place among the source's."""
-    name: str
-    type: int
-    source_name: str
-    source_type: str
 
 
 class _Candidate(NamedTuple):
     """A feature that is on the grid."""
 
     identifier: int
+    name: str
+    """The feature's name in the source, if it has one."""
     shape: Shape
-    values: dict[int, Value]
+    values: dict[int, Any]
     source: bytes
+    is_further: bool
+    """Whether it is a further member of a collection."""
 
 
 class LayerImport:
@@ -88,50 +78,57 @@ class LayerImport:
         left: LeftLayer | None,
         report: Report,
         kind: Kind = "any",
+        types: Mapping[str, str] | None = None,
+        shown: str = "",
     ) -> None:
+        """``kind`` and ``types`` of columns are those of a store's layer that it is added to, ``shown`` its name in the report."""
         self._source = source
         self._layer = layer
         self._name = name
-        self._source_name: str = layer.GetName()
+        self._source_name: str = shown or layer.GetName()
         self._grid = grid
         self._taking = taking
-        self._left = left
         self._report = report
         self._taken_kind: Kind = kind
-        self._rounding = Rounding() if taking.rounds else None
+        self._driver: str = source.GetDriver().ShortName
+        self._rounding = Rounding(taking.rounds)
         self._flattened = 0
+        self._parted: list[int] = []
+        known = types if types is not None else left.types if left else {}
+        self._fields = Fields(source, layer, taking.as_text, left.names if left else {}, known)
         self._origins: list[ColumnOrigin] = []
-        self._columns = self._taken_columns()
-        self._odd: dict[tuple[int, int], str] = {}
+        self._columns: list[FileColumn] = []
+        self._name_place = _name_place(layer)
         self._identifiers: list[int] = []
         self._features: list[FileFeature] = []
+        self._further: list[int] = []
         self._kinds: set[int] = set()
         self._source_of: Callable[[int], int] = lambda identifier: identifier
 
     def read(self) -> FileLayer:
         """The layer as the store is to have it. `ogr.ExchangeError` where the source breaks off."""
-        self._odd = self._odd_values()
+        for source_name, name in self._fields.renamed:
+            self._note(f"column {source_name!r} has the name {name}")
+        self._fields.find_odd()
         with Store(self._taking.program) as scratch:
             scratch.add_layer("c", self._taken_kind)
             for batch in self._batches():
                 self._judge(scratch, batch)
+        self._columns, self._features, self._origins = self._fields.finished(self._features)
+        self._make_multi()
         self._number_features()
         self._tell()
         # It is held until all layers are written: what was needed to read it is not.
         self._identifiers.clear()
-        self._odd.clear()
-        columns = [
-            FileColumn(number, column.type, column.name)
-            for number, column in enumerate(self._columns, 1)
-        ]
+        self._fields.forget_odd()
         next_id = self._features[-1].id + 1 if self._features else 1
-        layer = FileLayer(self._name, self._kind(), next_id, len(columns) + 1, columns)
+        layer = FileLayer(self._name, self._kind(), next_id, len(self._columns) + 1, self._columns)
         layer.features = self._features
         return layer
 
     @property
     def source_name(self) -> str:
-        """The layer's name in the source."""
+        """The layer's name in the report."""
         return self._source_name
 
     def source_identifier(self, identifier: int) -> int:
@@ -142,75 +139,11 @@ class LayerImport:
         """What the side-car keeps of the layer."""
         return LayerOrigin(
             self._name,
-            _kept(self._source_name, self._name),
+            _kept(self._layer.GetName(), self._name),
             _kept(self._layer.GetFIDColumn(), ""),
             _kept(self._layer.GetGeometryColumn(), ""),
             self._origins,
         )
-
-    def _taken_columns(self) -> list[_Column]:
-        """The columns that the store can have. The others, and new names, are told."""
-        _, module, _ = ogr.gdal()
-        definition = self._layer.GetLayerDefn()
-        columns: list[_Column] = []
-        names: set[str] = set()
-        for place in range(definition.GetFieldCount()):
-            field = definition.GetFieldDefn(place)
-            source_name, type_name = field.GetName(), field.GetTypeName()
-            if field.GetType() in (module.OFTInteger, module.OFTInteger64):
-                kind = INT
-            elif field.GetType() == module.OFTString or self._taking.as_text:
-                kind = TEXT
-            else:
-                detail = f"column {source_name!r} of type {type_name} is left out"
-                self._report.problem(self._source_name, None, "column type", detail)
-                continue
-            known = self._left.names if self._left else {}
-            name = new_name(known.get(source_name, source_name), names)
-            if name != source_name:
-                self._note(f"column {source_name!r} has the name {name}")
-            columns.append(_Column(place, name, kind, source_name, type_name))
-            subtype = module.GetFieldSubTypeName(field.GetSubType())
-            kept = _kept(source_name, name)
-            self._origins.append(ColumnOrigin(name, kept, type_name, subtype, field.GetWidth()))
-        return columns
-
-    def _odd_values(self) -> dict[tuple[int, int], str]:
-        """The values of a GeoPackage that are none of their column's type, as SQL writes them.
-
-        They are found by the feature's identifier and the column's place.
-        """
-        identifier = self._layer.GetFIDColumn()
-        if self._source.GetDriver().ShortName != "GPKG" or not identifier:
-            return {}
-        found = {}
-        for column in self._columns:
-            if column.source_type not in _FITTING:
-                continue
-            fits = _FITTING[column.source_type].format(_quoted(column.source_name))
-            query = (
-                f"SELECT CAST({_quoted(identifier)} AS TEXT) AS place, "  # nosec B608: quoted
-                f"substr(quote({_quoted(column.source_name)}), 1, 60) AS value "
-                f"FROM {_quoted(self._source_name)} "
-                f"WHERE {_quoted(column.source_name)} IS NOT NULL AND NOT ({fits})"
-            )
-            for place, value in self._asked(query):
-                if _WHOLE.fullmatch(place):
-                    found[int(place), column.place] = value
-        return found
-
-    def _asked(self, query: str) -> list[tuple[str, str]]:
-        """The two columns of a query's rows. `ogr.ExchangeError` where there is no answer."""
-        try:
-            result = self._source.ExecuteSQL(query)
-        except RuntimeError as error:
-            name = ogr.printable(self._source_name)
-            raise ogr.ExchangeError(f"layer {name} can't be read: {error}") from None
-        if result is None:
-            return []
-        rows = [(str(row.GetField(0)), str(row.GetField(1))) for row, _ in ogr.features(result)]
-        self._source.ReleaseResultSet(result)
-        return rows
 
     def _batches(self) -> Iterator[list[_Candidate]]:
         """The features that are on the grid, some at a time."""
@@ -221,75 +154,119 @@ class LayerImport:
                 if fault:
                     self._problem(feature.GetFID(), "could not be read", fault)
                     continue
-                candidate = self._candidate(feature)
-                if candidate is not None:
-                    batch.append(candidate)
-                if len(batch) == _BATCH:
+                batch += self._candidates(feature)
+                if len(batch) >= _BATCH:
                     yield batch
                     batch = []
                 show(1)
         yield batch
 
-    def _candidate(self, feature: Any) -> _Candidate | None:
-        """A feature on the grid. Where it is not, that is told."""
-        identifier = feature.GetFID()
+    def _candidates(self, feature: Any) -> list[_Candidate]:
+        """What a feature becomes: itself, or the members of its collection, as far as they are on the grid."""
+        identifier, name = feature.GetFID(), self._name_of(feature)
         geometry = feature.GetGeometryRef()
         if geometry is None:
-            self._problem(identifier, "without a geometry")
-            return None
-        source = flat = bytes(geometry.ExportToIsoWkb())
-        if self._taking.drops_zm and (geometry.Is3D() or geometry.IsMeasured()):
-            geometry.FlattenTo2D()
-            flat = bytes(geometry.ExportToIsoWkb())
-            self._flattened += 1
+            self._problem(identifier, "without a geometry", name)
+            return []
+        members = ogr.members(geometry) if self._taking.parts_collections else [geometry]
+        binaries = [self._flat(each) for each in members]
+        shapes = [(source, self._shape(identifier, name, source, flat)) for source, flat in binaries]
+        taken = [(source, shape) for source, shape in shapes if shape is not None]
+        if not taken:
+            return []
+        if len(binaries) > 1:
+            self._parted.append(identifier)
+        values = self._values(feature, name, taken[0][0])
+        return [
+            _Candidate(identifier, name, shape, values, source, is_further=at > 0)
+            for at, (source, shape) in enumerate(taken)
+        ]
+
+    def _flat(self, geometry: Any) -> tuple[bytes, bytes]:
+        """A geometry as it is, and without Z and M where they are dropped."""
+        source = bytes(geometry.ExportToIsoWkb())
+        if not self._taking.drops_zm or not (geometry.Is3D() or geometry.IsMeasured()):
+            return source, source
+        geometry.FlattenTo2D()
+        self._flattened += 1
+        return source, bytes(geometry.ExportToIsoWkb())
+
+    def _shape(self, identifier: int, name: str, source: bytes, flat: bytes) -> Shape | None:
+        """A geometry on the grid. Where it is not, that is told."""
+        reason, detail = "", ""
         try:
-            shape = read_wkb(flat).mapped(
-                lambda line: self._grid.steps(line, self._rounding)
-            )
-        except NotTaken as reason:
-            self._problem(identifier, str(reason), "", source)
+            found = read_wkb(flat)
+            count = sum(len(line) // 2 for member in found.members for line in member)
+            if count <= POINTS_MAX:
+                return self._fitted(found.mapped(lambda line: self._grid.steps(line, self._rounding)))
+            reason, detail = "too many points", f"{count:,} points, at most {POINTS_MAX:,}"
+        except NotTaken as why:
+            reason = f"{why} (--drop-zm drops them)" if str(why) == _NO_PLACE else str(why)
+            reason += " (--part-collections parts it)" if reason == "a geometry collection" else ""
         except OffGrid as place:
-            self._problem(identifier, "off the grid", str(place), source)
+            reason, detail = "off the grid", str(place)
         except Outside as place:
-            self._problem(identifier, "too far from the grid's origin", str(place), source)
-        else:
-            return _Candidate(identifier, shape, self._values(feature, source), source)
+            reason, detail = "too far from the grid's origin", str(place)
+        self._problem(identifier, reason, _named(name, detail), source)
         return None
 
-    def _values(self, feature: Any, source: bytes) -> dict[int, Value]:
-        """The values of a feature, by the numbers of their columns."""
-        values: dict[int, Value] = {}
-        for number, column in enumerate(self._columns, 1):
-            if not feature.IsFieldSetAndNotNull(column.place):
-                continue
-            stored = self._odd.get((feature.GetFID(), column.place))
-            if stored is not None:
-                detail = f"the value {stored} of column {column.name} is left out"
-                reason = f"a value that is none of the column's type {column.source_type}"
-                self._problem(feature.GetFID(), reason, detail, source)
-                continue
-            if column.type == INT:
-                values[number] = feature.GetFieldAsInteger64(column.place)
-                continue
-            text = _text(feature, column)
-            fault = "a text that is not UTF-8" if text is None else _text_fault(text)
-            if text is None or fault:
-                detail = f"the value of column {column.name} is left out"
-                self._problem(feature.GetFID(), fault, detail, source)
-                continue
-            values[number] = text
+    def _fitted(self, shape: Shape) -> Shape:
+        """A shape of a Shapefile, which tells no Multi form of one member from its member, as a store's layer has it."""
+        if self._driver == _SHAPEFILE and KINDS.index(self._taken_kind) == shape.code + 3:
+            return shape._replace(code=shape.code + 3)
+        return shape
+
+    def _values(self, feature: Any, name: str, source: bytes) -> dict[int, Any]:
+        """The values of a feature. What is left out of them is told."""
+        values, faults = self._fields.values(feature)
+        for reason, detail in faults:
+            self._problem(feature.GetFID(), reason, _named(name, detail), source)
         return values
 
+    def _name_of(self, feature: Any) -> str:
+        """The name of a feature, from its column of names."""
+        if self._name_place is None or not feature.IsFieldSetAndNotNull(self._name_place):
+            return ""
+        try:
+            name: str = feature.GetFieldAsString(self._name_place)
+            name.encode("utf-8")
+        except UnicodeError:
+            return ""
+        return name[:_NAME_SHOWN]
+
     def _judge(self, scratch: Store, batch: list[_Candidate]) -> None:
-        """Takes the features whose geometry the program takes. The others are told."""
+        """Takes the features whose geometry the program takes. The others are told, or mended."""
         answers = scratch.run_all(f"check c {write_wkt(candidate.shape)}" for candidate in batch)
         for candidate, answer in zip(batch, answers):
+            shape: Shape | None = candidate.shape
             if isinstance(answer, Refused):
-                self._tell_refused(candidate, answer)
-                continue
-            self._kinds.add(candidate.shape.code)
-            binary = write_wkb(candidate.shape)
-            self._features.append(FileFeature(candidate.identifier, binary, candidate.values))
+                shape = self._mended(scratch, candidate) if self._taking.mends else None
+                if shape is None:
+                    self._tell_refused(candidate, answer)
+            if shape is not None:
+                self._take(candidate, shape)
+
+    def _take(self, candidate: _Candidate, shape: Shape) -> None:
+        self._kinds.add(shape.code)
+        if candidate.is_further:
+            self._further.append(len(self._features))
+        self._features.append(FileFeature(candidate.identifier, write_wkb(shape), candidate.values))
+
+    def _mended(self, scratch: Store, candidate: _Candidate) -> Shape | None:
+        """A shape that the program takes in the place of one that it does not, which is told; none where there is none."""
+
+        def is_taken(shape: Shape) -> bool:
+            count = sum(len(line) // 2 for member in shape.members for line in member)
+            if count > POINTS_MAX:
+                return False
+            [answer] = scratch.run_all([f"check c {write_wkt(shape)}"])
+            return not isinstance(answer, Refused)
+
+        found = mended(candidate.shape, is_taken)
+        if found is None:
+            return None
+        self._report.change(self._source_name, candidate.identifier, "mended", _named(candidate.name, found.words))
+        return found.shape
 
     def _tell_refused(self, candidate: _Candidate, refused: Refused) -> None:
         reason = f"refused {refused.number} {refused.name}, {words_of(refused.number).reason}"
@@ -299,7 +276,21 @@ class LayerImport:
             places = [self._grid.exact(x, y) for x, y in fault.points]
             shown = [f"({float(x)!r} {float(y)!r})" for x, y in places]
             detail = fault.words.format(*shown)
-        self._problem(candidate.identifier, reason, detail, candidate.source)
+        self._problem(candidate.identifier, reason, _named(candidate.name, detail), candidate.source)
+
+    def _make_multi(self) -> None:
+        """Makes Multi forms of all features, where a Shapefile has both: it tells them apart by their parts alone."""
+        if self._driver != _SHAPEFILE or self._kinds not in ({2, 5}, {3, 6}):
+            return
+        single, multi = sorted(self._kinds)
+        count = 0
+        for at, feature in enumerate(self._features):
+            shape = read_wkb(feature.geometry)
+            if shape.code == single:
+                count += 1
+                self._features[at] = feature._replace(geometry=write_wkb(shape._replace(code=multi)))
+        self._kinds = {multi}
+        self._note(f"the layer is one of {KINDS[multi]}s: {count} of its features have one member")
 
     def _number_features(self) -> None:
         """Has identifiers that a store can have, and the features in their order."""
@@ -307,41 +298,74 @@ class LayerImport:
             return
         identifiers = self._identifiers
         least, most = min(identifiers, default=1), max(identifiers, default=1)
-        if len(set(identifiers)) < len(identifiers) or least < 0 or most > _LAST_ID:
+        shift = 1 if least == 0 else 0
+        sources = [feature.id for feature in self._features]
+        if len(set(identifiers)) < len(identifiers) or least < 0 or most + shift + len(self._further) > _LAST_ID:
             self._note("the features are numbered anew from 1, in the source's order")
-            sources = [feature.id for feature in self._features]
-            self._source_of = lambda identifier: sources[identifier - 1]
-            self._features = [
-                feature._replace(id=number) for number, feature in enumerate(self._features, 1)
-            ]
-        elif least == 0 and most < _LAST_ID:
-            self._note("identifiers begin with 0 in the source: each is greater by 1")
-            self._source_of = lambda identifier: identifier - 1
-            self._features = [feature._replace(id=feature.id + 1) for feature in self._features]
+            numbers = list(range(1, len(sources) + 1))
+        else:
+            if shift:
+                self._note("identifiers begin with 0 in the source: each is greater by 1")
+            numbers = [number + shift for number in sources]
+            for at, place in enumerate(self._further, 1):
+                numbers[place] = most + shift + at
+        if numbers != sources:
+            self._source_of = _sources_of(numbers, sources)
+            self._features = [feature._replace(id=number) for feature, number in zip(self._features, numbers)]
         self._features.sort(key=lambda feature: feature.id)
 
     def _kind(self) -> int:
-        """The declared kind where all features have it, else that any is taken."""
+        """The declared kind where all features have it, that of a Shapefile's Multi forms, else that any is taken."""
         _, module, _ = ogr.gdal()
         declared = int(module.GT_Flatten(self._layer.GetGeomType()))
+        if self._driver == _SHAPEFILE and declared in (2, 3) and self._kinds == {declared + 3}:
+            return declared + 3
         if 1 <= declared <= 6 and self._kinds <= {declared}:
             return declared
         return 0
 
     def _tell(self) -> None:
-        """Tells how many features there were, and what was rounded or dropped."""
+        """Tells how many features there were, and what was left out, rounded, dropped or parted."""
         self._report.read[self._source_name] = len(self._identifiers)
         self._report.taken[self._source_name] = len(self._features)
+        for reason, names in self._fields.left:
+            self._report.problem(self._source_name, None, reason, ", ".join(names))
+        self._tell_missing()
         if self._flattened:
             self._note(f"Z or M was dropped of {self._flattened} features")
-        if self._rounding is not None and self._rounding.moved:
-            moved, most = self._rounding.moved, self._rounding.most
-            average = self._rounding.total / moved
+        if self._parted:
+            parted = f"{len(self._parted)} collections were parted: {len(self._further)} features more than in the source"
+            self._note(parted)
+            for identifier in self._parted:
+                self._report.change(self._source_name, identifier, "parted")
+        self._tell_rounding()
+
+    def _tell_missing(self) -> None:
+        """Tells what a source has, and does not give."""
+        count = self._layer.GetFeatureCount(0) if self._driver in _COUNTED else -1
+        if count > len(self._identifiers):
+            missing = f"{len(self._identifiers)} of the {count} features that the file counts"
+            self._report.problem(self._source_name, None, "it is cut off", missing)
+        if self._driver == _SHAPEFILE and not _has_values(self._source, self._layer.GetName()):
+            self._report.problem(self._source_name, None, "it has no values", "its .dbf is missing")
+        definition = self._layer.GetLayerDefn()
+        further = [definition.GetGeomFieldDefn(at).GetName() for at in range(1, definition.GetGeomFieldCount())]
+        if further:
+            self._report.problem(self._source_name, None, "further columns of geometries are left out", ", ".join(further))
+
+    def _tell_rounding(self) -> None:
+        rounding = self._rounding
+        if rounding.noisy:
             self._note(
-                f"{moved} coordinates were moved to the nearest step, by {most:.3g} at most, "
-                f"by {average:.3g} on average"
+                f"{rounding.noisy} coordinates are taken for those of the grid, from which they differ "
+                f"as doubles do, by {rounding.most_noise:.3g} at most"
             )
-        elif self._rounding is not None:
+        if rounding.moved:
+            self._note(
+                f"{rounding.moved} coordinates were moved to the nearest step, by {rounding.most:.3g} at most, "
+                f"by {rounding.total / rounding.moved:.3g} on average"
+            )
+        elif rounding.is_asked:
             self._note("no coordinate had to be moved")
 
     def _problem(
@@ -353,9 +377,11 @@ class LayerImport:
         self._report.note(self._source_name, text)
 
 
-def _quoted(name: str) -> str:
-    """A name in SQL."""
-    return '"' + name.replace('"', '""') + '"'
+def _sources_of(numbers: list[int], sources: list[int]) -> Callable[[int], int]:
+    """What gives a source's identifier by that in the store."""
+    if all(number == source + 1 for number, source in zip(numbers, sources)):
+        return lambda identifier: identifier - 1
+    return dict(zip(numbers, sources)).__getitem__
 
 
 def _kept(name: str, otherwise: str) -> str:
@@ -367,40 +393,28 @@ def _kept(name: str, otherwise: str) -> str:
     return name
 
 
-def _text(feature: Any, column: _Column) -> str | None:
-    """The value of a feature as text, or none where it is not UTF-8."""
-    if column.source_type == "Real":
-        # The shortest text of the same double.
-        return repr(feature.GetFieldAsDouble(column.place))
+def _named(name: str, detail: str) -> str:
+    """A detail with the name of its feature."""
+    return f"{name}: {detail}" if name and detail else name or detail
+
+
+def _name_place(layer: Any) -> int | None:
+    """The place of the column that has the features' names: one of texts that is called so."""
+    _, module, _ = ogr.gdal()
+    definition = layer.GetLayerDefn()
+    fields = [definition.GetFieldDefn(place) for place in range(definition.GetFieldCount())]
+    names = [field.GetName().casefold() if field.GetType() == module.OFTString else "" for field in fields]
+    if "name" in names:
+        return names.index("name")
+    return next((place for place, name in enumerate(names) if "name" in name), None)
+
+
+def _has_values(source: Any, name: str) -> bool:
+    """Whether a Shapefile has the file of its values. One in a folder of files is found by the layer's name."""
+    path: str = source.GetDescription()
+    folder = path if os.path.isdir(path) else os.path.dirname(path) or "."
     try:
-        text: str = feature.GetFieldAsString(column.place)
-        text.encode("utf-8")
-    except UnicodeError:
-        return None
-    return text
-
-
-def _text_fault(text: str) -> str:
-    """Why a text is none of the store, or nothing."""
-    if _CONTROL.search(text):
-        return "a text with a control character"
-    if len(text.encode("utf-8")) > _TEXT_BYTES:
-        return "a text of more than 255 bytes"
-    return ""
-
-
-def new_name(name: str, taken: set[str]) -> str:
-    """The name that the store can have, of a layer or column, other than those that are taken."""
-    if not _NAME.fullmatch(name):
-        plain = unicodedata.normalize("NFKD", name)
-        plain = "".join(letter for letter in plain if not unicodedata.combining(letter))
-        plain = re.sub(r"[^A-Za-z0-9_]", "_", plain)
-        if not plain[:1].isalpha():
-            plain = "x" + plain
-        name = plain[:_NAME_LENGTH]
-    found, number = name, 2
-    while found in taken:
-        tail = f"_{number}"
-        found, number = name[: _NAME_LENGTH - len(tail)] + tail, number + 1
-    taken.add(found)
-    return found
+        return f"{name}.dbf".casefold() in (found.casefold() for found in os.listdir(folder))
+    except OSError:
+        # In an archive OGR finds it by itself.
+        return True

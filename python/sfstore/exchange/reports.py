@@ -2,13 +2,14 @@
 
 from __future__ import annotations
 
+import json
 import math
 import os
 import sys
 from collections import Counter
 from typing import Any, NamedTuple
 
-from sfstore.exchange import ogr
+from sfstore.exchange import geojson, ogr
 from sfstore.exchange.placing import Place, placed
 from sfstore.sidecar import Crs
 
@@ -17,8 +18,20 @@ __all__ = ["FEATURE_FORMATS", "Problem", "Report"]
 # How many identifiers the summary names for each reason.
 _SHOWN = 8
 
-# The names of geometries that GeoJSON has not.
+# The names of geometries that GeoJSON has not, and of those that it has.
 _PATCHES = ("TIN", "POLYHEDRALSURFACE", "TRIANGLE")
+_NAMES = {
+    "POINT": "Point",
+    "LINESTRING": "LineString",
+    "POLYGON": "Polygon",
+    "MULTIPOINT": "MultiPoint",
+    "MULTILINESTRING": "MultiLineString",
+    "MULTIPOLYGON": "MultiPolygon",
+    "GEOMETRYCOLLECTION": "GeometryCollection",
+}
+# The layer of faulty features, and its columns.
+_LAYER = "faulty"
+_COLUMNS = ("layer", "identifier", "reason", "detail")
 
 FEATURE_FORMATS = {".geojson": "GeoJSON", ".gpkg": "GPKG"}
 """The formats of faulty features, by the endings of their files."""
@@ -44,6 +57,8 @@ class Report:
 
     def __init__(self) -> None:
         self.problems: list[Problem] = []
+        self.changes: list[Problem] = []
+        """The features that were taken in another form, as somebody has asked for."""
         self.notes: list[tuple[str, str]] = []
         self.read: Counter[str] = Counter()
         self.taken: Counter[str] = Counter()
@@ -58,6 +73,10 @@ class Report:
     ) -> None:
         """Reports something that did not fit."""
         self.problems.append(Problem(layer, identifier, reason, detail, geometry))
+
+    def change(self, layer: str, identifier: int, reason: str, detail: str = "") -> None:
+        """Reports a feature that was changed, as somebody has asked for, and not left out."""
+        self.changes.append(Problem(layer, identifier, reason, detail, None))
 
     def note(self, layer: str, text: str) -> None:
         """Reports something that was changed, and not left out."""
@@ -84,7 +103,7 @@ class Report:
                 problem.reason,
                 problem.detail,
             )
-            for problem in self.problems
+            for problem in (*self.problems, *self.changes)
         )
         notes = ((layer, "", "changed", text) for layer, text in self.notes)
         return "".join("\t".join(map(ogr.printable, row)) + "\n" for row in (*rows, *notes))
@@ -110,59 +129,101 @@ class Report:
 
     def _reasons(self, layer: str) -> list[str]:
         found: dict[str, list[Problem]] = {}
-        for problem in self.problems:
+        for problem in (*self.problems, *self.changes):
             if problem.layer == layer:
                 found.setdefault(problem.reason, []).append(problem)
         return [f"  {ogr.printable(_counted(reason, problems))}" for reason, problems in found.items()]
 
     def _write_features(self, path: str, name: str, crs: Crs | None) -> None:
+        shown = [problem for problem in self.problems if problem.geometry and problem.identifier is not None]
+        if name == "GeoJSON":
+            geojson.write_collection(path, _LAYER, crs, map(_json_feature, shown))
+            return
         data = ogr.driver(name).CreateDataSource(path)
         try:
-            self._write_layer(data, name, crs)
+            _write_layer(data, shown, crs)
         finally:
             data.Destroy()
-
-    def _write_layer(self, data: Any, name: str, crs: Crs | None) -> None:
-        _, ogr_module, _ = ogr.gdal()
-        options = ["COORDINATE_PRECISION=17"] if name == "GeoJSON" else []
-        reference = ogr.spatial_reference(crs)
-        layer = data.CreateLayer("faulty", reference, ogr_module.wkbUnknown, options)
-        for column, kind in (
-            ("layer", ogr_module.OFTString),
-            ("identifier", ogr_module.OFTInteger64),
-            ("reason", ogr_module.OFTString),
-            ("detail", ogr_module.OFTString),
-        ):
-            layer.CreateField(ogr_module.FieldDefn(column, kind))
-        for problem in self.problems:
-            if problem.geometry is None or problem.identifier is None:
-                continue
-            feature = ogr_module.Feature(layer.GetLayerDefn())
-            geometry = _shown_geometry(problem.geometry, name)
-            detail = problem.detail if geometry else f"{problem.detail} (without its geometry)"
-            feature.SetField("layer", ogr.printable(problem.layer))
-            feature.SetField("identifier", problem.identifier)
-            feature.SetField("reason", problem.reason)
-            feature.SetField("detail", ogr.printable(detail.strip()))
-            feature.SetGeometry(geometry)
-            layer.CreateFeature(feature)
-        layer.SyncToDisk()
+        # The layer lives as long as its source has a name.
+        written = ogr.open_data(path, [name])
+        count = written.GetLayer(0).GetFeatureCount()
+        if count != len(shown):
+            raise ogr.ExchangeError(f"{path} has {count} of {len(shown)} features: the disk may be full")
 
 
-def _shown_geometry(binary: bytes, name: str) -> Any:
-    """A geometry as a format can have it, or none: GeoJSON has neither curves nor patches."""
+def _write_layer(data: Any, problems: list[Problem], crs: Crs | None) -> None:
+    """Writes features to a source of OGR."""
     _, ogr_module, _ = ogr.gdal()
-    geometry = ogr_module.CreateGeometryFromWkb(binary)
-    if not all(map(math.isfinite, geometry.GetEnvelope())):
-        # The extent of a layer would be none that a GeoPackage can have.
-        return None
-    if name != "GeoJSON":
-        return geometry
-    if geometry.HasCurveGeometry():
+    layer = data.CreateLayer(_LAYER, ogr.spatial_reference(crs), ogr_module.wkbUnknown)
+    for column in _COLUMNS:
+        kind = ogr_module.OFTInteger64 if column == "identifier" else ogr_module.OFTString
+        layer.CreateField(ogr_module.FieldDefn(column, kind))
+    layer.StartTransaction()
+    for problem in problems:
+        feature = ogr_module.Feature(layer.GetLayerDefn())
+        geometry = _finite_geometry(problem)
+        for column, value in _values(problem, geometry).items():
+            feature.SetField(column, value)
+        feature.SetGeometry(geometry)
+        layer.CreateFeature(feature)
+    layer.CommitTransaction()
+    layer.SyncToDisk()
+
+
+def _values(problem: Problem, geometry: Any) -> dict[str, Any]:
+    detail = problem.detail if geometry else f"{problem.detail} (without its geometry)"
+    values = problem.layer, problem.identifier, problem.reason, detail.strip()
+    return {
+        column: value if isinstance(value, int) else ogr.printable(value or "")
+        for column, value in zip(_COLUMNS, values)
+    }
+
+
+def _finite_geometry(problem: Problem) -> Any:
+    """The geometry of a problem, or none where the extent of a layer would be none that a GeoPackage can have."""
+    _, ogr_module, _ = ogr.gdal()
+    geometry = ogr_module.CreateGeometryFromWkb(problem.geometry)
+    return geometry if all(map(math.isfinite, geometry.GetEnvelope())) else None
+
+
+def _json_feature(problem: Problem) -> dict[str, Any]:
+    """A feature as GeoJSON, which has neither curves nor patches."""
+    _, ogr_module, _ = ogr.gdal()
+    geometry = _finite_geometry(problem)
+    if geometry is not None and geometry.HasCurveGeometry():
         geometry = geometry.GetLinearGeometry()
-    if geometry.GetGeometryName() in _PATCHES:
-        return ogr_module.ForceToMultiPolygon(geometry)
-    return None if any(patch in geometry.ExportToIsoWkt() for patch in _PATCHES) else geometry
+    if geometry is not None and geometry.GetGeometryName() in _PATCHES:
+        geometry = ogr_module.ForceToMultiPolygon(geometry)
+    elif geometry is not None and any(patch in geometry.ExportToIsoWkt() for patch in _PATCHES):
+        geometry = None
+    shown = None if geometry is None else _json_geometry(geometry)
+    try:
+        json.dumps(shown, allow_nan=False)
+    except ValueError:
+        # A coordinate that is no number has no place in JSON.
+        geometry = shown = None
+    return {"type": "Feature", "properties": _values(problem, geometry), "geometry": shown}
+
+
+def _json_geometry(geometry: Any) -> dict[str, Any]:
+    """A geometry of points, lines and polygons as GeoJSON."""
+    name = _NAMES[geometry.GetGeometryName()]
+    if name == "GeometryCollection":
+        members = [_json_geometry(geometry.GetGeometryRef(at)) for at in range(geometry.GetGeometryCount())]
+        return {"type": name, "geometries": members}
+    found = _coordinates(geometry)
+    return {"type": name, "coordinates": found[0] if name == "Point" and found else found}
+
+
+def _coordinates(geometry: Any) -> list[Any]:
+    """The coordinates of a geometry: of its points, or of its parts in turn. M has no place in GeoJSON."""
+    if geometry.GetGeometryCount():
+        parts = [geometry.GetGeometryRef(at) for at in range(geometry.GetGeometryCount())]
+        return [found[0] if part.GetGeometryName() == "POINT" else found for part in parts if (found := _coordinates(part))]
+    if geometry.GetGeometryName() not in ("POINT", "LINESTRING", "LINEARRING") or geometry.IsEmpty():
+        return []
+    size = 3 if geometry.Is3D() else 2
+    return [geometry.GetPoint(at)[:size] for at in range(geometry.GetPointCount())]
 
 
 def _place(path: str, overwrite: bool) -> Place:

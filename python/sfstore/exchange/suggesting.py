@@ -6,17 +6,23 @@ import math
 from collections import Counter
 from collections.abc import Sequence
 from dataclasses import dataclass, field
-from decimal import Decimal
+from decimal import ROUND_CEILING, Decimal
 from typing import Any
 
 from sfstore.exchange import ogr
-from sfstore.exchange.grid import LEAST, MOST, Grid, OffGrid, Outside
+from sfstore.exchange.grid import LEAST, MOST, NOISE_ULPS, Grid, OffGrid, Outside
 from sfstore.geometry import NotTaken, read_wkb
 
 __all__ = ["suggestion"]
 
 # Steps from 1000 units to a thousand-millionth of one are tried, by their decimals.
 _COARSEST, _FINEST = -3, 9
+
+# With so many digits a double is tried, before all that it has.
+_DIGITS = (13, 14, 15)
+
+# How much of the room a map takes at most, so that some is left at its sides.
+_ROOM = Decimal("0.9")
 
 # The origin is as round a number of steps as stands within a tenth of the room from the middle.
 _ROUNDEST = 5
@@ -26,6 +32,10 @@ _ROUNDEST = 5
 class _Survey:
     """The coordinates of a source."""
 
+    drops_zm: bool
+    """Whether Z and M are dropped."""
+    parts_collections: bool
+    """Whether the members of collections are features."""
     places: list[set[float]] = field(default_factory=lambda: [set(), set()])
     """The coordinates that occur, x and y."""
     decimals: Counter[int] = field(default_factory=Counter)
@@ -39,9 +49,10 @@ class _Survey:
         return line
 
 
-def suggestion(layers: list[Any]) -> str:
+def suggestion(layers: list[Any], drops_zm: bool = False, parts_collections: bool = False) -> str:
     """Some lines: the words ``--grid OX OY STEP``, and what would not fit, for the layers."""
-    survey = _surveyed(layers)
+    survey = _Survey(drops_zm, parts_collections)
+    _survey(layers, survey)
     told = "".join(f"{count} features: {reason}\n" for reason, count in survey.left_out.items())
     if not survey.places[0]:
         return told + "no coordinates were found\n"
@@ -55,9 +66,8 @@ def suggestion(layers: list[Any]) -> str:
     return told + f"--grid {x} {y} {unit}\n" + _fits(survey, grid, unit)
 
 
-def _surveyed(layers: list[Any]) -> _Survey:
-    """All coordinates of the layers."""
-    survey = _Survey()
+def _survey(layers: list[Any], survey: _Survey) -> None:
+    """Looks at all coordinates of the layers."""
     for layer in layers:
         with ogr.progress(layer.GetName(), layer.GetFeatureCount()) as show:
             for feature, fault in ogr.features(layer):
@@ -68,7 +78,6 @@ def _surveyed(layers: list[Any]) -> _Survey:
                 show(1)
     for places in survey.places:
         survey.decimals.update(map(_decimals, places))
-    return survey
 
 
 def _look_at(feature: Any, survey: _Survey) -> None:
@@ -76,16 +85,29 @@ def _look_at(feature: Any, survey: _Survey) -> None:
     if geometry is None:
         survey.left_out["without a geometry"] += 1
         return
-    try:
-        read_wkb(geometry.ExportToIsoWkb()).mapped(survey.add)
-    except NotTaken as reason:
-        survey.left_out[str(reason)] += 1
+    for member in ogr.members(geometry) if survey.parts_collections else [geometry]:
+        if survey.drops_zm:
+            member.FlattenTo2D()
+        try:
+            read_wkb(member.ExportToIsoWkb()).mapped(survey.add)
+        except NotTaken as reason:
+            survey.left_out[str(reason)] += 1
 
 
 def _decimals(place: float) -> int:
     """How many decimals the shortest text of a double has; below 0 where it ends with zeros."""
-    exponent = Decimal(repr(place)).normalize().as_tuple().exponent
+    exponent = Decimal(_shortest(place)).normalize().as_tuple().exponent
     return -int(exponent) if place else _COARSEST
+
+
+def _shortest(place: float) -> str:
+    """The shortest text of a double, or of one that it differs from by no more than doubles do."""
+    noise = NOISE_ULPS * math.ulp(place)
+    for digits in _DIGITS:
+        text = format(place, f".{digits}g")
+        if abs(float(text) - place) <= noise:
+            return text
+    return repr(place)
 
 
 def _step(survey: _Survey) -> Decimal:
@@ -93,17 +115,33 @@ def _step(survey: _Survey) -> Decimal:
 
     Where that is less than half of them, it is the finest with room: they have to be rounded.
     """
-    extent = max(Decimal(max(places)) - Decimal(min(places)) for places in survey.places)
-    roomy = [
-        decimals
-        for decimals in range(_COARSEST, _FINEST + 1)
-        if extent * Decimal(10) ** decimals <= (MOST - LEAST) * Decimal("0.9")
-    ] or [_COARSEST]
+    roomy = _roomy(survey)
     fitting = {decimals: _fitting(survey, decimals) for decimals in roomy}
     best = max(roomy, key=lambda decimals: (fitting[decimals], -decimals))
     if 2 * fitting[best] < sum(survey.decimals.values()):
         best = roomy[-1]
     return Decimal(10) ** -best
+
+
+def _roomy(survey: _Survey) -> list[int]:
+    """The decimals of the steps that are tried and have room for a source, the coarsest first."""
+    extent = _extent(survey)
+    return [
+        decimals
+        for decimals in range(_COARSEST, _FINEST + 1)
+        if extent * Decimal(10) ** decimals <= (MOST - LEAST) * _ROOM
+    ] or [_COARSEST]
+
+
+def _extent(survey: _Survey) -> Decimal:
+    return max(Decimal(max(places)) - Decimal(min(places)) for places in survey.places)
+
+
+def _finest(survey: _Survey) -> Decimal:
+    """The finest step of two digits with room for a source."""
+    exact = _extent(survey) / ((MOST - LEAST) * _ROOM)
+    unit = Decimal(10) ** (exact.adjusted() - 1) if exact else Decimal(1)
+    return (exact / unit).to_integral_value(ROUND_CEILING) * unit
 
 
 def _fitting(survey: _Survey, decimals: int) -> int:
@@ -147,6 +185,9 @@ def _fits(survey: _Survey, grid: Grid, unit: str) -> str:
         lines.append(
             f"{counts['off']} are off it: with --round they move by {half.normalize():f} at most"
         )
+        finest = _finest(survey)
+        if Decimal(unit) == Decimal(10) ** -_roomy(survey)[-1] and 0 < finest <= Decimal(unit) / 2:
+            lines.append(f"{finest.normalize():f} is the finest step with room for all: half of it is {finest / 2:f}")
     if counts["outside"]:
         lines.append(f"{counts['outside']} are too far from its origin")
     return "".join(line + "\n" for line in lines)

@@ -13,7 +13,7 @@ from typing import Any
 from sfstore.exchange.formats import RULES_MAX, Part
 from sfstore.exchange.grid import Grid
 from sfstore.exchange.ruling import rule_said
-from sfstore.language import NAME
+from sfstore.language import COLUMN_TYPES, NAME
 from sfstore.results import Rule
 from sfstore.sidecar import LayerOrigin
 from sfstore.storefile import FileLayer
@@ -43,6 +43,8 @@ class LeftLayer:
     """The numbers of its columns, by their names in the store."""
     names: dict[str, str]
     """The names of its columns in the store, by those in the file."""
+    types: dict[str, str] = field(default_factory=dict)
+    """The types of its columns in the store, by their names there."""
 
 
 @dataclass(frozen=True)
@@ -71,6 +73,7 @@ def left(parts: Iterable[Part], grid: tuple[str, str, str], rules: Sequence[Rule
             "next_column": part.layer.next_column,
             "columns": {column.name: column.number for column in part.layer.columns},
             "names": {part.columns[column.number]: column.name for column in part.layer.columns},
+            "types": {column.name: COLUMN_TYPES[column.type - 1] for column in part.layer.columns},
         }
         for part in parts
     ]
@@ -115,6 +118,8 @@ def _layer(item: Any) -> LeftLayer:
         _number(item["next_column"], _COLUMNS),
         columns,
         {_text(name): _name(known) for name, known in names.items()},
+        # Files of former versions have whole numbers and texts alone.
+        {_name(name): _type(known) for name, known in item.get("types", {}).items()},
     )
     if len(set(columns.values())) < len(columns):
         raise ValueError("two columns have one number")
@@ -139,6 +144,12 @@ def _name(word: Any, otherwise: Any = None) -> str:
     """A name of the store. A layer of a former version's file has that of the file, whatever it is."""
     if word is not otherwise and not NAME.fullmatch(_text(word)):
         raise ValueError(f"{word!r} is no name of the store")
+    return _text(word)
+
+
+def _type(word: Any) -> str:
+    if word not in COLUMN_TYPES:
+        raise ValueError(f"{word!r} is no type of a column")
     return _text(word)
 
 

@@ -1,0 +1,409 @@
+"""The columns of a layer of OGR as columns of a store: which are taken, and the values of a feature.
+
+The store has whole numbers and texts. A column of real numbers is one of whole numbers where all of its values are
+whole, which is known behind the last feature. OGR reads a value as the type of its column says, whatever it is. So a
+GeoPackage and a database are asked for those that are of another type.
+"""
+
+from __future__ import annotations
+
+import json
+import re
+from collections import Counter
+from collections.abc import Iterator, Mapping
+from typing import Any, NamedTuple
+
+from sfstore.exchange import ogr
+from sfstore.exchange.columns import DATE, DATE_TIME, INTEGER, INTEGER_64, REAL, STRING
+from sfstore.exchange.moments import day_of, moment_of, text_of_day, text_of_moment, text_of_time
+from sfstore.exchange.names import new_name
+from sfstore.language import INT_MAX, INT_MIN, TEXT_MAX
+from sfstore.sidecar import ColumnOrigin
+from sfstore.store import Value
+from sfstore.storefile import INT, TEXT, FileColumn, FileFeature
+
+__all__ = ["Fault", "Fields", "Left"]
+
+_WHOLE = re.compile(r"-?[0-9]{1,19}", re.ASCII)
+_CONTROL = re.compile(r"[\x00-\x1f\x7f]")
+
+_DAY_FORM = "[0-9][0-9][0-9][0-9]-[0-9][0-9]-[0-9][0-9]"
+_TIME_FORM = "[0-9][0-9]:[0-9][0-9]:[0-9][0-9]"
+
+# SQLite keeps a value of any kind in a column of any type. These say which are of the column's type.
+_FITTING = {
+    INTEGER: "typeof({0}) = 'integer' AND {0} BETWEEN -2147483648 AND 2147483647",
+    INTEGER_64: "typeof({0}) = 'integer'",
+    REAL: "typeof({0}) IN ('real', 'integer')",
+    STRING: "typeof({0}) = 'text' AND instr({0}, char(0)) = 0",
+    DATE: f"typeof({{0}}) = 'text' AND {{0}} GLOB '{_DAY_FORM}' AND date({{0}}, '+0 days') IS {{0}}",
+    DATE_TIME: f"typeof({{0}}) = 'text' AND ({{0}} GLOB '{_DAY_FORM}T{_TIME_FORM}Z' "
+    f"OR {{0}} GLOB '{_DAY_FORM}T{_TIME_FORM}.[0-9][0-9][0-9]Z') "
+    "AND strftime('%Y-%m-%dT%H:%M:%S', {0}, '+0 days') IS substr({0}, 1, 19)",
+}
+
+# The types of PostgreSQL that OGR reads as whole numbers and that are some. It takes an interval for one.
+_WHOLE_TYPES = {"smallint", "integer", "bigint", "boolean", "numeric", "oid"}
+_STAMP = "to_char({0} AT TIME ZONE 'UTC', 'YYYY-MM-DD\"T\"HH24:MI:SS.US\"Z\"')"
+# Of a type of PostgreSQL, the values that OGR would change, with their texts.
+_ODD_OF_POSTGRESQL = {
+    "numeric": ("{0} NOT BETWEEN -9223372036854775808 AND 9223372036854775807", "{0}::text"),
+    "date": ("NOT isfinite({0})", "{0}::text"),
+    "timestamp without time zone": (
+        "NOT isfinite({0}) OR date_trunc('milliseconds', {0}) <> {0}",
+        "CASE WHEN isfinite({0}) THEN to_char({0}, 'YYYY-MM-DD\"T\"HH24:MI:SS.US') ELSE {0}::text END",
+    ),
+    "timestamp with time zone": (
+        "NOT isfinite({0}) OR date_trunc('milliseconds', {0}) <> {0}",
+        f"CASE WHEN isfinite({{0}}) THEN {_STAMP} ELSE {{0}}::text END",
+    ),
+}
+
+
+class Left(NamedTuple):
+    """Columns that are left out."""
+
+    reason: str
+    names: list[str]
+
+
+class Fault(NamedTuple):
+    """Why a value of a feature is left out."""
+
+    reason: str
+    detail: str
+
+
+class _Field(NamedTuple):
+    """A column that is taken."""
+
+    number: int
+    place: int
+    """Its place among the source's."""
+    name: str
+    type: int | None
+    """None for one of real numbers, of which that is known at the end."""
+    source_name: str
+    source_type: str
+
+
+class Fields:
+    """The columns of one layer."""
+
+    def __init__(
+        self,
+        source: Any,
+        layer: Any,
+        as_text: bool,
+        names: Mapping[str, str],
+        wanted: Mapping[str, str] | None = None,
+    ) -> None:
+        """``names`` are those of the store by those of the source, and ``wanted`` the types that a store's layer has."""
+        self._source = source
+        self._layer = layer
+        self._as_text = as_text
+        self._wanted = wanted or {}
+        self._driver: str = source.GetDriver().ShortName
+        self.left: list[Left] = []
+        """The columns that are left out."""
+        self.renamed: list[tuple[str, str]] = []
+        """The columns with another name in the store, and this name."""
+        self._broken: set[int] = set()
+        self._fields: list[_Field] = []
+        self._origins: dict[int, ColumnOrigin] = {}
+        self._take(names)
+        self._odd: dict[tuple[int, int], tuple[str, str | None]] = {}
+
+    def values(self, feature: Any) -> tuple[dict[int, Any], list[Fault]]:
+        """The values of a feature by the numbers of their columns, and what is left out of them.
+
+        Real numbers are among them, until `finished` has made whole numbers or texts of them.
+        """
+        values: dict[int, Any] = {}
+        faults: list[Fault] = []
+        identifier = feature.GetFID()
+        for field in self._fields:
+            odd = self._odd.get((identifier, field.place)) if self._odd else None
+            if odd is None and not feature.IsFieldSetAndNotNull(field.place):
+                continue
+            if odd is not None and odd[1] is None:
+                reason = f"a value that is none of the column's type {field.source_type}"
+                faults.append(Fault(reason, f"the value {odd[0]} of column {field.name} is left out"))
+            elif field.type is None:
+                self._add_real(field, feature.GetFieldAsDouble(field.place), values)
+            elif field.type == INT:
+                values[field.number] = feature.GetFieldAsInteger64(field.place)
+            else:
+                text = odd[1] if odd is not None else _text(feature, field)
+                fault = "a text that is not UTF-8" if text is None else _text_fault(text)
+                if fault:
+                    faults.append(Fault(fault, f"the value of column {field.name} is left out"))
+                else:
+                    values[field.number] = text
+        return values, faults
+
+    def _add_real(self, field: _Field, value: float, values: dict[int, Any]) -> None:
+        if not _is_whole(value):
+            self._broken.add(field.number)
+        if field.number not in self._broken or self._is_text(field.name):
+            values[field.number] = value
+
+    def finished(self, features: list[FileFeature]) -> tuple[list[FileColumn], list[FileFeature], list[ColumnOrigin]]:
+        """The columns at the end, the features with them, and what the columns were in the source."""
+        types = {field.number: self._final_type(field) for field in self._fields}
+        dropped = [field.source_name for field in self._fields if types[field.number] is None]
+        if dropped:
+            self.left.append(self._left(REAL, dropped))
+        kept = [field for field in self._fields if types[field.number] is not None]
+        new = {field.number: number for number, field in enumerate(kept, 1)}
+        reals = {field.number: types[field.number] for field in self._fields if field.type is None}
+        columns = [FileColumn(new[field.number], types[field.number] or TEXT, field.name) for field in kept]
+        if reals or any(number != old for old, number in new.items()):
+            features = [feature._replace(values=_settled(feature.values, reals, new)) for feature in features]
+        return columns, features, [self._origins[field.number] for field in kept]
+
+    def _final_type(self, field: _Field) -> int | None:
+        """The type of a column in the store; none where it is left out."""
+        if field.type is not None:
+            return field.type
+        is_whole = field.number not in self._broken
+        if self._wanted.get(field.name) == "text" or (self._as_text and not is_whole):
+            return TEXT
+        return INT if is_whole else None
+
+    def _is_text(self, name: str) -> bool:
+        """Whether a column of another type than the store's is to be one of texts."""
+        return self._as_text or self._wanted.get(name) == "text"
+
+    def _take(self, names: Mapping[str, str]) -> None:
+        """Finds the columns that the store can have, and those that are left out."""
+        _, module, _ = ogr.gdal()
+        definition = self._layer.GetLayerDefn()
+        left: dict[str, list[str]] = {}
+        taken: set[str] = set()
+        confused, foreign = self._confused(), self._foreign_types()
+        for place in range(definition.GetFieldCount()):
+            field = definition.GetFieldDefn(place)
+            source_name, type_name = field.GetName(), field.GetTypeName()
+            kind: int | None = TEXT
+            if source_name in confused:
+                continue
+            if source_name in foreign:
+                left.setdefault(foreign[source_name], []).append(source_name)
+                continue
+            if field.GetType() in (module.OFTInteger, module.OFTInteger64):
+                kind = INT
+            elif field.GetType() == module.OFTReal:
+                kind = None
+            elif field.GetType() != module.OFTString and not self._is_text(names.get(source_name, source_name)):
+                left.setdefault(type_name, []).append(source_name)
+                continue
+            name = new_name(names.get(source_name, source_name), taken)
+            if name != source_name:
+                self.renamed.append((source_name, name))
+            number = len(self._fields) + 1
+            self._fields.append(_Field(number, place, name, kind, source_name, type_name))
+            subtype = module.GetFieldSubTypeName(field.GetSubType())
+            kept = _kept(source_name, name)
+            self._origins[number] = ColumnOrigin(name, kept, type_name, subtype, field.GetWidth())
+        self.left += [self._left(type_name, several) for type_name, several in left.items()]
+
+    def _left(self, type_name: str, names: list[str]) -> Left:
+        """That columns of a type are left out, in words."""
+        one = len(names) == 1
+        keeps = "" if self._as_text else f" (--as-text keeps {'it' if one else 'them'})"
+        words = "1 column" if one else f"{len(names)} columns"
+        return Left(f"{words} of type {type_name} {'is' if one else 'are'} left out{keeps}", names)
+
+    def _confused(self) -> set[str]:
+        """The columns of a database whose names differ in case alone: OGR gives one the values of the other."""
+        if self._driver != "PostgreSQL":
+            return set()
+        definition = self._layer.GetLayerDefn()
+        names = [definition.GetFieldDefn(place).GetName() for place in range(definition.GetFieldCount())]
+        counts = Counter(name.casefold() for name in names)
+        confused = [name for name in names if counts[name.casefold()] > 1]
+        if confused:
+            reason = "columns whose names differ in case alone, which OGR does not tell apart, are left out"
+            self.left.append(Left(reason, confused))
+        return set(confused)
+
+    def find_odd(self) -> None:
+        """Asks a GeoPackage or a database for the values that OGR would change."""
+        if self._driver == "GPKG":
+            self._find_odd_of_geopackage()
+        elif self._driver == "PostgreSQL":
+            self._find_odd_of_postgresql()
+
+    def forget_odd(self) -> None:
+        """Lets go of what `find_odd` has found."""
+        self._odd.clear()
+
+    def _find_odd_of_geopackage(self) -> None:
+        for field in list(self._fields):
+            if field.source_type not in _FITTING:
+                continue
+            quoted = _quoted(field.source_name)
+            condition = f"{quoted} IS NOT NULL AND NOT ({_FITTING[field.source_type].format(quoted)})"
+            shown = f"substr(quote({quoted}), 1, 60)"
+            self._note_odd(field, f"FROM {_quoted(self._layer.GetName())} WHERE {condition}", shown, "TEXT")
+
+    def _find_odd_of_postgresql(self) -> None:
+        types = self._postgresql_types()
+        for field in list(self._fields):
+            if types.get(field.source_name) in _ODD_OF_POSTGRESQL:
+                condition, shown = _ODD_OF_POSTGRESQL[types[field.source_name]]
+                quoted = _quoted(field.source_name)
+                where = f"FROM {self._table()} WHERE {condition.format(quoted)}"
+                self._note_odd(field, where, f"quote_literal({shown.format(quoted)})", "text")
+
+    def _note_odd(self, field: _Field, where: str, shown: str, text_type: str) -> None:
+        """Notes the odd values of a column, or leaves it out where no identifiers say of which features they are."""
+        identifier = self._layer.GetFIDColumn()
+        if not identifier:
+            [(count, _)] = self._asked(f"SELECT CAST(count(*) AS {text_type}) AS place, '' AS value {where}")
+            if count != "0":
+                reason = f"a column with {count} values that are none of its type {field.source_type} is left out"
+                self.left.append(Left(f"{reason}, since no identifiers say of which features", [field.source_name]))
+                self._fields.remove(field)
+            return
+        query = f"SELECT CAST({_quoted(identifier)} AS {text_type}) AS place, {shown} AS value {where}"
+        for place, value in self._asked(query):
+            if _WHOLE.fullmatch(place):
+                self._odd[int(place), field.place] = value, _odd_text(field, value)
+
+    def _postgresql_types(self) -> dict[str, str]:
+        """The types of a table's columns in PostgreSQL's words."""
+        table = self._table().replace("'", "''")
+        return dict(
+            self._asked(
+                "SELECT attname::text AS place, format_type(atttypid, NULL)::text AS value FROM pg_attribute "
+                f"WHERE attrelid = to_regclass('{table}') AND attnum > 0 AND NOT attisdropped"
+            )
+        )
+
+    def _foreign_types(self) -> dict[str, str]:
+        """The columns of a database that OGR takes for whole numbers and that are none, with their types."""
+        if self._driver != "PostgreSQL":
+            return {}
+        _, module, _ = ogr.gdal()
+        definition = self._layer.GetLayerDefn()
+        types = self._postgresql_types()
+        return {
+            field.GetName(): types[field.GetName()]
+            for field in map(definition.GetFieldDefn, range(definition.GetFieldCount()))
+            if field.GetType() in (module.OFTInteger, module.OFTInteger64)
+            and types.get(field.GetName(), "integer") not in _WHOLE_TYPES
+        }
+
+    def _table(self) -> str:
+        """The table of a layer of a database, quoted. OGR writes its schema before it, and one of several geometries behind."""
+        name = self._layer.GetName().removesuffix(f"({self._layer.GetGeometryColumn()})")
+        before, dot, behind = name.partition(".")
+        if dot and self._asked(f"SELECT nspname::text AS place, '' AS value FROM pg_namespace WHERE nspname = {_literal(before)}"):
+            return f"{_quoted(before)}.{_quoted(behind)}"
+        return _quoted(name)
+
+    def _asked(self, query: str) -> list[tuple[str, str]]:
+        """The two columns of a query's rows. `ogr.ExchangeError` where there is no answer."""
+        try:
+            result = self._source.ExecuteSQL(query)
+        except RuntimeError as error:
+            name = ogr.printable(self._layer.GetName())
+            raise ogr.ExchangeError(f"layer {name} can't be read: {error}") from None
+        if result is None:
+            return []
+        rows = list(_rows(result))
+        self._source.ReleaseResultSet(result)
+        return rows
+
+
+def _rows(result: Any) -> Iterator[tuple[str, str]]:
+    for row, _ in ogr.features(result):
+        yield str(row.GetField(0)), str(row.GetField(1))
+
+
+def _quoted(name: str) -> str:
+    """A name in SQL."""
+    return '"' + name.replace('"', '""') + '"'
+
+
+def _literal(text: str) -> str:
+    """A text in SQL, of PostgreSQL's standard."""
+    return "'" + text.replace("'", "''") + "'"
+
+
+def _kept(name: str, otherwise: str) -> str:
+    """A name of the source, or another one where it is not UTF-8."""
+    try:
+        name.encode("utf-8")
+    except UnicodeError:
+        return otherwise
+    return name
+
+
+def _odd_text(field: _Field, shown: str) -> str | None:
+    """The text of a value that OGR would change, as SQL writes it; none where it is no value of the column's type."""
+    if field.type != TEXT or not (shown.startswith("'") and shown.endswith("'")):
+        return None
+    text = shown[1:-1].replace("''", "'")
+    if field.source_type == DATE:
+        return text if day_of(text) or text in ("infinity", "-infinity") else None
+    if field.source_type == DATE_TIME:
+        moment = moment_of(text)
+        if moment is not None:
+            return moment.text
+        return text if text in ("infinity", "-infinity") else None
+    return None
+
+
+def _is_whole(value: float) -> bool:
+    """Whether a real number is a whole one of the store."""
+    return value.is_integer() and INT_MIN <= value <= INT_MAX
+
+
+def _settled(values: Mapping[int, Any], reals: Mapping[int, int | None], new: Mapping[int, int]) -> dict[int, Value]:
+    """Values with those of real columns as the store has them, by the columns' new numbers."""
+    settled: dict[int, Value] = {}
+    for number, value in values.items():
+        if number not in new:
+            continue
+        if number in reals:
+            # The shortest text of the same double.
+            value = int(value) if reals[number] == INT else repr(value)
+        settled[new[number]] = value
+    return settled
+
+
+def _text(feature: Any, field: _Field) -> str | None:
+    """The value of a feature as text, or none where it is not UTF-8."""
+    try:
+        text = _plain_text(feature, field)
+        text.encode("utf-8")
+    except UnicodeError:
+        return None
+    return text
+
+
+def _plain_text(feature: Any, field: _Field) -> str:
+    place = field.place
+    if field.source_type == DATE:
+        return text_of_day(feature.GetFieldAsDateTime(place))
+    if field.source_type == DATE_TIME:
+        return text_of_moment(feature.GetFieldAsDateTime(place))
+    if field.source_type == "Time":
+        return text_of_time(feature.GetFieldAsDateTime(place))
+    if field.source_type.endswith("List"):
+        return json.dumps(feature.GetField(place), ensure_ascii=False)
+    if field.source_type == "Binary":
+        return bytes(feature.GetFieldAsBinary(place)).hex()
+    return str(feature.GetFieldAsString(place))
+
+
+def _text_fault(text: str) -> str:
+    """Why a text is none of the store, or nothing."""
+    if _CONTROL.search(text):
+        return "a text with a control character"
+    if len(text.encode("utf-8")) > TEXT_MAX:
+        return f"a text of more than {TEXT_MAX} bytes"
+    return ""

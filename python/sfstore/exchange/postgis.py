@@ -1,0 +1,547 @@
+"""Layers of a store as tables of PostGIS, by psycopg2: all of them in one transaction, or none.
+
+A table that is there keeps its definition, and all that belongs to it or stands on it: rights, triggers, indexes,
+views. Its rows alone are replaced, and only where that was asked for. Nothing is dropped. What was written is read
+back before the transaction ends.
+"""
+
+from __future__ import annotations
+
+import contextlib
+import datetime
+import re
+import struct
+from collections.abc import Iterator, Sequence
+from typing import Any, NamedTuple
+
+from sfstore.exchange import ogr
+from sfstore.exchange.columns import DATE, DATE_TIME, INTEGER, INTEGER_64, REAL, Sort
+from sfstore.exchange.formats import Part
+from sfstore.exchange.grid import Grid
+from sfstore.exchange.moments import day_of, moment_of
+from sfstore.geometry import read_wkb, write_wkb
+from sfstore.sidecar import Crs, Sidecar
+from sfstore.storefile import FileFeature
+
+__all__ = ["write_database"]
+
+# For so long an export waits for others who hold a table.
+_LOCK_SECONDS = 60
+# How many rows are sent, and read back, at a time.
+_BATCH = 1_000
+_HAS_REFERENCE = 0x20000000
+_INT_32_MAX = 2**31 - 1
+
+_KINDS = ["Geometry", "Point", "LineString", "Polygon", "MultiPoint", "MultiLineString", "MultiPolygon"]
+_TYPES = {INTEGER: "integer", INTEGER_64: "bigint", REAL: "double precision", DATE: "date"}
+_SUBTYPES = {"Boolean": "boolean", "Int16": "smallint"}
+_RELATIONS = {
+    "r": "table",
+    "p": "partitioned table",
+    "v": "view",
+    "m": "materialized view",
+    "f": "foreign table",
+    "S": "sequence",
+    "i": "index",
+    "I": "index",
+    "c": "type",
+}
+
+# A word of a target with its value, and the words that OGR takes and PostgreSQL does not.
+_WORD = re.compile(r"(\w+)\s*=\s*('(?:[^'\\]|\\.)*'|\S*)")
+_OF_OGR = ("active_schema", "schemas", "tables")
+
+
+def write_database(target: str, parts: Sequence[Part], found: Sidecar, overwrite: bool) -> None:
+    """Writes all layers to a PostGIS database in one transaction.
+
+    `ogr.ExchangeError` where the database does not take them as they are, and then it is as it was.
+    """
+    psycopg2 = _module()
+    dsn, schema = _words_of(target)
+    try:
+        connection = psycopg2.connect(dsn, application_name="sfstore-export", client_encoding="UTF8")
+    except psycopg2.Error as error:
+        raise ogr.ExchangeError(f"the database does not open: {_sentence(error)}") from None
+    with contextlib.closing(connection):
+        try:
+            _Export(connection, schema, found, overwrite).write(parts)
+        except psycopg2.Error as error:
+            raise ogr.ExchangeError(f"the database refused it: {_sentence(error)}") from None
+        try:
+            connection.commit()
+        except psycopg2.Error as error:
+            why = f"the connection broke at the very end, and the database may have taken it: {_sentence(error)}"
+            raise ogr.ExchangeError(why if connection.closed else f"the database refused it: {_sentence(error)}") from None
+
+
+def _module() -> Any:
+    try:
+        import psycopg2
+        import psycopg2.sql
+    except ImportError as error:
+        raise ogr.ExchangeError(
+            f"an export to PostGIS needs psycopg2, in Debian the package python3-psycopg2 ({error})"
+        ) from None
+    return psycopg2
+
+
+def _words_of(target: str) -> tuple[str, str | None]:
+    """The words of connection of a target ``PG:..``, and the schema that it names, as OGR takes both.
+
+    >>> _words_of("PG:dbname=town active_schema=maps password='a tables=b'")
+    ("dbname=town  password='a tables=b'", 'maps')
+    """
+    words = target[3:].strip()
+    if len(words) > 1 and words[0] == words[-1] == '"':
+        words = words[1:-1]
+    said = {name.lower(): value.strip("'") for name, value in _WORD.findall(words)}
+    schema = said.get("active_schema")
+    if schema is None and said.get("schemas") and "," not in said["schemas"]:
+        schema = said["schemas"]
+    # A value that has such words within its quotes is found as a whole, and stays.
+    return _WORD.sub(lambda found: "" if found[1].lower() in _OF_OGR else found[0], words).strip(), schema
+
+
+def _sentence(error: Any) -> str:
+    """What PostgreSQL says, in one line."""
+    found = getattr(error, "diag", None)
+    told = [found.message_primary, found.message_detail, found.context] if found is not None else []
+    lines = [str(each) for each in told if each] or [str(error)]
+    return ogr.printable(": ".join(" ".join(line.split()) for line in lines))
+
+
+class _Column(NamedTuple):
+    """A column that goes out."""
+
+    number: int
+    name: str
+    sort: Sort
+
+
+class _Known(NamedTuple):
+    """A column that is there."""
+
+    is_computed: bool
+    """Whether the database computes it."""
+    is_padded: bool
+    """Whether blanks at the end of a text are none of it."""
+
+
+class _Table(NamedTuple):
+    """Where a layer goes."""
+
+    schema: str
+    name: str
+    oid: int | None
+    """The table that is there."""
+    columns: dict[str, _Known]
+    """The columns that it has."""
+
+
+class _Export:
+    """One export, in the transaction of a connection."""
+
+    def __init__(self, connection: Any, schema: str | None, found: Sidecar, overwrite: bool) -> None:
+        self._sql = _module().sql
+        self.connection = connection
+        self._asked_schema = schema
+        self._crs = found.crs
+        self.places = Grid(*found.grid).places
+        self._overwrite = overwrite
+
+    def write(self, parts: Sequence[Part]) -> None:
+        """Writes layers, and reads them back."""
+        self._run("SET LOCAL lock_timeout = %s", [f"{_LOCK_SECONDS}s"])
+        self._run("SET LOCAL datestyle = 'ISO'; SET LOCAL timezone = 'UTC'; SET LOCAL standard_conforming_strings = on")
+        self._postgis = self._postgis_schema()
+        schema = self._schema()
+        tables = [self._table(part, schema) for part in parts]
+        srid = self._srid(self._crs)
+        exports = [_LayerExport(self, part, table, srid) for part, table in zip(parts, tables)]
+        for export in exports:
+            export.write()
+        # A sequence does not go back with the transaction, so it comes last.
+        for export in exports:
+            export.count_on()
+
+    def run(self, text: str, *names: Any) -> Any:
+        """Runs a statement with names and parts in the places ``{}``."""
+        return self._run(self._sql.SQL(text).format(*names))
+
+    def rows(self, text: str, *values: object) -> list[Any]:
+        """The rows of a question with values."""
+        found: list[Any] = self._run(text, list(values)).fetchall()
+        return found
+
+    def quoted(self, *names: str) -> Any:
+        """A name, of parts."""
+        return self._sql.Identifier(*names)
+
+    def several(self, names: Sequence[str]) -> Any:
+        """Names with commas between."""
+        return self._sql.SQL(", ").join(map(self._sql.Identifier, names))
+
+    def plain(self, text: str) -> Any:
+        """Words of SQL that no stranger has said."""
+        return self._sql.SQL(text)
+
+    def of_postgis(self, name: str) -> Any:
+        """A type or function of PostGIS."""
+        return self._sql.Identifier(self._postgis, name)
+
+    def copy(self, statement: Any, rows: Iterator[bytes]) -> None:
+        """Sends rows in the text format of COPY."""
+        stream = _Stream(rows)
+        try:
+            with self.connection.cursor() as cursor:
+                cursor.copy_expert(statement, stream)
+        except Exception:
+            if stream.failure is not None:
+                raise stream.failure from None
+            raise
+
+    @contextlib.contextmanager
+    def reading(self, statement: Any) -> Iterator[Any]:
+        """The rows of a question, some of them at a time."""
+        with self.connection.cursor("sfstore_reads_back") as cursor:
+            cursor.itersize = _BATCH
+            cursor.execute(statement)
+            yield cursor
+
+    def format(self, text: str, *names: Any) -> Any:
+        """A statement with names and parts in the places ``{}``."""
+        return self._sql.SQL(text).format(*names)
+
+    def _run(self, text: Any, values: Sequence[object] | None = None) -> Any:
+        cursor = self.connection.cursor()
+        cursor.execute(text, values)
+        return cursor
+
+    def _postgis_schema(self) -> str:
+        rows = self.rows(
+            "SELECT n.nspname FROM pg_catalog.pg_extension e JOIN pg_catalog.pg_namespace n ON n.oid = e.extnamespace "
+            "WHERE e.extname = %s",
+            "postgis",
+        )
+        if not rows:
+            raise ogr.ExchangeError("the database has no PostGIS: say CREATE EXTENSION postgis in it")
+        return str(rows[0][0])
+
+    def _schema(self) -> str:
+        """The schema for tables whose names say none."""
+        if self._asked_schema is None:
+            [[found]] = self.rows("SELECT pg_catalog.current_schema()")
+            if found is None:
+                raise ogr.ExchangeError("the database has no schema to write to: say active_schema=NAME")
+            return str(found)
+        if not self._is_schema(self._asked_schema):
+            raise ogr.ExchangeError(f"the database has no schema {ogr.printable(self._asked_schema)}")
+        return self._asked_schema
+
+    def _is_schema(self, name: str) -> bool:
+        return bool(self.rows("SELECT 1 FROM pg_catalog.pg_namespace WHERE nspname = %s", name))
+
+    def _table(self, part: Part, schema: str) -> _Table:
+        """The place of a layer, where nothing is in the way."""
+        name = part.name
+        before, dot, behind = name.partition(".")
+        if dot and behind and self._is_schema(before):
+            # So OGR names the tables of other schemas.
+            schema, name = before, behind
+        oid = self._free(schema, name)
+        if oid is None:
+            return _Table(schema, name, None, {})
+        self.run("LOCK TABLE ONLY {} IN ACCESS EXCLUSIVE MODE", self.quoted(schema, name))
+        self._check_others(oid, name)
+        table = _Table(schema, name, oid, self._columns(oid))
+        _check_columns(part, table)
+        return table
+
+    def _free(self, schema: str, name: str) -> int | None:
+        """The table of a name, where it may be replaced; none where there is none."""
+        rows = self.rows(
+            "SELECT c.relname, c.relkind::text, c.oid::bigint FROM pg_catalog.pg_class c "
+            "JOIN pg_catalog.pg_namespace n ON n.oid = c.relnamespace WHERE n.nspname = %s",
+            schema,
+        )
+        oid: int | None = None
+        shown = ogr.printable(name)
+        for known, kind, number in rows:
+            if known.casefold() != name.casefold():
+                continue
+            what = _RELATIONS.get(kind, "relation")
+            if known != name and kind not in "iI":
+                raise ogr.ExchangeError(
+                    f"the database has a {what} {ogr.printable(known)}, which OGR does not tell from {shown}: "
+                    "rename one of them"
+                )
+            if known == name and kind != "r":
+                raise ogr.ExchangeError(f"the database has a {what} {shown}, which no export replaces")
+            if known == name:
+                oid = number
+        if oid is not None and not self._overwrite:
+            raise ogr.ExchangeError(f"the database has a table {shown} already: --overwrite replaces it")
+        return oid
+
+    def _check_others(self, oid: int, name: str) -> None:
+        """`ogr.ExchangeError` where another table needs the rows of a table."""
+        shown = ogr.printable(name)
+        for key, other in self.rows(
+            "SELECT conname, conrelid::pg_catalog.regclass::text FROM pg_catalog.pg_constraint "
+            "WHERE contype = 'f' AND confrelid = %s::oid AND conrelid <> confrelid ORDER BY 1",
+            oid,
+        ):
+            raise ogr.ExchangeError(
+                f"the foreign key {ogr.printable(key)} of {ogr.printable(other)} needs the rows of {shown}: "
+                "drop it before an export with --overwrite"
+            )
+        for [other] in self.rows(
+            "SELECT inhrelid::pg_catalog.regclass::text FROM pg_catalog.pg_inherits WHERE inhparent = %s::oid ORDER BY 1",
+            oid,
+        ):
+            raise ogr.ExchangeError(f"{ogr.printable(other)} inherits from {shown}, which no export replaces then")
+
+    def _columns(self, oid: int) -> dict[str, _Known]:
+        rows = self.rows(
+            "SELECT attname, attgenerated::text <> '', atttypid = 'pg_catalog.bpchar'::pg_catalog.regtype "
+            "FROM pg_catalog.pg_attribute WHERE attrelid = %s::oid AND attnum > 0 AND NOT attisdropped",
+            oid,
+        )
+        return {name: _Known(*rest) for name, *rest in rows}
+
+    def _srid(self, crs: Crs | None) -> int:
+        """PostGIS' number of a reference system, which is added where PostGIS does not know it."""
+        if crs is None:
+            return 0
+        known = self.of_postgis("spatial_ref_sys")
+        if crs.authority:
+            text = "SELECT srid FROM {} WHERE upper(auth_name) = upper(%s) AND auth_srid::text = %s ORDER BY srid"
+            found = self._run(self.format(text, known), [crs.authority, crs.code]).fetchall()
+            if found:
+                return int(found[0][0])
+        reference = ogr.spatial_reference(crs)
+        wkt, proj = reference.ExportToWkt(["FORMAT=WKT1_GDAL"]), reference.ExportToProj4()
+        found = self._run(self.format("SELECT srid FROM {} WHERE srtext = %s ORDER BY srid", known), [wkt]).fetchall()
+        if found:
+            return int(found[0][0])
+        text = (
+            "INSERT INTO {0} (srid, auth_name, auth_srid, srtext, proj4text) "
+            "SELECT COALESCE(max(srid), 0) + 1, %s, %s::integer, %s, %s FROM {0} WHERE srid < 998999 RETURNING srid"
+        )
+        code = crs.code if crs.code.isdigit() else None
+        name = crs.authority if code is not None else None
+        [[srid]] = self._run(self.format(text, known), [name, code, wkt, proj]).fetchall()
+        return int(srid)
+
+
+def _check_columns(part: Part, table: _Table) -> None:
+    """`ogr.ExchangeError` where a table has what would be lost, or is no table of a layer."""
+    shown = ogr.printable(part.name)
+    if part.geometry_column not in table.columns:
+        raise ogr.ExchangeError(
+            f"the table {shown} has no column {ogr.printable(part.geometry_column)} for the geometries: "
+            "it is another one than the layer's"
+        )
+    wanted = {part.identifier_column, part.geometry_column, *part.columns.values()}
+    lost = [name for name, column in table.columns.items() if name not in wanted and not column.is_computed]
+    if lost:
+        raise ogr.ExchangeError(
+            f"the table {shown} has columns that the store has not, and their values would be lost: "
+            f"{ogr.printable(', '.join(lost))}. Drop them in the database first, or name another database or schema"
+        )
+
+
+class _LayerExport:
+    """Writes one layer to its table."""
+
+    def __init__(self, export: _Export, part: Part, table: _Table, srid: int) -> None:
+        self._export = export
+        self._part = part
+        self._table = table
+        self._srid = srid
+        self._name = export.quoted(table.schema, table.name)
+        self._columns = [_Column(number, part.columns[number], sort) for number, sort in part.sorts.items()]
+        self._padded = {name for name, column in table.columns.items() if column.is_padded}
+
+    def write(self) -> None:
+        """Makes the table or empties it, fills it, and reads it back."""
+        export, part = self._export, self._part
+        if self._table.oid is None:
+            self._make()
+        else:
+            self._empty()
+        names = [part.identifier_column, part.geometry_column, *(column.name for column in self._columns)]
+        export.copy(export.format("COPY {} ({}) FROM STDIN", self._name, export.several(names)), self._rows())
+        if self._table.oid is None:
+            export.run("CREATE INDEX ON {} USING GIST ({})", self._name, export.quoted(part.geometry_column))
+        self._read_back()
+
+    def _make(self) -> None:
+        export, part = self._export, self._part
+        kind = f"({_KINDS[part.layer.kind]},{self._srid})"
+        defined = [self._identifier()]
+        geometry = export.quoted(part.geometry_column), export.of_postgis("geometry"), export.plain(kind)
+        defined.append(export.format("{} {}{}", *geometry))
+        defined += [self._definition(column) for column in self._columns]
+        export.run("CREATE TABLE {} ({})", self._name, export.plain(", ").join(defined))
+
+    def _identifier(self) -> Any:
+        small = self._part.next_id - 1 <= _INT_32_MAX
+        kind = self._export.plain("serial" if small else "bigserial")
+        return self._export.format("{} {} PRIMARY KEY", self._export.quoted(self._part.identifier_column), kind)
+
+    def _definition(self, column: _Column) -> Any:
+        return self._export.format("{} {}", self._export.quoted(column.name), self._export.plain(_type(column.sort)))
+
+    def _empty(self) -> None:
+        """Takes the rows away, and adds the columns that are missing."""
+        self._export.run("TRUNCATE ONLY {}", self._name)
+        if self._part.identifier_column not in self._table.columns:
+            self._export.run("ALTER TABLE {} ADD COLUMN {}", self._name, self._identifier())
+        for column in self._columns:
+            if column.name not in self._table.columns:
+                self._export.run("ALTER TABLE {} ADD COLUMN {}", self._name, self._definition(column))
+
+    def _rows(self) -> Iterator[bytes]:
+        """The features in the text format of COPY, some at a time."""
+        rows: list[str] = []
+        features = self._part.layer.features
+        with ogr.progress(self._part.name, len(features)) as show:
+            for feature in features:
+                fields = [str(feature.id), self._geometry(feature)]
+                fields += [_field(feature.values.get(column.number), column.sort) for column in self._columns]
+                rows.append("\t".join(fields) + "\n")
+                if len(rows) == _BATCH:
+                    yield "".join(rows).encode("utf-8")
+                    rows = []
+                show(1)
+        yield "".join(rows).encode("utf-8")
+
+    def _geometry(self, feature: FileFeature) -> str:
+        """The geometry as PostGIS writes it, with its reference system."""
+        shape = read_wkb(feature.geometry).mapped(self._export.places)
+        binary = write_wkb(shape)
+        if self._srid:
+            head = struct.pack("<BII", 1, shape.code | _HAS_REFERENCE, self._srid)
+            binary = head + binary[5:]
+        return binary.hex().upper()
+
+    def count_on(self) -> None:
+        """Has the database give the identifiers behind those that were given."""
+        export = self._export
+        [[sequence]] = export.rows(
+            "SELECT pg_catalog.pg_get_serial_sequence(%s, %s)",
+            self._name.as_string(export.connection),
+            self._part.identifier_column,
+        )
+        if sequence is not None:
+            export.rows(
+                "SELECT pg_catalog.setval(%s, %s, false) FROM pg_catalog.pg_sequence "
+                "WHERE seqrelid = %s::pg_catalog.regclass AND seqmax >= %s "
+                "AND pg_catalog.has_sequence_privilege(%s, 'UPDATE')",
+                *(sequence, self._part.next_id, sequence, self._part.next_id, sequence),
+            )
+
+    def _read_back(self) -> None:
+        """`ogr.ExchangeError` where the table has anything else than the layer."""
+        export, part = self._export, self._part
+        identifier = export.quoted(part.identifier_column)
+        geometry = export.format(
+            "{}({}, 'NDR')", export.of_postgis("st_ashexewkb"), export.quoted(part.geometry_column)
+        )
+        shown = [export.format("{}::text", export.quoted(column.name)) for column in self._columns]
+        asked = export.plain(", ").join([identifier, geometry, *shown])
+        statement = export.format("SELECT {} FROM {} ORDER BY {}", asked, self._name, identifier)
+        with export.reading(statement) as rows:
+            read = iter(rows)
+            for feature in part.layer.features:
+                self._compare(feature, next(read, None))
+            if next(read, None) is not None:
+                raise self._other("has more rows than were written")
+
+    def _compare(self, feature: FileFeature, row: Any) -> None:
+        if row is None or row[0] != feature.id:
+            raise self._other(f"has no feature {feature.id}")
+        if row[1] != self._geometry(feature):
+            raise self._other(f"has another geometry of feature {feature.id}")
+        for column, text in zip(self._columns, row[2:]):
+            value = feature.values.get(column.number)
+            if isinstance(value, str) and column.name in self._padded:
+                value = value.rstrip(" ")
+            if not _is_same(value, text, column.sort):
+                there = "no value" if text is None else ogr.printable(repr(text[:60]))
+                raise self._other(
+                    f"has {there} for {ogr.printable(repr(value)[:60])} in column {ogr.printable(column.name)} "
+                    f"of feature {feature.id}"
+                )
+
+    def _other(self, what: str) -> ogr.ExchangeError:
+        return ogr.ExchangeError(
+            f"read back, the table {ogr.printable(self._table.name)} {what}: nothing was written"
+        )
+
+
+def _type(sort: Sort) -> str:
+    """The type of a column in PostgreSQL's words."""
+    if sort.subtype in _SUBTYPES:
+        return _SUBTYPES[sort.subtype]
+    if sort.type == DATE_TIME:
+        return "timestamp with time zone" if sort.is_zoned else "timestamp without time zone"
+    if sort.type in _TYPES:
+        return _TYPES[sort.type]
+    return f"varchar({sort.width})" if sort.width else "varchar"
+
+
+def _field(value: int | str | None, sort: Sort) -> str:
+    """A value in the text format of COPY."""
+    if value is None:
+        return "\\N"
+    if isinstance(value, int):
+        return str(value)
+    return value.replace("\\", "\\\\").replace("\t", "\\t").replace("\n", "\\n").replace("\r", "\\r")
+
+
+def _is_same(value: int | str | None, text: str | None, sort: Sort) -> bool:
+    """Whether a text of the database stands for a value of the store."""
+    if value is None or text is None:
+        return value is None and text is None
+    if sort.type == REAL:
+        return float(text) == float(value)
+    if isinstance(value, int):
+        return text in (str(value), {0: "false", 1: "true"}.get(value))
+    if sort.type == DATE:
+        return day_of(text) == day_of(value)
+    if sort.type == DATE_TIME:
+        return _instant(text) == _instant(value)
+    return text == value
+
+
+def _instant(text: str) -> datetime.datetime | None:
+    """A moment by the clock of UTC, where its zone is known."""
+    moment = moment_of(text)
+    if moment is None:
+        return None
+    if moment.offset is None:
+        return moment.at
+    return (moment.at - datetime.timedelta(minutes=moment.offset)).replace(tzinfo=datetime.timezone.utc)
+
+
+class _Stream:
+    """Blocks of bytes as a file that COPY reads."""
+
+    def __init__(self, blocks: Iterator[bytes]) -> None:
+        self._blocks = blocks
+        self.failure: BaseException | None = None
+        """What has ended the reading."""
+
+    def read(self, size: int = -1) -> bytes:
+        """The next block, whatever its size; an empty one at the end."""
+        try:
+            for block in self._blocks:
+                if block:
+                    return block
+            return b""
+        except BaseException as failure:
+            self.failure = failure
+            raise

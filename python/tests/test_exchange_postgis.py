@@ -1,0 +1,377 @@
+"""Tests of exports to PostGIS beside what others have in the database, over a server of the test's own."""
+
+from __future__ import annotations
+
+import contextlib
+import json
+import os
+import shutil
+import subprocess
+import sys
+import tempfile
+import unittest
+from importlib.util import find_spec
+from pathlib import Path
+from unittest import mock
+
+from support import FOLDER, PROGRAM
+
+from test_exchange import HAS_GDAL, ExchangeCase, Source, bring_in, give_back
+from test_exchange_sets import PLAIN
+
+from sfstore import Store
+from sfstore.replica.servers import Server, binaries
+
+HAS_SERVER = binaries() is not None and find_spec("psycopg2") is not None
+if HAS_GDAL:
+    from osgeo import ogr
+if HAS_SERVER:
+    import psycopg2
+
+GRID = PLAIN[:4]
+
+
+@unittest.skipUnless(HAS_GDAL and HAS_SERVER, "no GDAL, or no PostgreSQL with psycopg2")
+class DatabaseCase(ExchangeCase):
+    """A server for all tests of a class, and a database for each."""
+
+    @classmethod
+    def setUpClass(cls):
+        super().setUpClass()
+        cls.place = Path(tempfile.mkdtemp(prefix="sfstore-pg", dir="/var/tmp"))
+        cls.place.chmod(0o755)
+        cls.addClassCleanup(shutil.rmtree, cls.place, ignore_errors=True)
+        cls.server = Server(cls.place, "one")
+        cls.server.make()
+        cls.server.start("")
+        cls.addClassCleanup(cls.server.kill)
+        with cls.asking("postgres") as ask:
+            try:
+                ask("CREATE DATABASE fresh")
+                with cls.asking("fresh") as inner:
+                    inner("CREATE EXTENSION postgis")
+            except psycopg2.Error as error:
+                raise unittest.SkipTest(f"no PostGIS: {error}") from None
+
+    def setUp(self):
+        super().setUp()
+        with self.asking("postgres") as ask:
+            ask("DROP DATABASE IF EXISTS town")
+            ask("CREATE DATABASE town TEMPLATE fresh")
+        self.dsn = self.server.dsn(database="town")
+        self.target = f"PG:{self.dsn}"
+
+    @classmethod
+    @contextlib.contextmanager
+    def asking(cls, database="town"):
+        """What carries out a statement, and gives its rows."""
+        connection = psycopg2.connect(cls.server.dsn(database=database))
+        connection.autocommit = True
+
+        def ask(statement):
+            cursor = connection.cursor()
+            cursor.execute(statement)
+            return cursor.fetchall() if cursor.description else None
+
+        try:
+            yield ask
+        finally:
+            connection.close()
+
+    def ask(self, statement):
+        with self.asking() as ask:
+            return ask(statement)
+
+    def made(self, lines, name="t.sfs"):
+        """A store of lines with a grid."""
+        path = self.folder / name
+        for old in (path, Path(f"{path}.json")):
+            old.unlink(missing_ok=True)
+        with Store(PROGRAM, save=path) as store:
+            store.run_all(lines)
+        return path
+
+    def wells(self, *more):
+        return self.made(["layer add wells point", "column add wells depth int", "add wells POINT (3 4)",
+                          "set wells 1 depth 7", *more])
+
+    def refused(self, *words):
+        status, out, err = give_back(*words)
+        self.assertEqual((status, out), (3, ""), err)
+        return err
+
+    def written(self, *words):
+        status, out, err = give_back(*words)
+        self.assertEqual((status, out), (0, ""), err)
+        return err
+
+
+class Others(DatabaseCase):
+    """What stands in the database stays as it is."""
+
+    def test_a_table_without_geometries_stays(self):
+        self.ask("CREATE TABLE wells (id int PRIMARY KEY, owner text); "
+                 "INSERT INTO wells SELECT i, 'owner ' || i FROM generate_series(1, 1000) i")
+        store = self.wells()
+        self.assertIn("has a table wells already: --overwrite replaces it", self.refused(store, self.target, *PLAIN))
+        self.assertEqual(self.ask("SELECT count(owner) FROM wells"), [(1000,)])
+        err = self.refused(store, self.target, *PLAIN, "--overwrite")
+        self.assertIn("the table wells has no column wkb_geometry for the geometries", err)
+        self.assertEqual(self.ask("SELECT count(owner) FROM wells"), [(1000,)])
+
+    def test_a_table_whose_name_differs_in_case_stays(self):
+        self.ask("CREATE TABLE \"Wells\" (id int, geom geometry(Point)); INSERT INTO \"Wells\" VALUES (1, 'POINT(9 9)')")
+        for words in ([], ["--overwrite"]):
+            err = self.refused(self.wells(), self.target, *PLAIN, *words)
+            self.assertIn("has a table Wells, which OGR does not tell from wells: rename one of them", err)
+            self.assertEqual(self.ask('SELECT count(*) FROM "Wells"'), [(1,)])
+
+    def test_other_relations_of_the_name_stay(self):
+        for kind, made in (
+            ("view", "CREATE VIEW wells AS SELECT 1 AS x"),
+            ("materialized view", "CREATE MATERIALIZED VIEW wells AS SELECT 1 AS x"),
+            ("sequence", "CREATE SEQUENCE wells"),
+            ("type", "CREATE TYPE wells AS (x int)"),
+            ("partitioned table", "CREATE TABLE wells (x int) PARTITION BY RANGE (x)"),
+        ):
+            with self.subTest(kind):
+                self.ask(made)
+                for words in ([], ["--overwrite"]):
+                    err = self.refused(self.wells(), self.target, *PLAIN, *words)
+                    self.assertIn(f"the database has a {kind} wells, which no export replaces", err)
+                self.ask(f"DROP {kind.removeprefix('partitioned ')} wells")
+
+    def test_a_table_of_another_schema_is_no_matter(self):
+        self.ask("CREATE SCHEMA other; CREATE TABLE other.wells (x int); INSERT INTO other.wells VALUES (5)")
+        self.written(self.wells(), self.target, *PLAIN)
+        self.assertEqual(self.ask("SELECT x FROM other.wells"), [(5,)])
+        self.assertEqual(self.ask("SELECT depth FROM wells"), [(7,)])
+
+    def test_layers_that_differ_in_case_are_two_tables(self):
+        store = self.made(["layer add Wells point", "add Wells POINT (1 1)", "add Wells POINT (2 2)",
+                           "layer add wells point", "add wells POINT (3 4)"])
+        err = self.written(store, self.target, *PLAIN)
+        self.assertIn("the name wells of a layer: it is wells_2 there", err)
+        self.assertEqual(self.ask('SELECT count(*) FROM "Wells"'), [(2,)])
+        self.assertEqual(self.ask("SELECT count(*) FROM wells_2"), [(1,)])
+
+    def test_views_rights_and_triggers_stay(self):
+        self.written(self.wells(), self.target, *PLAIN)
+        self.ask("CREATE VIEW deep AS SELECT * FROM wells; CREATE ROLE ann; GRANT SELECT ON wells TO ann; "
+                 "CREATE TABLE log (n int); CREATE FUNCTION noted() RETURNS trigger LANGUAGE plpgsql AS "
+                 "'BEGIN INSERT INTO log VALUES (1); RETURN NEW; END'; "
+                 "CREATE TRIGGER noted AFTER INSERT ON wells FOR EACH ROW EXECUTE FUNCTION noted()")
+        self.addCleanup(self.drop_role)
+        store = self.wells("add wells POINT (5 5)", "column add wells label text", "set wells 2 label 'new'")
+        self.written(store, self.target, *PLAIN, "--overwrite")
+        self.assertEqual(self.ask("SELECT depth FROM deep ORDER BY 1"), [(7,), (None,)])
+        self.assertEqual(self.ask("SELECT label FROM wells ORDER BY ogc_fid"), [(None,), ("new",)])
+        self.assertEqual(self.ask("SELECT has_table_privilege('ann', 'wells', 'SELECT')"), [(True,)])
+        self.assertEqual(self.ask("SELECT count(*) FROM log"), [(2,)])
+
+    def drop_role(self):
+        self.ask("DROP OWNED BY ann; DROP ROLE ann")
+
+    def test_a_foreign_key_on_the_table_is_in_the_way(self):
+        self.written(self.wells(), self.target, *PLAIN)
+        self.ask("CREATE TABLE probes (well int REFERENCES wells ON DELETE CASCADE); INSERT INTO probes VALUES (1)")
+        err = self.refused(self.wells(), self.target, *PLAIN, "--overwrite")
+        self.assertIn("the foreign key probes_well_fkey of probes needs the rows of wells", err)
+        self.assertEqual(self.ask("SELECT well FROM probes"), [(1,)])
+
+    def test_a_table_that_inherits_is_in_the_way(self):
+        self.written(self.wells(), self.target, *PLAIN)
+        self.ask("CREATE TABLE deep () INHERITS (wells); INSERT INTO deep (ogc_fid) VALUES (5)")
+        err = self.refused(self.wells(), self.target, *PLAIN, "--overwrite")
+        self.assertIn("deep inherits from wells", err)
+        self.assertEqual(self.ask("SELECT count(*) FROM wells"), [(2,)])
+
+    def test_columns_of_others_are_not_lost(self):
+        self.written(self.wells(), self.target, *PLAIN)
+        self.ask("ALTER TABLE wells ADD price numeric; UPDATE wells SET price = 9.5")
+        err = self.refused(self.wells(), self.target, *PLAIN, "--overwrite")
+        self.assertIn("has columns that the store has not, and their values would be lost: price", err)
+        self.assertEqual(self.ask("SELECT price::text FROM wells"), [("9.5",)])
+        self.ask("ALTER TABLE wells DROP price; ALTER TABLE wells ADD twice int GENERATED ALWAYS AS (depth * 2) STORED")
+        self.written(self.wells("set wells 1 depth 8"), self.target, *PLAIN, "--overwrite")
+        self.assertEqual(self.ask("SELECT depth, twice FROM wells"), [(8, 16)])
+
+    def test_what_a_trigger_changes_is_seen(self):
+        self.written(self.wells(), self.target, *PLAIN)
+        for what, body in (
+            ("has '14' for 7 in column depth of feature 1", "NEW.depth = NEW.depth * 2; RETURN NEW;"),
+            ("has no feature 1", "RETURN NULL;"),
+            ("has another geometry of feature 1", "NEW.wkb_geometry = 'SRID=25832;POINT(9 9)'; RETURN NEW;"),
+        ):
+            doubled = body.replace("'", "''")
+            self.ask(f"CREATE OR REPLACE FUNCTION other() RETURNS trigger LANGUAGE plpgsql AS 'BEGIN {doubled} END'")
+            self.ask("DROP TRIGGER IF EXISTS other ON wells; "
+                     "CREATE TRIGGER other BEFORE INSERT ON wells FOR EACH ROW EXECUTE FUNCTION other()")
+            err = self.refused(self.wells(), self.target, *PLAIN, "--overwrite")
+            self.assertIn(f"read back, the table wells {what}", err)
+            self.assertEqual(self.ask("SELECT depth, ST_AsText(wkb_geometry) FROM wells"), [(7, "POINT(3 4)")])
+
+    def test_an_export_that_breaks_off_leaves_all_as_it_was(self):
+        lines = ["layer add a point", "add a POINT (1 1)", "layer add b point", "column add b n int",
+                 "add b POINT (1 1)", "set b 1 n 5"]
+        self.written(self.made(lines), self.target, *PLAIN)
+        self.ask("ALTER TABLE b ALTER n TYPE smallint")
+        store = self.made([*lines, "add a POINT (2 2)", "set b 1 n 99999"])
+        err = self.refused(store, self.target, *PLAIN, "--overwrite")
+        self.assertIn("the database refused it: value \"99999\" is out of range for type smallint", err)
+        self.assertEqual(self.ask("SELECT count(*) FROM a"), [(1,)])
+        with mock.patch("sfstore.exchange.postgis.read_wkb", side_effect=KeyboardInterrupt):
+            self.assertIn("interrupted; nothing was written", self.refused(store, self.target, *PLAIN, "--overwrite"))
+        self.assertEqual(self.ask("SELECT count(*) FROM a"), [(1,)])
+
+    def test_who_holds_a_table_is_not_waited_for_for_ever(self):
+        self.written(self.wells(), self.target, *PLAIN)
+        holder = psycopg2.connect(self.dsn)
+        self.addCleanup(holder.close)
+        holder.cursor().execute("SELECT * FROM wells")
+        with mock.patch("sfstore.exchange.postgis._LOCK_SECONDS", 1):
+            err = self.refused(self.wells(), self.target, *PLAIN, "--overwrite")
+        self.assertIn("canceling statement due to lock timeout", err)
+
+
+class Written(DatabaseCase):
+    """What is written comes back."""
+
+    def test_names_that_ogr_makes(self):
+        for name in ("wkb_geometry", "Wkb_Geometry", "ogc_fid", "OGC_FID", "ctid", "tableOID", "geom", "id"):
+            with self.subTest(name):
+                self.ask("DROP TABLE IF EXISTS w")
+                store = self.made(["layer add w point", f"column add w {name} text", "add w POINT (1 1)",
+                                   f"set w 1 {name} 'value'"])
+                err = self.written(store, self.target, *PLAIN)
+                there = name if name in ("geom", "id") else f"{name}_2"
+                if there != name:
+                    self.assertIn(f"the name {name} of a column of w: it is {there} there", err)
+                self.assertEqual(bring_in(self.target, self.store, *GRID, "--overwrite")[0], 0)
+                self.assertEqual([feature.values for feature in self.shown("w")], [{there: "value"}])
+
+    def test_names_of_any_letters(self):
+        names = ['w"; DROP TABLE x; --', "100%", "x%s", "Fluß", "a\\b", "a'b", "w" * 70, "a b.c d", "select", "1"]
+        source = Source(self.folder / "odd.gpkg")
+        for name in names:
+            odd = f"{name[:50]} %(x)s $1"
+            source.layer(name, {1: ("POINT (1 2)", {odd: 7})}, columns=[(odd, ogr.OFTInteger)])
+        source.close()
+        self.ask("CREATE TABLE x (n int)")
+        self.assertEqual(bring_in(self.folder / "odd.gpkg", self.store, *GRID)[0], 0)
+        err = self.written(self.store, self.target)
+        self.assertIn(f"the name {'w' * 70} of a layer: it is {'w' * 63} there", err)
+        there = dict(self.ask("SELECT relname, oid FROM pg_class WHERE relkind = 'r' AND relnamespace = 'public'::regnamespace"))
+        for name in names:
+            self.assertIn(name[:63], there)
+        self.assertIn("x", there)
+        self.written(self.store, self.target, "--overwrite")
+        self.assertEqual(bring_in(self.target, self.folder / "again.sfs", *GRID, "--layer", names[0])[0], 0)
+        with Store(PROGRAM, load=self.folder / "again.sfs") as store:
+            [layer] = store.layers()
+            self.assertEqual([list(feature.values.values()) for feature in store.show(layer.name)], [[7]])
+
+    def test_columns_that_differ_in_case_go_out_as_two(self):
+        store = self.made(["layer add w point", "column add w Name text", "column add w name text",
+                           "add w POINT (1 1)", "set w 1 Name 'a'", "set w 1 name 'b'"])
+        err = self.written(store, self.target, *PLAIN)
+        self.assertIn("the name name of a column of w: it is name_2 there", err)
+        self.assertEqual(bring_in(self.target, self.store, *GRID)[0], 0)
+        self.assertEqual(self.shown("w")[0].values, {"Name": "a", "name_2": "b"})
+
+    def test_columns_of_others_that_differ_in_case_are_not_confused(self):
+        self.ask("CREATE TABLE w (gid serial PRIMARY KEY, \"Name\" text, name text, n int, geom geometry(Point)); "
+                 "INSERT INTO w VALUES (1, 'a', 'b', 5, 'POINT(1 1)')")
+        status, out, _ = bring_in(self.target, self.store, *GRID)
+        self.assertEqual(status, 1)
+        self.assertIn("columns whose names differ in case alone", out)
+        self.assertEqual(self.shown("w")[0].values, {"n": 5})
+
+    def test_the_database_counts_on(self):
+        store = self.wells("add wells POINT (5 5)", "delete wells 2")
+        self.written(store, self.target, *PLAIN)
+        self.ask("INSERT INTO wells (depth) VALUES (1)")
+        self.assertEqual(self.ask("SELECT max(ogc_fid) FROM wells"), [(3,)])
+
+    def test_forms_of_a_target(self):
+        self.ask("CREATE SCHEMA maps; CREATE SCHEMA others")
+        host = self.server.dsn().split()[0].removeprefix("host=")
+        plain = f"dbname=town host={host} user=postgres port=5432"
+        for number, (words, table) in enumerate((
+            (f"PG:{plain}", "public.w"),
+            (f"PG:dbname='town' host='{host}' user='postgres'", "public.w"),
+            (f'PG:"dbname=town host={host} user=postgres"', "public.w"),
+            (f"PG:{plain} active_schema=maps", "maps.w"),
+            (f"PG:{plain} schemas=maps", "maps.w"),
+            (f"PG:{plain} active_schema='others' schemas='others,maps'", "others.w"),
+            (f"PG:{plain} tables=public.none", "public.w"),
+        )):
+            with self.subTest(words):
+                self.ask("DROP TABLE IF EXISTS w, maps.w, others.w")
+                store = self.made(["layer add w point", f"add w POINT ({number} 1)"])
+                self.written(store, words, *PLAIN)
+                self.assertEqual(self.ask(f"SELECT ST_X(wkb_geometry)::int FROM {table}"), [(number,)])
+        with mock.patch.dict(os.environ, {"PGHOST": host, "PGUSER": "postgres"}):
+            self.ask("DROP TABLE w")
+            self.written(store, "PG:dbname=town", *PLAIN[:0])
+            self.assertEqual(self.ask("SELECT count(*) FROM w"), [(1,)])
+        err = self.refused(store, f"PG:{plain} active_schema=none")
+        self.assertIn("the database has no schema none", err)
+
+    def test_a_table_of_another_schema_goes_back_to_it(self):
+        self.ask("CREATE SCHEMA maps; CREATE TABLE maps.w (gid serial PRIMARY KEY, geom geometry(Point)); "
+                 "INSERT INTO maps.w (geom) VALUES ('POINT(1 1)')")
+        self.assertEqual(bring_in(self.target, self.store, *GRID)[0], 0)
+        with Store(self.store, journal=True, program=PROGRAM) as store:
+            [layer] = store.layers()
+            store.add(layer.name, "POINT (2 2)")
+        self.written(self.store, self.target, "--overwrite")
+        self.assertEqual(self.ask("SELECT gid, ST_X(geom)::int FROM maps.w ORDER BY 1"), [(1, 1), (2, 2)])
+
+    def test_words_that_are_wrong(self):
+        store = self.wells()
+        self.assertIn("the database does not open: ", self.refused(store, "PG:nonsense", *PLAIN))
+        with mock.patch.dict(sys.modules, {"psycopg2": None}):
+            err = self.refused(store, self.target, *PLAIN)
+        self.assertIn("needs psycopg2, in Debian the package python3-psycopg2", err)
+        with self.asking("postgres") as ask:
+            ask("DROP DATABASE IF EXISTS bare")
+            ask("CREATE DATABASE bare")
+        err = self.refused(store, f"PG:{self.server.dsn(database='bare')}", *PLAIN)
+        self.assertIn("the database has no PostGIS: say CREATE EXTENSION postgis in it", err)
+
+    def test_a_password_is_not_shown(self):
+        place = "PG:host=/missing dbname=x password=secret"
+        for status, out, err in (give_back(self.wells(), place, *PLAIN), bring_in(place, self.store, *GRID)):
+            self.assertEqual(status, 3)
+            self.assertIn("the database does not open: ", err)
+            self.assertNotIn("secret", out + err)
+
+    def test_reference_systems(self):
+        for name, code in (("EPSG:4326", ("EPSG", "4326")), ("ESRI:102017", ("ESRI", "102017")), (None, None),
+                           ("+proj=tmerc +lat_0=1 +lon_0=2 +ellps=bessel", ("", ""))):
+            with self.subTest(name):
+                self.ask("DROP TABLE IF EXISTS w")
+                store = self.made(["layer add w point", "add w POINT (10 50)"])
+                self.written(store, self.target, *GRID, *(["--crs", name] if name else []))
+                self.assertEqual(bring_in(self.target, self.store, *GRID, "--overwrite")[0], 0)
+                self.assertEqual(self.shown("w")[0].wkt, "POINT (10 50)")
+                found = self.side_car()["crs"]
+                self.assertEqual(found and (found["authority"], found["code"]), code)
+
+    def side_car(self):
+        return json.loads(Path(f"{self.store}.json").read_text())
+
+    def test_two_exports_at_once(self):
+        """One of them makes the table, and the other one says so."""
+        store = self.wells()
+        self.written(store, self.folder / "first.gpkg", *PLAIN)
+        words = [sys.executable, "-m", "sfstore.exchange.exporting", str(store), self.target, "--program", PROGRAM]
+        both = [subprocess.Popen(words, cwd=FOLDER, stderr=subprocess.DEVNULL) for _ in range(2)]
+        ended = [process.wait() for process in both]
+        self.assertEqual(sorted(ended), [0, 3])
+        self.assertEqual(self.ask("SELECT depth FROM wells"), [(7,)])
+
+
+if __name__ == "__main__":
+    unittest.main()
