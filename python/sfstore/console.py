@@ -23,6 +23,7 @@ from pathlib import Path
 from typing import Protocol
 
 from sfstore import files
+from sfstore.commandline import add_version, recovered_words, unsaved_question
 from sfstore.commands import candidates, help_text, near_words
 from sfstore.exchange import exporting, importing
 from sfstore.faults import fault_at, fault_of
@@ -238,7 +239,7 @@ class Console:
             store = Store(self._path, journal=True, program=self._program)
         edits, torn = store.recovered
         if edits:
-            print(f"{edits} edits from the journal were not saved yet: they are there, to undo too.")
+            print(recovered_words(edits))
         if torn:
             print(f"An edit that was not written to its end, nor answered, is dropped ({torn} bytes).")
         return store
@@ -313,10 +314,11 @@ class Console:
     def _quit(self, words: list[str]) -> None:
         """Leaves. Where something is not saved, that is asked about; else it stays in the journal."""
         unsaved = self._store.unsaved
-        if unsaved and self._yes(f"{unsaved} edits are not saved. Save them now?"):
+        if unsaved and self._yes(unsaved_question(unsaved)):
             self._save([])
         elif unsaved:
-            print(f"They stay in {self._path}.journal, and are there when it is opened again.")
+            stay = "It stays in {}, and is" if unsaved == 1 else "They stay in {}, and are"
+            print(f"{stay.format(self._path + '.journal')} there when it is opened again.")
         self._store.close(save=False)
         self._is_over = True
 
@@ -360,7 +362,7 @@ class Console:
     def _export(self, words: list[str]) -> None:
         """Gives the store back as a map; it is saved first."""
         if self._store.unsaved:
-            if not self._yes(f"{self._store.unsaved} edits are not saved. Save them now?"):
+            if not self._yes(unsaved_question(self._store.unsaved)):
                 print("Nothing is written: an export is one of the saved store.")
                 return
             self._save([])
@@ -389,6 +391,7 @@ def main(words: list[str] | None = None) -> int:
     )
     parser.add_argument("file", help="the store's file")
     parser.add_argument("--program", default="sfstore", help="the program sfstore")
+    add_version(parser)
     asked = parser.parse_args(words)
     if not (sys.stdin.isatty() and sys.stdout.isatty()):
         print(

@@ -14,6 +14,7 @@ import time
 from collections.abc import Iterable, Iterator
 from dataclasses import dataclass
 from io import FileIO
+from typing import Any
 
 from sfstore import files, oldjournal
 from sfstore.results import JournalError
@@ -32,11 +33,19 @@ __all__ = [
     "new_journal_of",
     "other_file",
     "path_of",
+    "read_kept",
     "read_records",
     "renew_old",
     "sent",
     "torn_bytes",
 ]
+
+lzma: Any
+try:
+    import lzma
+except ImportError:
+    # Python can be built without it: sums take longer then.
+    lzma = None
 
 LOCK_SECONDS = 2.0
 """How long a session waits for the lock: a program that saves may outlive the process that began it."""
@@ -55,6 +64,10 @@ def _row(bits: int) -> int:
 
 _ROWS = [_row(bits) for bits in range(256)]
 _ONES = 2**64 - 1
+# From so many bytes on lzma's sum is the quicker one.
+_LARGE = 1 << 12
+# Of what xz packs the sum alone is wanted: the less it tries to pack, the better.
+_HARDLY = {"preset": 0, "dict_size": 1 << 12, "nice_len": 2, "depth": 1}
 
 
 @dataclass(frozen=True)
@@ -126,6 +139,20 @@ def read_records(data: bytes, path: str) -> Records:
         lines.append(data[at + _MARK : feed + 1])
         at = feed + 1
     return Records(head, lines)
+
+
+def read_kept(data: bytes, path: str) -> Records:
+    """Reads a journal that a program keeps, which has looked at the sum of each record.
+
+    The sum of the last one is of all texts: the others are looked at where it is wrong. `JournalError` as
+    `read_records` has it.
+    """
+    whole = data[: data.rfind(b"\n") + 1]
+    head, *records = _lines(whole) or [b""]
+    texts = [record[_MARK:] for record in records]
+    if not is_journal(whole) or not texts or records[-1][:_MARK] != _mark(_crc(b"".join([head, *texts]))):
+        return read_records(data, path)
+    return Records(head, texts)
 
 
 def sent(record: bytes) -> bytes:
@@ -247,12 +274,27 @@ def _head(size: int, digest: str) -> bytes:
     return _TITLE + b"%d %s\n" % (size, digest.encode("ascii"))
 
 
+def _lines(data: bytes) -> list[bytes]:
+    """The lines of some bytes, each with its line feed; what stands behind the last one is none."""
+    return [line + b"\n" for line in data.split(b"\n")[:-1]]
+
+
 def _crc(data: bytes, known: int = 0) -> int:
     """The CRC-64 of bytes that follow others, whose CRC-64 is known (CRC-64/XZ)."""
+    if lzma is not None and not known and len(data) >= _LARGE:
+        return _crc_of_xz(data)
     register, rows = known ^ _ONES, _ROWS
     for byte in data:
         register = rows[register & 255 ^ byte] ^ register >> 8
     return register ^ _ONES
+
+
+def _crc_of_xz(data: bytes) -> int:
+    """The CRC-64 of some bytes, which xz writes behind them: its own sum is this one, and no byte of it is Python's."""
+    packed = lzma.compress(data, check=lzma.CHECK_CRC64, filters=[{"id": lzma.FILTER_LZMA2, **_HARDLY}])
+    # The sum stands before the index, whose size in fours, less one, stands in the last 12 bytes.
+    at = len(packed) - 12 - 4 * (1 + int.from_bytes(packed[-8:-4], "little"))
+    return int.from_bytes(packed[at - 8 : at], "little")
 
 
 def _mark(total: int) -> bytes:

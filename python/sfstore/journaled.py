@@ -8,7 +8,7 @@ import sys
 import tempfile
 import time
 import warnings
-from collections.abc import Sequence
+from collections.abc import Callable, Sequence
 from typing import IO
 
 from sfstore import journal, sidecar
@@ -82,7 +82,12 @@ class Journaled:
     @property
     def unsaved_lines(self) -> list[str]:
         """`JournalError` where the file is not the one that the lines go on from."""
-        return [line[:-1].decode("utf-8") for line in self._kept.lines()]
+        return self.reading()()
+
+    def reading(self) -> Callable[[], list[str]]:
+        """What reads the lines that there are now, as `Kept.reading` has it."""
+        read = self._kept.reading()
+        return lambda: [line[:-1].decode("utf-8") for line in read()]
 
     def stop(self) -> None:
         self._program.stop()

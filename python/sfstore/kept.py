@@ -6,10 +6,11 @@ import contextlib
 import os
 import subprocess  # nosec B404: the store's own program is started, without a shell.
 import tempfile
-from collections.abc import Iterator
+from collections.abc import Callable, Iterator
 from typing import IO
 
 from sfstore import files, journal, sidecar
+from sfstore.program import checked_path
 from sfstore.results import JournalError
 
 __all__ = ["Kept"]
@@ -30,7 +31,7 @@ class Kept:
     """How many edits the file does not have."""
 
     def __init__(self, path: str) -> None:
-        self.path = os.path.realpath(path)
+        self.path = checked_path(os.path.realpath(path))
         self.journal = journal.path_of(self.path)
         self.unsaved = 0
         self._seen: tuple[int, ...] = ()
@@ -91,11 +92,24 @@ class Kept:
         `JournalError` where the file is another one than they go on from, and where the journal is
         not the one that the program keeps.
         """
+        return self.reading()()
+
+    def reading(self) -> Callable[[], list[bytes]]:
+        """What reads the edits that there are now, as `lines` has them, whatever comes behind them.
+
+        It takes its time, and any thread may call it. After a save it raises `JournalError`: they are in the file then.
+        """
         self.check()
-        records = journal.read_records(journal.bytes_of(self.journal) or b"", self.journal)
-        if records.head != self._head or len(records.lines) != self.unsaved:
-            raise JournalError(f"{self.journal} was changed by another program while {self.path} was open")
-        return records.lines
+        head, count = self._head, self.unsaved
+        size = os.stat(self.journal).st_size if os.path.exists(self.journal) else 0
+
+        def read() -> list[bytes]:
+            records = journal.read_kept((journal.bytes_of(self.journal) or b"")[:size], self.journal)
+            if records.head != head or len(records.lines) != count:
+                raise JournalError(f"{self.journal} was changed by another program while {self.path} was open")
+            return records.lines
+
+        return read
 
     def copy(self, path: str, program: str) -> None:
         """Has a second program make another file of the store's file and the edits.

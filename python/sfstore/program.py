@@ -3,6 +3,7 @@
 from __future__ import annotations
 
 import contextlib
+import errno
 import os
 import re
 import select
@@ -15,12 +16,17 @@ from collections.abc import Iterable, Iterator, Sequence
 from typing import IO, Protocol, cast
 
 from sfstore.groups import member_of
-from sfstore.results import Answer, ProgramEnded, Refused
+from sfstore.results import Answer, PathName, ProgramEnded, Refused
 
-__all__ = ["BATCH_BYTES", "Link", "Program", "batches", "is_edit", "started"]
+__all__ = ["BATCH_BYTES", "Link", "Program", "batches", "ProgramMissing", "checked_path", "is_edit", "started"]
 
 BATCH_BYTES = 65_536
 """How many bytes the program reads at once, and a pipe holds. A journal is synced once for them."""
+
+_HOW_TO_GET_IT = (
+    "It comes with the Debian package sfstore, and a checkout of the project builds it (README.md). "
+    "It has to be on the PATH; commands take another place by --program."
+)
 
 # How much of the output is read at once.
 _OUTPUT_BYTES = 65_536
@@ -61,6 +67,32 @@ class Link(Protocol):
         """Kills the program, from any thread."""
 
 
+class ProgramMissing(FileNotFoundError):
+    """The program is not there."""
+
+    def __init__(self, name: str) -> None:
+        super().__init__(errno.ENOENT, "the program was not found", name)
+
+    def __str__(self) -> str:
+        return f"{self.filename}: the program was not found. {_HOW_TO_GET_IT}"
+
+
+def _begun(words: list[str], errors: IO[bytes] | None) -> subprocess.Popen[bytes]:
+    """A process with pipes. `ProgramMissing` where there is no such program."""
+    try:
+        # In a session of its own no key of the terminal ends the program while it saves.
+        return subprocess.Popen(  # nosec B603: a list of words, of which some are paths.
+            words,
+            bufsize=0,
+            stdin=subprocess.PIPE,
+            stdout=subprocess.PIPE,
+            stderr=errors,
+            start_new_session=True,
+        )
+    except FileNotFoundError:
+        raise ProgramMissing(words[0]) from None
+
+
 class Program:
     """A running program, the pipes to and from it, and who may use them.
 
@@ -77,15 +109,7 @@ class Program:
         self._unsent = memoryview(b"")
         self._lines: deque[str] = deque()
         self._rest = b""
-        # In a session of its own no key of the terminal ends the program while it saves.
-        self._process = subprocess.Popen(  # nosec B603: a list of words, of which some are paths.
-            words,
-            bufsize=0,
-            stdin=subprocess.PIPE,
-            stdout=subprocess.PIPE,
-            stderr=errors,
-            start_new_session=True,
-        )
+        self._process = _begun(words, errors)
         self._input = cast("IO[bytes]", self._process.stdin)
         self._output = cast("IO[bytes]", self._process.stdout)
         self._finalizer = weakref.finalize(self, _abandon, self._process, self._owner)
@@ -224,6 +248,23 @@ class Program:
         self._finalizer.detach()
         self._input.close()
         self._output.close()
+
+
+def checked_path(path: PathName) -> str:
+    """A path as a word of the program's. `OSError` where it is not UTF-8, which the program takes alone.
+
+    >>> checked_path(b"town.sfs")
+    'town.sfs'
+    >>> checked_path(b"town\\xff.sfs")
+    Traceback (most recent call last):
+    OSError: [Errno 84] the program sfstore takes paths in UTF-8 alone: 'town\\udcff.sfs'
+    """
+    word = os.fsdecode(path)
+    try:
+        word.encode("utf-8")
+    except UnicodeEncodeError:
+        raise OSError(errno.EILSEQ, "the program sfstore takes paths in UTF-8 alone", word) from None
+    return word
 
 
 def started(words: list[str], errors: IO[bytes] | None = None) -> Program:

@@ -20,6 +20,7 @@ __all__ = [
     "LayerOrigin",
     "Sidecar",
     "SidecarError",
+    "check_none",
     "follow",
     "next_of",
     "path_of",
@@ -111,16 +112,39 @@ def settle(store: str) -> bool:
     return True
 
 
-def read(store: str) -> Sidecar:
-    """The side-car of a store's file. `SidecarError` where it is missing, wrong, or another's."""
+def read(store: str, is_same_map: bool = False) -> Sidecar:
+    """The side-car of a store's file. `SidecarError` where it is missing, wrong, or another's.
+
+    Where somebody says that it is the same map, it is the store's, and belongs to the file from now on.
+    """
     settle(store)
     found = _read(path_of(store))
-    if files.digest(store) not in found.digests:
-        raise SidecarError(
-            f"{path_of(store)} belongs to another file than {store}: "
-            "this one was changed since, by something that keeps no side-car"
-        )
+    digest = files.digest(store)
+    if digest in found.digests:
+        return found
+    if not is_same_map:
+        raise SidecarError(_not_of(store))
+    write(store, found, [digest])
     return found
+
+
+def check_none(store: str) -> None:
+    """`SidecarError` where a store has a side-car, so that a grid that somebody names is not needed."""
+    path = path_of(store)
+    if not os.path.lexists(path):
+        return
+    if files.digest(store) not in _read(path).digests:
+        raise SidecarError(f"{_not_of(store)} For another grid take {path} away first")
+    raise SidecarError(f"{path} has the grid already: leave out --grid and --crs")
+
+
+def _not_of(store: str) -> str:
+    """That a side-car belongs to another file, and what helps."""
+    return (
+        f"{path_of(store)} belongs to another file than {store}: this one was saved since by the program sfstore "
+        "alone, which keeps no side-car, or another store was put in its place. "
+        "If it is the same map on the same grid, sfstore-export and sfstore-import --add take it with --same-map."
+    )
 
 
 def write(store: str, found: Sidecar, digests: list[str]) -> None:

@@ -18,13 +18,14 @@ The module needs POSIX and nothing beside the standard library.
 from __future__ import annotations
 
 import os
+from collections.abc import Callable
 from types import TracebackType
 from typing import Literal, overload
 
 from sfstore.editor import Editor
 from sfstore.group import Added, Group, Which
 from sfstore.journaled import Journaled
-from sfstore.program import started
+from sfstore.program import checked_path, started
 from sfstore.results import (
     Answer,
     Column,
@@ -74,7 +75,7 @@ class Store(Editor):
 
     ``load`` names a file to begin with, ``save`` one to which the store is saved when it is closed.
     ``program`` is a path, or a name that is searched on the ``PATH``.
-    `ProgramEnded` if the file can't be loaded.
+    `ProgramEnded` if the file can't be loaded, and `OSError` if a path is not UTF-8: the program takes no other.
 
     `close`, or the end of a ``with``, closes a store and saves it; nothing else does. If an
     exception leaves the body of the ``with``, or a store is dropped without having been closed, the
@@ -131,9 +132,9 @@ class Store(Editor):
                 raise TypeError("the program is named twice")
             words = [os.fsdecode(path or program or "sfstore")]
             if load is not None:
-                words.append(f"--load={os.fsdecode(load)}")
+                words.append(f"--load={checked_path(load)}")
             if save is not None:
-                words.append(f"--save={os.fsdecode(save)}")
+                words.append(f"--save={checked_path(save)}")
             super().__init__(started(words), "")
             return
         if path is None or load is not None or save is not None:
@@ -235,6 +236,10 @@ class Store(Editor):
         that the lines do not go on from it, or the journal. `RuntimeError` without a journal.
         """
         return self._journaled().unsaved_lines
+
+    def _reading(self) -> Callable[[], list[str]]:
+        """What reads `unsaved_lines` as they are now, in whatever thread, while further edits are made."""
+        return self._journaled().reading()
 
     @property
     def recovered(self) -> Recovered:

@@ -2,6 +2,7 @@
 
 from __future__ import annotations
 
+import html
 import os
 import random
 import signal
@@ -22,10 +23,11 @@ from qgis.core import (
     QgsVectorLayerUtils,
 )
 from qgis.PyQt.QtCore import NULL, QVariant
-from qgis.PyQt.QtWidgets import QApplication, QPushButton
+from qgis.PyQt.QtWidgets import QApplication, QPushButton, QTextBrowser
 from qgis_support import CROSSED, SQUARE, Plugin, QgisCase, Session
 
-from sfstore.web.client import CallFailed
+from sfstore.rows import feature_of
+from sfstore.web.client import CallFailed, Client
 
 
 class Opening(QgisCase):
@@ -36,14 +38,14 @@ class Opening(QgisCase):
         self.assertEqual(names, ["wells", "streets", "parcels"])
         parcels = self.layer()
         self.assertEqual((parcels.featureCount(), parcels.crs().authid()), (200, "EPSG:25832"))
-        self.assertEqual(parcels.fields().names(), ["id", "number", "owner"])
+        self.assertEqual(parcels.fields().names(), ["_id", "number", "owner"])
         self.assert_alike()
 
     def test_a_window_and_an_expression(self):
         parcels = self.layer()
         box = QgsRectangle(500000, 5600000, 500020, 5600020)
-        found = {feature["id"] for feature in parcels.getFeatures(QgsFeatureRequest(box))}
-        self.assertEqual(found, {feature["id"] for feature in parcels.getFeatures() if feature.geometry().intersects(box)})
+        found = {feature["_id"] for feature in parcels.getFeatures(QgsFeatureRequest(box))}
+        self.assertEqual(found, {feature["_id"] for feature in parcels.getFeatures() if feature.geometry().intersects(box)})
         self.assertTrue(found)
         owners = [feature["owner"] for feature in parcels.getFeatures("owner = 'Dunn'")]
         self.assertEqual(set(owners), {"Dunn"})
@@ -247,7 +249,7 @@ class Commits(QgisCase):
         parcels = self.layer()
         parcels.startEditing()
         box = self.feature(3).geometry().boundingBox()
-        parcels.selectByExpression("id = 3")
+        parcels.selectByExpression("_id = 3")
         parcels.beginEditCommand("split")
         y = box.center().y()
         parcels.splitFeatures([QgsPointXY(box.xMinimum() - 1, y), QgsPointXY(box.xMaximum() + 1, y)], False)
@@ -281,12 +283,12 @@ class Columns(QgisCase):
         self.set(1, "owner", "x")
         self.assertTrue(parcels.commitChanges(), parcels.commitErrors())
         self.assertTrue(self.stored()[1].endswith("owner='x' area=77"), self.stored()[1])
-        self.assertEqual(parcels.fields().names(), ["id", "owner", "area"])
+        self.assertEqual(parcels.fields().names(), ["_id", "owner", "area"])
         self.settle()
         self.assert_alike()
         self.plugin.move("undo")
         self.settle()
-        self.assertEqual(sorted(parcels.fields().names()), ["id", "number", "owner"])
+        self.assertEqual(sorted(parcels.fields().names()), ["_id", "number", "owner"])
         self.assert_alike()
 
     def test_columns_that_the_store_does_not_have(self):
@@ -307,14 +309,14 @@ class Columns(QgisCase):
         self.assertNotIn("Ann", self.stored()[100])
         parcels.rollBack()
         self.turn()
-        self.assertEqual(parcels.fields().names(), ["id", "owner"])
+        self.assertEqual(parcels.fields().names(), ["_id", "owner"])
         self.assert_alike()
 
     def test_a_column_that_another_one_adds(self):
         ben, parcels = self.ben(), self.layer()
         parcels.startEditing()
         self.bens(ben, "column add parcels area int", "set parcels 5 area 7")
-        self.assertEqual(parcels.fields().names(), ["id", "number", "owner", "area"])
+        self.assertEqual(parcels.fields().names(), ["_id", "number", "owner", "area"])
         self.set(6, "area", 8)
         self.assertTrue(parcels.commitChanges(), parcels.commitErrors())
         self.settle()
@@ -350,6 +352,390 @@ class Columns(QgisCase):
         ben.call("line", page="ben", line="undo")
         self.settle()
         self.assertEqual(wells.featureCount(), 4)
+        self.assert_alike()
+
+
+PARCELS = [f"POLYGON (({x} 0, {x + 90} 0, {x + 90} 90, {x} 90, {x} 0))" for x in range(0, 600, 100)]
+FEW = "".join(
+    [
+        "layer add parcels polygon\ncolumn add parcels number int\ncolumn add parcels owner text\n",
+        *(f"add parcels {wkt}\n" for wkt in PARCELS),
+        *(f"set parcels {at} number {at}\nset parcels {at} owner 'owner {at}'\n" for at in range(1, 7)),
+    ]
+).encode()
+TEXT, NUMBER = QgsField("mine", QVariant.String, "text", 255), QgsField("mine", QVariant.LongLong, "int")
+
+
+class Identifiers(QgisCase):
+    """The field of the identifier, and columns that are called so elsewhere."""
+
+    lines = FEW
+
+    def test_columns_of_any_name_show_their_own_values(self):
+        names = ["id", "ID", "Id", "fid", "_", "x_id", "ogc_fid", "Owner", "OWNER", "NULL", "id_1"]
+        taken = [name for name in names if name[0] != "_"]
+        lines = [f"column add parcels {name} text" for name in taken]
+        lines += [f"set parcels {at} {name} '{name} of {at}'" for at in (1, 2) for name in taken]
+        self.bens(self.ben(), *lines)
+        parcels = self.layer()
+        self.assertEqual(parcels.fields().names(), ["_id", "number", "owner", *taken])
+        self.assert_alike()
+        parcels.startEditing()
+        for name in taken:
+            self.assertEqual(self.feature(2)[name], f"{name} of 2")
+            self.set(2, name, f"Ann's {name}")
+        self.assertTrue(parcels.commitChanges(), parcels.commitErrors())
+        told = " ".join(f"{name}='Ann''s {name}'" for name in taken)
+        self.assertEqual(self.stored()[2], f"2 {PARCELS[1]} number=2 owner='owner 2' {told}")
+        self.assertTrue(self.stored()[1].endswith("id_1='id_1 of 1'"))
+        self.settle()
+        self.assert_alike()
+
+    def test_a_store_that_has_a_column_id_is_opened(self):
+        path = self.folder / "ids.sfs"
+        made = "layer add w point\ncolumn add w id int\ncolumn add w t text\ncolumn add w u text\nadd w POINT (1 1)\n"
+        self.make(f"{made}set w 1 id 701\nset w 1 t 'owner 1'\nset w 1 u 'note 1'\n".encode(), path)
+        self.place(path)
+        self.plugin.open(str(path))
+        w = self.layer("w")
+        [shown] = w.getFeatures()
+        self.assertEqual(dict(zip(w.fields().names(), shown.attributes())), {"_id": 1, "id": 701, "t": "owner 1", "u": "note 1"})
+        w.startEditing()
+        w.changeAttributeValue(shown.id(), w.fields().indexOf("t"), "OWNER 1")
+        self.assertTrue(w.commitChanges(), w.commitErrors())
+        [row] = Session.of(str(path)).rows("w", [1])
+        self.assertEqual(row, "1 POINT (1 1) id=701 t='OWNER 1' u='note 1'")
+
+    def test_another_editor_adds_a_column_id(self):
+        ben, parcels = self.ben(), self.layer()
+        self.bens(ben, "column add parcels id int")
+        self.bens(ben, "set parcels 5 id 55")
+        self.bens(ben, "column add parcels note text", "set parcels 5 note 'N'")
+        shown = dict(zip(parcels.fields().names(), self.feature(5).attributes()))
+        self.assertEqual(shown, {"_id": 5, "number": 5, "owner": "owner 5", "id": 55, "note": "N"})
+
+    def test_it_can_not_be_changed(self):
+        parcels, before = self.layer(), self.stored()
+        self.assertTrue(parcels.editFormConfig().readOnly(0))
+        for value in (9999, 4, NULL, "3"):
+            parcels.startEditing()
+            self.set(3, "_id", value)
+            self.set(2, "owner", "x")
+            self.assertFalse(parcels.commitChanges(), value)
+            self.turn()
+            self.assertIn(f"_id can't be set to {value}: it is the store that numbers features", " ".join(self.said()))
+            parcels.rollBack()
+        self.assertFalse(parcels.dataProvider().changeAttributeValues({self.fid(3): {0: 9999}}))
+        self.assertEqual(self.stored(), before)
+        parcels.startEditing()
+        self.set(3, "_id", 3)
+        self.set(3, "owner", "same")
+        self.assertTrue(parcels.commitChanges(), parcels.commitErrors())
+        self.assertIn("owner='same'", self.stored()[3])
+        self.assert_alike()
+
+    def test_a_new_feature_can_not_bring_one_but_a_copy_gets_its_own(self):
+        parcels = self.layer()
+        parcels.startEditing()
+        self.draw(SQUARE, _id=4242)
+        self.assertFalse(parcels.commitChanges())
+        self.turn()
+        self.assertIn("_id can't be set to 4242", " ".join(self.said()))
+        parcels.rollBack()
+        self.assertEqual(len(self.stored()), 6)
+        parcels.startEditing()
+        self.assertTrue(parcels.addFeature(QgsFeature(self.feature(3))))
+        self.assertTrue(parcels.commitChanges(), parcels.commitErrors())
+        self.assertEqual(self.stored()[7], self.stored()[3].replace("3 POLYGON", "7 POLYGON"))
+        self.settle()
+        self.assert_alike()
+
+
+class FieldsOfTwo(QgisCase):
+    """Ben changes columns while Ann edits: each value is under its own name, or nothing of hers is there."""
+
+    BENS = {
+        "adds": ["column add {} theirs text", "set {} 3 theirs 'Ben''s'"],
+        "adds_id": ["column add {} id int", "set {} 3 id 55"],
+        "adds_mine": ["column add {} mine text", "set {} 3 mine 'Ben''s'"],
+        "drops_number": ["column drop {} number"],
+        "drops_owner": ["column drop {} owner"],
+        "renames_owner": ["column drop {} owner", "column add {} holder text", "set {} 3 holder 'Ben''s'"],
+        "retypes_owner": ["column drop {} owner", "column add {} owner int", "set {} 3 owner 77"],
+        "retypes_number": ["column drop {} number", "column add {} number text", "set {} 3 number 'no. 3'"],
+        "replaces_owner": ["column drop {} owner", "column add {} owner text", "set {} 3 owner 'Ben''s'"],
+        "replaces_layer": [
+            "layer rename {0} {0}_old", "layer add {} polygon", "column add {} number int", "column add {} owner text",
+            *(f"add {{}} {wkt}" for wkt in PARCELS), "set {} 1 owner 'Ben''s'",
+        ],
+    }
+    """What Ben does to a layer. Each has one of its own, of his deed's name."""
+    ANNS = {
+        "edits_values": ("number owner", [(2, "owner", "Ann's"), (4, "number", 4000)], "", ""),
+        "draws": ("number owner", [(7, "number", 9001), (7, "owner", "Ann's")], "", ""),
+        "draws_without_an_owner": ("number", [(7, "number", 9001)], "", ""),
+        "adds_a_field": ("number mine", [(7, "number", 9001), (7, "mine", "Ann's")], "mine", ""),
+        "adds_a_field_with_values": (
+            "number mine", [(7, "number", 9001), (7, "mine", "Ann's"), (2, "mine", "Ann's")], "mine", "",
+        ),
+        "drops_a_field": ("number owner", [(7, "owner", "Ann's")], "", "number"),
+        "retypes_a_field": (
+            "number owner mine size", [(7, "owner", "Ann's"), (7, "mine", "mine"), (7, "size", 7)], "mine size", "number",
+        ),
+        "deletes": ("", [], "", ""),
+    }
+    """What Ann does: the columns that she names, the values that are there then, the columns that she adds and drops."""
+    OF_FEATURES = ("edits_values", "adds_a_field_with_values", "deletes")
+    """What of that edits features that were there: they are seen with all columns."""
+    lines = "".join(FEW.decode().replace("parcels", how) for how in BENS).encode()
+    SECONDS = 500
+
+    def edits_values(self, layer):
+        self.set(2, "owner", "Ann's", layer)
+        self.set(4, "number", 4000, layer)
+
+    def draws(self, layer):
+        self.draw(SQUARE, layer, number=9001, owner="Ann's")
+
+    def draws_without_an_owner(self, layer):
+        self.draw(SQUARE, layer, number=9001)
+
+    def adds_a_field(self, layer):
+        self.assertTrue(layer.addAttribute(TEXT))
+        self.draw(SQUARE, layer, number=9001, mine="Ann's")
+
+    def adds_a_field_with_values(self, layer):
+        self.adds_a_field(layer)
+        self.set(2, "mine", "Ann's", layer)
+
+    def drops_a_field(self, layer):
+        self.assertTrue(layer.deleteAttribute(layer.fields().indexOf("number")))
+        self.draw(SQUARE, layer, owner="Ann's")
+
+    def retypes_a_field(self, layer):
+        self.assertTrue(layer.deleteAttribute(layer.fields().indexOf("number")))
+        self.assertTrue(layer.addAttribute(TEXT))
+        self.assertTrue(layer.addAttribute(QgsField("size", QVariant.LongLong, "int")))
+        self.draw(SQUARE, layer, owner="Ann's", mine="mine", size=7)
+
+    def deletes(self, layer):
+        layer.deleteFeature(self.fid(6, layer))
+
+    def content(self, name):
+        """The columns of a layer of the store, and the values of each feature."""
+        columns = {column.name: column.type for column in self.session.columns(name)}
+        return columns, {number: feature_of(row).values for number, row in self.stored(name).items()}
+
+    def expected(self, before, ann):
+        """What the store has once it has taken what Ann did."""
+        columns, values = before
+        _, given, added, dropped = self.ANNS[ann]
+        kept = {name: kind for name, kind in columns.items() if name not in dropped.split()}
+        kept.update({name: {"mine": "text", "size": "int"}[name] for name in added.split()})
+        after = {number: {name: value for name, value in each.items() if name in kept} for number, each in values.items()}
+        for number, name, value in given:
+            after.setdefault(number, {})[name] = value
+        if ann == "deletes":
+            del after[6]
+        return kept, after
+
+    def go_on(self, ann, name, is_taken):
+        """Saves what Ann did: it is all there, each value under its name, or nothing of it."""
+        layer, before = self.layer(name), self.content(name)
+        self.said()
+        self.assertEqual(layer.commitChanges(), is_taken, layer.commitErrors())
+        self.assertEqual(self.content(name), self.expected(before, ann) if is_taken else before)
+        self.turn()
+        self.assertEqual(bool(self.said()), not is_taken)
+        if not is_taken:
+            layer.rollBack()
+        self.settle()
+        self.assert_alike()
+
+    def ben_does(self, how, is_heard=True):
+        ben = self.ben()
+        for line in self.BENS[how]:
+            answer = ben.call("line", page="ben", line=line.format(how), seen=ben.call("map")["version"])
+            self.assertNotIn("refused", answer, line)
+        ben.close()
+        if is_heard:
+            self.settle()
+
+    def under(self, ann, is_heard):
+        """Ann edits, Ben changes columns, and Ann saves: before she has heard of it, or once she has."""
+        for how in self.BENS:
+            with self.subTest(how=how):
+                layer = self.layer(how)
+                layer.startEditing()
+                getattr(self, ann)(layer)
+                names = layer.fields().names()
+                self.ben_does(how, is_heard)
+                # What she sees stays while she edits.
+                self.assertEqual(layer.fields().names(), names)
+                his = {line.split()[3] for line in self.BENS[how] if line.startswith("column")}
+                self.go_on(ann, how, ann not in self.OF_FEATURES and not his & set(self.ANNS[ann][0].split()))
+
+    def before(self, ann):
+        """Ann has begun to edit, and hears of what Ben changes before her first edit."""
+        _, given, added, dropped = self.ANNS[ann]
+        used = {name for _, name, _ in given} - set(added.split())
+        for how in self.BENS:
+            with self.subTest(how=how):
+                layer = self.layer(how)
+                layer.startEditing()
+                self.ben_does(how)
+                columns = self.content(how)[0]
+                if "mine" in columns and "mine" in added:
+                    # QGIS knows that there is such a field.
+                    self.assertFalse(layer.addAttribute(TEXT))
+                    continue
+                getattr(self, ann)(layer)
+                are_there = all(columns.get(name) == {"number": "int", "owner": "text"}[name] for name in used)
+                self.go_on(ann, how, are_there and (not dropped or dropped in columns))
+
+
+for _ann in FieldsOfTwo.ANNS:
+    setattr(FieldsOfTwo, f"test_{_ann}", lambda self, ann=_ann: self.under(ann, False))
+    setattr(FieldsOfTwo, f"test_{_ann}_and_hears", lambda self, ann=_ann: self.under(ann, True))
+    setattr(FieldsOfTwo, f"test_{_ann}_behind_it", lambda self, ann=_ann: self.before(ann))
+
+
+class FieldsOfOne(QgisCase):
+    """Fields of layers that have to agree, and what becomes of one that does not."""
+
+    lines = FEW
+
+    def test_what_another_one_adds_comes_once_all_is_sent(self):
+        ben, parcels = self.ben(), self.layer()
+        parcels.startEditing()
+        self.assertTrue(parcels.addAttribute(TEXT))
+        self.draw(SQUARE, owner="Ann", mine="Ann's value")
+        self.bens(ben, "column add parcels theirs text", "set parcels 3 theirs 'Ben''s'")
+        self.assertEqual(parcels.fields().names(), ["_id", "number", "owner", "mine"])
+        self.assertTrue(parcels.commitChanges(), parcels.commitErrors())
+        self.assertTrue(self.stored()[7].endswith("owner='Ann' mine='Ann''s value'"), self.stored()[7])
+        self.assertEqual(parcels.fields().names(), ["_id", "number", "owner", "mine", "theirs"])
+        self.settle()
+        self.assert_alike()
+
+    def test_a_text_that_was_to_be_shorter_is_a_column_as_any_other(self):
+        parcels = self.layer()
+        for name, length in (("none", 0), ("ten", 10), ("most", 255)):
+            parcels.startEditing()
+            self.assertTrue(parcels.addAttribute(QgsField(name, QVariant.String, "text", length)))
+            self.set(2, name, "x")
+            self.assertTrue(parcels.commitChanges(), parcels.commitErrors())
+            self.assertIn(f"{name}='x'", self.stored()[2])
+        self.assertEqual([field.length() for field in parcels.fields()][-3:], [255] * 3)
+        self.bens(self.ben(), f"set parcels 2 ten '{'y' * 255}'")
+        self.assertEqual(self.feature(2)["ten"], "y" * 255)
+        self.assert_alike()
+
+    def test_of_fields_behind_one_that_went_the_right_one_is_dropped(self):
+        parcels = self.layer()
+        self.bens(self.ben(), "column drop parcels number", "column add parcels more text", "set parcels 2 more 'more'")
+        parcels.startEditing()
+        self.assertTrue(parcels.deleteAttribute(parcels.fields().indexOf("owner")))
+        self.assertEqual(parcels.fields().names(), ["_id", "more"])
+        self.assertTrue(parcels.commitChanges(), parcels.commitErrors())
+        self.assertTrue(self.stored()[2].endswith(")) more='more'"), self.stored()[2])
+        self.settle()
+        self.assert_alike()
+
+    def test_steps_that_were_undone_find_their_own_field_again(self):
+        ben, parcels = self.ben(), self.layer()
+        parcels.startEditing()
+        self.assertTrue(parcels.addAttribute(TEXT))
+        self.set(2, "mine", "Ann's")
+        parcels.undoStack().setIndex(0)
+        self.bens(ben, "column add parcels theirs text")
+        parcels.undoStack().redo()
+        parcels.undoStack().redo()
+        self.assertEqual(self.feature(2)["mine"], "Ann's")
+        before = self.stored()
+        self.assertFalse(parcels.commitChanges())
+        self.assertEqual(self.stored(), before)
+        parcels.rollBack()
+        self.turn()
+        self.assert_alike()
+
+    def test_each_edit_at_once_with_a_field_while_another_one_adds_one(self):
+        ben, parcels = self.ben(), self.layer()
+        self.plugin.set_at_once(True)
+        parcels.startEditing()
+        self.assertTrue(parcels.addAttribute(TEXT))
+        self.draw(SQUARE, owner="Ann", mine="M")
+        ben.call("batch", page="ben", lines=["column add parcels theirs text", "set parcels 3 theirs 'B'"], seen=[None, 99])
+        self.turn(0.3)
+        self.assertTrue(self.stored()[7].endswith("owner='Ann' mine='M'"), self.stored()[7])
+        self.assertEqual(parcels.fields().names(), ["_id", "number", "owner", "mine", "theirs"])
+        self.set(3, "theirs", "Ann's too")
+        self.turn(0.1)
+        self.assertIn("theirs='Ann''s too'", self.stored()[3])
+        parcels.rollBack()
+        self.settle()
+        self.assert_alike()
+
+    def test_fields_of_a_layer_that_is_edited_twice_are_changed_in_one_of_them(self):
+        parcels = self.layer()
+        twice = parcels.clone()
+        twice.setName("twice")
+        QgsProject.instance().addMapLayer(twice)
+        for layer in (parcels, twice):
+            layer.startEditing()
+        self.assertTrue(twice.addAttribute(QgsField("extra", QVariant.String, "text", 255)))
+        self.draw(SQUARE, twice, owner="Ann", extra="E")
+        self.assertTrue(parcels.addAttribute(QgsField("other", QVariant.String, "text", 255)))
+        self.draw(SQUARE, parcels, owner="Ann 2", other="O")
+        for layer in (parcels, twice):
+            self.assertFalse(layer.commitChanges())
+            self.turn()
+            self.assertIn("is edited in another layer of the project too", " ".join(self.said()))
+            self.assertFalse(layer.dataProvider().addAttributes([TEXT]))
+        self.assertEqual((len(self.stored()), len(self.session.columns("parcels"))), (6, 2))
+        parcels.rollBack()
+        parcels.startEditing()
+        self.assertTrue(twice.commitChanges(), twice.commitErrors())
+        self.assertTrue(self.stored()[7].endswith("owner='Ann' extra='E'"), self.stored()[7])
+        self.assertEqual(parcels.fields().names(), twice.fields().names())
+        self.set(7, "extra", "by the other", parcels)
+        self.assertTrue(parcels.commitChanges(), parcels.commitErrors())
+        self.assertTrue(self.stored()[7].endswith("owner='Ann' extra='by the other'"), self.stored()[7])
+        self.assertEqual(len(self.stored()), 7)
+        self.settle()
+        self.assert_alike()
+
+    def test_a_provider_with_other_fields_is_read_anew_and_that_is_told(self):
+        ben, parcels = self.ben(), self.layer()
+        parcels.startEditing()
+        self.set(5, "owner", "not sent")
+        self.plugin.editings[parcels.id()].provider.mirror.memory.deleteAttributes([1])
+        self.bens(ben, "set parcels 3 owner 'Ben''s'")
+        said = " ".join(self.said())
+        self.assertIn("parcels: it has the fields _id (int), owner (text), and the columns are number", said)
+        self.assertIn("Edits that were not sent are given up.", said)
+        self.assertFalse(parcels.isEditable())
+        self.assertEqual(self.feature(3)["owner"], "Ben's")
+        self.assert_alike()
+        parcels.startEditing()
+        self.set(5, "owner", "again")
+        self.assertTrue(parcels.commitChanges(), parcels.commitErrors())
+        self.assertIn("number=5 owner='again'", self.stored()[5])
+        self.settle()
+        self.assert_alike()
+
+    def test_a_layer_that_counts_its_fields_otherwise_sends_nothing(self):
+        parcels, before = self.layer(), self.stored()
+        parcels.startEditing()
+        self.set(5, "owner", "not sent")
+        self.draw(SQUARE, number=7, owner="Ann")
+        self.plugin.editings[parcels.id()].provider.mirror.drop_columns(["number"])
+        self.assertFalse(parcels.commitChanges())
+        self.turn()
+        self.assertIn("parcels: it has the fields _id, number, owner, and ought to have _id, owner", " ".join(self.said()))
+        self.assertEqual(self.stored(), before)
+        self.settle()
+        self.assertEqual(sorted(parcels.fields().names()), ["_id", "number", "owner"])
         self.assert_alike()
 
 
@@ -412,7 +798,7 @@ class Ruled(QgisCase):
         # The feature that is there, and the one that was drawn.
         self.assertEqual(len(self.plugin.teller._markers), 2)
         button.click()
-        self.assertEqual([feature["id"] for feature in parcels.selectedFeatures()], [10])
+        self.assertEqual([feature["_id"] for feature in parcels.selectedFeatures()], [10])
         self.assertEqual(wells.selectedFeatureCount(), 0)
         extent, box = self.window.canvas.extent(), self.feature(10).geometry().boundingBox()
         self.assertTrue(extent.contains(box), extent.asWktPolygon())
@@ -466,14 +852,14 @@ class Ruled(QgisCase):
     def test_a_rule_of_what_is_there_alone(self):
         self.bens(self.ben(), "delete wells 3", "rule add placed each wells within some parcels")
         parcels, wells = self.layer(), self.layer("wells")
-        [within] = [each["id"] for each in parcels.getFeatures() if each.geometry().contains(self.feature(1, wells).geometry())]
+        [within] = [each["_id"] for each in parcels.getFeatures() if each.geometry().contains(self.feature(1, wells).geometry())]
         parcels.startEditing()
         parcels.deleteFeature(self.fid(within))
         self.assertFalse(parcels.commitChanges())
         text, [button] = self.shown()
         self.assertIn("placed (each wells within some parcels), by wells 1. ", text)
         button.click()
-        self.assertEqual([feature["id"] for feature in wells.selectedFeatures()], [1])
+        self.assertEqual([feature["_id"] for feature in wells.selectedFeatures()], [1])
         parcels.rollBack()
 
 
@@ -693,6 +1079,30 @@ class Others(QgisCase):
         self.settle()
         self.assert_alike()
 
+    def test_names_and_values_of_others_are_no_markup(self):
+        name, value = "<h1>Eve</h1>", "<img src=\"/etc/passwd\"><b>All & is saved.</b><!--"
+        with Client(str(self.path), name, 30) as eve:
+            version = eve.call("map")["version"]
+            eve.call("batch", page="e", lines=[f"set parcels 7 owner '{value}'"], seen=[version])
+            self.settle()
+            parcels = self.layer()
+            parcels.startEditing()
+            self.set(7, "number", 5)
+            eve.call("batch", page="e", lines=["set parcels 7 number 6"], seen=[version + 1])
+            self.assertFalse(parcels.commitChanges())
+            self.turn()
+            self.plugin.tried(lambda: self.plugin.move("undo"))
+            parcels.rollBack()
+            self.plugin.tried(lambda: self.plugin.move("undo"))
+            eve.call("line", page="e", line="undo")
+            self.settle()
+            self.plugin.tried(lambda: self.plugin.move("undo"))
+        items = self.window.messages.items()
+        shown = [item.findChild(QTextBrowser).toPlainText() for item in items]
+        self.assertEqual(shown, [f"sfstore: {html.unescape(item.text())}" for item in items])
+        self.assertIn(f"({name}: set parcels 7 owner '{value}'). Who made it can undo it.", " ".join(shown))
+        self.assertIn(f"{name} changed parcels 7 meanwhile", " ".join(shown))
+
     def test_nobody_undoes_anothers_step(self):
         ben = self.ben()
         self.bens(ben, "set parcels 7 owner 'Ben''s'")
@@ -843,6 +1253,92 @@ class AtRandom(QgisCase):
                 parcels.rollBack()
         self.settle()
         self.assert_alike()
+
+    def test_columns_of_two_editors_by_a_seed(self):
+        for seed in range(2):
+            rng = random.Random(seed)
+            ben, parcels, taken = self.ben(), self.layer(), 0
+            for step in range(60):
+                parcels.startEditing()
+                self.bens_columns(rng, ben)
+                if rng.random() < 0.5:
+                    self.settle()
+                model = self.edit_columns(rng, parcels, f"{seed} {step}")
+                if rng.random() < 0.5:
+                    self.bens_columns(rng, ben)
+                    if rng.random() < 0.5:
+                        self.settle()
+                before = self.content()
+                if parcels.commitChanges():
+                    self.assertEqual(self.content(), model(before), (seed, step))
+                    taken += 1
+                else:
+                    self.assertEqual(self.content(), before, (seed, step))
+                    parcels.rollBack()
+                self.turn(0.02)
+            self.settle()
+            self.assert_alike()
+            self.assertGreater(taken, 10)
+            ben.close()
+
+    def content(self):
+        """The columns of the parcels, and the values of each."""
+        columns = {column.name: column.type for column in self.session.columns("parcels")}
+        return columns, {number: feature_of(row).values for number, row in self.stored().items()}
+
+    def edit_columns(self, rng, parcels, value):
+        """Some edits by names, and what they make of the store's content."""
+        dropped, added, given, drawn = set(), {}, [], []
+        for _ in range(rng.randrange(1, 4)):
+            names = parcels.fields().names()
+            name = rng.choice(names[1:] or ["_id"])
+            what = rng.choice(["value", "draw", "draw", "add", "drop"])
+            typed = value if parcels.fields().field(name).type() == QVariant.String else rng.randrange(99)
+            if what == "value" and name != "_id":
+                number = rng.choice(list(self.plugin.editings[parcels.id()].provider.mirror.fids))
+                self.set(number, name, typed)
+                given.append((number, name, typed))
+            elif what == "draw":
+                self.draw(SQUARE, **({} if name == "_id" else {name: typed}))
+                drawn.append({} if name == "_id" else {name: typed})
+            elif what == "add" and (new := rng.choice(["a", "b", "c", "number", "owner"])) not in names:
+                kind = rng.choice(["int", "text"])
+                field = QgsField(new, QVariant.LongLong if kind == "int" else QVariant.String, kind)
+                self.assertTrue(parcels.addAttribute(field))
+                added[new] = kind
+            elif what == "drop" and name != "_id" and name not in added:
+                self.assertTrue(parcels.deleteAttribute(parcels.fields().indexOf(name)))
+                dropped.add(name)
+                given = [each for each in given if each[1] != name]
+                drawn = [{key: each[key] for key in each if key != name} for each in drawn]
+
+        def model(before):
+            columns, values = before
+            columns = {**{name: kind for name, kind in columns.items() if name not in dropped}, **added}
+            kept = set(before[0]) - dropped
+            values = {at: {name: each[name] for name in each if name in kept} for at, each in values.items()}
+            for number, name, typed in given:
+                values[number][name] = typed
+            last = self.last_number()
+            values.update({last - len(drawn) + at: each for at, each in enumerate(drawn, 1)})
+            return columns, values
+
+        return model
+
+    def last_number(self):
+        return max(self.session.identifiers("parcels"))
+
+    def bens_columns(self, rng, ben):
+        name, number = rng.choice(["number", "owner", "a", "b", "c", "id"]), rng.choice(self.session.identifiers("parcels"))
+        line = rng.choice(
+            [
+                f"column add parcels {name} {rng.choice(['int', 'text'])}",
+                f"column drop parcels {name}",
+                f"set parcels {number} {name} {rng.choice(['5', chr(39) + 'Ben' + chr(39)])}",
+                "undo",
+            ]
+        )
+        ben.call("line", page="ben", line=line, seen=ben.call("map")["version"])
 
     def edit(self, rng, parcels):
         mirror = self.plugin.editings[parcels.id()].provider.mirror

@@ -5,6 +5,7 @@ Only `test_qgis` starts them, in processes of their own: QGIS may end a process.
 
 from __future__ import annotations
 
+import html
 import json
 import os
 import sys
@@ -203,23 +204,27 @@ class QgisCase(WebCase):
 
     def said(self):
         """What stands in the message bar, and takes it away."""
-        found = [item.text() for item in self.window.messages.items()]
+        found = [html.unescape(item.text()) for item in self.window.messages.items()]
         self.window.messages.clearWidgets()
         return found
 
     def assert_alike(self):
-        """What QGIS shows is what the store has."""
+        """What QGIS shows is what the store has, each value under the name of its column."""
         for editing in self.plugin.editings.values():
             mirror = editing.provider.mirror
             rows = self.stored(mirror.name)
+            names = editing.layer.fields().names()
+            if not mirror.held:
+                columns = [column.name for column in self.session.columns(mirror.name)]
+                self.assertEqual(sorted(names), sorted(["_id", *columns]))
             shown = {}
             for feature in editing.layer.getFeatures():
-                values = feature.attributes()[1:]
-                told = {column.name: value for column, value in zip(mirror.columns, values) if value is not None and value != NULL}
-                shown[feature["id"]] = (editing.provider.wkt(feature.geometry()), told)
+                values = dict(zip(names, feature.attributes()))
+                number = values.pop("_id")
+                told = {name: value for name, value in values.items() if value is not None and value != NULL}
+                shown[number] = (editing.provider.wkt(feature.geometry()), told)
             expected = {number: parts_of(row) for number, row in rows.items() if kind_of(row) == mirror.kind}
             self.assertEqual(shown, expected)
-
 
 
 def parts_of(row):

@@ -26,7 +26,9 @@ from support import FOLDER, PROGRAM, TestCase
 
 sys.path.insert(0, str(FOLDER.parent / "bench"))
 
-from growths import library as library  # noqa: E402
+import growths  # noqa: E402
+
+library = growths.library
 
 SECONDS = 60
 # How many runs go side by side, and where: a kill takes nothing away that was written, so no disk is needed.

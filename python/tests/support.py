@@ -1,7 +1,6 @@
 """What the tests of the module have in common.
 
-The program is the one that the environment variable SFSTORE names, else the one that `rt run`
-leaves in the checkout.
+The program is the one that the environment variable SFSTORE names, else that of `out/programs`.
 """
 
 from __future__ import annotations
@@ -17,13 +16,12 @@ from collections.abc import Callable
 from pathlib import Path
 
 FOLDER = Path(__file__).resolve().parent.parent
-sys.path.insert(0, str(FOLDER))
+sys.path[:0] = [str(FOLDER), str(FOLDER.parent / "tools")]
 
+from programs import path_of  # noqa: E402
 from sfstore import ProgramEnded, Refused, Store  # noqa: E402
 
-PROGRAM = os.path.abspath(
-    os.environ.get("SFSTORE") or FOLDER.parent / "crates" / "sfstore" / "out" / "sfstore"
-)
+PROGRAM = str(path_of("sfstore"))
 # The examples start the program by its name.
 BY_NAME = tempfile.TemporaryDirectory()
 atexit.register(BY_NAME.cleanup)

@@ -190,7 +190,7 @@ class ConsoleCase(TestCase):
         return terminal
 
     def leave(self, terminal, answer="y"):
-        terminal.line("quit", "Save them now?")
+        terminal.line("quit", " now?")
         terminal.send(answer + "\r")
         said = terminal.end()
         self.assertEqual(terminal.status, 0, said)
@@ -218,7 +218,7 @@ class Sessions(ConsoleCase):
         terminal = self.console()
         terminal.line("layer add wells point", "ok")
         said = self.leave(terminal, "n")
-        self.assertIn("They stay in", said)
+        self.assertIn("It stays in", said)
         self.assertFalse(self.path.exists())
         terminal = self.console()
         terminal.line("layers", "wells point")

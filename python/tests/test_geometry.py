@@ -19,7 +19,7 @@ from sfstore.refusals import REFUSALS, words_of
 
 TEXTS = [
     "POINT (3 -4)",
-    "LINESTRING (0 0, -8388608 8388607)",
+    "LINESTRING (0 0, -1073741824 1073741823)",
     "POLYGON ((0 0, 30 0, 30 30, 0 0), (20 10, 25 10, 25 15, 20 10))",
     "MULTIPOINT ((1 1), (2 2))",
     "MULTIPOINT ((1 1))",
@@ -36,7 +36,7 @@ class Grids(unittest.TestCase):
             grid = Grid(*words)
             exact = [Fraction(word) for word in words]
             for _ in range(2000):
-                steps = [dice.randrange(-8388608, 8388608) for _ in range(2)]
+                steps = [dice.randrange(-1073741824, 1073741824) for _ in range(2)]
                 places = grid.places(steps)
                 for axis in (0, 1):
                     self.assertEqual(places[axis], float(exact[axis] + steps[axis] * exact[2]))
@@ -44,18 +44,20 @@ class Grids(unittest.TestCase):
 
     def test_off_the_grid_and_outside(self):
         grid = Grid("0", "0", "0.01")
-        for place in (0.001, 0.015, 83886.071, float("nan"), float("inf"), 0.010000000000000002):
+        for place in (0.001, 0.015, 83886.071, float("nan"), float("inf"), 0.01000000000000007):
             with self.assertRaises(OffGrid, msg=place):
                 grid.steps([place, 0.0])
-        self.assertEqual(grid.steps([83886.07, -83886.08]), [8388607, -8388608])
-        for pair in ([83886.08, 0.0], [0.0, -83886.09]):
+        # A unit in the last place is what computing leaves.
+        self.assertEqual(grid.steps([0.010000000000000002, 0.0]), [1, 0])
+        self.assertEqual(grid.steps([10737418.23, -10737418.24]), [1073741823, -1073741824])
+        for pair in ([10737418.24, 0.0], [0.0, -10737418.25]):
             with self.assertRaises(Outside):
                 grid.steps(pair)
         with self.assertRaisesRegex(OffGrid, "y 0.001 of point 1"):
             grid.steps([0.0, 0.0, 0.0, 0.001])
 
     def test_rounding_takes_the_nearest_step_and_counts(self):
-        grid, rounding = Grid("0", "0", "0.5"), Rounding()
+        grid, rounding = Grid("0", "0", "0.5"), Rounding(is_asked=True)
         steps = grid.steps([0.2, 0.3, 0.25, -0.25, 1.5, -1.5], rounding)
         self.assertEqual(steps, [0, 1, 1, 0, 3, -3])
         self.assertEqual(rounding.moved, 4)
@@ -228,10 +230,13 @@ class StoreFiles(TestCase):
         storefile.write(written, layers)
         self.assertEqual(written.getvalue(), self.data)
 
-    def test_version_1_is_read(self):
-        self.assertEqual(storefile.read(b"SFSTORE1" + self.data[9:]), storefile.read(self.data))
+    def test_earlier_versions_are_read(self):
+        layers = self.data[9:-2]
+        for front in (b"SFSTORE1", b"SFSTORE2\x18", b"SFSTORE3\x18"):
+            behind = b"\0\0" if front == b"SFSTORE3\x18" else b""
+            self.assertEqual(storefile.read(front + layers + behind), storefile.read(self.data))
         with self.assertRaises(ValueError):
-            storefile.read(b"SFSTORE4" + self.data[8:])
+            storefile.read(b"SFSTORE5" + self.data[8:])
 
     def test_fields_have_names(self):
         for place, name in (

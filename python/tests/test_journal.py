@@ -4,31 +4,27 @@ from __future__ import annotations
 
 import contextlib
 import errno
-import hashlib
 import itertools
 import os
 import pkgutil
 import random
 import resource
-import shutil
 import signal
 import stat
 import subprocess
 import sys
-import tempfile
 import threading
 import unittest
 import warnings
 import zlib
-from pathlib import Path
 from unittest import mock
 
 from support import FOLDER, PROGRAM, TestCase
 
-from sfstore import JournalError, ProgramEnded, Recovered, Refused, Store, files, oldjournal, sidecar
+from sfstore import JournalError, ProgramEnded, Recovered, Refused, Store, files, journal, oldjournal, sidecar
 from sfstore.journal import edits_left, read_records
 from sfstore.kept import Kept
-from store_support import head_of, journal_of, second_journal_of
+from store_support import crc_of, head_of, journal_of, second_journal_of
 
 POINT = "add w POINT ({} {})"
 
@@ -427,6 +423,49 @@ class Files(JournalCase):
             flipped[place] ^= 1 << bit
             with self.assertRaisesRegex(JournalError, "at place [0-9]+ is damaged"):
                 read_records(bytes(flipped), "x")
+
+    def test_sums_of_many_bytes_are_those_of_the_format(self):
+        rng = random.Random(64)
+        self.assertEqual(journal._crc(b"123456789"), 0x995DC9BBDF1939FA)
+        for size in (1, journal._LARGE - 1, journal._LARGE, journal._LARGE + 1, 3 * journal._LARGE):
+            for data in (rng.randbytes(size), b"add w POINT (1 1)\n" * (size // 18) + b"x" * (size % 18), bytes(size)):
+                self.assertEqual(journal._crc(data), crc_of(data), size)
+
+    def test_what_a_program_keeps_is_read_without_a_sum_for_each_record(self):
+        path = self.folder / "large.sfs"
+        lines = [f"add w POINT ({k} {k})" for k in range(5_000)]
+        with Store(path, journal=True, program=PROGRAM) as store:
+            store.run("layer add w point")
+            store.run_all(lines)
+            data = path.with_name("large.sfs.journal").read_bytes()
+            looked = 0
+
+            class Counted(list):
+                def __getitem__(self, at):
+                    nonlocal looked
+                    looked += 1
+                    return super().__getitem__(at)
+
+            with mock.patch("sfstore.journal._ROWS", Counted(journal._ROWS)):
+                self.assertEqual(store.unsaved_lines, ["layer add w point", *lines])
+                store.copy(self.folder / "copy.sfs")
+            self.assertLess(looked, 1_000)
+            store.close(save=False)
+        self.assertEqual(journal.read_kept(data, "x"), read_records(data, "x"))
+        self.assertEqual(journal.read_kept(data + b"0123 torn", "x"), read_records(data, "x"))
+        for place in (data.index(b"w point"), data.index(b"(7 7)"), data.index(b"(4999 4999)"), len(data) - 2, len(data) - 30):
+            flipped = bytearray(data)
+            flipped[place] ^= 1
+            with self.assertRaisesRegex(JournalError, "at place [0-9]+ is damaged"):
+                journal.read_kept(bytes(flipped), "x")
+        for other in (b"", b"nonsense", b"sfstore-journal 3 0", data[: data.index(b"\n") + 1]):
+            try:
+                expected = read_records(other, "x")
+            except JournalError as error:
+                with self.assertRaisesRegex(JournalError, str(error)):
+                    journal.read_kept(other, "x")
+            else:
+                self.assertEqual(journal.read_kept(other, "x"), expected)
 
     def test_records_that_are_taken_out_or_change_places(self):
         head, first, second, third = self.data.splitlines(keepends=True)

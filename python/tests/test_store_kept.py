@@ -148,7 +148,7 @@ class Sessions(StoreCase):
 
     def test_long_lines(self) -> None:
         wkt = "add b MULTIPOINT (" + ", ".join(f"{k} {-k}" for k in range(4_096)) + ")"
-        lines = [*BEGINNING, *[wkt, "x" * 131_072, "x" * 131_073, "undo", "redo", wkt + " " * (131_072 - len(wkt))] * 3]
+        lines = [*BEGINNING, *[wkt, "x" * 4_194_304, "x" * 131_073, "undo", "redo", wkt + " " * (4_194_304 - len(wkt))] * 3]
         self.assertEqual(self.stored(lines, "--keep").output, plain(lines).output)
         self.assertEqual(self.journal.read_bytes(), journal_behind(lines))
         self.assertEqual(self.stored().status, 0)

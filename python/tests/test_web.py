@@ -13,20 +13,18 @@ import sys
 import threading
 import time
 import unittest
-from unittest import mock
 
 import test_sfstore
-from support import PROGRAM, TestCase
+from support import PROGRAM
 from web_support import WebCase, link_of
 
 from sfstore import JournalError, Refused, Store, storefile
-from sfstore.geometry import read_wkt
 from sfstore.refusals import words_of
 from sfstore.web.steps import Steps
 from sfstore.web.windows import ELEMENTS_MAX, extent_of, rectangle
 
 CROSSED = "POLYGON ((0 0, 10 10, 10 0, 0 10, 0 0))"
-WHOLE = [-8388608, -8388608, 8388607, 8388607]
+WHOLE = [-1073741824, -1073741824, 1073741823, 1073741823]
 
 # A program that does as the real one, but is slow to tell whether a geometry is simple.
 SLOW = """\
@@ -193,7 +191,7 @@ class People(WebCase):
         ben.line("layer add w point")
         serving.end(signal.SIGKILL)
         serving = self.serve()
-        self.assertIn("1 edits from the journal", serving.said)
+        self.assertIn("1 edit from the journal was not saved yet: it is there, to undo too.", serving.said)
         ben, ann = serving.log_in("Ben Ito"), serving.log_in("Ann")
         self.assertEqual(ann.refused("undo")["whose"]["editor"], "Ben Ito")
         self.assertEqual(ben.answer("undo"), "ok")
@@ -281,7 +279,7 @@ class Maps(WebCase):
     def test_boxes_that_are_none(self):
         serving = self.serve()
         serving.log_in("Ann")
-        for box in ([0, 0, 1], [1, 0, 0, 0], [0, 0, 1, 8388608], [0, 0, 1, 1.0], "0 0 1 1", None, [0, 0, True, 1]):
+        for box in ([0, 0, 1], [1, 0, 0, 0], [0, 0, 1, 1073741824], [0, 0, 1, 1.0], "0 0 1 1", None, [0, 0, True, 1]):
             body = json.dumps({"box": box, "layers": []}).encode()
             self.assertEqual(serving.request("POST", "/window", body)[0], 400, box)
 
@@ -291,11 +289,11 @@ class Maps(WebCase):
         self.assertIsNone(serving.call("/map", extent=True)["extent"])
         for line, extent in (
             ("layer add w any", None),
-            ("add w POINT (-8388608 3)", [-8388608, 3, -8388608, 3]),
-            ("add w LINESTRING (5 8388607, 6 0)", [-8388608, 0, 6, 8388607]),
-            ("delete w 1", [5, 0, 6, 8388607]),
-            ("layer add v any", [5, 0, 6, 8388607]),
-            ("add v POINT (0 -8388608)", [0, -8388608, 6, 8388607]),
+            ("add w POINT (-1073741824 3)", [-1073741824, 3, -1073741824, 3]),
+            ("add w LINESTRING (5 1073741823, 6 0)", [-1073741824, 0, 6, 1073741823]),
+            ("delete w 1", [5, 0, 6, 1073741823]),
+            ("layer add v any", [5, 0, 6, 1073741823]),
+            ("add v POINT (0 -1073741824)", [0, -1073741824, 6, 1073741823]),
         ):
             ann.line(line)
             self.assertEqual(serving.call("/map", extent=True)["extent"], extent, line)
@@ -484,7 +482,7 @@ class Ending(WebCase):
     """How it begins and ends, and what is kept."""
 
     def test_ctrl_c_ends_it_and_everything_is_in_the_journal(self):
-        for number in (signal.SIGINT, signal.SIGTERM):
+        for number, count in ((signal.SIGINT, "1 edit is"), (signal.SIGTERM, "2 edits are")):
             serving = self.serve()
             page = Listening(serving)
             page.next()
@@ -492,7 +490,7 @@ class Ending(WebCase):
             ann.line(f"layer add w{number} point")
             ann.line("show w")
             self.assertEqual((serving.end(number), serving.errors), (0, ""))
-            self.assertIn(f"edits are in {self.path}.journal", serving.said)
+            self.assertIn(f"{count} in {self.path}.journal, and there", serving.said)
             page.close()
         with Store(self.path, journal=True, program=PROGRAM) as store:
             self.assertEqual([layer.name for layer in store.layers()], ["w2", "w15"])
@@ -620,10 +618,30 @@ class Guards(WebCase):
         for kind in (None, "text/plain", "application/x-www-form-urlencoded", "multipart/form-data"):
             self.assertEqual(self.status("POST", "/line", self.body, Content_Type=kind), 415, kind)
 
+    def test_words_are_parted_as_the_program_parts_them(self):
+        self.ann.answer("layer add w point")
+        for line in ("save\u00a0", "\u00a0save", "save\u2003", "save\x1f", "help\u00a0add", "\u00a0"):
+            self.assertEqual(self.ann.refused(line)["number"], 31, ascii(line))
+        # Nothing was saved: there is a history.
+        self.assertEqual(self.ann.answer("undo"), "ok")
+        self.assertIn("is saved", self.ann.line(" save\t\r")["text"])
+        self.assertEqual(self.ann.refused("undo")["number"], 29)
+
     def test_the_size_of_a_call(self):
-        too_long = b" " * (1 << 19) + self.body
+        too_long = b" " * (1 << 23) + self.body
         self.assertEqual(self.status("POST", "/line", b"", Content_Length=str(len(too_long))), 413)
         self.assertEqual(self.status("POST", "/line", b"", Content_Length="9" * 5_000), 413)
+        body = json.dumps(self.ann.body("layer add two point")).encode()
+        for second in (len(body), 0):
+            head = (
+                f"POST /line HTTP/1.1\r\nHost: {self.serving.host}\r\nOrigin: http://{self.serving.host}\r\n"
+                f"Authorization: Bearer {self.serving.key}\r\nContent-Type: application/json\r\n"
+                f"Content-Length: {len(body)}\r\nContent-Length: {second}\r\n\r\n"
+            )
+            with socket.create_connection(("127.0.0.1", self.serving.port), 10) as connection:
+                connection.sendall(head.encode() + body)
+                self.assertTrue(connection.recv(4096).startswith(b"HTTP/1.1 400 "))
+        self.assertNotIn("two", str(self.ann.line("layers")))
         for length in ("-1", "x", "", "１", "0x10", "1 1"):
             self.assertEqual(self.raw(length), b"411", length)
         self.assertEqual(self.status("POST", "/line", b"", Transfer_Encoding="chunked", Content_Length="1"), 411)

@@ -2,22 +2,28 @@
 
 from __future__ import annotations
 
+import contextlib
+import errno
 import json
 import os
 import random
+import shutil
 import signal
+import subprocess
+import threading
 import unittest
+from unittest import mock
 
 from support import PROGRAM, TestCase
 from test_web import Listening
 from web_support import WebCase
 
-from sfstore import Refused, Store, groups
-from sfstore.web.batches import batch_of, carry_out, is_group
+from sfstore import Refused, Store, groups, journal
+from sfstore.web.batches import Batch, LineRefused, batch_of, carry_out, is_group
 from sfstore.web.batchlog import BatchLog
 from sfstore.web.changed import Changed, changed_by, merged
 from sfstore.web.changes import Target
-from sfstore.web.keeper import Keeper
+from sfstore.web.keeper import Asked, Keeper, Unavailable
 from sfstore.web.rows import ROWS_MAX, rows_of
 from sfstore.web.steps import Step, Steps
 
@@ -281,6 +287,33 @@ class Meanwhile(BatchCase):
         for feature in (1, 2):
             self.assertEqual(self.batch(self.ben, f"delete p {feature}", seen=seen)[0], 409)
 
+    def test_a_value_of_an_addition_does_not_go_into_another_column_of_its_name(self):
+        lines, before = [f"add p {SQUARE}", "set p last owner 'Ben''s'"], self.shown()
+        for changes, by in (
+            (["column drop p owner", "column add p owner text"], "column add p owner text"),
+            (["column drop p owner", "undo"], "undo: column drop p owner"),
+            (["layer rename p q", "layer add p polygon", "column add p owner text"], "column add p owner text"),
+        ):
+            with self.subTest(changes=changes):
+                seen = self.ben.version()
+                for line in changes:
+                    self.ann.answer(line)
+                words = f"Ann changed the column owner of p meanwhile, by `{by}`: look again."
+                self.assertEqual(self.batch(self.ben, *lines, seen=seen), (409, {"error": words}))
+                group = self.ben.posted("\r".join(["together 2", *lines]), seen)
+                self.assertEqual(group, (409, {"error": words}))
+        self.assertNotIn("Ben", "".join(self.shown()))
+        self.assertEqual(len(self.shown("q")), len(before))
+
+    def test_a_value_of_an_addition_waits_for_no_other_column(self):
+        seen = self.ben.version()
+        self.ann.answer("column add p more text")
+        self.ann.answer("set p 1 owner 'Ann'")
+        lines = [f"add p {SQUARE}", "set p last owner 'Ben''s'"]
+        self.assertEqual(self.batch(self.ben, *lines, seen=seen)[0], 200)
+        # A feature that was there is seen with all of its columns.
+        self.assertEqual(self.batch(self.ben, "set p 2 owner 'Ben''s'", seen=seen)[0], 409)
+
     def test_a_batch_that_was_refused_is_no_change(self):
         seen = self.ben.version()
         self.refused(self.ann, "set p 2 owner 'Ann'", "set p 2 nix 'Ann'")
@@ -417,7 +450,7 @@ class Rows(BatchCase):
         return self.serving.posted(path, self.ann.key, **body)
 
     def test_the_features_of_a_layer_and_of_a_box(self):
-        self.ann.answer("add w POINT (-8388608 8388607)")
+        self.ann.answer("add w POINT (-1073741824 1073741823)")
         self.ann.answer("add w POINT (5 5)")
         version = self.ann.version()
         for box, ids in ((None, [1, 2]), ([0, 0, 9, 9], [2]), ([6, 6, 9, 9], []), ([5, 5, 5, 5], [2])):
@@ -573,6 +606,130 @@ class AfterAnEnd(BatchCase):
         self.assertEqual((other.read_text(), len(self.shown())), ("somebody's", 3))
 
 
+def ended(keeper):
+    """Ends a keeper, which may have ended."""
+    with contextlib.suppress(RuntimeError):
+        keeper.close()
+
+
+class FullDisk(TestCase):
+    """A batch for which the disk has no room."""
+
+    def setUp(self):
+        super().setUp()
+        disk = self.folder / "disk"
+        disk.mkdir()
+        words = ["mount", "-t", "tmpfs", "-o", "size=256k", "sfstore-test", str(disk)]
+        if shutil.which("mount") is None or subprocess.run(words, capture_output=True, check=False).returncode:
+            self.skipTest("a small disk can't be mounted here")
+        self.addCleanup(subprocess.run, ["umount", "-l", str(disk)], check=True)
+        self.path, self.filler = disk / "town.sfs", disk / "filler"
+        with Store(program=PROGRAM, save=self.path) as store:
+            store.run_all(MADE.decode().splitlines())
+
+    def fill(self):
+        with contextlib.suppress(OSError), self.filler.open("wb", buffering=0) as file:
+            while file.write(bytes(4096)):
+                pass
+
+    def keeper(self):
+        keeper = Keeper(str(self.path), PROGRAM)
+        self.addCleanup(ended, keeper)
+        return keeper
+
+    def test_its_first_line_alone_stays_once_it_is_answered(self):
+        keeper, journal = self.keeper(), self.folder / "disk" / "town.sfs.journal"
+
+        def both(*names):
+            return Batch(1, "page", [f"column add p {name} int" for name in names], [None, None])
+
+        keeper.carry_out_all(both("a", "b"))
+        # Up to some bytes before the end of a page of the journal, which has room then for no line.
+        while (room := 4096 - journal.stat().st_size) > 35:
+            text = "x" * max(1, min(200, room - 70))
+            keeper.carry_out(Asked(1, "page", f"set p 1 owner '{text}'", None))
+        self.fill()
+        with self.assertRaises(Unavailable):
+            keeper.carry_out_all(both("c", "d"))
+        self.filler.unlink()
+        self.assertEqual(keeper.carry_out(Asked(1, "page", "column add p c int", None)), "ok")
+        for _ in range(2):
+            names = [column.name for column in keeper.ask(lambda store: store.columns("p"))]
+            self.assertEqual(names, ["owner", "number", "a", "b", "c"])
+            self.assertEqual(keeper.steps()[1].line, "column add p c int")
+            keeper.close()
+            keeper = self.keeper()
+
+
+class Snapshots(TestCase):
+    """What a second program begins with."""
+
+    def setUp(self):
+        super().setUp()
+        self.path = self.folder / "town.sfs"
+        with Store(program=PROGRAM, save=self.path) as store:
+            store.run_all(MADE.decode().splitlines())
+        self.keeper = Keeper(str(self.path), PROGRAM)
+        self.addCleanup(ended, self.keeper)
+        self.reads, self.goes_on, self.found = threading.Event(), threading.Event(), []
+        self.addCleanup(self.goes_on.set)
+
+    def edit(self, line):
+        return self.keeper.carry_out(Asked(1, "page", line, None))
+
+    def begin(self):
+        """Has a snapshot begun, of which the journal is being read."""
+        read = journal.bytes_of
+
+        def slow(path):
+            if not self.reads.is_set():
+                self.reads.set()
+                self.goes_on.wait(60)
+            return read(path)
+
+        patch = mock.patch("sfstore.journal.bytes_of", slow)
+        patch.start()
+        self.addCleanup(patch.stop)
+        thread = threading.Thread(target=lambda: self.found.append(self.keeper.snapshot()))
+        thread.start()
+        self.assertTrue(self.reads.wait(30))
+        return thread
+
+    def test_edits_of_others_do_not_wait_until_the_journal_is_read(self):
+        self.edit("set p 1 number 1")
+        thread = self.begin()
+        edits = []
+        editing = threading.Thread(target=lambda: edits.append(self.edit("set p 1 number 2")), daemon=True)
+        editing.start()
+        editing.join(10)
+        self.assertEqual(edits, ["ok"])
+        self.goes_on.set()
+        thread.join()
+        self.assertEqual(self.found[0].lines, ["@1 set p 1 number 1"])
+        self.assertEqual(self.keeper.snapshot().lines, ["@1 set p 1 number 1", "@1 set p 1 number 2"])
+        self.assertEqual(self.keeper.snapshot().version, self.found[0].version + 1)
+
+    def test_a_save_meanwhile_begins_it_anew(self):
+        self.edit("set p 1 number 1")
+        thread = self.begin()
+        saving = threading.Thread(target=self.keeper.save, daemon=True)
+        saving.start()
+        saving.join(10)
+        self.assertFalse(saving.is_alive())
+        self.edit("set p 1 number 3")
+        self.goes_on.set()
+        thread.join()
+        self.assertEqual(self.found[0].lines, ["@1 set p 1 number 3"])
+        self.assertTrue(self.keeper.is_at(self.found[0].file))
+
+    def test_a_journal_that_was_changed_is_told(self):
+        self.edit("set p 1 number 1")
+        path = self.folder / "town.sfs.journal"
+        path.write_bytes(path.read_bytes().replace(b"number 1", b"number 2"))
+        with self.assertRaisesRegex(Unavailable, "at place [0-9]+ is damaged"):
+            self.keeper.snapshot()
+
+
 class Cut(TestCase):
     """Journals that end in the middle of a batch, or of its being taken back."""
 
@@ -639,6 +796,72 @@ class Cut(TestCase):
             lambda data: b"[" * 100_000 + b"\n",
         ):
             self.assertEqual(self.opened(self.RECORDS[:2], spoil=spoil)[0], plain)
+
+    def test_a_line_that_is_answered_later_is_not_taken_for_one_of_a_batch_that_was_left(self):
+        first = self.SENT[1]
+        for records in ([], self.SENT[:1], self.SENT[:3]):
+            with self.subTest(records=len(records)):
+                self.opened(records, sent=[*records, first, "column add p more int"])
+                with Store(self.path, journal=True, program=PROGRAM) as store:
+                    store.editor(1).run(first)
+                    store.close(save=False)
+                keeper = self.keeper()
+                self.assertIn("owner='y'", keeper.ask(lambda store: store.run("get p 2"))[0])
+                self.assertEqual(keeper.steps()[1].line, first)
+                keeper.close()
+
+    def test_of_the_list_whole_batches_stay(self):
+        log = self.folder / "town.sfs.batches"
+        self.opened(self.RECORDS)
+        whole = log.read_bytes()
+        self.assertEqual(whole.count(b"\n"), 1)
+        other = whole.replace(b"sfstore-journal", b"sfstore-other")
+        for behind in (b"", b"[]\n", b'["torn', whole.replace(b", 1, 1, [", b", 1, 2, [") + other):
+            for before in (b"", b"[]\n", other, whole.replace(b"delete p 1", b"delete p 9")):
+                log.write_bytes(before + whole + behind)
+                self.keeper().close()
+                self.assertEqual(log.read_bytes(), whole, (before, behind))
+        self.opened(self.RECORDS[:2])
+        self.assertEqual(log.read_bytes(), b"")
+
+    def keeper(self):
+        keeper = Keeper(str(self.path), PROGRAM)
+        self.addCleanup(ended, keeper)
+        return keeper
+
+    def test_an_entry_that_is_not_written_to_its_end_goes_before_anything_is_answered(self):
+        batch = Batch(1, "page", ["column add p more int", "column add p less int"], [None, None])
+        log = self.folder / "town.sfs.batches"
+        full = OSError(errno.ENOSPC, "No space left on device")
+
+        def half(file, data):
+            os.write(file, data[: len(data) // 2])
+            raise full
+
+        for broken in (mock.patch("os.fsync", side_effect=full), mock.patch("sfstore.web.batchlog._write", half)):
+            with self.subTest(broken=broken.attribute):
+                keeper = self.keeper()
+                keeper.carry_out_all(Batch(1, "page", ["column add p one int", "column drop p one"], [None, None]))
+                before = log.read_bytes()
+                with broken, self.assertRaises(Unavailable):
+                    keeper.carry_out_all(batch)
+                self.assertGreater(len(log.read_bytes()), len(before))
+                with mock.patch("os.ftruncate", side_effect=full), self.assertRaises(Unavailable):
+                    keeper.carry_out(Asked(1, "page", batch.lines[0], None))
+                self.assertEqual(keeper.carry_out(Asked(1, "page", batch.lines[0], None)), "ok")
+                self.assertEqual(log.read_bytes(), before)
+                keeper.close()
+                keeper = self.keeper()
+                self.assertEqual(len(keeper.ask(lambda store: store.columns("p"))), 3)
+                keeper.carry_out(Asked(1, "page", "undo", None))
+                keeper.close()
+
+    def test_a_batch_that_is_refused_leaves_no_entry(self):
+        keeper = self.keeper()
+        with self.assertRaises(LineRefused):
+            keeper.carry_out_all(Batch(1, "page", ["column add p more int", "column drop p nix"], [None, None]))
+        self.assertEqual((self.folder / "town.sfs.batches").read_bytes(), b"")
+        self.assertEqual(len(keeper.ask(lambda store: store.columns("p"))), 2)
 
     def plain(self, lines):
         with Store(program=PROGRAM, load=self.path) as store:

@@ -178,11 +178,11 @@ class Remembered(unittest.TestCase):
 
     def test_what_a_line_edits(self):
         for line, target in (
-            ("delete w 7", ("w", 7)),
-            ("set w 7 n 5", ("w", 7)),
-            ("\tunset  w\t007 n", ("w", 7)),
-            ("delete w 7\r", ("w", 7)),
-            ("vertex move w 7 0 0 0 1 1", ("w", 7)),
+            ("delete w 7", Target("w", 7)),
+            ("set w 7 n 5", Target("w", 7)),
+            ("\tunset  w\t007 n", Target("w", 7)),
+            ("delete w 7\r", Target("w", 7)),
+            ("vertex move w 7 0 0 0 1 1", Target("w", 7)),
             ("delete w", None),
             ("delete w x", None),
             ("delete w 12345678901", None),
@@ -195,12 +195,13 @@ class Remembered(unittest.TestCase):
 
     def test_what_a_line_has_changed(self):
         for line, answer, targets in (
-            ("add w POINT (1 1)", "ok 7", [("w", 7)]),
-            ("addhex w 01", "ok 7", [("w", 7)]),
-            ("add w POINT (1 1)", "", [("w", None)]),
-            ("layer rename w v", "ok", [("w", None), ("v", None)]),
+            ("add w POINT (1 1)", "ok 7", [Target("w", 7)]),
+            ("addhex w 01", "ok 7", [Target("w", 7)]),
+            ("add w POINT (1 1)", "", [Target("w", None)]),
+            ("layer rename w v", "ok", [Target("w", None), Target("v", None)]),
             ("layer move w 0", "ok", []),
-            ("column drop w n", "ok", [("w", None)]),
+            ("column drop w n", "ok", [Target("w", None, "n")]),
+            (" column\tadd  w n int", "ok", [Target("w", None, "n")]),
             ("layers", "", []),
         ):
             self.assertEqual(targets_of(line, answer), tuple(targets), line)

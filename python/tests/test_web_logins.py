@@ -185,6 +185,18 @@ class Names(WebCase):
         mallory = serving.log_in("Mallory")
         self.assertEqual(mallory.refused("undo")["whose"]["editor"], "Eve")
 
+    def test_the_file_gives_no_more_than_the_store(self):
+        self.make(b"layer add w point\n")
+        for mode in (0o600, 0o640, 0o664):
+            os.chmod(self.path, mode)
+            Path(f"{self.path}.editors").unlink(missing_ok=True)
+            editors = Editors(str(self.path))
+            editors.keep(editors.number_of("Eve"))
+            self.assertEqual(os.stat(f"{self.path}.editors").st_mode & 0o777, mode)
+            os.chmod(self.path, 0o600)
+            editors.keep(editors.number_of("Ann"))
+            self.assertEqual(os.stat(f"{self.path}.editors").st_mode & 0o777, 0o600)
+
     def test_a_full_disk(self):
         editors = Editors(str(self.path))
         number = editors.number_of("Eve")

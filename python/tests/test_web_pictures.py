@@ -122,8 +122,8 @@ class Tiles(unittest.TestCase):
         boxes = [Tile(pictures.LEVEL_MAX, x, y).box for x in range(-3, 3) for y in range(-3, 3)]
         found = [box for box in boxes if box and box[0] < box[2] and box[1] < box[3]]
         self.assertEqual(len(found), 4)
-        self.assertEqual(min(found)[:2], (-8388608, -8388608))
-        self.assertEqual(max(found)[2:], (8388607, 8388607))
+        self.assertEqual(min(found)[:2], (-1073741824, -1073741824))
+        self.assertEqual(max(found)[2:], (1073741823, 1073741823))
 
 
 class KeptPictures(TestCase):
@@ -182,6 +182,21 @@ class KeptPictures(TestCase):
             self.assertLessEqual(set(seen), wanted)
             # A square's inside is drawn where it has a middle of a cell: its edges always are.
             self.assertGreater(len(seen), 0.95 * len(wanted))
+
+    def test_a_tile_of_many_features_looks_as_if_it_were_drawn_from_them(self):
+        chance = random.Random(12)
+        self.store.run_all(f"add w {self.square(chance)}" for _ in range(300))
+        for level in (2, 3, 5):
+            for tile in (Tile(level, x, y) for x in (-1, 0) for y in (-1, 0)):
+                joined = marked(self.picture(tile).cells)
+                with unittest.mock.patch.object(pictures, "_FEATURES_MAX", 10_000):
+                    drawn_at_once = marked(self.picture(tile, Pictures()).cells)
+                self.assertGreater(len(joined), 20)
+                edges = [{at for at, value in each.items() if value == raster.EDGE} for each in (joined, drawn_at_once)]
+                self.assertEqual(*edges)
+                self.assertEqual(set(joined.values()) - {raster.EDGE, raster.INSIDE}, set())
+                # Of areas of some cells the inside is drawn from quarters alone.
+                self.assertLessEqual(set(drawn_at_once), set(joined))
 
     def test_pictures_are_as_those_drawn_anew_after_each_edit(self):
         chance = random.Random(10)

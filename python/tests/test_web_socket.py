@@ -24,7 +24,6 @@ from web_support import WebCase
 from sfstore import Store
 from sfstore.web import client, command, socketed
 from sfstore.web.client import CallFailed, Client, ServerGone, start_server
-from sfstore.web.logins import Logins
 from sfstore.web.socketed import Door, SocketTaken
 
 # At how many moments a server is killed: more where the environment variable says so.
@@ -388,6 +387,24 @@ class Started(SocketCase):
         process.kill()
         process.wait()
         self.assertIsNot(self.start(), process)
+        self.assertEqual(len(self.rows(self.client())), 2)
+
+    def test_it_runs_no_code_of_the_folder_that_its_program_was_started_in(self):
+        shared = self.folder / "shared"
+        shared.mkdir()
+        for name in ("argparse", "socket", "sfstore", "sitecustomize"):
+            (shared / f"{name}.py").write_text(f"open({str(self.folder / 'taken')!r}, 'w')\nraise SystemExit(7)\n")
+        before = os.getcwd()
+        self.addCleanup(os.chdir, before)
+        os.chdir(shared)
+        program = os.path.relpath(PROGRAM)
+        with mock.patch.dict(os.environ, {"PYTHONPATH": ""}):
+            start_server(os.path.relpath(self.path), program)
+        self.addCleanup(self.forget)
+        for server in client._servers.values():
+            self.addCleanup(server.process.wait)
+            self.addCleanup(server.process.kill)
+        self.assertFalse((self.folder / "taken").exists())
         self.assertEqual(len(self.rows(self.client())), 2)
 
     def test_it_ends_when_nobody_is_left(self):

@@ -8,8 +8,10 @@ from typing import Any, NamedTuple
 from qgis.core import QgsVectorLayer
 
 from sfstore.exchange.grid import Rounding
+from sfstore.results import Column
 from sfstore.web.client import ServerGone
 
+from .fields import FieldsDiffer, check_layer, names_of
 from .provider import Outcome, Provider
 from .writing import Edits, Line, added_numbers
 
@@ -22,6 +24,13 @@ class _Seen(NamedTuple):
     version: int
     """The version of the store."""
     content: tuple[Any, ...]
+
+
+class _Begun(NamedTuple):
+    """What the user saw of the columns when they began to edit."""
+
+    version: int
+    columns: list[Column]
 
 
 class Editing:
@@ -37,9 +46,13 @@ class Editing:
         self.is_sending = False
         self.is_prepared = False
         """Whether the store was asked for a commit that comes next, with that of another layer."""
+        self.differs = False
+        """Whether it was found to count its fields otherwise than its provider: nothing that it has not sent is right."""
         # The commands of QGIS' undo stack from here on were not sent.
         self.base = 0
         self._seen: dict[int, _Seen] = {}
+        # The version and the columns that were seen when the first of what was not sent was done.
+        self._begun: _Begun | None = None
 
     @property
     def session(self) -> Any:
@@ -51,20 +64,40 @@ class Editing:
         layer = self.layer
         return bool(layer.isEditable() and layer.isModified() and not layer.isEditCommandActive())
 
+    @property
+    def has_steps(self) -> bool:
+        """Whether QGIS has steps of it, done or undone, that were not sent: they count its fields by their places."""
+        try:
+            return bool(self.layer.isEditable() and self.layer.undoStack().count())
+        except RuntimeError:
+            # QGIS has deleted it.
+            return False
+
     def begin(self) -> None:
         """Begins anew, with nothing that was not sent."""
         self._seen.clear()
+        self._begun = None
+        self.differs = False
         self.is_in_doubt = False
         self.base = 0
 
     def touch(self, fid: int) -> None:
-        """Notes what the user sees of a feature that they edit."""
+        """Notes what the user sees of a feature that they edit, and of the columns."""
+        self.touch_columns()
         number = self.provider.mirror.numbers.get(fid)
         if number is not None and number not in self._seen:
             self._seen[number] = _Seen(self.session.version, self._content(number))
 
+    def touch_columns(self) -> None:
+        """Notes which columns the user sees, where it is their first edit."""
+        if self._begun is None:
+            self._begun = _Begun(self.session.version, list(self.provider.mirror.columns))
+
     def renew(self) -> None:
         """Compares with a store that was lost meanwhile: what is as the user saw it they have seen."""
+        if self._begun is not None:
+            are_there = set(self._begun.columns) <= set(self.session.columns(self.provider.source.layer))
+            self._begun = _Begun(self.session.version if are_there else 0, self._begun.columns)
         for number, seen in self._seen.items():
             version = self.session.version if self._content(number) == seen.content else 0
             self._seen[number] = _Seen(version, seen.content)
@@ -80,10 +113,20 @@ class Editing:
     def lines(self) -> list[Line]:
         """What was not sent, as lines. `NotSent` where it has no such form."""
         self.rounding = Rounding()
-        return self.provider.lines(self._edits(), self.layer.fields(), self.rounding)
+        try:
+            check_layer(self.layer)
+        except FieldsDiffer:
+            self.differs = True
+            raise
+        edits = self._edits()
+        if edits.dropped or edits.columns:
+            self.provider.check_fields_may_change(self.key)
+        return self.provider.lines(edits, self.layer.fields(), self.rounding)
 
     def version_of(self, line: Line) -> int | None:
-        """The version of the store that the user has seen of what a line edits."""
+        """The version of the store that the user has seen of what a line edits: a feature, or a column."""
+        if line.column is not None:
+            return self._begun.version if self._begun else int(self.session.version)
         if line.feature is None:
             return None
         seen = self._seen.get(self.provider.mirror.numbers[line.feature])
@@ -92,12 +135,15 @@ class Editing:
     def settle(self) -> None:
         """Shows the layer as the store has it, which has taken the edits, where QGIS could not take them over."""
         self.layer.rollBack(False)
+        # What was sent is no step of QGIS any more: redone it would be sent again.
+        self.layer.undoStack().clear()
+        self.layer.updateFields()
         self.session.reload_soon(self.provider.mirror)
 
     def _edits(self) -> Edits:
-        buffer, fields = self.layer.editBuffer(), self.provider.fields()
+        buffer, names = self.layer.editBuffer(), names_of(self.provider.fields())
         return Edits(
-            dropped=[fields[at].name() for at in buffer.deletedAttributeIds()],
+            dropped=[name for at in buffer.deletedAttributeIds() if (name := names[at]) is not None],
             columns=buffer.addedAttributes(),
             geometries=buffer.changedGeometries(),
             values=buffer.changedAttributeValues(),

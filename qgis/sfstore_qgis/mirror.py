@@ -4,16 +4,17 @@ from __future__ import annotations
 
 import contextlib
 import gc
-from collections.abc import Iterable, Iterator, Sequence
+from collections.abc import Callable, Iterable, Iterator, Mapping, Sequence
 from typing import TYPE_CHECKING, Any
 
 from qgis.core import QgsFeature, QgsFeatureRequest, QgsField, QgsGeometry, QgsVectorLayer, QgsWkbTypes
-from qgis.PyQt.QtCore import QObject, QVariant, pyqtSignal
+from qgis.PyQt.QtCore import QObject, pyqtSignal
 
 from sfstore.results import Column
 
+from .fields import Fields, FieldsDiffer, as_columns
 from .reading import Row, geometry_of, rows_of
-from .writing import Layer, field_of
+from .writing import Layer
 
 if TYPE_CHECKING:
     from .session import Session
@@ -39,23 +40,36 @@ class Mirror(QObject):
 
     changed = pyqtSignal()
     columns_changed = pyqtSignal()
+    given_up = pyqtSignal(str)
+    """All was read anew, under other numbers of QGIS: why, in words. What layers over it have not sent is lost."""
 
     def __init__(self, session: Session, name: str, kind: str, columns: Sequence[Column]) -> None:
         """A mirror that has all; ``kind`` is that of the geometries which it shows."""
         super().__init__()
         self.session, self.name, self.kind = session, name, kind
-        self.columns = list(columns)
+        # Layers that are being edited, and whether they have steps that were not sent. Their buffers count fields by
+        # places, so that none may go; and behind a step that counts a new one none may come.
+        self.held: dict[str, Callable[[], bool]] = {}
+        self.is_behind = False
+        """Whether the store has other columns, which wait until nothing is edited."""
+        self._is_beginning_anew = False
+        self._begin(columns)
+
+    def _begin(self, columns: Sequence[Column]) -> None:
+        """Begins with an empty memory layer, and takes over all features."""
         self.fids: dict[int, int] = {}
         self.numbers: dict[int, int] = {}
-        # Layers that are being edited: their buffers count columns by their places, so that none may go.
-        self.held: set[str] = set()
-        self.layer = QgsVectorLayer(f"{WKB_NAMES[kind]}?crs={session.crs.authid()}", name, "memory")
+        self.layer = QgsVectorLayer(f"{WKB_NAMES[self.kind]}?crs={self.session.crs.authid()}", self.name, "memory")
         self.memory = self.layer.dataProvider()
-        fields = [QgsField("id", QVariant.LongLong, "int"), *(field_of(*column) for column in self.columns)]
-        self.memory.addAttributes(fields)
+        self.fields = Fields(self.memory, columns)
         self.load()
         if len(self.fids) <= INDEX_AT_ONCE_MAX:
             self.memory.createSpatialIndex()
+
+    @property
+    def columns(self) -> list[Column]:
+        """The columns that are shown."""
+        return self.fields.columns
 
     @property
     def wkb_type(self) -> Any:
@@ -63,7 +77,7 @@ class Mirror(QObject):
 
     def written(self, names: Sequence[str | None]) -> Layer:
         """What has to be known to write its edits, of a layer with fields of these names."""
-        return Layer(self.name, self.kind, self.session.grid, self.numbers, names)
+        return Layer(self.name, self.kind, self.session.grid, self.numbers, self.fids, names)
 
     def load(self) -> None:
         """Takes over all features as they are now."""
@@ -74,46 +88,106 @@ class Mirror(QObject):
 
     def follow(self, numbers: Iterable[int]) -> None:
         """Takes over what has become of some features."""
-        for kind in self._take(sorted(set(numbers))):
-            self.session.note_kind(self.name, kind)
+        with self._agreeing():
+            for kind in self._take(sorted(set(numbers))):
+                self.session.note_kind(self.name, kind)
         self.changed.emit()
 
     def load_anew(self) -> None:
         """Takes over columns and features as they are now."""
-        self.follow_columns()
-        self.load()
+        with self._agreeing():
+            self._follow_columns()
+            self.load()
         self.changed.emit()
 
     def follow_columns(self) -> None:
-        """Takes over the columns. While it is edited none goes."""
-        columns = self.session.columns(self.name)
-        kept = [column for column in self.columns if self.held or column in columns]
-        new = [column for column in columns if column not in kept]
-        if kept == self.columns and not new:
-            return
-        self.drop_columns([column.name for column in self.columns if column not in kept])
-        self.add_columns(new)
-        # A column that came has values which no event names.
-        self.load()
-        self.columns_changed.emit()
+        """Takes over the columns, as far as layers that are edited let it."""
+        with self._agreeing():
+            self._follow_columns()
 
-    def add_columns(self, columns: Sequence[Column]) -> None:
-        self.memory.addAttributes([field_of(*column) for column in columns])
-        self.columns += columns
+    def settle_columns(self) -> None:
+        """Shows the columns as they are, behind a commit, and takes over those that had to wait for it."""
+        with self._agreeing():
+            self.fields.settle()
+            if self.is_behind and self.session.is_connected:
+                self._follow_columns()
+
+    def _follow_columns(self) -> None:
+        columns = self.session.columns(self.name)
+        gone, new = self._due(columns)
+        if gone:
+            self.fields.drop(gone)
+        if new:
+            self.fields.add(new)
+        self.is_behind = sorted(self.columns) != sorted(columns)
+        if gone or new:
+            # A column that came has values which no event names.
+            self.load()
+            self.columns_changed.emit()
+
+    def _due(self, columns: Sequence[Column]) -> tuple[list[str], list[Column]]:
+        """The columns that go now, and those that come. While a layer is edited none takes another one's place."""
+        gone = [column.name for column in self.columns if column not in columns]
+        new = [column for column in columns if column not in self.columns]
+        if not self.held:
+            return gone, new
+        if self.has_steps():
+            return [], []
+        shown = {column.name for column in self.columns}
+        return [], [column for column in new if column.name not in shown]
+
+    def has_steps(self, but: str = "") -> bool:
+        """Whether a layer over it has steps that were not sent; ``but`` is one that does not count."""
+        return any(has_steps() for key, has_steps in self.held.items() if key != but)
+
+    def add_columns(self, fields: Sequence[QgsField]) -> None:
+        """Adds the columns that the store has taken for fields of QGIS."""
+        self.fields.add(as_columns(fields), fields)
 
     def drop_columns(self, names: Sequence[str]) -> None:
-        places = [1 + at for at, column in enumerate(self.columns) if column.name in names]
-        self.memory.deleteAttributes(places)
-        self.columns = [column for column in self.columns if column.name not in names]
+        self.fields.drop(names)
 
-    def add(self, number: int, feature: QgsFeature, wkt: str) -> QgsFeature:
+    @contextlib.contextmanager
+    def _agreeing(self) -> Iterator[None]:
+        """Reads all anew where in the body the fields are found to be others than those of the columns."""
+        try:
+            yield
+        except FieldsDiffer as error:
+            self._begin_anew(f"{error}. It was read anew.")
+
+    def check(self) -> None:
+        """Reads all anew where the fields are others than those of the columns."""
+        with self._agreeing():
+            self.fields.check()
+
+    def _begin_anew(self, why: str) -> None:
+        if self._is_beginning_anew:
+            return
+        self._is_beginning_anew = True
+        try:
+            # First of all: QGIS' numbers of features become others.
+            self.given_up.emit(why)
+            try:
+                self._begin(self.session.columns(self.name))
+            except FieldsDiffer as error:
+                # Without columns it is at least no wrong ones.
+                self._begin([])
+                self.given_up.emit(f"{error}. It is shown without columns.")
+        finally:
+            self._is_beginning_anew = False
+        self.columns_changed.emit()
+
+    def add(self, number: int, values: Mapping[str, Any], wkt: str) -> QgsFeature:
         """Puts an added feature in, with the number that the store gave it, and gives it as it stands here."""
         # Another's of this number may be here, if that addition was undone and this is not heard yet.
         self._drop([number])
-        values = [number, *feature.attributes()[1 : 1 + len(self.columns)]]
-        values += [None] * (1 + len(self.columns) - len(values))
-        self._add([Row(number, self.kind, self.shown(wkt), values)])
+        self._add([Row(number, self.kind, self.shown(wkt), self.fields.places().row(number, values))])
         return self.memory_feature(number)
+
+    def change_values(self, values: Mapping[int, Mapping[str, Any]]) -> None:
+        """Gives features, by QGIS' numbers, other values in some columns."""
+        places = self.fields.places()
+        self.memory.changeAttributeValues({fid: places.placed(each) for fid, each in values.items()})
 
     def memory_feature(self, number: int) -> QgsFeature:
         """A feature as it stands here; an invalid one where it is not here."""
@@ -136,10 +210,10 @@ class Mirror(QObject):
 
     def _take(self, numbers: Sequence[int]) -> set[str]:
         """Takes over some features: those that are not there any more go. Gives the kinds that others of them have."""
-        names = [column.name for column in self.columns]
+        places = self.fields.places()
         gone, others = self.fids.keys() & set(numbers), set()
         for part in self.session.parts(self.name, numbers):
-            found = rows_of(part, names, self.session.grid)
+            found = rows_of(part, places, self.session.grid)
             rows = [row for row in found if row.kind == self.kind]
             others |= {row.kind for row in found} - {self.kind}
             gone -= {row.number for row in rows}

@@ -16,6 +16,7 @@ from sfstore.web.client import CallFailed, ServerGone
 
 from . import provider
 from .editing import Editing, commit, prepare
+from .fields import IDENTIFIER, FieldsDiffer, check_layer
 from .history import History
 from .saving import Saving
 from .session import LayerRefused, Refusal, Session
@@ -175,7 +176,8 @@ class Plugin:
         for each in ids:
             editing = self.editings.pop(each, None)
             if editing is not None:
-                editing.provider.mirror.held.discard(each)
+                editing.provider.mirror.held.pop(each, None)
+                self.tried(editing.provider.mirror.settle_columns)
                 # Once the layer is gone.
                 QTimer.singleShot(0, partial(self._leave, editing.session))
 
@@ -188,6 +190,7 @@ class Plugin:
     def _follow_layer(self, editing: Editing) -> None:
         layer, mirror = editing.layer, editing.provider.mirror
         _set_precision(editing)
+        _keep_identifiers(layer)
         self._connect(layer.editingStarted, partial(self._begin, editing))
         self._connect(layer.editingStopped, partial(self._end, editing))
         self._connect(layer.beforeCommitChanges, partial(self._prepare, editing))
@@ -196,9 +199,13 @@ class Plugin:
         self._connect(layer.geometryChanged, partial(self._drew, editing))
         self._connect(layer.attributeValueChanged, lambda fid, *_: editing.touch(fid))
         self._connect(layer.featureDeleted, editing.touch)
+        self._connect(layer.attributeAdded, lambda *_: editing.touch_columns())
+        self._connect(layer.attributeDeleted, lambda *_: editing.touch_columns())
         self._connect(layer.undoStack().indexChanged, partial(self._send_soon, editing))
         mirror.changed.connect(layer.triggerRepaint)
         mirror.columns_changed.connect(layer.updateFields)
+        self._connect(mirror.columns_changed, partial(self._check, editing))
+        self._connect(mirror.given_up, partial(self._give_up, editing))
 
     def _follow_session(self, session: Session) -> None:
         if session.path not in self._sessions:
@@ -228,14 +235,44 @@ class Plugin:
 
     def _begin(self, editing: Editing) -> None:
         editing.begin()
-        editing.provider.mirror.held.add(editing.key)
+        editing.provider.mirror.held[editing.key] = lambda: editing.has_steps
 
     def _end(self, editing: Editing) -> None:
         editing.begin()
-        mirror = editing.provider.mirror
-        mirror.held.discard(editing.key)
-        if not mirror.held and editing.session.is_connected:
-            self.tried(mirror.follow_columns)
+        # Edits may be given up, and the layer be edited on.
+        if not editing.layer.isEditable():
+            editing.provider.mirror.held.pop(editing.key, None)
+        self.tried(editing.provider.mirror.settle_columns)
+
+    def _check(self, editing: Editing) -> None:
+        """Gives a layer up that counts its fields otherwise than its provider, or whose provider does so."""
+        self.tried(editing.provider.mirror.check)
+        try:
+            check_layer(editing.layer)
+        except FieldsDiffer as error:
+            self._give_up(editing, f"{error}. It was read anew.")
+
+    def _look_at(self, editing: Editing) -> None:
+        """Gives a layer up, behind a refusal, whose fields were found to be others. QGIS may have read them since."""
+        if editing.differs:
+            self._give_up(editing, "Its fields were others than it ought to have. It was read anew.")
+        else:
+            self._check(editing)
+
+    def _give_up(self, editing: Editing, why: str) -> None:
+        """Shows a layer as it is in the store, without what was not sent of it: its values could be others' by now."""
+        layer = editing.layer
+        editing.is_sending = True
+        try:
+            if layer.isEditable():
+                layer.rollBack()
+            layer.updateFields()
+        finally:
+            editing.is_sending = False
+        editing.provider.outcome = None
+        editing.session.reload_soon(editing.provider.mirror)
+        layer.triggerRepaint()
+        self.teller.tell(f"{layer.name()}: {why} Edits that were not sent are given up.", Qgis.Critical)
 
     def _prepare(self, editing: Editing, *_: object) -> None:
         """Asks the store for a whole commit, before QGIS hands its pieces to the provider."""
@@ -263,6 +300,7 @@ class Plugin:
         editing.is_prepared = False
         if outcome is not None and outcome.fault is not None:
             self.teller.refuse(editing.layer.name(), outcome.fault, editing.session)
+            self._look_at(editing)
         elif outcome is not None and editing.layer.isEditable() and editing.layer.isModified():
             editing.settle()
 
@@ -272,7 +310,9 @@ class Plugin:
         editing.begin()
         for other in self.editings.values():
             if other.provider.mirror is editing.provider.mirror and other is not editing:
+                other.layer.updateFields()
                 other.layer.triggerRepaint()
+        self.tried(editing.provider.mirror.settle_columns)
         self.teller.clear()
         self._tell_moved(editing)
 
@@ -312,6 +352,7 @@ class Plugin:
         if not isinstance(fault, ServerGone):
             for each in editings:
                 _take_back(each)
+                self._look_at(each)
 
     # What is drawn and not sent yet is asked about.
 
@@ -446,6 +487,13 @@ def _set_precision(editing: Editing) -> None:
     x, y, step, denominator = editing.session.grid.fractions
     if x % step == 0 and y % step == 0:
         editing.layer.geometryOptions().setGeometryPrecision(step / denominator)
+
+
+def _keep_identifiers(layer: QgsVectorLayer) -> None:
+    """Has forms and tables show identifiers, and let nobody change them."""
+    forms = layer.editFormConfig()
+    forms.setReadOnly(layer.fields().indexOf(IDENTIFIER), True)
+    layer.setEditFormConfig(forms)
 
 
 def _take_back(editing: Editing) -> None:

@@ -14,7 +14,6 @@ from qgis.core import (
     QgsDataProvider,
     QgsFeature,
     QgsFeatureRequest,
-    QgsFeatureSink,
     QgsField,
     QgsFields,
     QgsGeometry,
@@ -26,15 +25,14 @@ from qgis.core import (
 from qgis.PyQt.QtCore import QVariant
 
 from sfstore.exchange.grid import Rounding
-from sfstore.results import Column
 from sfstore.web.client import CallFailed, ServerGone
 
-from .mirror import Mirror
-from .session import LayerRefused, Refusal, Session
-from .told import words_of
-from .writing import COLUMN_TYPES, Edits, Line, added_numbers, lines_of, wkt_of
+from .fields import IDENTIFIER, names_of
+from .session import LayerRefused, Session
+from .told import as_shown, words_of
+from .writing import NOT_GIVEN, Edits, Line, NotSent, added_numbers, lines_of, wkt_of
 
-__all__ = ["KEY", "Outcome", "Provider", "Source", "names_of", "register", "source_of"]
+__all__ = ["KEY", "Outcome", "Provider", "Source", "register", "source_of"]
 
 KEY = "sfstore"
 
@@ -68,14 +66,6 @@ def source_of(uri: str) -> Source:
     return Source(path, named.get("layername", ""), named.get("geometrytype", "").lower())
 
 
-def names_of(fields: QgsFields) -> list[str | None]:
-    """The columns of fields; none for the identifier, and for those that the store has not."""
-    others = (QgsFields.OriginJoin, QgsFields.OriginExpression)
-    return [
-        None if at == 0 or fields.fieldOrigin(at) in others else field.name() for at, field in enumerate(fields)
-    ]
-
-
 class Provider(QgsVectorDataProvider):
     """A layer of a store, or one kind of geometries of it."""
 
@@ -98,7 +88,7 @@ class Provider(QgsVectorDataProvider):
             self.mirror = self.session.mirror(self.source.layer, self.source.kind)
             self.mirror.changed.connect(self._changed)
         except (CallFailed, LayerRefused, OSError, ServerGone) as error:
-            self.pushError(str(error))
+            self.pushError(as_shown(str(error)))
 
     def _changed(self) -> None:
         self.updateExtents()
@@ -120,7 +110,7 @@ class Provider(QgsVectorDataProvider):
         return KEY
 
     def fields(self) -> QgsFields:
-        return self.mirror.memory.fields() if self.mirror else QgsFields()
+        return self.mirror.fields.shown if self.mirror else QgsFields()
 
     def wkbType(self) -> Any:
         return self.mirror.wkb_type if self.mirror else super().wkbType()
@@ -144,10 +134,11 @@ class Provider(QgsVectorDataProvider):
         return self.mirror.memory.getFeatures(request or QgsFeatureRequest())
 
     def pkAttributeIndexes(self) -> list[int]:
+        # The identifier's field is the first one, whatever columns there are.
         return [0]
 
     def defaultValueClause(self, index: int) -> str:
-        return "Autogenerate" if index == 0 else ""
+        return NOT_GIVEN if index == 0 else ""
 
     def hasSpatialIndex(self) -> Any:
         return QgsVectorDataProvider.SpatialIndexPresent
@@ -172,7 +163,8 @@ class Provider(QgsVectorDataProvider):
             is_whole = len(by_fid) == len(features) and all(feature.id() in by_fid for feature in features)
             for feature, (_, given) in zip(features, numbers):
                 number = by_fid[feature.id()] if is_whole else given
-                stored = self.mirror.add(number, feature, self.wkt(feature.geometry()))
+                values = self._named(dict(enumerate(feature.attributes())))
+                stored = self.mirror.add(number, values, self.wkt(feature.geometry()))
                 feature.setId(stored.id())
                 feature.setAttributes(stored.attributes())
                 feature.setGeometry(stored.geometry())
@@ -195,24 +187,25 @@ class Provider(QgsVectorDataProvider):
         def follow(_: object) -> None:
             for fid, geometry in geometries.items():
                 self.mirror.change(fid, self.wkt(geometry))
-            own = {fid: {at: value for at, value in each.items() if at} for fid, each in values.items()}
-            self.mirror.memory.changeAttributeValues(own)
+            self.mirror.change_values({fid: self._named(each) for fid, each in values.items()})
 
         return self._done(Edits(values=values, geometries=geometries), follow)
 
     def addAttributes(self, fields: Sequence[QgsField]) -> bool:
-        def follow(_: object) -> None:
-            self.mirror.add_columns([Column(each.name(), COLUMN_TYPES[each.type()]) for each in fields])  # type: ignore[arg-type]
-
-        return self._done(Edits(columns=fields), follow)
+        return self._done(Edits(columns=fields), lambda _: self.mirror.add_columns(fields))
 
     def deleteAttributes(self, indexes: Iterable[int]) -> bool:
-        wanted = set(indexes)
-        if 0 in wanted:
+        fields = self.fields()
+        names = [fields[at].name() for at in sorted(set(indexes)) if 0 <= at < len(fields)]
+        if IDENTIFIER in names:
             self.pushError("The identifier can't be taken away.")
             return False
-        names = [self.fields()[at].name() for at in sorted(wanted)]
         return self._done(Edits(dropped=names), lambda _: self.mirror.drop_columns(names))
+
+    def _named(self, values: Mapping[int, Any]) -> dict[str, Any]:
+        """Values by the names of their fields, of places in the provider."""
+        names = names_of(self.fields())
+        return {name: value for at, value in values.items() if at < len(names) and (name := names[at]) is not None}
 
     def wkt(self, geometry: QgsGeometry) -> str:
         """The text of a geometry in steps of the grid."""
@@ -220,14 +213,27 @@ class Provider(QgsVectorDataProvider):
 
     def lines(self, edits: Edits, fields: QgsFields, rounding: Rounding) -> list[Line]:
         """The lines of edits of a layer with these fields. `NotSent` where an edit has none."""
+        self.mirror.fields.check()
         return lines_of(self.mirror.written(names_of(fields)), edits, rounding)
+
+    def check_fields_may_change(self, layer: str = "") -> None:
+        """`NotSent` where other layers over this one's features have edits that were not sent: they count its fields.
+
+        ``layer`` is the one whose fields change, by its key.
+        """
+        if self.mirror.has_steps(but=layer):
+            raise NotSent(
+                f"{self.source.layer} is edited in another layer of the project too: "
+                "save that one, or give its edits up, before fields are added or deleted"
+            )
 
     def _done(self, edits: Edits, follow: Callable[[Sequence[tuple[int, int]]], object]) -> bool:
         """Has the store carry edits out, where it has not yet, and then the mirror. No error leaves it: that ends QGIS."""
         try:
             numbers = self._numbers(edits)
         except Exception as error:
-            self.pushError(words_of(error))
+            # QGIS shows it in its message bar too.
+            self.pushError(as_shown(words_of(error)))
             return False
         try:
             follow(numbers)
@@ -244,6 +250,8 @@ class Provider(QgsVectorDataProvider):
             if self.outcome.fault is not None:
                 raise self.outcome.fault
             return self.outcome.numbers
+        if edits.dropped or edits.columns:
+            self.check_fields_may_change()
         lines = self.lines(edits, self.fields(), Rounding())
         if not lines:
             return []

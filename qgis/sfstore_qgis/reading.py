@@ -14,6 +14,8 @@ from qgis.PyQt.QtCore import NULL
 from sfstore.exchange.grid import Grid
 from sfstore.geometry import read_wkt, write_wkb
 
+from .fields import Places
+
 __all__ = ["Row", "geometry_of", "rows_of"]
 
 _ROW = re.compile(r"([0-9]+) ([A-Z]+) (\([-0-9 ,()]*\))(.*)")
@@ -35,15 +37,14 @@ class Row(NamedTuple):
     kind: str
     geometry: QgsGeometry
     values: list[Any]
-    """The identifier, and then a value for each column, or NULL."""
+    """A value for each field, or NULL; the identifier comes first."""
 
 
-def rows_of(rows: Iterable[str], columns: Sequence[str], grid: Grid) -> list[Row]:
+def rows_of(rows: Iterable[str], places: Places, grid: Grid) -> list[Row]:
     """The features of rows, with the geometries in the units of the map."""
     found = [_parted(row) for row in rows]
     geometries = _geometries(found, grid)
-    places = {name: at for at, name in enumerate(columns, 1)}
-    nothing = [NULL] * len(columns)
+    nothing = [NULL] * (places.width - 1)
     return [
         Row(int(number), kind.lower(), geometry, _values(int(number), nothing, rest, places))
         for (number, kind, _, rest), geometry in zip(found, geometries)
@@ -66,12 +67,13 @@ def _parted(row: str) -> tuple[str, str, str, str]:
     return number, kind, text, rest
 
 
-def _values(number: int, nothing: list[Any], rest: str, places: dict[str, int]) -> list[Any]:
-    """The identifier, and then a value for each column."""
+def _values(number: int, nothing: list[Any], rest: str, places: Places) -> list[Any]:
+    """The identifier, and then a value for each further field."""
     values = [number, *nothing]
     for name, digits, text in _VALUE.findall(rest):
-        if name in places:
-            values[places[name]] = int(digits) if digits else text.replace("''", "'")
+        at = (places.ints if digits else places.texts).get(name)
+        if at is not None:
+            values[at] = int(digits) if digits else text.replace("''", "'")
     return values
 
 

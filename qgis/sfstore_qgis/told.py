@@ -2,6 +2,7 @@
 
 from __future__ import annotations
 
+import html
 import re
 from collections.abc import Callable, Iterable
 from fractions import Fraction
@@ -18,7 +19,7 @@ from sfstore.geometry import Shape, write_wkb
 
 from .session import Refusal, Session
 
-__all__ = ["Breaking", "Teller", "breaking_of", "geometry_of", "place_of", "points_of", "words_of"]
+__all__ = ["Breaking", "Teller", "as_shown", "breaking_of", "geometry_of", "place_of", "points_of", "words_of"]
 
 Breaking = tuple[str, int]
 """A feature that would break a rule: its layer and its identifier in the store."""
@@ -48,6 +49,11 @@ def _rule_words(told: dict[str, Any]) -> str:
         f"{each['layer']} {each['id']}{'' if 'members' in each else ' (new)'}" for each in told["broken"]["features"]
     )
     return f", {name} ({says}), by {by}"
+
+
+def as_shown(text: str) -> str:
+    """A text as QGIS' message bar has to have it, to show it as it is: names and values in it are anybody's."""
+    return html.escape(text, quote=False)
 
 
 def breaking_of(error: Exception) -> list[Breaking]:
@@ -107,7 +113,7 @@ class Teller:
     def tell(self, text: str, level: Any = Qgis.Info) -> None:
         """Says something for some seconds; what is critical until it is closed."""
         seconds = 0 if level == Qgis.Critical else _SHOWN_SECONDS
-        self._iface.messageBar().pushMessage("sfstore", text, level, seconds)
+        self._iface.messageBar().pushMessage("sfstore", as_shown(text), level, seconds)
 
     def refuse(self, layer: str, error: Exception, session: Session) -> None:
         """Says why an edit was not taken, shows what was refused, and marks the place."""
@@ -132,7 +138,7 @@ class Teller:
     def _tell_with_button(self, text: str, act: Callable[[], object]) -> None:
         """Says something that is critical, with a button that shows what it is about."""
         bar = self._iface.messageBar()
-        item = bar.createMessage("sfstore", text)
+        item = bar.createMessage("sfstore", as_shown(text))
         button = QPushButton("Show them", item)
         button.clicked.connect(lambda *_: act())
         item.layout().addWidget(button)

@@ -3,21 +3,23 @@
 from __future__ import annotations
 
 import struct
-from collections.abc import Iterable, Mapping, Sequence
+from collections.abc import Container, Iterable, Mapping, Sequence
 from typing import Any, NamedTuple
 
 from qgis.core import QgsFeature, QgsField, QgsGeometry
-from qgis.PyQt.QtCore import NULL, QVariant
+from qgis.PyQt.QtCore import NULL
 
 from sfstore import spelling
 from sfstore.exchange.grid import Grid, OffGrid, Outside, Rounding
 from sfstore.geometry import NotTaken, read_wkb, write_wkt
 from sfstore.results import Value
 
-__all__ = ["COLUMN_TYPES", "Edits", "Layer", "Line", "NotSent", "added_numbers", "field_of", "lines_of", "wkt_of"]
+from .fields import COLUMN_TYPES, IDENTIFIER
 
-COLUMN_TYPES = {QVariant.Int: "int", QVariant.LongLong: "int", QVariant.String: "text"}
-"""What a column of the store may be, by QGIS' types of fields."""
+__all__ = ["NOT_GIVEN", "Edits", "Layer", "Line", "NotSent", "added_numbers", "lines_of", "wkt_of"]
+
+NOT_GIVEN = "Autogenerate"
+"""What QGIS shows in the field of an identifier that is not given yet."""
 
 
 class NotSent(Exception):
@@ -44,6 +46,8 @@ class Line(NamedTuple):
     """The one that it changes; none where it changes none that is there."""
     added: int | None = None
     """The one that it adds."""
+    column: str | None = None
+    """The column that it drops, or in which it gives an added feature a value; none where its own commit adds that."""
 
 
 class Layer(NamedTuple):
@@ -54,24 +58,31 @@ class Layer(NamedTuple):
     grid: Grid
     numbers: Mapping[int, int]
     """The store's identifiers by QGIS' numbers."""
+    known: Container[int]
+    """The identifiers of the features that are there."""
     fields: Sequence[str | None]
-    """The columns in the order of QGIS' fields; none for the identifier, and for what is joined or computed."""
+    """The names of QGIS' fields in their order, that of the identifier among them; none for what is joined or computed."""
 
 
 def lines_of(layer: Layer, edits: Edits, rounding: Rounding) -> list[Line]:
     """The lines of edits, in an order that the store can carry out. `NotSent` where one has none."""
     name = layer.name
-    lines = [Line(f"column drop {name} {spelling.name(column)}") for column in edits.dropped]
+    lines = [Line(f"column drop {name} {spelling.name(column)}", column=column) for column in edits.dropped]
     lines += [Line(f"column add {name} {_column(field)}") for field in edits.columns]
     for feature, geometry in edits.geometries.items():
         text = f"replace {name} {layer.numbers[feature]} {wkt_of(geometry, layer, rounding)}"
         lines.append(Line(text, feature))
     for feature, values in edits.values.items():
-        lines += [Line(text, feature) for text in _settings(layer, str(layer.numbers[feature]), values, True)]
+        number = layer.numbers[feature]
+        lines += [Line(text, feature) for _, text in _settings(layer, str(number), values, (number,))]
     lines += [Line(f"delete {name} {layer.numbers[feature]}", feature) for feature in edits.deleted]
+    own = {field.name() for field in edits.columns}
     for added in edits.added:
         lines.append(Line(f"add {name} {wkt_of(added.geometry(), layer, rounding)}", None, added.id()))
-        lines += [Line(text) for text in _settings(layer, "last", dict(enumerate(added.attributes())), False)]
+        # A new feature has no values that had to be cleared.
+        values = {at: value for at, value in enumerate(added.attributes()) if not _is_none(value)}
+        settings = _settings(layer, "last", values, layer.known)
+        lines += [Line(text, column=None if column in own else column) for column, text in settings]
     return lines
 
 
@@ -106,13 +117,6 @@ def _fitted(geometry: QgsGeometry, kind: str) -> QgsGeometry:
     return fitted
 
 
-def field_of(name: str, column_type: str) -> QgsField:
-    """The field of QGIS for a column of the store."""
-    if column_type == "int":
-        return QgsField(name, QVariant.LongLong, "int")
-    return QgsField(name, QVariant.String, "text", 255)
-
-
 def _column(field: QgsField) -> str:
     """A column as a line has it."""
     if field.type() not in COLUMN_TYPES:
@@ -127,19 +131,32 @@ def _checked_name(name: str) -> str:
         raise NotSent(str(error)) from None
 
 
-def _settings(layer: Layer, feature: str, values: Mapping[int, Any], clears: bool) -> list[str]:
-    """The lines that give a feature values. One that is NULL is cleared, where it may have been another one."""
+def _settings(
+    layer: Layer, feature: str, values: Mapping[int, Any], numbers: Container[int]
+) -> list[tuple[str, str]]:
+    """The lines that give a feature values, each with its column: one that is NULL is cleared.
+
+    The identifier's field may have one of some numbers: what it has already, or that of what was copied.
+    """
     lines = []
     for index, found in values.items():
         column = layer.fields[index] if index < len(layer.fields) else None
-        if column is None:
-            continue
-        if found is None or found == NULL:
-            if clears:
-                lines.append(f"unset {layer.name} {feature} {column}")
-        else:
-            lines.append(f"set {layer.name} {feature} {column} {_value(found)}")
+        if column == IDENTIFIER:
+            _check_number(found, numbers)
+        elif column is not None and _is_none(found):
+            lines.append((column, f"unset {layer.name} {feature} {column}"))
+        elif column is not None:
+            lines.append((column, f"set {layer.name} {feature} {column} {_value(found)}"))
     return lines
+
+
+def _check_number(found: Any, numbers: Container[int]) -> None:
+    if found != NOT_GIVEN and found not in numbers:
+        raise NotSent(f"{IDENTIFIER} can't be set to {found}: it is the store that numbers features")
+
+
+def _is_none(found: Any) -> bool:
+    return found is None or bool(found == NULL)
 
 
 def _value(found: Value) -> str:

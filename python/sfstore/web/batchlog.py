@@ -1,7 +1,10 @@
 """Which lines of a journal belong together, recorded beside it: so a crash leaves all of a batch, or nothing.
 
-A batch of edits of features needs none of this: it is a group, and one record of the journal. An entry is on the disk before the first line of its batch is sent. The next opening finds by it what a
-crash has left of a batch that was not carried out to its end, and which steps are one.
+A batch of edits of features needs none of this: it is a group, and one record of the journal. An entry is on the disk
+before the first line of its batch is sent. The next opening finds by it what a crash has left of a batch that was not
+carried out to its end, and which steps are one.
+
+No entry of a batch that was not carried out stays: lines that somebody sends later could be taken for its own.
 """
 
 from __future__ import annotations
@@ -48,19 +51,51 @@ class BatchLog:
     def __init__(self, store: str) -> None:
         self._store = os.path.realpath(store)
         self._path = self._store + ".batches"
+        # How long the file was before the entry of a batch of which it is not known yet that it was carried out.
+        self._before: int | None = None
 
     def begin(self, at: int, editor: int, lines: Sequence[str]) -> None:
         """Records a batch that is sent next. `OSError` where that can't be done."""
+        self.give_up()
         entry = Entry(self._head(), at, editor, [line.removesuffix("\r") for line in lines])
         file = files.opened_here(self._path, os.O_WRONLY | os.O_APPEND | os.O_CREAT)
         try:
+            self._before = os.fstat(file).st_size
             with contextlib.suppress(FileNotFoundError):
                 found = os.stat(self._store)
                 files.give(file, found, found.st_mode & 0o777)
             _write(file, json.dumps(entry).encode() + b"\n")
             os.fsync(file)
+            if not self._before:
+                files.sync(os.path.dirname(self._path))
         finally:
             os.close(file)
+
+    def end(self) -> None:
+        """Notes that the batch was carried out which was begun last."""
+        self._before = None
+
+    def give_up(self) -> None:
+        """Removes the entry of a batch that was begun, and has not ended. `OSError` where that can't be done.
+
+        No edit may be answered before. It takes no room on the disk.
+        """
+        if self._before is not None:
+            with contextlib.suppress(FileNotFoundError):
+                self._cut(self._before)
+            self._before = None
+
+    def keep_whole(self, records: Sequence[str]) -> None:
+        """Removes the entries of all batches that the journal has not whole, whatever was taken back of them."""
+        self._before = None
+        with contextlib.suppress(FileNotFoundError):
+            lines, head = self._lines(), self._head()
+            kept = [line for line in lines if _is_kept(_entry(line), head, records)]
+            if kept == lines[: len(kept)]:
+                self._cut(sum(map(len, kept)))
+            else:
+                with files.whole_file(self._path) as beside, open(beside, "wb") as new:
+                    new.writelines(kept)
 
     def found(self, records: Sequence[str]) -> Found:
         """What the lines of the journal have of the batches that were recorded."""
@@ -74,22 +109,34 @@ class BatchLog:
 
     def forget(self) -> None:
         """Begins anew: another file has the edits."""
+        self._before = None
         with contextlib.suppress(FileNotFoundError):
             os.unlink(self._path)
 
     def _entries(self) -> list[Entry]:
-        """The batches of this journal. One that was not written to its end was not begun, and goes."""
+        """The batches of this journal."""
         try:
-            with open(self._path, "rb", opener=files.opened_here) as file:
-                data = file.read()
+            lines = self._lines()
         except FileNotFoundError:
             return []
-        whole = data[: data.rfind(b"\n") + 1]
-        if whole != data:
-            os.truncate(self._path, len(whole))
         head = self._head()
-        entries = [_entry(line) for line in whole.splitlines()]
-        return [entry for entry in entries if entry is not None and entry.head == head]
+        return [entry for entry in map(_entry, lines) if entry is not None and entry.head == head]
+
+    def _lines(self) -> list[bytes]:
+        """The lines of the file. A batch whose line was not written to its end was not begun."""
+        with open(self._path, "rb", opener=files.opened_here) as file:
+            data = file.read()
+        return data[: data.rfind(b"\n") + 1].splitlines(keepends=True)
+
+    def _cut(self, size: int) -> None:
+        """Cuts the file off behind some bytes, on the disk too."""
+        file = files.opened_here(self._path, os.O_WRONLY)
+        try:
+            if os.fstat(file).st_size > size:
+                os.ftruncate(file, size)
+                os.fsync(file)
+        finally:
+            os.close(file)
 
     def _head(self) -> str:
         try:
@@ -109,6 +156,10 @@ def _entry(line: bytes) -> Entry | None:
     if not are_right or not isinstance(lines, list) or not all(isinstance(each, str) for each in lines):
         return None
     return Entry(head, at, editor, lines)
+
+
+def _is_kept(entry: Entry | None, head: str, records: Sequence[str]) -> bool:
+    return entry is not None and entry.head == head and _is_whole(entry, records)
 
 
 def _is_whole(entry: Entry, records: Sequence[str]) -> bool:

@@ -14,13 +14,13 @@ from sfstore.commands import Command, help_text, near_words
 from sfstore.faults import fault_at, fault_of
 from sfstore.geometry import Shape, read_wkb, write_wkt
 from sfstore.groups import text_of
-from sfstore.language import GRID_MAX, GRID_MIN, QUESTIONS
+from sfstore.language import GRID_MAX, GRID_MIN, QUESTIONS, parted
 from sfstore.lines import geometry_refused
 from sfstore.refusals import words_of
 from sfstore.store import Answer, Refused, Store
 from sfstore.web.batches import LineRefused, batch_of
 from sfstore.web.changed import changed_by, merged
-from sfstore.web.changes import Change, Target, features_of
+from sfstore.web.changes import Change, Target, features_of, seen_of
 from sfstore.web.editors import Editors
 from sfstore.web.events import Events
 from sfstore.web.keeper import Asked, ChangedMeanwhile, Edit, Keeper, Unavailable
@@ -184,12 +184,14 @@ class Calls:
     def _line(self, editor: int, body: Body) -> Body:
         """Carries out a line of the console, or a group as one, as the editor who has logged in."""
         line, page = _text(body, "line"), _page(body)
-        words = line.split()
+        words = parted(line)
         if not words:
             return {"text": ""}
         if words[0] == "help":
             return {"text": help_text(words[1] if len(words) > 1 else "", OWN)}
-        seen = _number(body, "seen", 0, 2**53) if features_of(line) else None
+        # Who edits no feature that was there may say of which version they know a column.
+        is_seen = features_of(line) or ("seen" in body and seen_of(line))
+        seen = _number(body, "seen", 0, 2**53) if is_seen else None
         try:
             if words == ["save"]:
                 return self._save(editor)
@@ -254,10 +256,12 @@ class Calls:
     def _meanwhile(self, target: Target, change: Change | None) -> str:
         """Who changed what before an edit, in a sentence."""
         feature = f"{target.layer} {target.feature}"
+        if target.column is not None:
+            feature = f"the column {target.column} of {target.layer}"
         if change is None:
             return f"It is not known any more whether {feature} was changed meanwhile: look again."
         who = self._editors.name_of(change.editor)
-        if target in change.targets:
+        if target in change.targets and target.column is None:
             did = "deleted" if change.line.startswith("delete") else "changed"
             return f"{who} {did} {feature} meanwhile: look again."
         return f"{who} changed {feature} meanwhile, by `{change.line}`: look again."

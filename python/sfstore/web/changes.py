@@ -14,7 +14,18 @@ from typing import NamedTuple
 from sfstore.groups import lines_of
 from sfstore.language import COMMANDS
 
-__all__ = ["LAST", "Change", "Changes", "Target", "feature_of", "features_of", "targets_of", "targets_of_members"]
+__all__ = [
+    "LAST",
+    "Change",
+    "Changes",
+    "Target",
+    "column_of",
+    "feature_of",
+    "features_of",
+    "seen_of",
+    "targets_of",
+    "targets_of_members",
+]
 
 # The program parts words by spaces and tabs alone, and drops a carriage return at the end.
 _BLANK = "[ \t]+"
@@ -31,20 +42,26 @@ _OF_FEATURE = re.compile(
 _ADDITION = re.compile(f"[ \t]*(?:add|addhex){_BLANK}{_WORD}")
 LAST = re.compile(f"([ \t]*(?:{'|'.join(sorted(_FRONTS))}){_BLANK}{_WORD}{_BLANK})last(?![^ \t\r])")
 """The front of a line that names the feature of the nearest addition before it to the same layer."""
-_OF_LAYER = re.compile(
-    f"[ \t]*(?:layer{_BLANK}(?:add|drop|rename)|column{_BLANK}(?:add|drop)){_BLANK}{_WORD}"
-)
+_OF_LAYER = re.compile(f"[ \t]*layer{_BLANK}(?:add|drop|rename){_BLANK}{_WORD}")
+_OF_COLUMN = re.compile(f"[ \t]*column{_BLANK}(?:add|drop){_BLANK}{_WORD}{_BLANK}{_WORD}")
+_SETTING_LAST = re.compile(f"[ \t]*(?:set|unset){_BLANK}{_WORD}{_BLANK}last{_BLANK}{_WORD}")
+_DROP = re.compile(f"[ \t]*column{_BLANK}drop{_BLANK}{_WORD}{_BLANK}{_WORD}")
 _RENAMING = re.compile(f"[ \t]*layer{_BLANK}rename{_BLANK}{_WORD}{_BLANK}{_WORD}")
 
 # So many features are remembered. Beyond them all is forgotten, and pages have to look again once.
 _REMEMBERED_MAX = 100_000
 
 
+# What stands for any column of a layer: no column has this name.
+_ANY = "*"
+
+
 class Target(NamedTuple):
-    """What an edit changes: a feature, or where none is named whatever a layer has."""
+    """What an edit changes: a feature, a column, or where none is named whatever a layer has."""
 
     layer: str
     feature: int | None
+    column: str | None = None
 
 
 class Change(NamedTuple):
@@ -70,6 +87,18 @@ def feature_of(line: str) -> Target | None:
 def features_of(text: str) -> list[Target]:
     """The features that a line edits, or a group, of those that may have been there before."""
     return [target for line in lines_of(text) if (target := feature_of(line)) is not None]
+
+
+def column_of(line: str) -> Target | None:
+    """The column that a line drops, or in which it gives a value to the feature that was added last; none else."""
+    found = _SETTING_LAST.match(line) or _DROP.match(line)
+    return Target(found[1], None, found[2]) if found else None
+
+
+def seen_of(text: str) -> list[Target]:
+    """What whoever sends a line, or a group, may say that they have seen: features, and columns that it names."""
+    columns = (column_of(line) for line in lines_of(text))
+    return features_of(text) + [target for target in columns if target is not None]
 
 
 def targets_of_members(members: Sequence[str], answer: str = "") -> list[tuple[Target, ...]]:
@@ -99,6 +128,9 @@ def targets_of(line: str, answer: str = "") -> tuple[Target, ...]:
     if addition is not None:
         identifier = answer.partition(" ")[2]
         return (Target(addition[1], int(identifier) if identifier else None),)
+    column = _OF_COLUMN.match(line)
+    if column is not None:
+        return (Target(column[1], None, column[2]),)
     found = _RENAMING.match(line) or _OF_LAYER.match(line)
     return tuple(Target(name, None) for name in found.groups()) if found else ()
 
@@ -121,7 +153,7 @@ class Changes:
         """Remembers a change."""
         if len(self._last) >= _REMEMBERED_MAX:
             self.forget(change.version)
-        for target in change.targets:
+        for target in [place for target in change.targets for place in _places(target)]:
             before = self._last.get(target)
             if before is None:
                 other = None
@@ -141,11 +173,11 @@ class Changes:
         return version >= self._known_from
 
     def since(self, target: Target, version: int, editor: int, page: str) -> Change | None:
-        """The change of a feature after a version by another page than one, if there is one.
+        """The change of a feature after a version by another page than one, if there is one: of its layer or columns too.
 
-        What a page has done itself it knows.
+        Of a column it is a change of that one, or of its layer. What a page has done itself it knows.
         """
-        for place in (target, Target(target.layer, None)):
+        for place in _beside(target):
             last = self._last.get(place)
             if last is None:
                 continue
@@ -156,9 +188,19 @@ class Changes:
 
     def last(self, target: Target) -> Change | None:
         """The last change of a feature, or of its layer as a whole."""
-        places = (target, Target(target.layer, None))
-        found = [last.change for place in places if (last := self._last.get(place))]
+        found = [last.change for place in _beside(target) if (last := self._last.get(place))]
         return max(found, default=None)
+
+
+def _places(target: Target) -> list[Target]:
+    """Under what a change of something is remembered."""
+    return [target] if target.column is None else [target, Target(target.layer, None, _ANY)]
+
+
+def _beside(target: Target) -> list[Target]:
+    """What a change may be remembered under that changes something."""
+    layer = Target(target.layer, None)
+    return [target, layer] if target.column is not None else [target, layer, Target(target.layer, None, _ANY)]
 
 
 def _is_from(change: Change, editor: int, page: str) -> bool:

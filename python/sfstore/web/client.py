@@ -261,11 +261,14 @@ def _begun(store: str, program: str) -> _Server:
         known.said.close()
     said = tempfile.TemporaryFile()
     python = sys.executable if "python" in os.path.basename(sys.executable or "") else "python3"
-    words = [python, "-m", "sfstore.web.command", store, "--no-browser", "--while-used", f"--program={program}"]
+    named = os.path.abspath(program) if os.sep in program else program
+    words = [python, "-m", "sfstore.web.command", os.path.abspath(store), "--no-browser", "--while-used"]
     package = str(Path(sfstore.__file__).resolve().parent.parent)
     process = subprocess.Popen(  # nosec B603: a list of words, of which some are paths.
-        words,
-        env={**os.environ, "PYTHONPATH": package},
+        [*words, f"--program={named}"],
+        # Python runs modules of the folder that it is started in before those that are meant: anybody's, in a shared one.
+        cwd=os.sep,
+        env={**os.environ, "PYTHONPATH": package, "PYTHONSAFEPATH": "1"},
         stdin=subprocess.DEVNULL,
         stdout=subprocess.DEVNULL,
         stderr=said,

@@ -12,6 +12,7 @@ import threading
 import time
 from collections.abc import Callable, Iterator
 
+from sfstore.commandline import add_version, counted, recovered_words
 from sfstore.journal import JournalError
 from sfstore.store import ProgramEnded
 from sfstore.storefile import fault_words
@@ -53,7 +54,7 @@ def main(words: list[str] | None = None) -> int:
     finally:
         unsaved = keeper.close()
         if unsaved:
-            print(f"{unsaved} edits are in {asked.file}.journal, and there when it is opened again.")
+            print(f"{counted(unsaved, 'edit is', 'edits are')} in {asked.file}.journal, and there when it is opened again.")
 
 
 def _parser() -> argparse.ArgumentParser:
@@ -76,6 +77,7 @@ def _parser() -> argparse.ArgumentParser:
         "--while-used", action="store_true", help="end once the last page and the last program have left"
     )
     parser.add_argument("--program", default="sfstore", help="the program sfstore")
+    add_version(parser)
     return parser
 
 
@@ -147,7 +149,7 @@ def _told(server: Server, keeper: Keeper, asked: argparse.Namespace) -> Iterator
     """Tells where the page is, and opens it where there is a browser, while the body serves it."""
     edits, torn = keeper.recovered
     if edits:
-        print(f"{edits} edits from the journal were not saved yet: they are there, to undo too.")
+        print(recovered_words(edits))
     if torn:
         print(f"An edit that was not written to its end, nor answered, is dropped ({torn} bytes).")
     with contextlib.closing(Opening()) as opening:

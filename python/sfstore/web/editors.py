@@ -28,7 +28,8 @@ class Editors:
     """
 
     def __init__(self, store: str) -> None:
-        self._path = os.path.realpath(store) + ".editors"
+        self._store = os.path.realpath(store)
+        self._path = self._store + ".editors"
         self._lock = threading.Lock()
         self._kept = self._read()
         self._names = list(self._kept)
@@ -83,7 +84,7 @@ class Editors:
         return "".join(self._names[number - 1 : number]) or f"editor {number}"
 
     def _write(self, names: list[str]) -> None:
-        with files.whole_file(self._path) as beside:
+        with files.whole_file(self._path, self._store) as beside:
             with open(beside, "w", encoding="utf-8") as file:
                 json.dump(names, file, ensure_ascii=False)
                 file.write("\n")

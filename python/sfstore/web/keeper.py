@@ -13,7 +13,7 @@ from sfstore.program import is_edit
 from sfstore.store import Answer, Editor, ProgramEnded, Refused, Store
 from sfstore.web.batches import Batch, Done, LineRefused, carry_out, carry_out_group, is_group, take_back
 from sfstore.web.batchlog import BatchLog
-from sfstore.web.changes import Change, Changes, Target, features_of
+from sfstore.web.changes import Change, Changes, Target, seen_of
 from sfstore.web.steps import Step, Steps
 
 __all__ = ["Asked", "ChangedMeanwhile", "Edit", "Keeper", "Snapshot", "Unavailable"]
@@ -26,7 +26,7 @@ class Unavailable(Exception):
 
 
 class ChangedMeanwhile(Exception):
-    """An edit is not carried out: its feature was changed since its page has looked at it."""
+    """An edit is not carried out: its feature, or a column, was changed since its page has looked at it."""
 
     def __init__(self, target: Target, change: Change | None) -> None:
         super().__init__(target, change)
@@ -77,6 +77,15 @@ class Snapshot(NamedTuple):
     version: int
     file: int
     """A number that is another one whenever the file is."""
+
+
+class _Begun(NamedTuple):
+    """A snapshot of which the edits were not read yet."""
+
+    path: str | None
+    read: Callable[[], list[str]]
+    version: int
+    file: int
 
 
 class Keeper:
@@ -132,8 +141,19 @@ class Keeper:
         self._do(self._save)
 
     def snapshot(self) -> Snapshot:
-        """The content as it is now."""
-        return self._do(self._snapshot)
+        """The content as it is now. The journal is read in the thread that asks: edits do not wait for it."""
+        while True:
+            begun = self._do(self._begun)
+            try:
+                return Snapshot(begun.path, begun.read(), begun.version, begun.file)
+            except (JournalError, OSError) as error:
+                # A save has taken its place.
+                if self.is_at(begun.file):
+                    raise Unavailable(f"{error}. Every edit that was answered is in the journal.") from error
+
+    def is_at(self, file: int) -> bool:
+        """Whether the file is the one of a snapshot."""
+        return self._do(lambda store: self._file == file)
 
     def steps(self) -> tuple[int, Step | None, Step | None]:
         """The version, and what an undo and a redo would move."""
@@ -196,10 +216,12 @@ class Keeper:
         if found.left:
             take_back(_speaker(store, found.editor), found.left)
             lines = store.unsaved_lines
+        self._log.keep_whole(lines)
         return Steps(lines, found.groups)
 
     def _carry_out(self, store: Store, asked: Asked) -> Answer:
         self._check_seen(asked)
+        self._log.give_up()
         editor, page, line, _ = asked
         # An undo moves all steps of a batch, or none: they are one editor's.
         lines = [line] * max(1, self._steps.moved_by(line))
@@ -215,6 +237,7 @@ class Keeper:
         editor, page = batch.editor, batch.page
         for line, seen in zip(batch.lines, batch.seen):
             self._check_seen(Asked(editor, page, line, seen))
+        self._log.give_up()
         if is_group(batch.lines):
             group = carry_out_group(_speaker(store, editor), batch.lines)
             self._tell([self._taken(Asked(editor, page, group.text, None), group.answer)])
@@ -233,7 +256,9 @@ class Keeper:
             [self._taken(*each, number, outcome.refused is None) for each in zip(asked, answers)]
         )
         if outcome.refused is not None:
+            self._log.give_up()
             raise outcome.refused
+        self._log.end()
         return Done(outcome.answers, self._version)
 
     def _taken(self, asked: Asked, answer: str, group: int = 0, stays: bool = True) -> Edit:
@@ -257,7 +282,7 @@ class Keeper:
         """`ChangedMeanwhile` where a line edits what its page has not seen as it is."""
         if asked.seen is None:
             return
-        for target in features_of(asked.line):
+        for target in seen_of(asked.line):
             change = self._changes.since(target, asked.seen, asked.editor, asked.page)
             if change is not None or not self._changes.is_known_since(asked.seen):
                 raise ChangedMeanwhile(target, change)
@@ -273,9 +298,9 @@ class Keeper:
                 self._version += 1
                 self._file += 1
 
-    def _snapshot(self, store: Store) -> Snapshot:
+    def _begun(self, store: Store) -> _Begun:
         path = self._path if os.path.exists(self._path) else None
-        return Snapshot(path, store.unsaved_lines, self._version, self._file)
+        return _Begun(path, store._reading(), self._version, self._file)
 
     def _close(self) -> int:
         if self._store is None:

@@ -155,7 +155,7 @@ class Mirror:
                 raise Unavailable(f"No second program can be had: {ended}.") from ended
             self._version = snapshot.version
             # The file may have been saved anew before it was opened.
-            if self._keeper.snapshot().file != snapshot.file:
+            if not self._keeper.is_at(snapshot.file):
                 self._drop()
         return self._store
 

@@ -21,7 +21,7 @@ from sfstore.web.windows import Box, rectangle
 
 __all__ = ["LEVEL_MAX", "Picture", "Pictures", "Tile"]
 
-LEVEL_MAX = 16
+LEVEL_MAX = 23
 """The level at which one tile's side is as long as the grid's."""
 
 # A tile of more features is drawn from its quarters.

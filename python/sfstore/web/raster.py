@@ -19,8 +19,8 @@ SIDE = 256
 """Cells to a side of a picture."""
 
 EDGE, INSIDE = 255, 90
-# What is anywhere in a cell stays to be seen, however coarse the picture is.
-_FAINT = 60
+# What is within an area hides no edge of another one.
+_FILLED = bytes([INSIDE, *range(1, 256)])
 # Areas of fewer cells to a side are all edge.
 _WIDE = 4
 
@@ -117,7 +117,7 @@ def _fill(cells: bytearray, rings: list[list[tuple[float, float]]]) -> None:
             first, last = max(0, ceil(begin - 0.5)), min(SIDE, ceil(end - 0.5))
             if first < last:
                 at = (SIDE - 1 - row) * SIDE
-                cells[at + first : at + last] = bytes([INSIDE]) * (last - first)
+                cells[at + first : at + last] = cells[at + first : at + last].translate(_FILLED)
 
 
 def coarsened(quarters: Sequence[bytes]) -> bytearray:
@@ -140,13 +140,10 @@ def coarsened(quarters: Sequence[bytes]) -> bytearray:
 
 
 def _merged(upper: bytes, lower: bytes) -> bytes:
-    """Two rows as one of half as many cells: the mean of four, but never nothing where one is something."""
+    """Two rows as one of half as many cells, as if it were drawn so: an edge in one of four is an edge."""
     if not any(upper) and not any(lower):
         return bytes(SIDE // 2)
-    return bytes(
-        max(total >> 2, _FAINT) if (total := a + b + c + d) else 0
-        for a, b, c, d in zip(upper[::2], upper[1::2], lower[::2], lower[1::2])
-    )
+    return bytes(max(cells) for cells in zip(upper[::2], upper[1::2], lower[::2], lower[1::2]))
 
 
 def png(cells: bytes) -> bytes:

@@ -28,8 +28,8 @@ from sfstore.web.outcomes import outcome_of
 
 __all__ = ["Server"]
 
-# The longest line has 131,072 bytes, which may be written as several in JSON.
-_BODY_BYTES_MAX = 1 << 19
+# The longest line has 4,194,304 bytes, which JSON may write as two of its own for each.
+_BODY_BYTES_MAX = 1 << 23
 # How long a request may take from its first byte to the end of its head, and then its body.
 _HEAD_SECONDS = 10.0
 _BODY_SECONDS = 10.0
@@ -215,7 +215,9 @@ class _Handler(BaseHTTPRequestHandler):
         """The JSON object that a request brings."""
         if self.headers.get("Content-Type") != "application/json":
             raise _Refusal(415, "a call is an application/json")
-        length = self.headers.get("Content-Length", "")
+        length, *others = self.headers.get_all("Content-Length", [""])
+        if others:
+            raise _Refusal(400, "a call has one length")
         if "Transfer-Encoding" in self.headers or not (length.isascii() and length.isdigit()):
             raise _Refusal(411, "a call has a length")
         if len(length) > 9 or int(length) > _BODY_BYTES_MAX:

@@ -2,8 +2,8 @@
 // [[[x, y, x, y, ..], ..], ..]. A polygon is one member with its rings.
 
 export const KINDS = ["any", "point", "linestring", "polygon", "multipoint", "multilinestring", "multipolygon"];
-export const GRID_MIN = -8388608;
-export const GRID_MAX = 8388607;
+export const GRID_MIN = -1073741824;
+export const GRID_MAX = 1073741823;
 
 export const isArea = (code) => code === 3 || code === 6;
 const isPoints = (code) => code === 1 || code === 4;

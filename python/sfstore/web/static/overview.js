@@ -4,7 +4,7 @@ import { call } from "./server.js";
 
 // Cells to a side of a tile, and the level at which one is as wide as the grid.
 const SIDE = 256;
-const LEVEL_MAX = 16;
+const LEVEL_MAX = 23;
 // How many tiles are asked for at a time, and how many are kept.
 const ASKED_MAX = 32;
 const KEPT_MAX = 600;
