@@ -19,6 +19,7 @@ __all__ = [
     "is_at",
     "keep_mode",
     "made_beside",
+    "opened",
     "opened_here",
     "remove_leftovers",
     "replace",
@@ -33,7 +34,7 @@ _DIGITS = 12
 
 def digest(path: str) -> str:
     """The SHA-256 of a file's bytes, in hexadecimal. `OSError` where it can't be read."""
-    with open(path, "rb") as file:
+    with open(path, "rb", opener=opened) as file:
         return digest_of(file)
 
 
@@ -73,9 +74,18 @@ def is_at(file: int, path: str) -> bool:
         return False
 
 
+def opened(path: str, flags: int) -> int:
+    """Opens a file for `open`. `OSError` at once where a pipe stands in its place: nobody may ever write to that."""
+    file = os.open(path, flags | os.O_NONBLOCK | os.O_CLOEXEC, 0o600)
+    if not stat.S_ISREG(os.fstat(file).st_mode) and not stat.S_ISDIR(os.fstat(file).st_mode):
+        os.close(file)
+        raise OSError(errno.EINVAL, "it is no file", path)
+    return file
+
+
 def opened_here(path: str, flags: int) -> int:
-    """Opens a file for `open`, and no link in its place: whoever may put one there could lead elsewhere."""
-    return os.open(path, flags | os.O_NOFOLLOW | os.O_CLOEXEC, 0o600)
+    """Opens a file as `opened`, and no link in its place: whoever may put one there could lead elsewhere."""
+    return opened(path, flags | os.O_NOFOLLOW)
 
 
 def made_beside(path: str, like: str | None = None) -> str:

@@ -100,7 +100,7 @@ def new_file_of(store: str) -> str:
 def head_of(store: str) -> bytes:
     """The head of a journal that goes on from a store's file; one that is not there has no bytes."""
     try:
-        with open(store, "rb") as file:
+        with open(store, "rb", opener=files.opened) as file:
             digest = files.digest_of(file)
             return _head(os.fstat(file.fileno()).st_size, digest)
     except FileNotFoundError:

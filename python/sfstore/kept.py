@@ -3,10 +3,12 @@
 from __future__ import annotations
 
 import contextlib
+import errno
 import os
 import subprocess  # nosec B404: the store's own program is started, without a shell.
 import tempfile
 from collections.abc import Callable, Iterator
+from pathlib import Path
 from typing import IO
 
 from sfstore import files, journal, sidecar
@@ -41,8 +43,12 @@ class Kept:
         """Does what the program leaves to this module, while no session has the store.
 
         Tells how many bytes the journal has of an edit that was not written to its end: they will be
-        dropped. `JournalError` and `OSError` as `journal.locked` and `journal.renew_old` have them.
+        dropped. `JournalError` and `OSError` as `journal.locked` and `journal.renew_old` have them, and `OSError` where a
+        pipe stands in the place of the file.
         """
+        if Path(self.path).is_fifo():
+            # The program would wait for it, with the lock.
+            raise OSError(errno.EINVAL, "it is no file", self.path)
         with journal.locked_shortly(self.path):
             for path in (self.path, self.journal, sidecar.path_of(self.path)):
                 files.remove_leftovers(path)

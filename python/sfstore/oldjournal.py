@@ -68,7 +68,7 @@ def is_old(data: bytes) -> bool:
 def goes_on(data: bytes, store: str) -> bool:
     """Whether bytes begin with the head of version 2 that names a store's file; one that is not there has no bytes."""
     try:
-        with open(store, "rb") as file:
+        with open(store, "rb", opener=files.opened) as file:
             digest = files.digest_of(file)
             size = os.fstat(file.fileno()).st_size
     except FileNotFoundError:

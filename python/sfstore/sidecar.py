@@ -180,7 +180,7 @@ def follow(store: str, old: str, next_digest: Callable[[], str]) -> str | None:
 
 def _read(path: str) -> Sidecar:
     try:
-        with open(path, encoding="utf-8") as file:
+        with open(path, encoding="utf-8", opener=files.opened) as file:
             content = json.load(file)
     except FileNotFoundError:
         raise SidecarError(

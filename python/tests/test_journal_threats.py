@@ -7,10 +7,11 @@ import errno
 import os
 import stat
 import subprocess
+import sys
 import unittest
 from unittest import mock
 
-from support import PROGRAM, TestCase
+from support import FOLDER, PROGRAM, TestCase
 
 from sfstore import JournalError, Store, files, sidecar
 from sfstore.journal import locked
@@ -178,6 +179,29 @@ class JournalThreats(TestCase):
         with self.assertRaises(OSError):
             self.opened()
         self.assertFalse(other.exists())
+
+    def test_a_pipe_in_the_place_of_a_file_is_not_waited_for(self):
+        for ending, code in (
+            (".journal", "from sfstore import journal; journal.edits_left(path)"),
+            (".lock", "from sfstore import journal; journal.locked(path)"),
+            (".editors", "from sfstore.web.editors import Editors; Editors(path)"),
+            (".json", "from sfstore import sidecar; sidecar.read(path)"),
+            ("", "import sfstore; sfstore.Store(path, journal=True, program=program)"),
+        ):
+            with self.subTest(ending=ending):
+                place = f"{self.path}{ending}"
+                if os.path.exists(place):
+                    os.unlink(place)
+                os.mkfifo(place)
+                said = subprocess.run(
+                    [sys.executable, "-c", f"path, program = {str(self.path)!r}, {PROGRAM!r}; {code}"],
+                    env={**os.environ, "PYTHONPATH": str(FOLDER)},
+                    stderr=subprocess.PIPE,
+                    text=True,
+                    timeout=60,
+                )
+                os.unlink(place)
+                self.assertIn(f"it is no file: '{place}'", said.stderr)
 
     def test_a_side_car_that_is_none_stops_no_save(self):
         for content in ("[" * 100_000, '{"format": "sfstore side-car 1", "layers": ["x"]}', "5", ""):

@@ -36,7 +36,7 @@ class Editors:
 
     def _read(self) -> list[str]:
         try:
-            with open(self._path, encoding="utf-8") as file:
+            with open(self._path, encoding="utf-8", opener=files.opened) as file:
                 names = json.load(file)
         except FileNotFoundError:
             return []
