@@ -776,6 +776,44 @@ class Cut(TestCase):
         for count in range(4):
             self.assertEqual(self.opened([*self.SENT[:3], *["undo"] * count], sent)[0], before, count)
 
+    def test_an_undo_and_a_redo_of_a_batch_leave_all_of_it_or_nothing(self):
+        log = self.folder / "town.sfs.journal"
+
+        def found(cut=0):
+            """What a keeper finds behind a journal without some last records, and what it would undo and redo."""
+            log.write_bytes(b"".join(log.read_bytes().splitlines(keepends=True)[: -cut or None]))
+            keeper = Keeper(str(self.path), PROGRAM)
+            try:
+                _, undo, redo = keeper.steps()
+                return keeper.ask(lambda store: store.run("show p")), undo and undo.line, redo and redo.line
+            finally:
+                keeper.close()
+
+        def moved(*lines):
+            keeper = Keeper(str(self.path), PROGRAM)
+            try:
+                for line in lines:
+                    keeper.carry_out(Asked(1, "page", line, None))
+            finally:
+                keeper.close()
+
+        self.opened(self.RECORDS)
+        for verb in ("undo", "redo"):
+            before = found()
+            kept = {path: path.read_bytes() for path in self.folder.iterdir() if path.is_file()}
+            moved(verb)
+            after = found()
+            self.assertNotEqual(before, after)
+            for cut in range(1, 4):
+                with self.subTest(verb=verb, cut=cut):
+                    for path, data in kept.items():
+                        path.write_bytes(data)
+                    moved(verb)
+                    self.assertEqual(found(cut), before)
+                    self.assertEqual(found(), before)
+            moved(verb)
+            self.assertEqual(found(), after)
+
     def test_what_others_have_done_behind_it_is_not_touched(self):
         for count in range(1, 4):
             rows = self.opened(self.RECORDS[:count], behind=["set p 3 number 9"])[0]

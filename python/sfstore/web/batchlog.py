@@ -40,9 +40,13 @@ class Found(NamedTuple):
     groups: list[range]
     """The places of lines that are one step."""
     left: int
-    """How many steps are left of a batch that was not carried out to its end."""
+    """How many steps are left of a batch, or of its undo or redo, that was not carried out to its end."""
     editor: int
     """Whose they are."""
+    back: str = "undo"
+    """What takes them back."""
+    is_move: bool = False
+    """Whether they are of an undo or a redo: a batch that was answered is whole again without them."""
 
 
 class BatchLog:
@@ -55,7 +59,7 @@ class BatchLog:
         self._before: int | None = None
 
     def begin(self, at: int, editor: int, lines: Sequence[str]) -> None:
-        """Records a batch that is sent next. `OSError` where that can't be done."""
+        """Records a batch, or the steps that undo or redo one, that is sent next. `OSError` where that can't be done."""
         self.give_up()
         entry = Entry(self._head(), at, editor, [line.removesuffix("\r") for line in lines])
         file = files.opened_here(self._path, os.O_WRONLY | os.O_APPEND | os.O_CREAT)
@@ -99,13 +103,14 @@ class BatchLog:
 
     def found(self, records: Sequence[str]) -> Found:
         """What the lines of the journal have of the batches that were recorded."""
-        groups, left, editor = [], 0, 0
+        groups: list[range] = []
+        found = Found(groups, 0, 0)
         for entry in self._entries():
-            if _is_whole(entry, records):
+            if not _is_whole(entry, records):
+                found = Found(groups, _left(entry, records), entry.editor, _back(entry), _is_move(entry))
+            elif not _is_move(entry):
                 groups.append(range(entry.at, entry.at + len(entry.lines)))
-            else:
-                left, editor = _left(entry, records), entry.editor
-        return Found(groups, left, editor)
+        return found
 
     def forget(self) -> None:
         """Begins anew: another file has the edits."""
@@ -177,10 +182,20 @@ def _left(entry: Entry, records: Sequence[str]) -> int:
         # One that is not there was refused.
         if place < len(records) and _is_of(records[place], entry.editor, line):
             place += 1
-    undone = len(records) - place
-    if undone < 0 or not all(_is_of(records[at], entry.editor, "undo") for at in range(place, len(records))):
+    undone, back = len(records) - place, _back(entry)
+    if undone < 0 or not all(_is_of(records[at], entry.editor, back) for at in range(place, len(records))):
         return 0
     return max(0, place - entry.at - undone)
+
+
+def _is_move(entry: Entry) -> bool:
+    """Whether an entry is of an undo or a redo of a batch, and not of a batch."""
+    return entry.lines[:1] != [] and entry.lines[0].strip() in ("undo", "redo")
+
+
+def _back(entry: Entry) -> str:
+    """The line that takes back a line of an entry."""
+    return "redo" if _is_move(entry) and entry.lines[0].strip() == "undo" else "undo"
 
 
 def _is_of(record: str, editor: int, line: str) -> bool:

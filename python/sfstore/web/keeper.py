@@ -210,11 +210,15 @@ class Keeper:
         return self._store
 
     def _found_steps(self, store: Store) -> Steps:
-        """The steps of the journal. What a crash has left of a batch is taken back: it was not answered."""
+        """The steps of the journal. What a crash has left of a batch, or of its undo, is taken back: it was not answered."""
         lines = store.unsaved_lines
         found = self._log.found(lines)
         if found.left:
-            take_back(_speaker(store, found.editor), found.left)
+            editor = _speaker(store, found.editor)
+            if found.is_move:
+                editor.run_all([found.back] * found.left)
+            else:
+                take_back(editor, found.left)
             lines = store.unsaved_lines
         self._log.keep_whole(lines)
         return Steps(lines, found.groups)
@@ -225,8 +229,12 @@ class Keeper:
         editor, page, line, _ = asked
         # An undo moves all steps of a batch, or none: they are one editor's.
         lines = [line] * max(1, self._steps.moved_by(line))
+        if len(lines) > 1:
+            self._log.begin(store.unsaved, editor, lines)
         answers = _speaker(store, editor).run_all(lines)
         accepted = [answer for answer in answers if is_edit(line.encode(), answer)]
+        if len(accepted) == len(lines):
+            self._log.end()
         self._tell([self._taken(Asked(editor, page, line, None), str(answer)) for answer in accepted])
         for answer in answers:
             if isinstance(answer, Refused):
