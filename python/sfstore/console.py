@@ -122,6 +122,11 @@ def _lines_of(text: str) -> list[str]:
     return re.split("\r\n|\r|\n", text)
 
 
+def _printable(text: str) -> str:
+    """A text without what a terminal obeys: a value may have control characters from U+0080 to U+009F."""
+    return re.sub("[\x80-\x9f]", lambda found: f"\\x{ord(found[0]):02x}", text)
+
+
 class _Pending:
     """A group whose members are not all there: nothing of it was sent."""
 
@@ -257,7 +262,7 @@ class Console:
             print(answer)
         else:
             count = f"{len(answer)} row{'' if len(answer) == 1 else 's'}"
-            self._show("\n".join([*answer, count]))
+            self._show(_printable("\n".join([*answer, count])))
 
     def _show(self, text: str) -> None:
         """Writes a text, by a pager where it is longer than the terminal is high."""

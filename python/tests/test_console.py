@@ -132,6 +132,13 @@ class Pasted(TestCase):
             shown, _ = self.carry_out(begin, f"set w 1 t 'one{letter}delete w 1{letter}two'")
             self.assertEqual(shown, [("POINT (1 1)", {"t": f"one{letter}delete w 1{letter}two"})])
 
+    def test_a_terminal_obeys_no_value(self):
+        # U+009B begins a command of a terminal, as an escape and a bracket do.
+        begin = "layer add w point\ncolumn add w t text\nadd w POINT (1 1)"
+        shown, said = self.carry_out(begin, "set w 1 t 'a\x9b2Jb'", "show w")
+        self.assertEqual(shown, [("POINT (1 1)", {"t": "a\x9b2Jb"})])
+        self.assertIn("a\\\\x9b2Jb", said)
+
     @unittest.skipUnless(HAS_GDAL, "no GDAL")
     def test_an_import_with_wrong_words_leaves_the_store_open(self):
         source = self.folder / "no.gpkg"
