@@ -3,9 +3,11 @@
 from __future__ import annotations
 
 import contextlib
+import errno
 import os
 import selectors
 import socket
+import stat
 import time
 from collections.abc import Callable, Iterator
 from pathlib import Path
@@ -222,8 +224,11 @@ def _is_answered(replica: Replica, peer: _Peer, tell: Callable[[str], object]) -
 
 @contextlib.contextmanager
 def _door(path: Path) -> Iterator[socket.socket]:
-    """A socket in the file system, in the place of one that was left there."""
-    path.unlink(missing_ok=True)
+    """A socket in the file system, in the place of one that was left there. `OSError` where something else stands there."""
+    with contextlib.suppress(FileNotFoundError):
+        if not stat.S_ISSOCK(path.lstat().st_mode):
+            raise FileExistsError(errno.EEXIST, "it is no socket, and stays", str(path))
+        path.unlink()
     with socket.socket(socket.AF_UNIX) as door:
         before = os.umask(0o077)
         try:
