@@ -26,8 +26,27 @@ from qgis.PyQt.QtCore import NULL, QVariant
 from qgis.PyQt.QtWidgets import QApplication, QPushButton, QTextBrowser
 from qgis_support import CROSSED, SQUARE, Plugin, QgisCase, Session
 
+from sfstore_qgis.fields import Places
+from sfstore_qgis.reading import rows_of
+
+from sfstore.exchange.grid import Grid
+from sfstore.language import GRID_MAX, GRID_MIN
 from sfstore.rows import feature_of
 from sfstore.web.client import CallFailed, Client
+
+
+class Reading(unittest.TestCase):
+    """Rows as features."""
+
+    def test_each_coordinate_is_the_double_that_is_nearest_to_its_place(self):
+        seeded = random.Random(1)
+        steps = [GRID_MIN, GRID_MAX, *(seeded.randint(GRID_MIN, GRID_MAX) for _ in range(2_000))]
+        for words in (("0", "0", "0.1"), ("0", "0", "0.30480061"), ("0.123456789", "1", "0.01"), ("500000", "5600000", "1")):
+            grid = Grid(*words)
+            points = list(zip(steps, steps[::-1]))
+            rows = [f"{number} POINT ({x} {y})" for number, (x, y) in enumerate(points)]
+            found = [row.geometry.asPoint() for row in rows_of(rows, Places(1, {}, {}), grid)]
+            self.assertEqual([(point.x(), point.y()) for point in found], [tuple(grid.places(point)) for point in points])
 
 
 class Opening(QgisCase):

@@ -13,6 +13,7 @@ from qgis.PyQt.QtCore import NULL
 
 from sfstore.exchange.grid import Grid
 from sfstore.geometry import read_wkt, write_wkb
+from sfstore.language import GRID_MIN
 
 from .fields import Places
 
@@ -99,7 +100,7 @@ def _places(text: str, grid: Grid) -> bytes:
     """The doubles of steps, x and y in turn, as bytes: of each the nearest to its place, as `Grid.places` gives it."""
     steps = numpy.fromstring(text, dtype=numpy.int64, sep=" ")
     x, y, step, denominator = grid.fractions
-    if max(abs(x), abs(y)) + (1 << 24) * step >= _EXACT or denominator >= _EXACT:
+    if max(abs(x), abs(y)) - GRID_MIN * step >= _EXACT or denominator >= _EXACT:
         return bytes(numpy.array(grid.places(steps.tolist())).tobytes())
     steps *= step
     steps[0::2] += x
