@@ -278,6 +278,37 @@ class Limits(TestCase):
             self.assertEqual(self.door.count, 0)
 
 
+class Together(TestCase):
+    """Answers that do not come one by one."""
+
+    def test_answers_that_come_together_and_in_parts(self):
+        path = str(self.folder / "town.sfs")
+        told = [{"status": 200, "answer": answer} for answer in ({"editor": 1, "name": "Ann"}, *({"at": at} for at in range(3)))]
+        hello, *lines = [json.dumps(each).encode() + b"\n" for each in told]
+
+        def answer(door, parts):
+            connection, _ = door.accept()
+            with connection, connection.makefile("rb") as calls:
+                calls.readline()
+                connection.sendall(hello)
+                calls.readline()
+                for part in parts:
+                    connection.sendall(part)
+                    time.sleep(0.05)
+                calls.read()
+
+        for parts in ([b"".join(lines)], [lines[0] + lines[1][:9], lines[1][9:] + lines[2]], lines):
+            with self.subTest(parts=parts), socket.socket(socket.AF_UNIX) as door:
+                door.bind(f"{path}.socket")
+                door.listen()
+                answering = threading.Thread(target=answer, args=[door, parts])
+                answering.start()
+                with Client(path, "Ann") as ann:
+                    self.assertEqual(list(ann.calls("rows", [{}] * 3)), [{"at": at} for at in range(3)])
+                answering.join()
+                os.unlink(f"{path}.socket")
+
+
 class Ends(SocketCase):
     """What servers leave, and what they find."""
 

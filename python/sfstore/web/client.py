@@ -52,6 +52,8 @@ class Client:
         self.seconds = seconds
         """How long a call may take."""
         self._connection = _connected(store, seconds)
+        # What was read of the answer behind the last one.
+        self._rest = b""
         try:
             hello = self.call("hello", name=name)
         except BaseException:
@@ -124,13 +126,15 @@ class Client:
         return found
 
     def _line(self, until: float) -> bytes:
-        parts: list[bytes] = []
-        while not parts or not parts[-1].endswith(b"\n"):
+        """The next line. What was read behind it is the front of a later answer, where several calls were sent."""
+        parts = [self._rest]
+        while b"\n" not in parts[-1]:
             self._connection.settimeout(max(until - time.monotonic(), 0.001))
             parts.append(self._connection.recv(_READ_BYTES))
             if not parts[-1]:
                 raise ConnectionError("it has ended")
-        return b"".join(parts)
+        line, _, self._rest = b"".join(parts).partition(b"\n")
+        return line
 
     @contextlib.contextmanager
     def _guarded(self) -> Iterator[None]:
