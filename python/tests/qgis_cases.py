@@ -8,6 +8,7 @@ import random
 import signal
 import time
 import unittest
+from unittest import mock
 
 from qgis.core import (
     QgsCoordinateReferenceSystem,
@@ -37,6 +38,30 @@ from sfstore.web.client import CallFailed, Client
 
 class Reading(unittest.TestCase):
     """Rows as features."""
+
+    def test_an_answer_is_not_much_longer_than_it_shall_be(self):
+        for letters, most in ((50, 5_000), (1_000_000, 20), (4_500_000, 20)):
+            asked = []
+
+            def calls(name, bodies, row="x" * letters, asked=asked):
+                # As a client does it: each call is sent before the answer of the one before it is given.
+                waiting = []
+                for body in bodies:
+                    asked.append(body["ids"])
+                    waiting.append({"rows": [row for _ in body["ids"]]})
+                    if len(waiting) > 1:
+                        yield waiting.pop(0)
+                yield from waiting
+
+            session = mock.Mock()
+            session._connected().calls = calls
+            numbers = list(range(20_000 if letters == 50 else 100))
+            rows = [row for part in Session.parts(session, "w", numbers) for row in part]
+            self.assertEqual(len(rows), len(numbers))
+            self.assertEqual([number for part in asked for number in part], numbers)
+            self.assertLessEqual(max(map(len, asked)), most)
+            # Two are on their way before the first answer tells how long they are.
+            self.assertLessEqual(max(len(part) for part in asked[2:]), max(1, 4_000_000 // letters))
 
     def test_each_coordinate_is_the_double_that_is_nearest_to_its_place(self):
         seeded = random.Random(1)

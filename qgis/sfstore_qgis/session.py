@@ -31,8 +31,9 @@ _STARTING_SECONDS = 30.0
 # How long after a loss the server is tried again at first, and at most: each time it takes twice as long.
 _AGAIN_MILLISECONDS = 500
 _AGAIN_MILLISECONDS_MAX = 16_000
-# How many features are asked for in one call.
-_ROWS = 5_000
+# How many features are asked for in one call at first, and at most; and how many letters an answer shall have: one that
+# takes longer than a call may is never had.
+_ROWS_FIRST, _ROWS_MAX, _ROWS_LETTERS = 20, 5_000, 4_000_000
 
 
 class Refusal(Exception):
@@ -143,13 +144,22 @@ class Session(QObject):
         return [row for part in self.parts(layer, numbers) for row in part]
 
     def parts(self, layer: str, numbers: Sequence[int]) -> Iterator[list[str]]:
-        """The rows of features, some thousands at a time: the next ones are on their way meanwhile."""
-        bodies = (
-            {"layer": layer, "ids": list(numbers[begin : begin + _ROWS])} for begin in range(0, len(numbers), _ROWS)
-        )
+        """The rows of features, up to some thousands at a time: the next ones are on their way meanwhile."""
+        count = _ROWS_FIRST
+
+        def bodies() -> Iterator[dict[str, Any]]:
+            begin = 0
+            while begin < len(numbers):
+                part = list(numbers[begin : begin + count])
+                yield {"layer": layer, "ids": part}
+                begin += len(part)
+
         try:
-            for answer in self._connected().calls("rows", bodies):
-                yield _checked(answer).get("rows", [])
+            for answer in self._connected().calls("rows", bodies()):
+                rows: list[str] = _checked(answer).get("rows", [])
+                longest = max(map(len, rows), default=1)
+                count = max(1, min(_ROWS_MAX, 8 * count, _ROWS_LETTERS // longest))
+                yield rows
         except ServerGone:
             self._lose()
             raise
