@@ -11,6 +11,7 @@ import json
 import re
 from collections import Counter
 from collections.abc import Iterator, Mapping
+from decimal import Decimal
 from typing import Any, NamedTuple
 
 from sfstore.exchange import ogr
@@ -25,6 +26,7 @@ from sfstore.storefile import INT, TEXT, FileColumn, FileFeature
 __all__ = ["Fault", "Fields", "Left"]
 
 _WHOLE = re.compile(r"-?[0-9]{1,19}", re.ASCII)
+_DECIMAL = re.compile(r"-?[0-9]+(\.[0-9]+)?", re.ASCII)
 _CONTROL = re.compile(r"[\x00-\x1f\x7f]")
 
 _DAY_FORM = "[0-9][0-9][0-9][0-9]-[0-9][0-9]-[0-9][0-9]"
@@ -45,6 +47,15 @@ _FITTING = {
 # The types of PostgreSQL that OGR reads as whole numbers and that are some. It takes an interval for one.
 _WHOLE_TYPES = {"smallint", "integer", "bigint", "boolean", "numeric", "oid"}
 _STAMP = "to_char({0} AT TIME ZONE 'UTC', 'YYYY-MM-DD\"T\"HH24:MI:SS.US\"Z\"')"
+# A number of PostgreSQL that is other than its double, in the shortest text of it.
+_NO_DOUBLE = (
+    "CASE WHEN {0}::text IN ('NaN', 'Infinity', '-Infinity') OR {0} = 0 THEN false "
+    "WHEN abs({0}) BETWEEN 1e-300 AND 1e300 THEN {0}::float8::text::numeric <> {0} ELSE true END"
+)
+# The formats that have real numbers as texts, of which OGR makes doubles.
+_REALS_AS_TEXTS = ("GeoJSON", "ESRI Shapefile")
+# Below it each whole number is a double.
+_FIRST_GAP = 2.0**53
 # Of a type of PostgreSQL, the values that OGR would change, with their texts.
 _ODD_OF_POSTGRESQL = {
     "numeric": ("{0} NOT BETWEEN -9223372036854775808 AND 9223372036854775807", "{0}::text"),
@@ -130,7 +141,14 @@ class Fields:
                 reason = f"a value that is none of the column's type {field.source_type}"
                 faults.append(Fault(reason, f"the value {odd[0]} of column {field.name} is left out"))
             elif field.type is None:
-                self._add_real(field, feature.GetFieldAsDouble(field.place), values)
+                number = feature.GetFieldAsDouble(field.place) if odd is None else _exact(str(odd[1]))
+                if isinstance(number, str) and len(number) > TEXT_MAX:
+                    faults.append(Fault(_text_fault(number), f"the value of column {field.name} is left out"))
+                    continue
+                self._add_real(field, number, values)
+                if isinstance(number, float) and self._is_doubtful(number):
+                    detail = f"{int(number)} in column {field.name}"
+                    faults.append(Fault("a whole number whose last digits OGR may have changed", detail))
             elif field.type == INT:
                 values[field.number] = feature.GetFieldAsInteger64(field.place)
             else:
@@ -142,8 +160,12 @@ class Fields:
                     values[field.number] = text
         return values, faults
 
-    def _add_real(self, field: _Field, value: float, values: dict[int, Any]) -> None:
-        if not _is_whole(value):
+    def _is_doubtful(self, number: float) -> bool:
+        """Whether the source may have another whole number, of which OGR has made the nearest double."""
+        return self._driver in _REALS_AS_TEXTS and abs(number) >= _FIRST_GAP and _is_whole(number)
+
+    def _add_real(self, field: _Field, value: float | int | str, values: dict[int, Any]) -> None:
+        if isinstance(value, str) or not _is_whole(value):
             self._broken.add(field.number)
         if field.number not in self._broken or self._is_text(field.name):
             values[field.number] = value
@@ -253,6 +275,8 @@ class Fields:
         for field in list(self._fields):
             if types.get(field.source_name) in _ODD_OF_POSTGRESQL:
                 condition, shown = _ODD_OF_POSTGRESQL[types[field.source_name]]
+                if field.type is None:
+                    condition = _NO_DOUBLE
                 quoted = _quoted(field.source_name)
                 where = f"FROM {self._table()} WHERE {condition.format(quoted)}"
                 self._note_odd(field, where, f"quote_literal({shown.format(quoted)})", "text")
@@ -270,7 +294,23 @@ class Fields:
         query = f"SELECT CAST({_quoted(identifier)} AS {text_type}) AS place, {shown} AS value {where}"
         for place, value in self._asked(query):
             if _WHOLE.fullmatch(place):
-                self._odd[int(place), field.place] = value, _odd_text(field, value)
+                self._odd[int(place), field.place] = value, self._odd_text(field, value)
+
+    def _odd_text(self, field: _Field, shown: str) -> str | None:
+        """The text of a value that OGR would change, as SQL writes it; none where it is no value of the column's type."""
+        if field.type == INT or not (shown.startswith("'") and shown.endswith("'")):
+            return None
+        text = shown[1:-1].replace("''", "'")
+        if field.type is None:
+            return text if self._driver == "PostgreSQL" and _DECIMAL.fullmatch(text) else None
+        if field.source_type == DATE:
+            return text if day_of(text) or text in ("infinity", "-infinity") else None
+        if field.source_type == DATE_TIME:
+            moment = moment_of(text)
+            if moment is not None:
+                return moment.text
+            return text if text in ("infinity", "-infinity") else None
+        return None
 
     def _postgresql_types(self) -> dict[str, str]:
         """The types of a table's columns in PostgreSQL's words."""
@@ -342,24 +382,17 @@ def _kept(name: str, otherwise: str) -> str:
     return name
 
 
-def _odd_text(field: _Field, shown: str) -> str | None:
-    """The text of a value that OGR would change, as SQL writes it; none where it is no value of the column's type."""
-    if field.type != TEXT or not (shown.startswith("'") and shown.endswith("'")):
-        return None
-    text = shown[1:-1].replace("''", "'")
-    if field.source_type == DATE:
-        return text if day_of(text) or text in ("infinity", "-infinity") else None
-    if field.source_type == DATE_TIME:
-        moment = moment_of(text)
-        if moment is not None:
-            return moment.text
-        return text if text in ("infinity", "-infinity") else None
-    return None
+def _exact(text: str) -> int | str:
+    """A number that is no double: as a whole one of the store, or else its text."""
+    number = Decimal(text)
+    if number == number.to_integral_value() and INT_MIN <= number <= INT_MAX:
+        return int(number)
+    return text
 
 
-def _is_whole(value: float) -> bool:
+def _is_whole(value: float | int) -> bool:
     """Whether a real number is a whole one of the store."""
-    return value.is_integer() and INT_MIN <= value <= INT_MAX
+    return isinstance(value, int) or (value.is_integer() and INT_MIN <= value <= INT_MAX)
 
 
 def _settled(values: Mapping[int, Any], reals: Mapping[int, int | None], new: Mapping[int, int]) -> dict[int, Value]:
@@ -369,8 +402,8 @@ def _settled(values: Mapping[int, Any], reals: Mapping[int, int | None], new: Ma
         if number not in new:
             continue
         if number in reals:
-            # The shortest text of the same double.
-            value = int(value) if reals[number] == INT else repr(value)
+            # The shortest text of the same double, or the source's own of what is none.
+            value = int(value) if reals[number] == INT else value if isinstance(value, str) else repr(value)
         settled[new[number]] = value
     return settled
 
