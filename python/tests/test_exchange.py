@@ -480,6 +480,19 @@ class Export(ExchangeCase):
             for layer in (data.GetLayer(place) for place in range(data.GetLayerCount()))
         ]
 
+    def test_files_of_a_folder_whose_layers_have_one_name_are_all_meant(self):
+        folder = self.folder / "several"
+        folder.mkdir()
+        for name, place in (("a", 1), ("b", 2)):
+            point = {"type": "Point", "coordinates": [place, place]}
+            feature = {"type": "Feature", "id": 1, "properties": {}, "geometry": point}
+            text = json.dumps({"type": "FeatureCollection", "name": "wells", "features": [feature]})
+            (folder / f"{name}.geojson").write_text(text)
+        words = ["--grid", "0", "0", "1", "--layer", "wells", "--layer", "wells"]
+        status, out, err = bring_in(folder, self.store, *words)
+        self.assertEqual((status, err), (0, ""), out)
+        self.assertEqual([self.shown(layer)[0].wkt for layer in ("wells", "wells_2")], ["POINT (1 1)", "POINT (2 2)"])
+
     def test_a_folder_of_geojson(self):
         self.stored()
         folder = self.folder / "out"

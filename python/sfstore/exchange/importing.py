@@ -135,7 +135,8 @@ def _chosen_layers(
             shown = ogr.printable(", ".join(names))
             raise ogr.ExchangeError(f"the source has no layer {name!r}: it has {shown}")
     if wanted:
-        return [layers[names.index(name)] for name in wanted]
+        # Files of a folder may have layers of one name, and all of them are meant.
+        return [layer for name in dict.fromkeys(wanted) for layer in layers if layer.name == name]
     order = {layer.name: place for place, layer in enumerate(left.layers)}
     return sorted(layers, key=lambda layer: order.get(layer.name, len(order)))
 
