@@ -287,6 +287,30 @@ class Written(DatabaseCase):
         self.assertIn("columns whose names differ in case alone", out)
         self.assertEqual(self.shown("w")[0].values, {"n": 5})
 
+    def test_layers_that_would_go_to_one_table_are_refused(self):
+        source = Source(self.source)
+        source.layer("public.wells", {1: ("POINT (500001 5600001)", {})}, ogr.wkbPoint)
+        source.layer("wells", {1: ("POINT (500002 5600002)", {})}, ogr.wkbPoint)
+        source.close()
+        self.assertEqual(bring_in(self.source, self.store, "--grid", "500000", "5600000", "1")[0], 0)
+        self.ask("CREATE TABLE wells (fid serial PRIMARY KEY, geom geometry(Point, 25832)); "
+                 "INSERT INTO wells VALUES (7, 'SRID=25832;POINT(7 7)')")
+        self.assertIn("public.wells and wells would go to one table", self.refused(self.store, self.target, "--overwrite"))
+        self.assertEqual(self.ask("SELECT fid FROM wells"), [(7,)])
+
+    def test_numbers_that_are_no_doubles_come_in_as_they_are(self):
+        self.ask("CREATE TABLE wells (gid serial PRIMARY KEY, whole numeric, part numeric, long numeric, geom geometry(Point)); "
+                 "INSERT INTO wells VALUES (1, 9007199254740993, 0.12345678901234567891, 1e300, 'POINT(1 2)'), "
+                 "(2, 7, 0.5, 0.1, 'POINT(1 2)'), (3, -9223372036854775808, 1e-200, repeat('7', 400)::numeric, 'POINT(1 2)')")
+        status, out, err = bring_in(self.target, self.store, *GRID, "--layer", "wells", "--as-text")
+        self.assertEqual((status, err), (1, ""), out)
+        self.assertIn("1 a text of more than 255 bytes: 3 (the value of column long is left out)\n", out)
+        with Store(PROGRAM, load=self.store) as store:
+            rows = [feature.values for feature in store.show("wells")]
+        self.assertEqual([row.get("whole") for row in rows], [9007199254740993, 7, -(2**63)])
+        self.assertEqual([row.get("part") for row in rows], ["0.12345678901234567891", "0.5", "1e-200"])
+        self.assertEqual([row.get("long") for row in rows], ["1e+300", "0.1", None])
+
     def test_the_database_counts_on(self):
         store = self.wells("add wells POINT (5 5)", "delete wells 2")
         self.written(store, self.target, *PLAIN)

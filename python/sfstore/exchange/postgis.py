@@ -157,6 +157,7 @@ class _Export:
         self._postgis = self._postgis_schema()
         schema = self._schema()
         tables = [self._table(part, schema) for part in parts]
+        _check_apart(parts, tables)
         srid = self._srid(self._crs)
         exports = [_LayerExport(self, part, table, srid) for part, table in zip(parts, tables)]
         for export in exports:
@@ -333,6 +334,18 @@ class _Export:
         name = crs.authority if code is not None else None
         [[srid]] = self._run(self.format(text, known), [name, code, wkt, proj]).fetchall()
         return int(srid)
+
+
+def _check_apart(parts: Sequence[Part], tables: Sequence[_Table]) -> None:
+    """`ogr.ExchangeError` where two layers go to one table, as ``wells`` and ``public.wells`` would."""
+    known: dict[tuple[str, str], Part] = {}
+    for part, table in zip(parts, tables):
+        other = known.setdefault((table.schema, table.name.casefold()), part)
+        if other is not part:
+            raise ogr.ExchangeError(
+                f"the layers {ogr.printable(other.name)} and {ogr.printable(part.name)} would go to one table: "
+                "name one of them with --layer"
+            )
 
 
 def _check_columns(part: Part, table: _Table) -> None:
