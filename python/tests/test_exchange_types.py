@@ -326,6 +326,23 @@ class OfPostGis(DatabaseCase):
             ],
         )
 
+    def test_a_view_whose_identifiers_come_twice(self):
+        self.ask("CREATE TABLE parts (n int, day date, geom geometry(Point)); CREATE VIEW w AS SELECT n AS ogc_fid, day, geom "
+                 "FROM parts; INSERT INTO parts VALUES (1, 'infinity', 'POINT(1 2)'), (1, '2020-01-01', 'POINT(1 3)')")
+        status, out, err = bring_in(self.target, self.store, "--grid", "0", "0", "1", "--layer", "w", "--as-text")
+        self.assertEqual((status, err), (1, ""), out)
+        self.assertIn("a column with 1 values that are none of its type Date is left out, since no identifiers say", out)
+
+    def test_parts_of_a_millisecond_of_times(self):
+        self.ask("CREATE TABLE w (gid serial PRIMARY KEY, at time, there timetz, geom geometry(Point)); INSERT INTO w VALUES "
+                 "(1, '10:00:00.123456', '10:00:00.123456+05:30', 'POINT(1 2)'), (2, '10:00:00.5', '10:00:00+02', 'POINT(1 3)')")
+        status, out, err = bring_in(self.target, self.store, "--grid", "0", "0", "1", "--layer", "w", "--as-text")
+        self.assertEqual((status, err), (0, ""), out)
+        self.assertEqual(
+            [feature.values for feature in self.shown("w")],
+            [{"at": "10:00:00.123456", "there": "10:00:00.123456+05:30"}, {"at": "10:00:00.500", "there": "10:00:00+02:00"}],
+        )
+
     def test_types_go_back_into_the_same_table(self):
         self.ask(
             "CREATE TABLE p (gid serial PRIMARY KEY, n numeric(10,2), whole double precision, b boolean, c char(8), "

@@ -27,6 +27,7 @@ __all__ = ["Fault", "Fields", "Left"]
 
 _WHOLE = re.compile(r"-?[0-9]{1,19}", re.ASCII)
 _DECIMAL = re.compile(r"-?[0-9]+(\.[0-9]+)?", re.ASCII)
+_TIME = re.compile(r"[0-9]{2}:[0-9]{2}:[0-9]{2}\.[0-9]{1,6}([+-][0-9]{2}(:?[0-9]{2})*)?", re.ASCII)
 _CONTROL = re.compile(r"[\x00-\x1f\x7f]")
 
 _DAY_FORM = "[0-9][0-9][0-9][0-9]-[0-9][0-9]-[0-9][0-9]"
@@ -56,6 +57,8 @@ _NO_DOUBLE = (
 _REALS_AS_TEXTS = ("GeoJSON", "ESRI Shapefile")
 # Below it each whole number is a double.
 _FIRST_GAP = 2.0**53
+# A time with parts of a millisecond.
+_SHORT = "{0}::text LIKE '%.____%'"
 # Of a type of PostgreSQL, the values that OGR would change, with their texts.
 _ODD_OF_POSTGRESQL = {
     "numeric": ("{0} NOT BETWEEN -9223372036854775808 AND 9223372036854775807", "{0}::text"),
@@ -68,6 +71,8 @@ _ODD_OF_POSTGRESQL = {
         "NOT isfinite({0}) OR date_trunc('milliseconds', {0}) <> {0}",
         f"CASE WHEN isfinite({{0}}) THEN {_STAMP} ELSE {{0}}::text END",
     ),
+    "time without time zone": (_SHORT, "{0}::text"),
+    "time with time zone": (_SHORT, "{0}::text"),
 }
 
 
@@ -268,7 +273,7 @@ class Fields:
             quoted = _quoted(field.source_name)
             condition = f"{quoted} IS NOT NULL AND NOT ({_FITTING[field.source_type].format(quoted)})"
             shown = f"substr(quote({quoted}), 1, 60)"
-            self._note_odd(field, f"FROM {_quoted(self._layer.GetName())} WHERE {condition}", shown, "TEXT")
+            self._note_odd(field, _quoted(self._layer.GetName()), condition, shown, "TEXT")
 
     def _find_odd_of_postgresql(self) -> None:
         types = self._postgresql_types()
@@ -278,23 +283,38 @@ class Fields:
                 if field.type is None:
                     condition = _NO_DOUBLE
                 quoted = _quoted(field.source_name)
-                where = f"FROM {self._table()} WHERE {condition.format(quoted)}"
-                self._note_odd(field, where, f"quote_literal({shown.format(quoted)})", "text")
+                shown = f"quote_literal({shown.format(quoted)})"
+                self._note_odd(field, self._table(), condition.format(quoted), shown, "text")
 
-    def _note_odd(self, field: _Field, where: str, shown: str, text_type: str) -> None:
+    def _note_odd(self, field: _Field, table: str, condition: str, shown: str, text_type: str) -> None:
         """Notes the odd values of a column, or leaves it out where no identifiers say of which features they are."""
+        where = f"FROM {table} WHERE {condition}"
         identifier = self._layer.GetFIDColumn()
         if not identifier:
             [(count, _)] = self._asked(f"SELECT CAST(count(*) AS {text_type}) AS place, '' AS value {where}")
             if count != "0":
-                reason = f"a column with {count} values that are none of its type {field.source_type} is left out"
-                self.left.append(Left(f"{reason}, since no identifiers say of which features", [field.source_name]))
-                self._fields.remove(field)
+                self._leave_out(field, int(count))
             return
         query = f"SELECT CAST({_quoted(identifier)} AS {text_type}) AS place, {shown} AS value {where}"
-        for place, value in self._asked(query):
+        found = self._asked(query)
+        if found and not self._tells_apart(identifier, table, text_type):
+            self._leave_out(field, len(found))
+            return
+        for place, value in found:
             if _WHOLE.fullmatch(place):
                 self._odd[int(place), field.place] = value, self._odd_text(field, value)
+
+    def _leave_out(self, field: _Field, count: int) -> None:
+        """Leaves out a column with so many odd values, of which nobody knows the features."""
+        reason = f"a column with {count} values that are none of its type {field.source_type} is left out"
+        self.left.append(Left(f"{reason}, since no identifiers say of which features", [field.source_name]))
+        self._fields.remove(field)
+
+    def _tells_apart(self, identifier: str, table: str, text_type: str) -> bool:
+        """Whether a column has an identifier for each row, and another one. In a view it need not."""
+        count = f"count(*) - count(DISTINCT {_quoted(identifier)})"
+        query = f"SELECT CAST({count} AS {text_type}) AS place, '' AS value FROM {table}"
+        return self._asked(query) == [("0", "")]
 
     def _odd_text(self, field: _Field, shown: str) -> str | None:
         """The text of a value that OGR would change, as SQL writes it; none where it is no value of the column's type."""
@@ -310,6 +330,8 @@ class Fields:
             if moment is not None:
                 return moment.text
             return text if text in ("infinity", "-infinity") else None
+        if field.source_type == "Time":
+            return text if _TIME.fullmatch(text) else None
         return None
 
     def _postgresql_types(self) -> dict[str, str]:
