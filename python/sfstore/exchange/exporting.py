@@ -23,6 +23,7 @@ from sfstore.exchange.grid import Grid
 from sfstore.exchange.placing import Place, placed
 from sfstore.exchange.postgis import write_database
 from sfstore.exchange.writing import write_data
+from sfstore.geometry import read_wkb
 from sfstore.program import ProgramMissing
 from sfstore.results import Rule
 from sfstore.sidecar import Sidecar
@@ -82,7 +83,7 @@ def give_back(wishes: Wishes, say: Say) -> None:
     for line in told:
         say(line)
     kept = rules_kept(rules, parts, wanted)
-    losses += wanted.losses(parts)
+    losses += wanted.losses(parts) + _blurred(parts, Grid(*found.grid))
     if wishes.format == "GeoJSON" and crs_member(found.crs) is None:
         losses.append("the reference system, which has no code: programs take degrees" if found.crs else NO_CRS)
     if wishes.rules is None:
@@ -94,6 +95,19 @@ def give_back(wishes: Wishes, say: Say) -> None:
         _keep_grid(wishes, found)
     if wishes.rules is not None:
         _write_rules(wishes, wishes.rules, rules, say)
+
+
+def _blurred(parts: list[Part], grid: Grid) -> list[str]:
+    """Losses: coordinates that doubles do not tell from others, where the grid is finer than doubles are."""
+    if grid.is_coarse:
+        return []
+    losses = []
+    for part in parts:
+        shapes = (read_wkb(feature.geometry) for feature in part.layer.features)
+        count = sum(grid.blurred(line) for shape in shapes for member in shape.members for line in member)
+        if count:
+            losses.append(f"{count} coordinates of {part.layer.name}: the step is finer than doubles are there")
+    return losses
 
 
 def _write_rules(wishes: Wishes, path: str, rules: list[Rule], say: Say) -> None:

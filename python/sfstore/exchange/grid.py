@@ -136,6 +136,20 @@ class Grid:
         return True
 
     @property
+    def is_coarse(self) -> bool:
+        """Whether each step has a double of its own, as far as the store's coordinates go."""
+        far = max(map(abs, self._near_origin)) + _FAR * self._near_step
+        return self._near_step >= 2 * math.ulp(far)
+
+    def blurred(self, steps: Sequence[float]) -> int:
+        """How many of some steps do not come back from their doubles, since others have the same."""
+        try:
+            found = self.steps(self.places(steps))
+        except ValueError:
+            return len(steps)
+        return sum(known != step for known, step in zip(found, steps))
+
+    @property
     def fractions(self) -> tuple[int, int, int, int]:
         """x and y of the origin and the step as whole numbers, and the denominator that they have in common."""
         return self._origin[0], self._origin[1], self._step, self._denominator
