@@ -20,6 +20,7 @@ __all__ = [
     "LayerOrigin",
     "Sidecar",
     "SidecarError",
+    "beside",
     "check_none",
     "follow",
     "next_of",
@@ -30,6 +31,7 @@ __all__ = [
 ]
 
 _FORMAT = "sfstore side-car 1"
+_BESIDE = (".json", ".json.next", ".journal", ".journal.lock", ".lock", ".editors", ".batches")
 
 
 class SidecarError(Exception):
@@ -98,6 +100,11 @@ def path_of(store: str) -> str:
 def next_of(store: str) -> str:
     """Where the side-car stands of a file that is about to take the place of the store's."""
     return path_of(store) + ".next"
+
+
+def beside(store: str) -> list[str]:
+    """What a session keeps beside a store's file, and no map or report takes the place of."""
+    return [store + ending for ending in _BESIDE]
 
 
 def settle(store: str) -> bool:

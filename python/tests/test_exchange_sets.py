@@ -19,7 +19,7 @@ from test_exchange import GRID, HAS_GDAL, KINDS, ExchangeCase, Source, bring_in,
 from test_placing import at_call, fail, interrupt
 
 from sfstore import Store, files, sidecar
-from sfstore.exchange import publishing
+from sfstore.exchange import exporting, publishing, rulesfile, telling
 
 if HAS_GDAL:
     from osgeo import ogr
@@ -454,6 +454,40 @@ class BreakingOff(SetCase):
         self.assertEqual(self.bring_in()[0], 0)
         for path in (self.store, Path(f"{self.store}.json")):
             self.assertEqual(stat.S_IMODE(path.stat().st_mode), 0o600)
+
+    def test_an_interrupt_behind_the_writing_says_that_it_is_written(self):
+        with mock.patch.object(telling.Telling, "tell", side_effect=KeyboardInterrupt):
+            status, err = self.bring_in()
+        self.assertEqual((status, err), (3, f"sfstore-import: interrupted; {self.store} is written\n"))
+        self.assertFalse(self.check())
+        Path(f"{self.store}.json").unlink()
+        for target in (self.folder / "back.gpkg", self.folder / "maps"):
+            with mock.patch.object(exporting, "_keep_grid", side_effect=KeyboardInterrupt):
+                status, _, err = give_back(self.store, target, "--format", "GPKG" if target.suffix else "GeoJSON", *PLAIN)
+            self.assertEqual((status, err.splitlines()[-1]), (3, f"sfstore-export: interrupted; {target} is written"))
+        with mock.patch.object(rulesfile, "write", side_effect=KeyboardInterrupt):
+            status, _, err = give_back(self.store, self.folder / "two.gpkg", *PLAIN, "--rules", self.folder / "rules")
+        self.assertEqual((status, err), (3, "sfstore-export: the map is written, but not its rules: interrupted\n"))
+
+    def test_reports_let_others_do_no_more_than_the_store(self):
+        self.store.chmod(0o640)
+        self.points_again({1: ("POINT (500001.5 5600001)", {})})
+        reports = [self.folder / name for name in ("report.txt", "faulty.gpkg", "faulty.geojson")]
+        for words in (self.NEW_GRID, ["--add", "--overwrite"]):
+            for faulty in reports[1:]:
+                status, _, err = bring_in(self.source, self.store, *words, "--report", reports[0], "--faulty", faulty)
+                self.assertEqual((status, err), (1, ""))
+            for path in reports:
+                self.assertEqual(stat.S_IMODE(path.stat().st_mode), 0o640, path)
+                path.unlink()
+
+    def test_what_stands_beside_a_store_is_no_report_or_map(self):
+        for ending in (".journal", ".journal.lock", ".json.next", ".batches"):
+            path = f"{self.store}{ending}"
+            for words in (["--report", path], ["--rules", path]):
+                self.assertEqual(bring_in(self.source, self.store, *self.NEW_GRID, *words)[0], 2)
+            self.assertEqual(give_back(self.store, path, "--format", "GPKG", "--overwrite")[0], 2)
+            self.assertEqual(give_back(self.store, self.target, "--rules", path, "--overwrite")[0], 2)
 
     def test_a_side_car_of_a_stranger_under_the_second_name(self):
         for content in ("{", "[]", '{"digests": 5}', "[" * 100_000):

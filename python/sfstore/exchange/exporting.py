@@ -114,8 +114,9 @@ def _write_rules(wishes: Wishes, path: str, rules: list[Rule], say: Say) -> None
     """Writes all rules to a file beside the map."""
     try:
         rulesfile.write(path, rules, wishes.overwrite, _mode(wishes), say)
-    except (ogr.ExchangeError, OSError) as error:
-        raise ogr.ExchangeError(f"the map is written, but not its rules: {error}") from None
+    except (ogr.ExchangeError, OSError, KeyboardInterrupt) as error:
+        why = "interrupted" if isinstance(error, KeyboardInterrupt) else error
+        raise ogr.ExchangeError(f"the map is written, but not its rules: {why}") from None
 
 
 def _keep_grid(wishes: Wishes, found: Sidecar) -> None:
@@ -280,9 +281,10 @@ def main(words: list[str] | None = None) -> int:
     if asked.same_map and asked.grid:
         parser.error("--same-map takes the grid of the side-car: leave out --grid")
     store = os.path.realpath(asked.file)
-    if os.path.realpath(asked.target) in (store, sidecar.path_of(store)):
+    own = (store, *sidecar.beside(store))
+    if os.path.realpath(asked.target) in own:
         parser.error("the target is the store's own file")
-    if asked.rules and os.path.realpath(asked.rules) in (store, sidecar.path_of(store), os.path.realpath(asked.target)):
+    if asked.rules and os.path.realpath(asked.rules) in (*own, os.path.realpath(asked.target)):
         parser.error("store, map and rules are different files")
     try:
         grid = Grid(*asked.grid) if asked.grid else None
@@ -305,7 +307,7 @@ def main(words: list[str] | None = None) -> int:
         give_back(wishes, lambda line: print(line, file=sys.stderr, flush=True))
         return 0
 
-    return outcome.ended("sfstore-export", work)
+    return outcome.ended("sfstore-export", work, asked.target)
 
 
 if __name__ == "__main__":

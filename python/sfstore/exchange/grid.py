@@ -138,7 +138,7 @@ class Grid:
     @property
     def is_coarse(self) -> bool:
         """Whether each step has a double of its own, as far as the store's coordinates go."""
-        far = max(map(abs, self._near_origin)) + _FAR * self._near_step
+        far = max(abs(place) for place in self._near_origin) + _FAR * self._near_step
         return self._near_step >= 2 * math.ulp(far)
 
     def blurred(self, steps: Sequence[float]) -> int:

@@ -446,7 +446,7 @@ def _check_files(wanted: argparse.ArgumentParser, asked: argparse.Namespace) -> 
     if asked.faulty and os.path.splitext(asked.faulty)[1].lower() not in FEATURE_FORMATS:
         wanted.error(f"{asked.faulty}: faulty features go to a {' or a '.join(FEATURE_FORMATS)}")
     store = os.path.realpath(asked.file)
-    named = [os.path.realpath(asked.source), store, sidecar.path_of(store)]
+    named = [os.path.realpath(asked.source), store, *sidecar.beside(store)]
     named += [os.path.realpath(path) for path in (asked.report, asked.faulty, asked.rules) if path]
     if len(set(named)) < len(named):
         wanted.error("source, store, rules, report and faulty features are different files")
@@ -466,7 +466,7 @@ def main(words: list[str] | None = None) -> int:
     if asked.rules and asked.add:
         wanted.error("--rules goes with a new store, and not with --add")
     _check_files(wanted, asked)
-    return outcome.ended("sfstore-import", lambda: _bring_in(asked, grid))
+    return outcome.ended("sfstore-import", lambda: _bring_in(asked, grid), asked.file)
 
 
 def _suggest(asked: argparse.Namespace) -> int:
@@ -476,6 +476,14 @@ def _suggest(asked: argparse.Namespace) -> int:
     chosen = _chosen_layers(opened.data, asked.layer, wayback.WayBack())
     print(suggestion([found.layer for found in chosen], asked.drop_zm, asked.part_collections), end="")
     return 0
+
+
+def _mode(store: str) -> int:
+    """What a store's file lets others do, which is the most that a report of it does."""
+    try:
+        return os.stat(store).st_mode & 0o777
+    except FileNotFoundError:
+        return 0o600
 
 
 def _bring_in(asked: argparse.Namespace, grid: Grid | None) -> int:
@@ -502,9 +510,9 @@ def _bring_in(asked: argparse.Namespace, grid: Grid | None) -> int:
     try:
         print(report.summary() + said, end="", flush=True)
         if asked.report:
-            report.write_text(asked.report, asked.overwrite)
+            report.write_text(asked.report, asked.overwrite, _mode(asked.file))
         if asked.faulty:
-            report.write_features(asked.faulty, crs, asked.overwrite)
+            report.write_features(asked.faulty, crs, asked.overwrite, _mode(asked.file))
     except (ogr.ExchangeError, OSError, KeyboardInterrupt) as error:
         what = "interrupted" if isinstance(error, KeyboardInterrupt) else error
         done = "all is in the journal" if asked.add else "the store's file is written"

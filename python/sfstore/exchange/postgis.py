@@ -19,6 +19,7 @@ from sfstore.exchange.columns import DATE, DATE_TIME, INTEGER, INTEGER_64, REAL,
 from sfstore.exchange.formats import Part
 from sfstore.exchange.grid import Grid
 from sfstore.exchange.moments import day_of, moment_of
+from sfstore.exchange.placing import uninterrupted
 from sfstore.geometry import read_wkb, write_wkb
 from sfstore.sidecar import Crs, Sidecar
 from sfstore.storefile import FileFeature
@@ -69,7 +70,8 @@ def write_database(target: str, parts: Sequence[Part], found: Sidecar, overwrite
         except psycopg2.Error as error:
             raise ogr.ExchangeError(f"the database refused it: {_sentence(error)}") from None
         try:
-            connection.commit()
+            with uninterrupted():
+                connection.commit()
         except psycopg2.Error as error:
             why = f"the connection broke at the very end, and the database may have taken it: {_sentence(error)}"
             raise ogr.ExchangeError(why if connection.closed else f"the database refused it: {_sentence(error)}") from None

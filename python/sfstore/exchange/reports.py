@@ -108,20 +108,23 @@ class Report:
         notes = ((layer, "", "changed", text) for layer, text in self.notes)
         return "".join("\t".join(map(ogr.printable, row)) + "\n" for row in (*rows, *notes))
 
-    def write_text(self, path: str, overwrite: bool) -> None:
-        """Writes `text` to a file, whole or not at all. `ogr.ExchangeError` where one is there."""
-        with placed(_place(path, overwrite), _say) as new:
+    def write_text(self, path: str, overwrite: bool, mode: int = 0o777) -> None:
+        """Writes `text` to a file, whole or not at all. `ogr.ExchangeError` where one is there.
+
+        ``mode`` is the most that a new file lets others do.
+        """
+        with placed(_place(path, overwrite, mode), _say) as new:
             with open(os.path.join(new, os.path.basename(path)), "w", encoding="utf-8") as file:
                 file.write(self.text())
 
-    def write_features(self, path: str, crs: Crs | None, overwrite: bool) -> None:
+    def write_features(self, path: str, crs: Crs | None, overwrite: bool, mode: int = 0o777) -> None:
         """Writes the features that did not fit to a GeoJSON or GeoPackage, by the path's ending.
 
-        `ogr.ExchangeError` where it can't be written.
+        `ogr.ExchangeError` where it can't be written. ``mode`` is the most that a new file lets others do.
         """
         ending = os.path.splitext(path)[1].lower()
         try:
-            with placed(_place(path, overwrite), _say) as new:
+            with placed(_place(path, overwrite, mode), _say) as new:
                 made = os.path.join(new, os.path.basename(path))
                 self._write_features(made, FEATURE_FORMATS[ending], crs)
         except RuntimeError as error:
@@ -226,9 +229,9 @@ def _coordinates(geometry: Any) -> list[Any]:
     return [geometry.GetPoint(at)[:size] for at in range(geometry.GetPointCount())]
 
 
-def _place(path: str, overwrite: bool) -> Place:
+def _place(path: str, overwrite: bool, mode: int) -> Place:
     folder, name = os.path.split(os.path.abspath(path))
-    return Place(folder, [name], None, overwrite)
+    return Place(folder, [name], None, overwrite, mode)
 
 
 def _say(line: str) -> None:
