@@ -19,7 +19,7 @@ from test_exchange import GRID, HAS_GDAL, KINDS, ExchangeCase, Source, bring_in,
 from test_placing import at_call, fail, interrupt
 
 from sfstore import Store, files, sidecar
-from sfstore.exchange import exporting, publishing, rulesfile, telling
+from sfstore.exchange import exporting, placing, publishing, rulesfile, telling
 
 if HAS_GDAL:
     from osgeo import ogr
@@ -156,6 +156,19 @@ class Sets(SetCase):
         self.assertIn("out.shp is there already", err)
         self.assertEqual(self.shown_features(target)[0][0], "POINT (3 4)")
         self.assertEqual(self.hidden(), [])
+
+    def test_a_file_that_comes_meanwhile_stays(self):
+        store = self.made("t.sfs", WELLS)
+        sync = placing._sync_all
+
+        def synced(folder):
+            sync(folder)
+            self.target.write_text("of somebody else")
+
+        with mock.patch.object(placing, "_sync_all", synced):
+            status, _, err = give_back(store, self.target, *PLAIN)
+        self.assertEqual((status, err), (3, f"sfstore-export: {self.target} was made meanwhile\n"))
+        self.assertEqual(self.target.read_text(), "of somebody else")
 
     def test_a_link_is_no_target(self):
         store, other = self.made("t.sfs", WELLS), self.folder / "other"

@@ -213,7 +213,9 @@ def _put(room: str, place: Place) -> None:
     new, present = os.path.join(room, "new"), place.present()
     fresh = os.listdir(new)
     if len(fresh) == 1 and not place.is_folder and present in ([], fresh):
-        files.replace(os.path.join(new, fresh[0]), place.path(fresh[0]))
+        made, path = os.path.join(new, fresh[0]), place.path(fresh[0])
+        if place.overwrite or not _is_linked(made, path):
+            files.replace(made, path)
         return
     moving = os.path.join(room, "moving")
     os.mkdir(moving)
@@ -224,6 +226,22 @@ def _put(room: str, place: Place) -> None:
     files.sync(place.folder)
     os.rename(moving, os.path.join(room, "old"))
     files.sync(room)
+
+
+def _is_linked(made: str, path: str) -> bool:
+    """Whether a new file has got a name too, which a rename could take from another one that has come meanwhile.
+
+    It is none where the disk has no links. `ExchangeError` where another one has come.
+    """
+    try:
+        os.link(made, path)
+    except FileExistsError:
+        raise ExchangeError(f"{path} was made meanwhile") from None
+    except OSError:
+        return False
+    os.unlink(made)
+    files.sync(os.path.dirname(path))
+    return True
 
 
 def _settle(room: str, place: Place, say: Say, is_late: bool = False) -> None:
