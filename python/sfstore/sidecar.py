@@ -6,6 +6,7 @@ program put a new file in the place of an old one, it writes the digests of both
 
 from __future__ import annotations
 
+import errno
 import json
 import os
 from collections.abc import Callable
@@ -31,6 +32,8 @@ __all__ = [
 ]
 
 _FORMAT = "sfstore side-car 1"
+# Why a file that is there can't be read just now, though it may be the next time.
+_PASSING = {errno.EAGAIN, errno.EINTR, errno.EIO, errno.EMFILE, errno.ENFILE, errno.ENOMEM, errno.ENOSPC, errno.ESTALE}
 _BESIDE = (".json", ".json.next", ".journal", ".journal.lock", ".lock", ".editors", ".batches")
 
 
@@ -186,6 +189,7 @@ def follow(store: str, old: str, next_digest: Callable[[], str]) -> str | None:
 
 
 def _read(path: str) -> Sidecar:
+    """The content of a side-car. `SidecarError` where it is missing or none, `OSError` where it can't be read just now."""
     try:
         with open(path, encoding="utf-8", opener=files.opened) as file:
             content = json.load(file)
@@ -194,6 +198,8 @@ def _read(path: str) -> Sidecar:
             f"{path} is missing: it has the grid and the reference system of the store"
         ) from None
     except (OSError, RecursionError, ValueError) as error:
+        if isinstance(error, OSError) and error.errno in _PASSING:
+            raise
         raise SidecarError(f"{path} can't be read: {error}") from None
     try:
         return _sidecar(content)
