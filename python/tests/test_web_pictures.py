@@ -262,7 +262,7 @@ class PictureCalls(WebCase):
         for wrong in (
             {"layer": 1},
             {"level": -1},
-            {"level": 17},
+            {"level": 24},
             {"level": 1.5},
             {"tiles": [[0, 0]]},
             {"tiles": [[0, 0, "0"]]},
