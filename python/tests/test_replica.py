@@ -171,7 +171,7 @@ class Rights(ReplicaCase):
 
     def test_lines_that_edit_nothing_are_not_put_down(self):
         self.town("ann")
-        for line in ("", " \t", "\r", "undo\nundo", "show w", "layers", "nonsense", "undone", "add w " + "9" * 131_062):
+        for line in ("", " \t", "\r", "undo\nundo", "show w", "layers", "nonsense", "undone", "add w " + "9" * 4_194_294):
             with self.assertRaises(LogRefused) as caught:
                 self.ask(APPEND, (line,), login="ann")
             self.assertEqual(caught.exception.code, "23514", line[:20])
@@ -212,7 +212,7 @@ class Writing(ReplicaCase):
         for line in ("", "\r", "a\nb", "a\0b"):
             with self.assertRaises(ValueError):
                 ann.run(line)
-        long = "add w " + "9" * 131_062
+        long = "add w " + "9" * 4_194_294
         self.assertEqual(ann.run_all([long])[0].number, 33)
 
     def test_editors_see_one_another_and_move_their_own_steps(self):
