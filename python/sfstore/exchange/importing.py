@@ -397,13 +397,12 @@ def parser() -> argparse.ArgumentParser:
     wanted = argparse.ArgumentParser(
         prog="sfstore-import",
         usage="%(prog)s SOURCE FILE --grid OX OY STEP, %(prog)s SOURCE FILE --add, or %(prog)s --suggest SOURCE",
-        description="Makes the store's FILE of a .gpkg, .geojson, .fgb, .shp, or of PG:dbname=..",
         epilog="Status 0: all was taken; 1: not all; 2: wrong words; "
         f"{outcome.EPILOG} More: man sfstore-import, docs/use/EXCHANGE.md",
         add_help=False,
     )
-    # Without a title a line more of the screen is left.
-    options = wanted.add_argument_group()
+    # What it does is the options' heading: so all fits on a screen.
+    options = wanted.add_argument_group("Makes the store's FILE of PG:dbname=.., or of a .gpkg, .geojson, .fgb or .shp")
     options.add_argument("-h", "--help", action="help", help="show this help message and exit")
     wanted.add_argument("source", help=argparse.SUPPRESS)
     wanted.add_argument("file", nargs="?", help=argparse.SUPPRESS)
