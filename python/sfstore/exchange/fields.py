@@ -17,7 +17,7 @@ from typing import Any, NamedTuple
 from sfstore.exchange import ogr
 from sfstore.exchange.columns import DATE, DATE_TIME, INTEGER, INTEGER_64, REAL, STRING
 from sfstore.exchange.moments import day_of, moment_of, text_of_day, text_of_moment, text_of_time
-from sfstore.exchange.names import new_name
+from sfstore.exchange.names import kept_name, new_name
 from sfstore.language import INT_MAX, INT_MIN, TEXT_MAX
 from sfstore.sidecar import ColumnOrigin
 from sfstore.store import Value
@@ -231,7 +231,7 @@ class Fields:
             number = len(self._fields) + 1
             self._fields.append(_Field(number, place, name, kind, source_name, type_name))
             subtype = module.GetFieldSubTypeName(field.GetSubType())
-            kept = _kept(source_name, name)
+            kept = kept_name(source_name, name)
             self._origins[number] = ColumnOrigin(name, kept, type_name, subtype, field.GetWidth())
         self.left += [self._left(type_name, several) for type_name, several in left.items()]
 
@@ -393,15 +393,6 @@ def _quoted(name: str) -> str:
 def _literal(text: str) -> str:
     """A text in SQL, of PostgreSQL's standard."""
     return "'" + text.replace("'", "''") + "'"
-
-
-def _kept(name: str, otherwise: str) -> str:
-    """A name of the source, or another one where it is not UTF-8."""
-    try:
-        name.encode("utf-8")
-    except UnicodeError:
-        return otherwise
-    return name
 
 
 def _exact(text: str) -> int | str:

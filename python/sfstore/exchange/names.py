@@ -7,7 +7,7 @@ import unicodedata
 
 from sfstore.language import NAME
 
-__all__ = ["new_name"]
+__all__ = ["kept_name", "new_name"]
 
 _LENGTH = 32
 
@@ -31,3 +31,12 @@ def new_name(name: str, taken: set[str]) -> str:
         found, number = name[: _LENGTH - len(tail)] + tail, number + 1
     taken.add(found)
     return found
+
+
+def kept_name(name: str, otherwise: str) -> str:
+    """A name of the source, or another one where it is not UTF-8."""
+    try:
+        name.encode("utf-8")
+    except UnicodeError:
+        return otherwise
+    return name

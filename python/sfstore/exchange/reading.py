@@ -10,6 +10,7 @@ from sfstore.exchange import ogr
 from sfstore.exchange.fields import Fields
 from sfstore.exchange.grid import Grid, OffGrid, Outside, Rounding
 from sfstore.exchange.mending import mended
+from sfstore.exchange.names import kept_name
 from sfstore.exchange.reports import Report
 from sfstore.exchange.wayback import LeftLayer
 from sfstore.faults import fault_at
@@ -139,9 +140,9 @@ class LayerImport:
         """What the side-car keeps of the layer."""
         return LayerOrigin(
             self._name,
-            _kept(self._layer.GetName(), self._name),
-            _kept(self._layer.GetFIDColumn(), ""),
-            _kept(self._layer.GetGeometryColumn(), ""),
+            kept_name(self._layer.GetName(), self._name),
+            kept_name(self._layer.GetFIDColumn(), ""),
+            kept_name(self._layer.GetGeometryColumn(), ""),
             self._origins,
         )
 
@@ -382,15 +383,6 @@ def _sources_of(numbers: list[int], sources: list[int]) -> Callable[[int], int]:
     if all(number == source + 1 for number, source in zip(numbers, sources)):
         return lambda identifier: identifier - 1
     return dict(zip(numbers, sources)).__getitem__
-
-
-def _kept(name: str, otherwise: str) -> str:
-    """A name of the source, or another one where it is not UTF-8."""
-    try:
-        name.encode("utf-8")
-    except UnicodeError:
-        return otherwise
-    return name
 
 
 def _named(name: str, detail: str) -> str:
