@@ -16,6 +16,7 @@ from typing import Any, NamedTuple
 
 from sfstore.exchange import ogr
 from sfstore.exchange.columns import DATE, DATE_TIME, INTEGER, INTEGER_64, REAL, STRING
+from sfstore.exchange.layers import Fault, Feature, Left, SourceColumns
 from sfstore.exchange.moments import day_of, moment_of, text_of_day, text_of_moment, text_of_time
 from sfstore.exchange.names import kept_name, new_name
 from sfstore.language import INT_MAX, INT_MIN, TEXT_MAX
@@ -23,7 +24,7 @@ from sfstore.sidecar import ColumnOrigin
 from sfstore.store import Value
 from sfstore.storefile import INT, TEXT, FileColumn, FileFeature
 
-__all__ = ["Fault", "Fields", "Left"]
+__all__ = ["Fields", "text_fault"]
 
 _WHOLE = re.compile(r"-?[0-9]{1,19}", re.ASCII)
 _DECIMAL = re.compile(r"-?[0-9]+(\.[0-9]+)?", re.ASCII)
@@ -53,8 +54,6 @@ _NO_DOUBLE = (
     "CASE WHEN {0}::text IN ('NaN', 'Infinity', '-Infinity') OR {0} = 0 THEN false "
     "WHEN abs({0}) BETWEEN 1e-300 AND 1e300 THEN {0}::float8::text::numeric <> {0} ELSE true END"
 )
-# The formats that have real numbers as texts, of which OGR makes doubles.
-_REALS_AS_TEXTS = ("GeoJSON", "ESRI Shapefile")
 # Below it each whole number is a double.
 _FIRST_GAP = 2.0**53
 # A time with parts of a millisecond.
@@ -76,20 +75,6 @@ _ODD_OF_POSTGRESQL = {
 }
 
 
-class Left(NamedTuple):
-    """Columns that are left out."""
-
-    reason: str
-    names: list[str]
-
-
-class Fault(NamedTuple):
-    """Why a value of a feature is left out."""
-
-    reason: str
-    detail: str
-
-
 class _Field(NamedTuple):
     """A column that is taken."""
 
@@ -103,7 +88,7 @@ class _Field(NamedTuple):
     source_type: str
 
 
-class Fields:
+class Fields(SourceColumns):
     """The columns of one layer."""
 
     def __init__(
@@ -115,29 +100,26 @@ class Fields:
         wanted: Mapping[str, str] | None = None,
     ) -> None:
         """``names`` are those of the store by those of the source, and ``wanted`` the types that a store's layer has."""
+        super().__init__()
         self._source = source
         self._layer = layer
         self._as_text = as_text
         self._wanted = wanted or {}
         self._driver: str = source.GetDriver().ShortName
-        self.left: list[Left] = []
-        """The columns that are left out."""
-        self.renamed: list[tuple[str, str]] = []
-        """The columns with another name in the store, and this name."""
         self._broken: set[int] = set()
         self._fields: list[_Field] = []
         self._origins: dict[int, ColumnOrigin] = {}
         self._take(names)
         self._odd: dict[tuple[int, int], tuple[str, str | None]] = {}
 
-    def values(self, feature: Any) -> tuple[dict[int, Any], list[Fault]]:
+    def values(self, read: Feature) -> tuple[dict[int, Any], list[Fault]]:
         """The values of a feature by the numbers of their columns, and what is left out of them.
 
         Real numbers are among them, until `finished` has made whole numbers or texts of them.
         """
         values: dict[int, Any] = {}
         faults: list[Fault] = []
-        identifier = feature.GetFID()
+        identifier, feature = read.identifier, read.content
         for field in self._fields:
             odd = self._odd.get((identifier, field.place)) if self._odd else None
             if odd is None and not feature.IsFieldSetAndNotNull(field.place):
@@ -148,7 +130,7 @@ class Fields:
             elif field.type is None:
                 number = feature.GetFieldAsDouble(field.place) if odd is None else _exact(str(odd[1]))
                 if isinstance(number, str) and len(number) > TEXT_MAX:
-                    faults.append(Fault(_text_fault(number), f"the value of column {field.name} is left out"))
+                    faults.append(Fault(text_fault(number), f"the value of column {field.name} is left out"))
                     continue
                 self._add_real(field, number, values)
                 if isinstance(number, float) and self._is_doubtful(number):
@@ -158,7 +140,7 @@ class Fields:
                 values[field.number] = feature.GetFieldAsInteger64(field.place)
             else:
                 text = odd[1] if odd is not None else _text(feature, field)
-                fault = "a text that is not UTF-8" if text is None else _text_fault(text)
+                fault = "a text that is not UTF-8" if text is None else text_fault(text)
                 if fault:
                     faults.append(Fault(fault, f"the value of column {field.name} is left out"))
                 else:
@@ -167,7 +149,7 @@ class Fields:
 
     def _is_doubtful(self, number: float) -> bool:
         """Whether the source may have another whole number, of which OGR has made the nearest double."""
-        return self._driver in _REALS_AS_TEXTS and abs(number) >= _FIRST_GAP and _is_whole(number)
+        return self._driver == "ESRI Shapefile" and abs(number) >= _FIRST_GAP and _is_whole(number)
 
     def _add_real(self, field: _Field, value: float | int | str, values: dict[int, Any]) -> None:
         if isinstance(value, str) or not _is_whole(value):
@@ -446,7 +428,7 @@ def _plain_text(feature: Any, field: _Field) -> str:
     return str(feature.GetFieldAsString(place))
 
 
-def _text_fault(text: str) -> str:
+def text_fault(text: str) -> str:
     """Why a text is none of the store, or nothing."""
     if _CONTROL.search(text):
         return "a text with a control character"

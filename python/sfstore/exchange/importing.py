@@ -14,17 +14,19 @@ from collections import Counter
 from collections.abc import Iterator
 from dataclasses import dataclass, replace
 from functools import partial
-from typing import Any, NamedTuple
+from typing import NamedTuple
 
 from sfstore import sidecar
 from sfstore.commandline import add_version
 from sfstore.exchange import ogr, outcome, rulesfile, wayback
 from sfstore.exchange.adding import Broken, add
 from sfstore.exchange.grid import Grid
-from sfstore.exchange.publishing import check_target, publish
+from sfstore.exchange.layers import Layer, Source
 from sfstore.exchange.names import new_name
+from sfstore.exchange.publishing import check_target, publish
 from sfstore.exchange.reading import LayerImport, Taking
 from sfstore.exchange.reports import FEATURE_FORMATS, Report
+from sfstore.exchange.sources import open_source
 from sfstore.exchange.suggesting import suggestion
 from sfstore.exchange.telling import Brought, BroughtFeature, Telling
 from sfstore.language import COLUMN_TYPES
@@ -96,39 +98,31 @@ class Result(NamedTuple):
 class _SourceLayer(NamedTuple):
     """A layer, and the source that it is of."""
 
-    source: Any
-    layer: Any
+    source: Source
+    layer: Layer
 
     @property
     def name(self) -> str:
-        name: str = self.layer.GetName()
-        return name
+        return self.layer.name
 
 
-def _way_back(source: Any, report: Report) -> wayback.WayBack:
+def _way_back(source: Source, report: Report) -> wayback.WayBack:
     """What an export has left in a GeoPackage, or nothing."""
-    if source.GetDriver().ShortName != "GPKG":
-        return wayback.WayBack()
-    text = source.GetMetadataItem(wayback.ITEM)
-    if not text:
+    if not source.metadata:
         return wayback.WayBack()
     try:
-        return wayback.read(text)
+        return wayback.read(source.metadata)
     except ValueError as error:
         detail = f"metadata {wayback.ITEM} that no export leaves: {error}"
-        report.problem(os.path.basename(source.GetDescription()), None, "left aside", detail)
+        report.problem(os.path.basename(source.path), None, "left aside", detail)
         return wayback.WayBack()
 
 
 def _chosen_layers(
-    sources: list[Any], wanted: list[str], left: wayback.WayBack
+    sources: list[Source], wanted: list[str], left: wayback.WayBack
 ) -> list[_SourceLayer]:
     """The layers of sources: those wanted in their order, else all, as an export has told."""
-    layers = [
-        _SourceLayer(source, source.GetLayer(at))
-        for source in sources
-        for at in range(source.GetLayerCount())
-    ]
+    layers = [_SourceLayer(source, layer) for source in sources for layer in source.layers]
     names = [layer.name for layer in layers]
     for name in wanted:
         if name not in names:
@@ -186,12 +180,12 @@ def _heard(wishes: Wishes, report: Report) -> Iterator[None]:
         report.problem(_shown_source(wishes), None, "OGR warns", warning)
 
 
-def _opened(wishes: Wishes, report: Report) -> list[Any]:
+def _opened(wishes: Wishes, report: Report) -> list[Source]:
     """The sources that open. Others are reported."""
-    opened = ogr.open_source(wishes.source, wishes.any_format)
+    opened = open_source(wishes.source, wishes.any_format)
     for name, reason in opened.left_out:
         report.problem(name, None, "does not open", reason)
-    return opened.data
+    return opened.sources
 
 
 def _features(content: FileLayer, reading: LayerImport) -> dict[int, BroughtFeature]:
@@ -212,12 +206,12 @@ def _read_layers(
     """The layers as the store is to have them, and what has read them."""
     names: set[str] = set()
     contents, readings = [], []
-    for (source, layer), shown in zip(layers, _shown_names(layers)):
-        told = left.layer(layer.GetName())
-        name = new_name(told.store_name if told else layer.GetName(), names)
-        if name != layer.GetName():
+    for (_, layer), shown in zip(layers, _shown_names(layers)):
+        told = left.layer(layer.name)
+        name = new_name(told.store_name if told else layer.name, names)
+        if name != layer.name:
             report.note(shown, f"the layer has the name {name}")
-        reading = LayerImport(source, layer, name, grid, wishes.taking(), told, report, shown=shown)
+        reading = LayerImport(layer, name, grid, wishes.taking(), told, report, shown=shown)
         contents.append(reading.read())
         readings.append(reading)
         if told is not None:
@@ -231,7 +225,7 @@ def _shown_names(layers: list[_SourceLayer]) -> list[str]:
     return [
         layer.name
         if counts[layer.name] == 1
-        else f"{layer.name} ({os.path.basename(layer.source.GetDescription())})"
+        else f"{layer.name} ({os.path.basename(layer.source.path)})"
         for layer in layers
     ]
 
@@ -255,7 +249,7 @@ def add_in(wishes: Wishes) -> Result:
         store.close(save=False)
 
 
-def _added(wishes: Wishes, store: Store, path: str, sources: list[Any], report: Report) -> Result:
+def _added(wishes: Wishes, store: Store, path: str, sources: list[Source], report: Report) -> Result:
     """Adds sources to a store."""
     known = _known(path, wishes)
     grid = Grid(*known.grid)
@@ -310,17 +304,17 @@ def _read_into(
     origins = {origin.source_name: wayback.left_of(origin) for origin in known.layers}
     names: set[str] = set()
     contents, readings = [], []
-    for (source, layer), shown in zip(layers, _shown_names(layers)):
-        told = left.layer(layer.GetName()) or origins.get(layer.GetName())
-        name = new_name(told.store_name if told else layer.GetName(), names)
+    for (_, layer), shown in zip(layers, _shown_names(layers)):
+        told = left.layer(layer.name) or origins.get(layer.name)
+        name = new_name(told.store_name if told else layer.name, names)
         if name not in kinds:
-            detail = f"{name}: its {layer.GetFeatureCount()} features are left out"
+            detail = f"{name}: its {layer.count()} features are left out"
             report.problem(shown, None, "the store has no such layer", detail)
             continue
         columns = store.columns(name)
         types = {column.name: column.type for column in columns}
         reading = LayerImport(
-            source, layer, name, Grid(*known.grid), taking, told, report, kinds[name], types, shown
+            layer, name, Grid(*known.grid), taking, told, report, kinds[name], types, shown
         )
         contents.append(_fitted(reading.read(), columns, reading.source_name, report))
         readings.append(reading)
@@ -377,11 +371,11 @@ def _of_one_crs(
     taken: list[_SourceLayer] = []
     for found in layers:
         layer = found.layer
-        if layer.GetLayerDefn().GetGeomFieldCount() == 0:
-            detail = f"its {layer.GetFeatureCount()} rows are left out"
+        if not layer.has_geometries:
+            detail = f"its {layer.count()} rows are left out"
             report.problem(found.name, None, "a layer without geometries", detail)
             continue
-        its_crs = ogr.crs_of(layer)
+        its_crs = layer.crs()
         if not taken and wanted is None:
             crs = its_crs
         if its_crs != crs and (wanted is None or not _is_same(its_crs, wanted)):
@@ -469,10 +463,10 @@ def main(words: list[str] | None = None) -> int:
 
 
 def _suggest(asked: argparse.Namespace) -> int:
-    opened = ogr.open_source(asked.source, asked.any_format)
+    opened = open_source(asked.source, asked.any_format)
     for name, reason in opened.left_out:
         print(f"{ogr.printable(name)} does not open: {reason}", file=sys.stderr)
-    chosen = _chosen_layers(opened.data, asked.layer, wayback.WayBack())
+    chosen = _chosen_layers(opened.sources, asked.layer, wayback.WayBack())
     print(suggestion([found.layer for found in chosen], asked.drop_zm, asked.part_collections), end="")
     return 0
 

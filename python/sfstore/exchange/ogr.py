@@ -3,26 +3,24 @@
 from __future__ import annotations
 
 import contextlib
-import os
 import sys
 from collections.abc import Callable, Iterator
-from typing import Any, NamedTuple
+from typing import Any
 
 from sfstore.sidecar import Crs
 
 __all__ = [
     "DRIVERS",
     "ExchangeError",
-    "Source",
     "crs_named",
     "crs_of",
     "driver",
     "features",
+    "format_of",
     "gdal",
     "hearing",
     "members",
     "open_data",
-    "open_source",
     "printable",
     "progress",
     "spatial_reference",
@@ -30,7 +28,7 @@ __all__ = [
 
 DRIVERS: dict[str, list[str]] = {
     "GPKG": [".gpkg"],
-    "GeoJSON": [".geojson", ".json"],
+    "GeoJSON": [".geojson", ".json", ".geojsonl", ".geojsons"],
     "FlatGeobuf": [".fgb"],
     "ESRI Shapefile": [".shp"],
     "PostgreSQL": [],
@@ -103,35 +101,6 @@ def hearing() -> Iterator[list[str]]:
         _hearers.pop()
 
 
-class Source(NamedTuple):
-    """What OGR has opened."""
-
-    data: list[Any]
-    """One source, or the files of a folder by their names."""
-    left_out: list[tuple[str, str]]
-    """The files of a folder that have the ending of a format and don't open, with the reason."""
-
-
-def open_source(name: str, any_format: bool = False) -> Source:
-    """What OGR opens for reading: one source, or the files of a folder by their names.
-
-    `ExchangeError` where there is none, and for other formats than `DRIVERS` unless any is allowed.
-    """
-    try:
-        return Source([_opened(name, any_format)], [])
-    except RuntimeError as error:
-        found = _opened_files(name, any_format) if os.path.isdir(name) else Source([], [])
-        if not found.data:
-            # The words of a database may have a password among them.
-            shown = "the database" if name.startswith("PG:") else name
-            raise ExchangeError(f"{shown} does not open: {_reason(name, error)}") from None
-        return found
-
-
-def _opened(name: str, any_format: bool) -> Any:
-    return open_data(name, None if any_format else list(DRIVERS))
-
-
 def open_data(name: str, drivers: list[str] | None) -> Any:
     """What one of some drivers opens for reading, or of all. `RuntimeError` where none does."""
     module, _, _ = gdal()
@@ -142,24 +111,11 @@ def open_data(name: str, drivers: list[str] | None) -> Any:
     return module.OpenEx(name, module.OF_VECTOR, **known)
 
 
-def _reason(name: str, error: RuntimeError) -> str:
-    """Why a source does not open, with the formats that are read, where it is a file."""
-    if not os.path.isfile(name):
-        return str(error)
-    return f"{error} (it may be of another format than {', '.join(DRIVERS)}: --any-format reads it)"
-
-
-def _opened_files(folder: str, any_format: bool) -> Source:
-    """The files of a folder that OGR opens."""
-    endings = tuple(ending for several in DRIVERS.values() for ending in several)
-    found = Source([], [])
-    for name in sorted(os.listdir(folder)):
-        try:
-            found.data.append(_opened(os.path.join(folder, name), any_format))
-        except RuntimeError as error:
-            if name.lower().endswith(endings):
-                found.left_out.append((name, str(error)))
-    return found
+def format_of(name: str) -> str:
+    """The format that OGR takes a source for, or nothing."""
+    module, _, _ = gdal()
+    found = module.IdentifyDriverEx(name, module.OF_VECTOR)
+    return str(found.ShortName) if found is not None else ""
 
 
 def features(layer: Any) -> Iterator[tuple[Any, str]]:

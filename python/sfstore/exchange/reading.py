@@ -2,13 +2,12 @@
 
 from __future__ import annotations
 
-import os
 from collections.abc import Callable, Iterator, Mapping
 from typing import Any, NamedTuple
 
 from sfstore.exchange import ogr
-from sfstore.exchange.fields import Fields
 from sfstore.exchange.grid import Grid, OffGrid, Outside, Rounding
+from sfstore.exchange.layers import Feature, Layer
 from sfstore.exchange.mending import mended
 from sfstore.exchange.names import kept_name
 from sfstore.exchange.reports import Report
@@ -24,14 +23,13 @@ from sfstore.storefile import FileColumn, FileFeature, FileLayer
 __all__ = ["LayerImport", "Taking"]
 
 _LAST_ID = IDENTIFIER_MAX - 1
-# How many features are asked of the program at a time.
-_BATCH = 2_000
+# How many features are asked of the program at a time, and how many bytes their geometries have then at most, but for
+# the last one: a point takes ten times as much here.
+_BATCH, _BATCH_BYTES = 2_000, 4_000_000
 # How much of a feature's name is shown.
 _NAME_SHOWN = 40
 
 _SHAPEFILE = "ESRI Shapefile"
-# The formats whose files say how many features they have, so that one that was cut is seen.
-_COUNTED = (_SHAPEFILE, "FlatGeobuf")
 _NO_PLACE = "Z or M"
 
 
@@ -71,8 +69,7 @@ class LayerImport:
 
     def __init__(
         self,
-        source: Any,
-        layer: Any,
+        layer: Layer,
         name: str,
         grid: Grid,
         taking: Taking,
@@ -83,23 +80,20 @@ class LayerImport:
         shown: str = "",
     ) -> None:
         """``kind`` and ``types`` of columns are those of a store's layer that it is added to, ``shown`` its name in the report."""
-        self._source = source
         self._layer = layer
         self._name = name
-        self._source_name: str = shown or layer.GetName()
+        self._source_name = shown or layer.name
         self._grid = grid
         self._taking = taking
         self._report = report
         self._taken_kind: Kind = kind
-        self._driver: str = source.GetDriver().ShortName
         self._rounding = Rounding(taking.rounds)
         self._flattened = 0
         self._parted: list[int] = []
         known = types if types is not None else left.types if left else {}
-        self._fields = Fields(source, layer, taking.as_text, left.names if left else {}, known)
+        self._fields = layer.columns(taking.as_text, left.names if left else {}, known)
         self._origins: list[ColumnOrigin] = []
         self._columns: list[FileColumn] = []
-        self._name_place = _name_place(layer)
         self._identifiers: list[int] = []
         self._features: list[FileFeature] = []
         self._further: list[int] = []
@@ -110,6 +104,8 @@ class LayerImport:
         """The layer as the store is to have it. `ogr.ExchangeError` where the source breaks off."""
         for source_name, name in self._fields.renamed:
             self._note(f"column {source_name!r} has the name {name}")
+        for note in self._fields.notes:
+            self._note(note)
         self._fields.find_odd()
         with Store(self._taking.program) as scratch:
             scratch.add_layer("c", self._taken_kind)
@@ -140,36 +136,38 @@ class LayerImport:
         """What the side-car keeps of the layer."""
         return LayerOrigin(
             self._name,
-            kept_name(self._layer.GetName(), self._name),
-            kept_name(self._layer.GetFIDColumn(), ""),
-            kept_name(self._layer.GetGeometryColumn(), ""),
+            kept_name(self._layer.name, self._name),
+            kept_name(self._layer.identifier_column, ""),
+            kept_name(self._layer.geometry_column, ""),
             self._origins,
         )
 
     def _batches(self) -> Iterator[list[_Candidate]]:
         """The features that are on the grid, some at a time."""
         batch: list[_Candidate] = []
-        with ogr.progress(self._source_name, self._layer.GetFeatureCount()) as show:
-            for feature, fault in ogr.features(self._layer):
-                self._identifiers.append(feature.GetFID())
-                if fault:
-                    self._problem(feature.GetFID(), "could not be read", fault)
+        size = 0
+        with ogr.progress(self._source_name, self._layer.count()) as show:
+            for feature in self._layer.features():
+                self._identifiers.append(feature.identifier)
+                if feature.fault:
+                    self._problem(feature.identifier, "could not be read", feature.fault)
                     continue
-                batch += self._candidates(feature)
-                if len(batch) >= _BATCH:
+                found = self._candidates(feature)
+                batch += found
+                size += sum(len(candidate.source) for candidate in found)
+                if len(batch) >= _BATCH or size >= _BATCH_BYTES:
                     yield batch
-                    batch = []
+                    batch, size = [], 0
                 show(1)
         yield batch
 
-    def _candidates(self, feature: Any) -> list[_Candidate]:
+    def _candidates(self, feature: Feature) -> list[_Candidate]:
         """What a feature becomes: itself, or the members of its collection, as far as they are on the grid."""
-        identifier, name = feature.GetFID(), self._name_of(feature)
-        geometry = feature.GetGeometryRef()
-        if geometry is None:
+        identifier, name = feature.identifier, self._layer.name_of(feature)[:_NAME_SHOWN]
+        if feature.geometry is None:
             self._problem(identifier, "without a geometry", name)
             return []
-        members = ogr.members(geometry) if self._taking.parts_collections else [geometry]
+        members = ogr.members(feature.geometry) if self._taking.parts_collections else [feature.geometry]
         binaries = [self._flat(each) for each in members]
         shapes = [(source, self._shape(identifier, name, source, flat)) for source, flat in binaries]
         taken = [(source, shape) for source, shape in shapes if shape is not None]
@@ -213,27 +211,16 @@ class LayerImport:
 
     def _fitted(self, shape: Shape) -> Shape:
         """A shape of a Shapefile, which tells no Multi form of one member from its member, as a store's layer has it."""
-        if self._driver == _SHAPEFILE and KINDS.index(self._taken_kind) == shape.code + 3:
+        if self._layer.format == _SHAPEFILE and KINDS.index(self._taken_kind) == shape.code + 3:
             return shape._replace(code=shape.code + 3)
         return shape
 
-    def _values(self, feature: Any, name: str, source: bytes) -> dict[int, Any]:
+    def _values(self, feature: Feature, name: str, source: bytes) -> dict[int, Any]:
         """The values of a feature. What is left out of them is told."""
         values, faults = self._fields.values(feature)
         for reason, detail in faults:
-            self._problem(feature.GetFID(), reason, _named(name, detail), source)
+            self._problem(feature.identifier, reason, _named(name, detail), source)
         return values
-
-    def _name_of(self, feature: Any) -> str:
-        """The name of a feature, from its column of names."""
-        if self._name_place is None or not feature.IsFieldSetAndNotNull(self._name_place):
-            return ""
-        try:
-            name: str = feature.GetFieldAsString(self._name_place)
-            name.encode("utf-8")
-        except UnicodeError:
-            return ""
-        return name[:_NAME_SHOWN]
 
     def _judge(self, scratch: Store, batch: list[_Candidate]) -> None:
         """Takes the features whose geometry the program takes. The others are told, or mended."""
@@ -281,7 +268,7 @@ class LayerImport:
 
     def _make_multi(self) -> None:
         """Makes Multi forms of all features, where a Shapefile has both: it tells them apart by their parts alone."""
-        if self._driver != _SHAPEFILE or self._kinds not in ({2, 5}, {3, 6}):
+        if self._layer.format != _SHAPEFILE or self._kinds not in ({2, 5}, {3, 6}):
             return
         single, multi = sorted(self._kinds)
         count = 0
@@ -317,9 +304,8 @@ class LayerImport:
 
     def _kind(self) -> int:
         """The declared kind where all features have it, that of a Shapefile's Multi forms, else that any is taken."""
-        _, module, _ = ogr.gdal()
-        declared = int(module.GT_Flatten(self._layer.GetGeomType()))
-        if self._driver == _SHAPEFILE and declared in (2, 3) and self._kinds == {declared + 3}:
+        declared = self._layer.kind()
+        if self._layer.format == _SHAPEFILE and declared in (2, 3) and self._kinds == {declared + 3}:
             return declared + 3
         if 1 <= declared <= 6 and self._kinds <= {declared}:
             return declared
@@ -331,7 +317,8 @@ class LayerImport:
         self._report.taken[self._source_name] = len(self._features)
         for reason, names in self._fields.left:
             self._report.problem(self._source_name, None, reason, ", ".join(names))
-        self._tell_missing()
+        for reason, detail in self._layer.lost(len(self._identifiers)):
+            self._report.problem(self._source_name, None, reason, detail)
         if self._flattened:
             self._note(f"Z or M was dropped of {self._flattened} features")
         if self._parted:
@@ -340,19 +327,6 @@ class LayerImport:
             for identifier in self._parted:
                 self._report.change(self._source_name, identifier, "parted")
         self._tell_rounding()
-
-    def _tell_missing(self) -> None:
-        """Tells what a source has, and does not give."""
-        count = self._layer.GetFeatureCount(0) if self._driver in _COUNTED else -1
-        if count > len(self._identifiers):
-            missing = f"{len(self._identifiers)} of the {count} features that the file counts"
-            self._report.problem(self._source_name, None, "it is cut off", missing)
-        if self._driver == _SHAPEFILE and not _has_values(self._source, self._layer.GetName()):
-            self._report.problem(self._source_name, None, "it has no values", "its .dbf is missing")
-        definition = self._layer.GetLayerDefn()
-        further = [definition.GetGeomFieldDefn(at).GetName() for at in range(1, definition.GetGeomFieldCount())]
-        if further:
-            self._report.problem(self._source_name, None, "further columns of geometries are left out", ", ".join(further))
 
     def _tell_rounding(self) -> None:
         rounding = self._rounding
@@ -388,25 +362,3 @@ def _sources_of(numbers: list[int], sources: list[int]) -> Callable[[int], int]:
 def _named(name: str, detail: str) -> str:
     """A detail with the name of its feature."""
     return f"{name}: {detail}" if name and detail else name or detail
-
-
-def _name_place(layer: Any) -> int | None:
-    """The place of the column that has the features' names: one of texts that is called so."""
-    _, module, _ = ogr.gdal()
-    definition = layer.GetLayerDefn()
-    fields = [definition.GetFieldDefn(place) for place in range(definition.GetFieldCount())]
-    names = [field.GetName().casefold() if field.GetType() == module.OFTString else "" for field in fields]
-    if "name" in names:
-        return names.index("name")
-    return next((place for place, name in enumerate(names) if "name" in name), None)
-
-
-def _has_values(source: Any, name: str) -> bool:
-    """Whether a Shapefile has the file of its values. One in a folder of files is found by the layer's name."""
-    path: str = source.GetDescription()
-    folder = path if os.path.isdir(path) else os.path.dirname(path) or "."
-    try:
-        return f"{name}.dbf".casefold() in (found.casefold() for found in os.listdir(folder))
-    except OSError:
-        # In an archive OGR finds it by itself.
-        return True

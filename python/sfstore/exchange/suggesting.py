@@ -11,6 +11,7 @@ from typing import Any
 
 from sfstore.exchange import ogr
 from sfstore.exchange.grid import LEAST, MOST, NOISE_ULPS, Grid, OffGrid, Outside
+from sfstore.exchange.layers import Layer
 from sfstore.geometry import NotTaken, read_wkb
 
 __all__ = ["suggestion"]
@@ -49,7 +50,7 @@ class _Survey:
         return line
 
 
-def suggestion(layers: list[Any], drops_zm: bool = False, parts_collections: bool = False) -> str:
+def suggestion(layers: list[Layer], drops_zm: bool = False, parts_collections: bool = False) -> str:
     """Some lines: the words ``--grid OX OY STEP``, and what would not fit, for the layers."""
     survey = _Survey(drops_zm, parts_collections)
     _survey(layers, survey)
@@ -66,22 +67,21 @@ def suggestion(layers: list[Any], drops_zm: bool = False, parts_collections: boo
     return told + f"--grid {x} {y} {unit}\n" + _fits(survey, grid, unit)
 
 
-def _survey(layers: list[Any], survey: _Survey) -> None:
+def _survey(layers: list[Layer], survey: _Survey) -> None:
     """Looks at all coordinates of the layers."""
     for layer in layers:
-        with ogr.progress(layer.GetName(), layer.GetFeatureCount()) as show:
-            for feature, fault in ogr.features(layer):
-                if fault:
-                    survey.left_out[f"could not be read: {fault}"] += 1
+        with ogr.progress(layer.name, layer.count()) as show:
+            for feature in layer.features():
+                if feature.fault:
+                    survey.left_out[f"could not be read: {feature.fault}"] += 1
                 else:
-                    _look_at(feature, survey)
+                    _look_at(feature.geometry, survey)
                 show(1)
     for places in survey.places:
         survey.decimals.update(map(_decimals, places))
 
 
-def _look_at(feature: Any, survey: _Survey) -> None:
-    geometry = feature.GetGeometryRef()
+def _look_at(geometry: Any, survey: _Survey) -> None:
     if geometry is None:
         survey.left_out["without a geometry"] += 1
         return

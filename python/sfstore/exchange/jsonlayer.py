@@ -1,0 +1,414 @@
+"""GeoJSON and GeoJSONSeq as a layer. A file is read twice: for what it has as a whole, and for its features.
+
+What a feature has is told or taken: members beside its properties, names that stand twice, identifiers that the store
+has no place for, and values of several kinds in one column.
+"""
+
+from __future__ import annotations
+
+import os
+import re
+from collections import Counter
+from collections.abc import Iterator, Mapping
+from dataclasses import dataclass, field
+from decimal import Decimal
+from typing import Any, NamedTuple
+
+from sfstore.exchange import ogr
+from sfstore.exchange.columns import INTEGER, INTEGER_64, REAL, STRING
+from sfstore.exchange.fields import text_fault
+from sfstore.exchange.jsongeometry import KINDS, binary
+from sfstore.exchange.jsontext import Repeated, members, object_of, text_of
+from sfstore.exchange.layers import Fault, Feature, Layer, Left, Lost, SourceColumns
+from sfstore.exchange.names import kept_name, new_name
+from sfstore.language import IDENTIFIER_MAX, INT_MAX, INT_MIN
+from sfstore.sidecar import ColumnOrigin, Crs
+from sfstore.storefile import INT, TEXT, FileColumn, FileFeature
+
+__all__ = ["JsonLayer"]
+
+_OF_A_COLLECTION = {"type", "features", "name", "crs", "bbox"}
+_OF_A_FEATURE = {"type", "id", "geometry", "properties", "bbox"}
+_OF_A_GEOMETRY = {"type", "coordinates", "geometries", "bbox"}
+_SHORT_MIN, _SHORT_MAX = -(2**31), 2**31 - 1
+# How many faults are told.
+_SHOWN = 8
+# Names of reference systems that OGR looks up in its own tables. Others could be those of files, or of the network.
+_CRS_NAME = re.compile(r"(urn:|https?://(www\.)?opengis\.net/def/crs/)[A-Za-z0-9:/._-]+|[A-Z]+:[A-Za-z0-9]+")
+# The column of identifiers that the store can't have.
+_IDENTIFIER = "id"
+# In which order the kinds of values are told.
+_KINDS_OF_VALUES = ["whole numbers", "real numbers", "booleans", "texts", "objects", "lists"]
+_WHOLE, _REAL, _BOOLEAN, _TEXT, _OBJECT, _LIST = _KINDS_OF_VALUES
+_NUMBERS, _NESTED = {_WHOLE, _REAL}, {_OBJECT, _LIST}
+
+
+class _Properties(NamedTuple):
+    """A feature as it stands in the file."""
+
+    identifier: Any
+    """Its member ``id``, or none."""
+    geometry: Any
+    known: dict[str, Any]
+    further: list[str]
+    """Members that are none of GeoJSON."""
+    fault: str = ""
+
+
+@dataclass
+class _Column:
+    """What the values of a column are."""
+
+    kinds: set[str] = field(default_factory=set)
+    is_short: bool = True
+    """Whether each whole number has 32 bits."""
+    is_whole: bool = True
+    """Whether each number is a whole one of the store."""
+
+    def add(self, value: Any) -> None:
+        kind = _kind_of(value)
+        self.kinds.add(kind)
+        if kind in _NUMBERS:
+            self.is_whole = self.is_whole and _is_whole(value)
+            self.is_short = self.is_short and _SHORT_MIN <= value <= _SHORT_MAX
+
+    @property
+    def type(self) -> tuple[str, str]:
+        """Its type and the type's kind, in OGR's words."""
+        if self.kinds == {_WHOLE}:
+            return INTEGER if self.is_short else INTEGER_64, "None"
+        if self.kinds == {_BOOLEAN}:
+            return INTEGER, "Boolean"
+        if self.kinds and self.kinds <= _NUMBERS:
+            return REAL, "None"
+        return STRING, "JSON" if self.kinds and self.kinds <= _NESTED else "None"
+
+    @property
+    def is_mixed(self) -> bool:
+        """Whether its values are texts because they are of several kinds."""
+        return len(self.kinds) > 1 and not self.kinds <= _NUMBERS and not self.kinds <= _NESTED
+
+
+@dataclass
+class _Survey:
+    """What a file has as a whole."""
+
+    head: dict[str, Any] = field(default_factory=dict)
+    """The members of its collection, but for the features."""
+    count: int = 0
+    columns: dict[str, _Column] = field(default_factory=dict)
+    identifiers: set[int] = field(default_factory=set)
+    """The identifiers that the store can have."""
+    identifier: _Column = field(default_factory=_Column)
+    """What all identifiers are."""
+    kinds: set[int] = field(default_factory=set)
+    """The codes of the kinds of geometries."""
+    further: Counter[str] = field(default_factory=Counter)
+    """How many features have members that are none of GeoJSON, by the members."""
+    elements: int = 0
+    faults: list[str] = field(default_factory=list)
+    """Why some elements are no features."""
+
+    def add(self, feature: _Properties) -> None:
+        self.elements += 1
+        if feature.fault:
+            self.faults.append(f"element {self.elements} ({feature.fault})")
+            return
+        self.count += 1
+        self.further.update(feature.further)
+        if feature.identifier is not None:
+            self.identifier.add(feature.identifier)
+            if type(feature.identifier) is int and 0 <= feature.identifier < IDENTIFIER_MAX:
+                self.identifiers.add(feature.identifier)
+        kind = feature.geometry.get("type") if isinstance(feature.geometry, dict) else None
+        if kind in KINDS:
+            self.kinds.add(KINDS.index(kind))
+        for name, value in feature.known.items():
+            column = self.columns.setdefault(name, _Column())
+            if value is not None:
+                column.add(value)
+
+    @property
+    def keeps_identifiers(self) -> bool:
+        """Whether each feature has an identifier of its own that the store can have."""
+        return len(self.identifiers) == self.count
+
+    @property
+    def has_column_of_identifiers(self) -> bool:
+        return not self.keeps_identifiers and bool(self.identifier.kinds)
+
+
+class JsonLayer(Layer):
+    """The layer of a file. `ogr.ExchangeError` where it is no GeoJSON."""
+
+    format = "GeoJSON"
+
+    def __init__(self, path: str) -> None:
+        self._path = path
+        self._survey = _surveyed(path)
+        name = self._survey.head.get("name")
+        self.name = name if isinstance(name, str) and name else os.path.splitext(os.path.basename(path))[0]
+        self._names = _columns_of_names(self._survey.columns)
+
+    def crs(self) -> Crs | None:
+        return _crs(self._survey.head)
+
+    def count(self) -> int:
+        return self._survey.count
+
+    def features(self) -> Iterator[Feature]:
+        _, module, _ = ogr.gdal()
+        for at, found in enumerate(feature for feature in _features(self._path, {}) if not feature.fault):
+            identifier = found.identifier if self._survey.keeps_identifiers else at
+            geometry, fault = None, ""
+            try:
+                if found.geometry is not None:
+                    geometry = module.CreateGeometryFromWkb(binary(found.geometry))
+            except (ValueError, RuntimeError) as error:
+                # One that is nested too deeply is among these.
+                fault = str(error)
+            yield Feature(identifier, geometry, found, fault)
+
+    def kind(self) -> int:
+        return min(self._survey.kinds) if len(self._survey.kinds) == 1 else 0
+
+    def name_of(self, feature: Feature) -> str:
+        found = next((feature.content.known.get(name) for name in self._names), None)
+        if not isinstance(found, str):
+            return ""
+        return kept_name(found, "")
+
+    def columns(self, as_text: bool, names: Mapping[str, str], wanted: Mapping[str, str]) -> SourceColumns:
+        return _Columns(self._survey, as_text, names, wanted)
+
+    def lost(self, read: int) -> Iterator[Lost]:
+        if self._survey.faults:
+            faults = self._survey.faults
+            more = f" and {len(faults) - _SHOWN} more" if len(faults) > _SHOWN else ""
+            yield Lost("elements that are no features are left out", ", ".join(faults[:_SHOWN]) + more)
+        if self._survey.further:
+            shown = ", ".join(f"{name} of {count}" for name, count in self._survey.further.items())
+            yield Lost("members of features that are no properties are left out", shown)
+        head = self._survey.head
+        further = [name for name in head if name not in _OF_A_COLLECTION]
+        if further:
+            yield Lost("members of the file beside its features are left out", ", ".join(further))
+        if head.get("crs") is not None and not _is_known(head["crs"]):
+            yield Lost("a reference system that is unknown is left out", f"{text_of(head['crs']):.100}")
+
+
+def _surveyed(path: str) -> _Survey:
+    survey = _Survey()
+    for feature in _features(path, survey.head):
+        survey.add(feature)
+    return survey
+
+
+def _features(path: str, head: dict[str, Any]) -> Iterator[_Properties]:
+    """The features of a file. The members of its collection beside them go to ``head``.
+
+    `ogr.ExchangeError` where it is no GeoJSON.
+    """
+    known: list[tuple[str, Any]] = []
+    collections: list[int] = []
+    for text, name, value, is_element in members(path):
+        if is_element:
+            yield _parted(value)
+        elif name == "features" and isinstance(value, list):
+            collections.append(text)
+        elif name:
+            known.append((name, value))
+        else:
+            found = object_of(known)
+            if text in collections:
+                _check_collection(path, found)
+                head.update(found)
+            else:
+                yield _single(path, found)
+            known = []
+        if collections not in ([], [0]) or (collections and text > 0):
+            raise _no_geojson(path, "it has features twice, or beside other objects")
+
+
+def _no_geojson(path: str, why: str) -> ogr.ExchangeError:
+    return ogr.ExchangeError(f"{ogr.printable(path)} is no GeoJSON: {ogr.printable(why)}")
+
+
+def _check_collection(path: str, found: dict[str, Any]) -> None:
+    """`ogr.ExchangeError` where an object that has features is no collection, or has a member twice."""
+    if found.get("type") != "FeatureCollection":
+        raise _no_geojson(path, f"it has features, and the type {found.get('type')!r:.60}")
+    if isinstance(found, Repeated):
+        raise _no_geojson(path, f"{', '.join(found.names)} stands more than once in it")
+
+
+def _single(path: str, found: dict[str, Any]) -> _Properties:
+    """The feature that an object is, or that has it as its geometry."""
+    kind = found.get("type")
+    if kind == "Feature":
+        return _parted(found)
+    if kind in KINDS[1:]:
+        return _parted({"type": "Feature", "properties": {}, "geometry": found})
+    raise _no_geojson(path, "it has no features" if kind == "FeatureCollection" else f"its type is {kind!r:.60}")
+
+
+def _parted(feature: Any) -> _Properties:
+    """The parts of a feature, or why it is none."""
+    fault = _fault_of(feature)
+    if fault:
+        return _Properties(None, None, {}, [], fault)
+    further = [name for name in feature if name not in _OF_A_FEATURE]
+    known = feature.get("properties")
+    if "properties" not in feature:
+        # Some programs write them so, and OGR reads them.
+        known, further = {name: feature[name] for name in further}, []
+    geometry = feature.get("geometry")
+    if isinstance(geometry, dict):
+        further += [f"geometry.{name}" for name in geometry if name not in _OF_A_GEOMETRY]
+    return _Properties(feature.get("id"), geometry, known or {}, further)
+
+
+def _fault_of(feature: Any) -> str:
+    """Why something is no feature, or nothing."""
+    if not isinstance(feature, dict):
+        return "an element that is no object"
+    if feature.get("type") != "Feature":
+        return ogr.printable(f"an element of the type {feature.get('type')!r:.60}")
+    for each in (feature, feature.get("geometry")):
+        if isinstance(each, Repeated):
+            return f"{', '.join(each.names)} stands more than once in it"
+    if not isinstance(feature.get("properties"), (dict, type(None))):
+        return "its properties are no object"
+    return ""
+
+
+def _columns_of_names(columns: Mapping[str, _Column]) -> list[str]:
+    """The column that has the features' names, or none: one of texts that is called so."""
+    texts = [name for name, column in columns.items() if column.kinds == {_TEXT}]
+    exact = [name for name in texts if name.casefold() == "name"]
+    return (exact or [name for name in texts if "name" in name.casefold()])[:1]
+
+
+def _is_known(member: Any) -> bool:
+    """Whether OGR knows the reference system that a member names, without a look into the network."""
+    kind = member.get("type") if isinstance(member, dict) else None
+    if kind != "name":
+        return kind == "EPSG"
+    try:
+        name = member["properties"]["name"]
+        return _CRS_NAME.fullmatch(name) is not None and bool(ogr.crs_named(name))
+    except (ogr.ExchangeError, LookupError, TypeError):
+        return False
+
+
+def _crs(head: Mapping[str, Any]) -> Crs | None:
+    """The reference system of a collection, as OGR reads the member that names it: degrees where there is none."""
+    member = head.get("crs", "")
+    if member not in (None, "") and not _is_known(member):
+        return None
+    crs = {} if member == "" else {"crs": member}
+    try:
+        empty = ogr.open_data(text_of({"type": "FeatureCollection", **crs, "features": []}), ["GeoJSON"])
+        return ogr.crs_of(empty.GetLayer(0))
+    except (RuntimeError, UnicodeError):
+        return None
+
+
+def _kind_of(value: Any) -> str:
+    for types, kind in ((bool, _BOOLEAN), (int, _WHOLE), (str, _TEXT), (dict, _OBJECT), (list, _LIST)):
+        if isinstance(value, types):
+            return kind
+    # A whole number of many digits is no real one.
+    return _WHOLE if isinstance(value, Decimal) and value.as_tuple().exponent == 0 else _REAL
+
+
+def _is_whole(number: int | Decimal) -> bool:
+    """Whether a number is a whole one of the store."""
+    return INT_MIN <= number <= INT_MAX and number == int(number)
+
+
+class _Taken(NamedTuple):
+    """A column that is taken."""
+
+    number: int
+    type: int
+    name: str
+    source_name: str
+    column: _Column
+
+
+class _Columns(SourceColumns):
+    """The columns of a file's features."""
+
+    def __init__(self, survey: _Survey, as_text: bool, names: Mapping[str, str], wanted: Mapping[str, str]) -> None:
+        super().__init__()
+        self._taken: dict[str, _Taken] = {}
+        self._origins: list[ColumnOrigin] = []
+        self._identifiers: _Taken | None = None
+        reals: list[str] = []
+        used: set[str] = set()
+        for source_name, column in survey.columns.items():
+            name = names.get(source_name, source_name)
+            is_text = as_text or wanted.get(name) == "text"
+            if column.type[0] == REAL and not column.is_whole and not is_text:
+                reals.append(source_name)
+                continue
+            self._taken[source_name] = self._take(source_name, new_name(name, used), column)
+        if reals:
+            one = len(reals) == 1
+            words = "1 column" if one else f"{len(reals)} columns"
+            keeps = f"(--as-text keeps {'it' if one else 'them'})"
+            self.left.append(Left(f"{words} of type {REAL} {'is' if one else 'are'} left out {keeps}", reals))
+        if survey.has_column_of_identifiers:
+            name = new_name(names.get(_IDENTIFIER, _IDENTIFIER), used)
+            self._identifiers = self._take(_IDENTIFIER, name, survey.identifier)
+            self.notes.append(f"identifiers that the store can't have are in the column {name}")
+
+    def _take(self, source_name: str, name: str, column: _Column) -> _Taken:
+        type_name, subtype = column.type
+        is_number = type_name in (INTEGER, INTEGER_64) or (type_name == REAL and column.is_whole)
+        if name != source_name:
+            self.renamed.append((source_name, name))
+        if column.is_mixed:
+            kinds = ", ".join(kind for kind in _KINDS_OF_VALUES if kind in column.kinds)
+            self.notes.append(f"column {name} has {kinds}: all are texts")
+        self._origins.append(ColumnOrigin(name, kept_name(source_name, name), type_name, subtype, 0))
+        return _Taken(len(self._origins), INT if is_number else TEXT, name, source_name, column)
+
+    def values(self, feature: Feature) -> tuple[dict[int, Any], list[Fault]]:
+        values: dict[int, Any] = {}
+        faults: list[Fault] = []
+        found: _Properties = feature.content
+        if isinstance(found.known, Repeated):
+            detail = f"the last value of {', '.join(found.known.names)} is taken"
+            faults.append(Fault("a name that stands more than once among the properties", detail))
+        rows = [(self._taken.get(name), value) for name, value in found.known.items()]
+        for taken, value in (*rows, (self._identifiers, found.identifier)):
+            if taken is None or value is None:
+                continue
+            stored, fault = _stored(taken, value)
+            if fault:
+                faults.append(Fault(fault, f"the value of column {taken.name} is left out"))
+            else:
+                values[taken.number] = stored
+        return values, faults
+
+    def finished(self, features: list[FileFeature]) -> tuple[list[FileColumn], list[FileFeature], list[ColumnOrigin]]:
+        taken = [*self._taken.values(), *([self._identifiers] if self._identifiers else [])]
+        return [FileColumn(each.number, each.type, each.name) for each in taken], features, self._origins
+
+
+def _stored(taken: _Taken, value: Any) -> tuple[int | str, str]:
+    """A value as the store has it, and why it can't have it, or nothing."""
+    if taken.type == INT:
+        return (int(value), "") if _is_whole(value) else (0, "a whole number of more than 64 bits")
+    try:
+        text = value if isinstance(value, str) else text_of(value)
+    except RecursionError:
+        return "", "a value that is nested too deeply"
+    try:
+        text.encode("utf-8")
+    except UnicodeError:
+        return "", "a text that is not UTF-8"
+    return text, text_fault(text)
+

@@ -1,0 +1,122 @@
+"""What an import reads: layers with features and columns, whoever reads them.
+
+`sfstore.exchange.sources` has those of OGR, `sfstore.exchange.jsonlayer` those of GeoJSON.
+"""
+
+from __future__ import annotations
+
+from abc import ABC, abstractmethod
+from collections.abc import Iterator, Mapping
+from typing import Any, NamedTuple
+
+from sfstore.sidecar import ColumnOrigin, Crs
+from sfstore.storefile import FileColumn, FileFeature
+
+__all__ = ["Fault", "Feature", "Layer", "Left", "Lost", "SourceColumns", "Source"]
+
+
+class Feature(NamedTuple):
+    """A feature of a source."""
+
+    identifier: int
+    geometry: Any
+    """The geometry, of OGR; none where the feature has none."""
+    content: Any
+    """What the layer's columns and its names are read from."""
+    fault: str = ""
+    """Why it can't be read, or nothing."""
+
+
+class Left(NamedTuple):
+    """Columns that are left out."""
+
+    reason: str
+    names: list[str]
+
+
+class Fault(NamedTuple):
+    """Why a value of a feature is left out."""
+
+    reason: str
+    detail: str
+
+
+class Lost(NamedTuple):
+    """Something of a layer that is not among its features."""
+
+    reason: str
+    detail: str
+
+
+class SourceColumns(ABC):
+    """The columns of a layer that a store can have, and the values of features in them."""
+
+    def __init__(self) -> None:
+        self.left: list[Left] = []
+        """The columns that are left out."""
+        self.renamed: list[tuple[str, str]] = []
+        """The columns with another name in the store, and this name."""
+        self.notes: list[str] = []
+        """What else is to be said of them."""
+
+    def find_odd(self) -> None:
+        """Finds the values that a reader would change, before the first feature is read."""
+
+    def forget_odd(self) -> None:
+        """Lets go of what `find_odd` has found."""
+
+    @abstractmethod
+    def values(self, feature: Feature) -> tuple[dict[int, Any], list[Fault]]:
+        """The values of a feature by the numbers of their columns, and what is left out of them."""
+
+    @abstractmethod
+    def finished(self, features: list[FileFeature]) -> tuple[list[FileColumn], list[FileFeature], list[ColumnOrigin]]:
+        """The columns at the end, the features with them, and what the columns were in the source."""
+
+
+class Layer(ABC):
+    """A layer of a source."""
+
+    name: str
+    format: str
+    """OGR's name of the format."""
+    identifier_column: str = ""
+    geometry_column: str = ""
+    has_geometries: bool = True
+
+    @abstractmethod
+    def crs(self) -> Crs | None:
+        """The reference system."""
+
+    @abstractmethod
+    def count(self) -> int:
+        """How many features there are, or less than 0 where that is not known."""
+
+    @abstractmethod
+    def features(self) -> Iterator[Feature]:
+        """The features in their order. `ogr.ExchangeError` where the source breaks off."""
+
+    @abstractmethod
+    def kind(self) -> int:
+        """The code of the kind that the source declares, 0 or one of another geometry where it is none of the six."""
+
+    @abstractmethod
+    def name_of(self, feature: Feature) -> str:
+        """The name of a feature, from a column of names; nothing where it has none."""
+
+    @abstractmethod
+    def columns(self, as_text: bool, names: Mapping[str, str], wanted: Mapping[str, str]) -> SourceColumns:
+        """The columns. ``names`` are those of the store by those of the source, ``wanted`` types those of a store's layer."""
+
+    @abstractmethod
+    def lost(self, read: int) -> Iterator[Lost]:
+        """What it has beside the ``read`` features that it has given."""
+
+
+class Source(NamedTuple):
+    """What was opened."""
+
+    path: str
+    layers: list[Layer]
+    metadata: str = ""
+    """What an export has left in a GeoPackage, or nothing."""

@@ -1,0 +1,149 @@
+"""What an import opens: layers that OGR reads, and GeoJSON, which Python's own JSON reads."""
+
+from __future__ import annotations
+
+import os
+from collections.abc import Iterator, Mapping
+from typing import Any, NamedTuple
+
+from sfstore.exchange import jsontext, ogr, wayback
+from sfstore.exchange.fields import Fields
+from sfstore.exchange.jsonlayer import JsonLayer
+from sfstore.exchange.layers import Feature, Layer, Lost, Source
+from sfstore.sidecar import Crs
+
+__all__ = ["Opened", "open_source"]
+
+_SHAPEFILE = "ESRI Shapefile"
+# The formats whose files say how many features they have, so that one that was cut is seen.
+_COUNTED = (_SHAPEFILE, "FlatGeobuf")
+_JSON = ("GeoJSON", "GeoJSONSeq")
+
+
+class Opened(NamedTuple):
+    """What a name has opened."""
+
+    sources: list[Source]
+    """One source, or the files of a folder by their names."""
+    left_out: list[tuple[str, str]]
+    """The files of a folder that have the ending of a format and don't open, with the reason."""
+
+
+def open_source(name: str, any_format: bool = False) -> Opened:
+    """What is opened for reading: one source, or the files of a folder by their names.
+
+    `ogr.ExchangeError` where there is none, and for other formats than `ogr.DRIVERS` unless any is allowed.
+    """
+    try:
+        return Opened([_opened(name, any_format)], [])
+    except RuntimeError as error:
+        found = _opened_files(name, any_format) if os.path.isdir(name) else Opened([], [])
+        if not found.sources:
+            # The words of a database may have a password among them.
+            shown = "the database" if name.startswith("PG:") else name
+            raise ogr.ExchangeError(f"{shown} does not open: {_reason(name, error)}") from None
+        return found
+
+
+def _opened(name: str, any_format: bool) -> Source:
+    """A source. `RuntimeError` where OGR opens none, `ogr.ExchangeError` where it is JSON and no GeoJSON."""
+    if jsontext.is_json(name) and not (any_format and ogr.format_of(name) not in (*_JSON, "")):
+        return Source(name, [JsonLayer(name)])
+    data = ogr.open_data(name, None if any_format else list(ogr.DRIVERS))
+    metadata = data.GetMetadataItem(wayback.ITEM) if data.GetDriver().ShortName == "GPKG" else ""
+    layers: list[Layer] = [OgrLayer(data, data.GetLayer(at)) for at in range(data.GetLayerCount())]
+    return Source(name, layers, metadata or "")
+
+
+def _reason(name: str, error: RuntimeError) -> str:
+    """Why a source does not open, with the formats that are read, where it is a file."""
+    if not os.path.isfile(name):
+        return str(error)
+    return f"{error} (it may be of another format than {', '.join(ogr.DRIVERS)}: --any-format reads it)"
+
+
+def _opened_files(folder: str, any_format: bool) -> Opened:
+    """The files of a folder that open."""
+    endings = tuple(ending for several in ogr.DRIVERS.values() for ending in several)
+    found = Opened([], [])
+    for name in sorted(os.listdir(folder)):
+        try:
+            found.sources.append(_opened(os.path.join(folder, name), any_format))
+        except (RuntimeError, ogr.ExchangeError) as error:
+            if name.lower().endswith(endings):
+                found.left_out.append((name, str(error)))
+    return found
+
+
+class OgrLayer(Layer):
+    """A layer that OGR reads."""
+
+    def __init__(self, data: Any, layer: Any) -> None:
+        self._data = data
+        self._layer = layer
+        self.name = layer.GetName()
+        self.format = data.GetDriver().ShortName
+        self.identifier_column = layer.GetFIDColumn()
+        self.geometry_column = layer.GetGeometryColumn()
+        self.has_geometries = layer.GetLayerDefn().GetGeomFieldCount() > 0
+        self._name_place = _name_place(layer)
+
+    def crs(self) -> Crs | None:
+        return ogr.crs_of(self._layer)
+
+    def count(self) -> int:
+        return int(self._layer.GetFeatureCount())
+
+    def features(self) -> Iterator[Feature]:
+        for feature, fault in ogr.features(self._layer):
+            yield Feature(feature.GetFID(), None if fault else feature.GetGeometryRef(), feature, fault)
+
+    def kind(self) -> int:
+        _, module, _ = ogr.gdal()
+        return int(module.GT_Flatten(self._layer.GetGeomType()))
+
+    def name_of(self, feature: Feature) -> str:
+        if self._name_place is None or not feature.content.IsFieldSetAndNotNull(self._name_place):
+            return ""
+        try:
+            name: str = feature.content.GetFieldAsString(self._name_place)
+            name.encode("utf-8")
+        except UnicodeError:
+            return ""
+        return name
+
+    def columns(self, as_text: bool, names: Mapping[str, str], wanted: Mapping[str, str]) -> Fields:
+        return Fields(self._data, self._layer, as_text, names, wanted)
+
+    def lost(self, read: int) -> Iterator[Lost]:
+        count = self._layer.GetFeatureCount(0) if self.format in _COUNTED else -1
+        if count > read:
+            yield Lost("it is cut off", f"{read} of the {count} features that the file counts")
+        if self.format == _SHAPEFILE and not _has_values(self._data, self.name):
+            yield Lost("it has no values", "its .dbf is missing")
+        definition = self._layer.GetLayerDefn()
+        further = [definition.GetGeomFieldDefn(at).GetName() for at in range(1, definition.GetGeomFieldCount())]
+        if further:
+            yield Lost("further columns of geometries are left out", ", ".join(further))
+
+
+def _name_place(layer: Any) -> int | None:
+    """The place of the column that has the features' names: one of texts that is called so."""
+    _, module, _ = ogr.gdal()
+    definition = layer.GetLayerDefn()
+    fields = [definition.GetFieldDefn(place) for place in range(definition.GetFieldCount())]
+    names = [field.GetName().casefold() if field.GetType() == module.OFTString else "" for field in fields]
+    if "name" in names:
+        return names.index("name")
+    return next((place for place, name in enumerate(names) if "name" in name), None)
+
+
+def _has_values(source: Any, name: str) -> bool:
+    """Whether a Shapefile has the file of its values. One in a folder of files is found by the layer's name."""
+    path: str = source.GetDescription()
+    folder = path if os.path.isdir(path) else os.path.dirname(path) or "."
+    try:
+        return f"{name}.dbf".casefold() in (found.casefold() for found in os.listdir(folder))
+    except OSError:
+        # In an archive OGR finds it by itself.
+        return True
