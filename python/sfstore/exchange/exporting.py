@@ -75,6 +75,8 @@ def give_back(wishes: Wishes, say: Say) -> None:
     if wishes.rules is not None:
         rulesfile.check(wishes.rules, wishes.overwrite)
     layers, rules, found = _loaded(wishes)
+    if not layers:
+        raise ogr.ExchangeError(f"{wishes.store} has no layers: there is nothing to write")
     wanted = FORMATS[wishes.format]
     for name in wishes.layers:
         if name not in (names := [layer.name for layer in layers]):

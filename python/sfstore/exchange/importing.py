@@ -26,7 +26,8 @@ from sfstore.exchange.names import new_name
 from sfstore.exchange.publishing import check_target, publish
 from sfstore.exchange.reading import LayerImport, Taking
 from sfstore.exchange.reports import FEATURE_FORMATS, Report
-from sfstore.exchange.sources import open_source
+from sfstore.exchange.sources import check_unchanged, open_source
+from sfstore.exchange.stamps import stamps_of
 from sfstore.exchange.suggesting import suggestion
 from sfstore.exchange.telling import Brought, BroughtFeature, Telling
 from sfstore.language import COLUMN_TYPES
@@ -152,7 +153,8 @@ def bring_in(wishes: Wishes) -> Result:
         crs, layers = _of_one_crs(_chosen_layers(sources, wishes.layers, left), report)
         contents, readings = _read_layers(wishes, layers, grid, left, report)
     found = Sidecar(grid.words, crs, [reading.origin() for reading in readings])
-    rulings = publish(wishes.target, contents, found, wishes.program, wishes.overwrite, left.rules + rules)
+    all_rules = left.rules + rules
+    rulings = publish(wishes.target, contents, found, wishes.program, wishes.overwrite, all_rules, sources)
     brought = {
         content.name: Brought(reading.source_name, partial(_features, content, reading))
         for content, reading in zip(contents, readings)
@@ -259,6 +261,7 @@ def _added(wishes: Wishes, store: Store, path: str, sources: list[Source], repor
         report.note(_shown_source(wishes), f"{len(left.rules)} rules of it are left aside")
     with _heard(wishes, report):
         contents, readings = _read_into(wishes, store, layers, known, left, report)
+    check_unchanged(sources)
     added = add(store, path, wishes.program, contents)
     names = {content.name: reading.source_name for content, reading in zip(contents, readings)}
     if added.refused is not None:
@@ -435,13 +438,14 @@ def _grid_of(wanted: argparse.ArgumentParser, words: list[str] | None) -> Grid |
 
 
 def _check_files(wanted: argparse.ArgumentParser, asked: argparse.Namespace) -> None:
-    """Ends with status 2 where two of the files that are named are one."""
+    """Ends with status 2 where two of the files that are named are one, or one is read with the source."""
     if asked.faulty and os.path.splitext(asked.faulty)[1].lower() not in FEATURE_FORMATS:
         wanted.error(f"{asked.faulty}: faulty features go to a {' or a '.join(FEATURE_FORMATS)}")
     store = os.path.realpath(asked.file)
     named = [os.path.realpath(asked.source), store, *sidecar.beside(store)]
     named += [os.path.realpath(path) for path in (asked.report, asked.faulty, asked.rules) if path]
-    if len(set(named)) < len(named):
+    of_source = {os.path.realpath(path) for path in stamps_of(asked.source)}
+    if len(set(named)) < len(named) or of_source.intersection(named[1:]):
         wanted.error("source, store, rules, report and faulty features are different files")
 
 

@@ -1,7 +1,7 @@
 """GeoJSON and GeoJSONSeq as a layer. A file is read twice: for what it has as a whole, and for its features.
 
-What a feature has is told or taken: members beside its properties, names that stand twice, identifiers that the store
-has no place for, and values of several kinds in one column.
+All that a feature has is taken or reported: members beside its properties, names that stand twice, identifiers that
+the store has no place for, and values of several kinds in one column.
 """
 
 from __future__ import annotations

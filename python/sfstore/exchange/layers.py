@@ -9,6 +9,7 @@ from abc import ABC, abstractmethod
 from collections.abc import Iterator, Mapping
 from typing import Any, NamedTuple
 
+from sfstore.exchange.stamps import Stamps
 from sfstore.sidecar import ColumnOrigin, Crs
 from sfstore.storefile import FileColumn, FileFeature
 
@@ -118,5 +119,7 @@ class Source(NamedTuple):
 
     path: str
     layers: list[Layer]
+    files: Stamps
+    """The files that it is read from, as they were before."""
     metadata: str = ""
     """What an export has left in a GeoPackage, or nothing."""

@@ -23,9 +23,11 @@ import subprocess  # nosec B404: the store's own program is started, without a s
 from collections.abc import Sequence
 
 from sfstore import files, journal, sidecar
+from sfstore.exchange.layers import Source
 from sfstore.exchange.ogr import ExchangeError
 from sfstore.exchange.placing import room_beside, uninterrupted
 from sfstore.exchange.ruling import Ruling, ruled
+from sfstore.exchange.sources import check_unchanged, mode_for
 from sfstore.results import ProgramEnded, Rule
 from sfstore.sidecar import Sidecar
 from sfstore.store import Store
@@ -56,10 +58,12 @@ def publish(
     program: str,
     overwrite: bool,
     rules: Sequence[Rule] = (),
+    sources: Sequence[Source] = (),
 ) -> list[Ruling]:
     """Has the program make a store's file, with the side-car beside it, and gives what became of rules.
 
-    Where it raises, the old file stands with its old side-car.
+    Where it raises, the old file stands with its old side-car. So it does where one of the ``sources`` was written
+    meanwhile. A new file lets others do no more than they do.
     """
     path = os.path.realpath(target)
     with journal.locked(path), room_beside(path) as room:
@@ -67,11 +71,13 @@ def publish(
         sidecar.settle(path)
         made, rulings = _made(room, layers, rules, program, target)
         beside = os.path.join(room, "side-car")
-        if os.path.exists(path):
-            os.chmod(made, os.stat(path).st_mode & 0o777)
+        is_now = os.stat(made)
+        wanted = os.stat(path).st_mode if os.path.exists(path) else is_now.st_mode & mode_for(sources, is_now.st_gid)
+        os.chmod(made, wanted & 0o777)
         # The side-car is made as that of a file in the room, which is of the same bytes.
         sidecar.write(beside, found, [files.digest(made)])
         os.chmod(sidecar.path_of(beside), os.stat(made).st_mode & 0o777)
+        check_unchanged(sources)
         with uninterrupted():
             _put(path, made, sidecar.path_of(beside))
     return rulings

@@ -3,20 +3,24 @@
 from __future__ import annotations
 
 import os
-from collections.abc import Iterator, Mapping
+from collections.abc import Iterator, Mapping, Sequence
+from functools import reduce
+from operator import and_
 from typing import Any, NamedTuple
 
 from sfstore.exchange import jsontext, ogr, wayback
 from sfstore.exchange.fields import Fields
 from sfstore.exchange.jsonlayer import JsonLayer
 from sfstore.exchange.layers import Feature, Layer, Lost, Source
+from sfstore.exchange.stamps import changed, mode_of, stamps_of
 from sfstore.sidecar import Crs
 
-__all__ = ["Opened", "open_source"]
+__all__ = ["Opened", "check_unchanged", "mode_for", "open_source"]
 
 _SHAPEFILE = "ESRI Shapefile"
 # The formats whose files say how many features they have, so that one that was cut is seen.
 _COUNTED = (_SHAPEFILE, "FlatGeobuf")
+_SHAPEFILE_METADATA = "SHAPEFILE"
 _JSON = ("GeoJSON", "GeoJSONSeq")
 
 
@@ -45,14 +49,27 @@ def open_source(name: str, any_format: bool = False) -> Opened:
         return found
 
 
+def check_unchanged(sources: Sequence[Source]) -> None:
+    """`ogr.ExchangeError` where a file was written while it was read: what was read may be of no one moment."""
+    for source in sources:
+        for path in changed(source.files):
+            raise ogr.ExchangeError(f"{ogr.printable(path)} was written while it was read: try again")
+
+
+def mode_for(sources: Sequence[Source], group: int) -> int:
+    """The most that a new file of a group may let others do, which has all that the sources have."""
+    return reduce(and_, (mode_of(source.files, group) for source in sources), 0o777)
+
+
 def _opened(name: str, any_format: bool) -> Source:
     """A source. `RuntimeError` where OGR opens none, `ogr.ExchangeError` where it is JSON and no GeoJSON."""
+    files = stamps_of(name)
     if jsontext.is_json(name) and not (any_format and ogr.format_of(name) not in (*_JSON, "")):
-        return Source(name, [JsonLayer(name)])
+        return Source(name, [JsonLayer(name)], files)
     data = ogr.open_data(name, None if any_format else list(ogr.DRIVERS))
     metadata = data.GetMetadataItem(wayback.ITEM) if data.GetDriver().ShortName == "GPKG" else ""
     layers: list[Layer] = [OgrLayer(data, data.GetLayer(at)) for at in range(data.GetLayerCount())]
-    return Source(name, layers, metadata or "")
+    return Source(name, layers, files, metadata or "")
 
 
 def _reason(name: str, error: RuntimeError) -> str:
@@ -121,6 +138,9 @@ class OgrLayer(Layer):
             yield Lost("it is cut off", f"{read} of the {count} features that the file counts")
         if self.format == _SHAPEFILE and not _has_values(self._data, self.name):
             yield Lost("it has no values", "its .dbf is missing")
+        told = self._layer.GetMetadata(_SHAPEFILE_METADATA) if self.format == _SHAPEFILE else {}
+        if told.get("CPG_VALUE") and not told.get("SOURCE_ENCODING"):
+            yield Lost("its texts are read as UTF-8, as their encoding is unknown", f"its .cpg says {told['CPG_VALUE']:.40}")
         definition = self._layer.GetLayerDefn()
         further = [definition.GetGeomFieldDefn(at).GetName() for at in range(1, definition.GetGeomFieldCount())]
         if further:

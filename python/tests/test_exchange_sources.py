@@ -1,0 +1,194 @@
+"""Tests of what an import owes the files of its source: their rights, and that nobody writes them meanwhile."""
+
+from __future__ import annotations
+
+import os
+import shutil
+import sqlite3
+import unittest
+from unittest import mock
+
+from support import PROGRAM
+from test_exchange import ExchangeCase, bring_in, give_back
+
+from sfstore import Store
+from sfstore.exchange.reading import LayerImport
+
+WORDS = ["--grid", "0", "0", "1"]
+POINTS = {number: (f"POINT ({number} 1)", {}) for number in range(1, 40)}
+
+
+class SourceCase(ExchangeCase):
+    def mode(self, path):
+        return os.stat(path).st_mode & 0o777
+
+    def brought(self, source, *words):
+        return bring_in(source, self.store, *WORDS, *words)
+
+    def shapefile(self):
+        """A Shapefile of the points."""
+        self.points(POINTS)
+        self.assertEqual(self.brought(self.source)[0], 0)
+        target = self.folder / "wells.shp"
+        self.assertEqual(give_back(self.store, target)[0], 0)
+        self.remove_store()
+        return target
+
+    def remove_store(self):
+        for path in self.folder.glob("town.sfs*"):
+            path.unlink()
+
+
+class Rights(SourceCase):
+    def test_a_new_store_lets_others_do_no_more_than_its_source(self):
+        self.points(POINTS)
+        for mode, wanted in ((0o600, 0o600), (0o640, 0o640), (0o444, 0o644), (0o644, 0o644)):
+            with self.subTest(oct(mode)):
+                self.remove_store()
+                self.source.chmod(mode)
+                self.assertEqual(self.brought(self.source)[0], 0)
+                self.assertEqual(self.mode(self.store), wanted)
+                self.assertEqual(self.mode(f"{self.store}.json"), wanted)
+
+    def test_so_it_does_where_one_file_of_a_set_is_closed(self):
+        target = self.shapefile()
+        (self.folder / "wells.dbf").chmod(0o600)
+        self.assertEqual(self.brought(target)[0], 0)
+        self.assertEqual(self.mode(self.store), 0o600)
+
+    def test_one_of_a_folder_as_its_files(self):
+        folder = self.folder / "maps"
+        folder.mkdir()
+        self.points(POINTS)
+        shutil.copy(self.source, folder / "a.gpkg")
+        (folder / "a.gpkg").chmod(0o640)
+        self.assertEqual(self.brought(folder)[0], 0)
+        self.assertEqual(self.mode(self.store), 0o640)
+
+    def test_one_in_the_place_of_another_has_its_rights(self):
+        self.points(POINTS)
+        self.assertEqual(self.brought(self.source)[0], 0)
+        self.store.chmod(0o600)
+        self.assertEqual(self.brought(self.source, "--overwrite")[0], 0)
+        self.assertEqual(self.mode(self.store), 0o600)
+
+
+class Names(SourceCase):
+    def test_no_report_takes_the_place_of_a_file_that_is_read(self):
+        target = self.shapefile()
+        before = {path: path.read_bytes() for path in self.folder.glob("wells.*")}
+        self.assertIn(self.folder / "wells.dbf", before)
+        for word in ("--report", "--rules"):
+            for ending in (".dbf", ".DBF", ".prj", ".shp"):
+                status, _, err = self.brought(target, word, self.folder / f"wells{ending}", "--overwrite")
+                self.assertEqual(status, 2, err)
+                self.assertIn("source, store, rules, report and faulty features are different files", err)
+        self.assertEqual({path: path.read_bytes() for path in self.folder.glob("wells.*")}, before)
+
+    def test_an_encoding_that_nobody_knows_is_told(self):
+        target = self.shapefile()
+        for encoding, status in (("UTF-8", 0), ("1252", 0), ("nonsense", 1)):
+            (self.folder / "wells.cpg").write_text(encoding)
+            found, out, err = self.brought(target, "--overwrite")
+            self.assertEqual((found, err), (status, ""), out)
+            told = "its texts are read as UTF-8, as their encoding is unknown: its .cpg says nonsense\n"
+            self.assertEqual(told in out, status == 1)
+
+    def test_a_store_without_layers_is_no_map(self):
+        with Store(PROGRAM, save=self.store):
+            pass
+        for target, words in ((self.target, []), (self.folder / "map", ["--format", "GeoJSON"])):
+            status, _, err = give_back(self.store, target, *words, *WORDS)
+            self.assertEqual(status, 3)
+            self.assertIn(f"{self.store} has no layers: there is nothing to write\n", err)
+            self.assertFalse(target.exists())
+
+
+class Meanwhile(SourceCase):
+    def while_read(self, change, source, *words):
+        """What is said of an import while something changes a file behind the first layer."""
+        finished = LayerImport.read
+
+        def read(reading):
+            found = finished(reading)
+            change()
+            return found
+
+        with mock.patch.object(LayerImport, "read", read):
+            return self.brought(source, *words)
+
+    def appended(self, path):
+        def change():
+            with open(path, "ab") as file:
+                file.write(b"\n")
+
+        return change
+
+    def assert_refused(self, answer, name):
+        self.assertEqual(answer[0], 3, answer)
+        self.assertIn(f"{self.folder}/{name} was written while it was read: try again\n", answer[2])
+
+    def test_a_file_that_is_written(self):
+        self.points(POINTS)
+        self.assert_refused(self.while_read(self.appended(self.source), self.source), "town.gpkg")
+        self.assertFalse(self.store.exists())
+        self.assertEqual(self.brought(self.source)[0], 0)
+        before = self.store.read_bytes()
+        self.assert_refused(self.while_read(self.appended(self.source), self.source, "--overwrite"), "town.gpkg")
+        self.assertEqual(self.store.read_bytes(), before)
+        self.assertEqual(len(list(self.folder.glob(".*sfstore*"))), 0)
+
+    def test_a_file_in_the_place_of_another(self):
+        self.source = self.folder / "a.geojson"
+        self.source.write_text('{"type": "Point", "coordinates": [1, 2]}')
+
+        def exchange():
+            found = os.stat(self.source)
+            shutil.copy(self.source, self.folder / "new")
+            os.utime(self.folder / "new", ns=(found.st_atime_ns, found.st_mtime_ns))
+            os.replace(self.folder / "new", self.source)
+
+        self.assert_refused(self.while_read(exchange, self.source), "a.geojson")
+
+    def test_a_file_beside_a_shapefile(self):
+        target = self.shapefile()
+        self.assert_refused(self.while_read(self.appended(self.folder / "wells.dbf"), target), "wells.dbf")
+        (self.folder / "wells.prj").unlink(missing_ok=True)
+        self.assert_refused(self.while_read(self.appended(self.folder / "wells.prj"), target), "wells.prj")
+
+    def test_what_another_program_has_of_a_geopackage(self):
+        self.points(POINTS)
+        database = sqlite3.connect(self.source)
+        self.addCleanup(database.close)
+        database.execute("PRAGMA journal_mode = wal")
+        database.execute("PRAGMA wal_autocheckpoint = 0")
+        database.commit()
+
+        def change():
+            database.execute("CREATE TABLE other (a)")
+            database.commit()
+
+        self.assert_refused(self.while_read(change, self.source), "town.gpkg-wal")
+        # The other table is told: it has no geometries.
+        self.assertEqual(self.brought(self.source)[0], 1)
+
+    def test_nothing_is_added_either(self):
+        self.points(POINTS)
+        self.assertEqual(self.brought(self.source)[0], 0)
+        finished = LayerImport.read
+
+        def read(reading):
+            found = finished(reading)
+            self.appended(self.source)()
+            return found
+
+        with mock.patch.object(LayerImport, "read", read):
+            self.assert_refused(bring_in(self.source, self.store, "--add"), "town.gpkg")
+        with Store(self.store, journal=True, program=PROGRAM) as store:
+            self.assertEqual((store.unsaved, len(store.show("wells"))), (0, len(POINTS)))
+
+
+del ExchangeCase, SourceCase
+
+if __name__ == "__main__":
+    unittest.main()
