@@ -311,6 +311,15 @@ class Written(DatabaseCase):
         self.assertEqual([row.get("part") for row in rows], ["0.12345678901234567891", "0.5", "1e-200"])
         self.assertEqual([row.get("long") for row in rows], ["1e+300", "0.1", None])
 
+    def test_the_database_never_counts_back(self):
+        store = self.wells()
+        self.written(store, self.target, *PLAIN)
+        [[sequence]] = self.ask("SELECT pg_get_serial_sequence('wells', 'ogc_fid')")
+        for given, following in ((f"setval('{sequence}', 5000)", 5001), (f"setval('{sequence}', 6000, false)", 6000)):
+            self.ask(f"SELECT {given}")
+            self.written(store, self.target, "--overwrite")
+            self.assertEqual(self.ask(f"SELECT nextval('{sequence}')"), [(following,)])
+
     def test_the_database_counts_on(self):
         store = self.wells("add wells POINT (5 5)", "delete wells 2")
         self.written(store, self.target, *PLAIN)

@@ -443,7 +443,7 @@ class _LayerExport:
         return binary.hex().upper()
 
     def count_on(self) -> None:
-        """Has the database give the identifiers behind those that were given."""
+        """Has the database give the identifiers behind those that were given, by it or by the store."""
         export = self._export
         [[sequence]] = export.rows(
             "SELECT pg_catalog.pg_get_serial_sequence(%s, %s)",
@@ -452,10 +452,11 @@ class _LayerExport:
         )
         if sequence is not None:
             export.rows(
-                "SELECT pg_catalog.setval(%s, %s, false) FROM pg_catalog.pg_sequence "
+                # Where it is further on, it stays: what it has given may stand in other tables.
+                "SELECT pg_catalog.setval(%s, greatest(%s, pg_catalog.nextval(%s)), false) FROM pg_catalog.pg_sequence "
                 "WHERE seqrelid = %s::pg_catalog.regclass AND seqmax >= %s "
                 "AND pg_catalog.has_sequence_privilege(%s, 'UPDATE')",
-                *(sequence, self._part.next_id, sequence, self._part.next_id, sequence),
+                *(sequence, self._part.next_id, sequence, sequence, self._part.next_id, sequence),
             )
 
     def _read_back(self) -> None:
