@@ -13,7 +13,8 @@ from web_support import WebCase
 
 from sfstore import Store
 from sfstore.geometry import Shape, read_wkb
-from sfstore.web import pictures, raster
+from sfstore.language import POINTS_MAX
+from sfstore.web import pictures, raster, windows
 from sfstore.web.changes import targets_of
 from sfstore.web.keeper import Edit
 from sfstore.web.pictures import Pictures, Tile
@@ -43,6 +44,54 @@ def reached(begin, cells):
         found |= further
         edge += further
     return found
+
+
+class Large:
+    """A store of features that are as large as can be. It says how many digits were in memory together at most."""
+
+    DIGITS = 32 * POINTS_MAX
+
+    def __init__(self):
+        self.most = self.asked = 0
+
+    def query(self, layer, ask, geometry):
+        return list(range(1, 1_000))
+
+    def run_all(self, lines):
+        count = len(list(lines))
+        self.asked += count
+        self.most = max(self.most, count * self.DIGITS)
+        line = b"\x01" + (2).to_bytes(4, "little") + (1).to_bytes(4, "little") + bytes(16)
+        # Texts that are alike are one object: so the test itself takes no memory.
+        return [Digits(line.hex())] * count
+
+
+class Digits(str):
+    """Hexadecimal digits that say that they are many."""
+
+    def __len__(self):
+        return Large.DIGITS
+
+    def __str__(self):
+        return self
+
+
+class Sizes(unittest.TestCase):
+    """How much is asked for before it is known how large it is."""
+
+    def test_a_window_stops_where_there_is_no_more_room(self):
+        store = Large()
+        [found] = windows.window_of(store, ["w"], (0, 0, 9, 9))
+        self.assertEqual((found["count"], found["features"]), (999, None))
+        self.assertLessEqual(store.most, 64_000_000)
+        self.assertLess(store.asked, 99)
+
+    def test_a_picture_has_few_in_memory_together(self):
+        store = Large()
+        with unittest.mock.patch.object(pictures, "read_wkb", lambda data: SQUARE), unittest.mock.patch.object(raster, "draw"):
+            Pictures().of(store, "w", Tile(0, 0, 0), time.monotonic() + 60)
+        self.assertEqual(store.asked, 999)
+        self.assertLessEqual(store.most, 64_000_000)
 
 
 class Raster(unittest.TestCase):

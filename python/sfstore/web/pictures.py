@@ -17,7 +17,7 @@ from sfstore.store import Editor, Refused
 from sfstore.web import raster
 from sfstore.web.changes import Target
 from sfstore.web.keeper import Edit
-from sfstore.web.windows import Box, rectangle
+from sfstore.web.windows import Box, hexes_of, rectangle
 
 __all__ = ["LEVEL_MAX", "Picture", "Pictures", "Tile"]
 
@@ -26,8 +26,6 @@ LEVEL_MAX = 23
 
 # A tile of more features is drawn from its quarters.
 _FEATURES_MAX = 20_000
-# How many geometries are asked for at a time.
-_PART = 1_000
 # How many tiles are kept, of some KB each.
 _KEPT_MAX = 4_096
 # An edit that meets more tiles has its layer's pictures drawn anew.
@@ -171,12 +169,8 @@ def _traced(store: Editor, layer: str, features: list[int], tile: Tile) -> bytes
         return b""
     cells = raster.blank()
     left, bottom = tile.x * tile.size, tile.y * tile.size
-    for begin in range(0, len(features), _PART):
-        part = features[begin : begin + _PART]
-        for answer in store.run_all(f"hex {layer} {feature}" for feature in part):
-            if isinstance(answer, Refused):
-                raise answer
-            raster.draw(cells, read_wkb(bytes.fromhex(str(answer))), left, bottom, 1 << tile.level)
+    for digits in hexes_of(store, layer, features):
+        raster.draw(cells, read_wkb(bytes.fromhex(digits)), left, bottom, 1 << tile.level)
     return bytes(cells)
 
 

@@ -6,14 +6,14 @@ simplified, and where there is more than a page can show, it is counted.
 
 from __future__ import annotations
 
-from collections.abc import Sequence
+from collections.abc import Iterator, Sequence
 from typing import Any
 
 from sfstore.geometry import read_wkb
-from sfstore.language import GRID_MAX, GRID_MIN
+from sfstore.language import GRID_MAX, GRID_MIN, POINTS_MAX
 from sfstore.store import Editor, Refused
 
-__all__ = ["ELEMENTS_MAX", "Box", "extent_of", "rectangle", "shapes_of", "window_of"]
+__all__ = ["ELEMENTS_MAX", "Box", "extent_of", "hexes_of", "rectangle", "shapes_of", "window_of"]
 
 Box = tuple[int, int, int, int]
 """Least x and y, greatest x and y."""
@@ -23,8 +23,12 @@ ELEMENTS_MAX = 20_000
 
 # How many hexadecimal digits of geometries a page is sent at most: some 2,000,000 points.
 _DIGITS_MAX = 64_000_000
-# How many geometries are asked for at a time.
-_PART = 1_000
+# A hexadecimal point has so many digits.
+_DIGITS_OF_A_POINT = 32
+# How many geometries are asked for at first, as nobody knows how large they are: as many of the largest as can be sent.
+_FIRST_PART = _DIGITS_MAX // (_DIGITS_OF_A_POINT * POINTS_MAX)
+# How many are asked for at a time where those before were small: a question costs time, and larger ones may follow.
+_PART_MAX = 8 * _FIRST_PART
 # How many features of a layer are looked at in one go to find how far it reaches.
 _SAMPLE = 256
 
@@ -62,16 +66,30 @@ def shapes_of(store: Editor, layer: str, features: Sequence[int]) -> list[list[A
     ]
 
 
-def _hexes(store: Editor, layer: str, features: list[int], most: int) -> list[str] | None:
-    """The geometries of features in hexadecimal, or none where they have too many digits."""
-    hexes: list[str] = []
-    for begin in range(0, len(features), _PART):
-        part = features[begin : begin + _PART]
+def hexes_of(store: Editor, layer: str, features: Sequence[int]) -> Iterator[str]:
+    """The geometries of features in hexadecimal, as many in memory at a time as those before have room for.
+
+    `Refused` where one is not there.
+    """
+    begin, count = 0, _FIRST_PART
+    while begin < len(features):
+        part = features[begin : begin + count]
+        longest = 1
         for answer in store.run_all(f"hex {layer} {feature}" for feature in part):
             if isinstance(answer, Refused):
                 raise answer
-            hexes.append(str(answer))
-            most -= len(hexes[-1])
+            longest = max(longest, len(str(answer)))
+            yield str(answer)
+        begin += len(part)
+        count = min(2 * count, _PART_MAX, max(_FIRST_PART, _DIGITS_MAX // longest))
+
+
+def _hexes(store: Editor, layer: str, features: list[int], most: int) -> list[str] | None:
+    """The geometries of features in hexadecimal, or none where they have too many digits."""
+    hexes: list[str] = []
+    for digits in hexes_of(store, layer, features):
+        hexes.append(digits)
+        most -= len(digits)
         if most < 0:
             return None
     return hexes
