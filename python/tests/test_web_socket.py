@@ -309,6 +309,23 @@ class Together(TestCase):
                 os.unlink(f"{path}.socket")
 
 
+class Between(SocketCase):
+    """Calls while answers of others are on their way."""
+
+    def test_a_call_between_answers_is_refused_and_mixes_nothing(self):
+        self.serve()
+        with self.client() as ann:
+            bodies = [{"layer": "w", "ids": [1]}, {"layer": "w", "ids": []}, {"layer": "w", "ids": [1]}]
+            answers = ann.calls("rows", bodies)
+            first = next(answers)
+            for begin in (lambda: ann.call("ids", layer="w"), lambda: next(ann.calls("ids", [{"layer": "w"}]))):
+                with self.assertRaisesRegex(RuntimeError, "take all of them first"):
+                    begin()
+            rest = list(answers)
+            self.assertEqual([len(each["rows"]) for each in (first, *rest)], [1, 0, 1])
+            self.assertEqual(ann.call("ids", layer="w")["ids"], [1, 2])
+
+
 class Ends(SocketCase):
     """What servers leave, and what they find."""
 

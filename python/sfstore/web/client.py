@@ -54,6 +54,7 @@ class Client:
         self._connection = _connected(store, seconds)
         # What was read of the answer behind the last one.
         self._rest = b""
+        self._is_calling = False
         try:
             hello = self.call("hello", name=name)
         except BaseException:
@@ -89,7 +90,11 @@ class Client:
         """The answers of calls, of which each is sent before the answer of the one before it is given.
 
         So the server does the next one meanwhile. Whoever takes not all of them closes the connection.
+        `RuntimeError`, and nothing is sent, where others were begun whose answers are not all taken.
         """
+        if self._is_calling:
+            raise RuntimeError("answers of the calls before are not taken yet: take all of them first")
+        self._is_calling = True
         waiting = 0
         try:
             for body in bodies:
@@ -102,6 +107,7 @@ class Client:
                 waiting -= 1
                 yield self._answer()
         finally:
+            self._is_calling = False
             if waiting:
                 self.close()
 
