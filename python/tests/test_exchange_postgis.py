@@ -311,6 +311,16 @@ class Written(DatabaseCase):
         self.assertEqual([row.get("part") for row in rows], ["0.12345678901234567891", "0.5", "1e-200"])
         self.assertEqual([row.get("long") for row in rows], ["1e+300", "0.1", None])
 
+    def test_tables_without_geometries_are_told(self):
+        self.ask("CREATE SCHEMA maps; CREATE TABLE maps.owners (x int); CREATE TABLE prices (x int); CREATE VIEW all_prices AS SELECT * FROM prices; "
+                 "CREATE TABLE w (gid serial PRIMARY KEY, geom geometry(Point)); INSERT INTO w (geom) VALUES ('POINT(1 1)')")
+        status, out, err = bring_in(self.target, self.store, *GRID)
+        self.assertEqual((status, err), (1, ""), out)
+        for name in ("all_prices", "maps.owners", "prices"):
+            self.assertIn(f"{name}: 0 features read, 0 taken\n  a table without geometries: its rows are left out\n", out)
+        self.assertNotIn("spatial_ref_sys", out)
+        self.assertEqual(bring_in(self.target, self.store, *GRID, "--layer", "w", "--overwrite")[0], 0)
+
     def test_the_database_never_counts_back(self):
         store = self.wells()
         self.written(store, self.target, *PLAIN)

@@ -187,6 +187,10 @@ def _opened(wishes: Wishes, report: Report) -> list[Source]:
     opened = open_source(wishes.source, wishes.any_format)
     for name, reason in opened.left_out:
         report.problem(name, None, "does not open", reason)
+    for source in opened.sources:
+        # Whoever names layers has not asked for these.
+        for table in source.plain_tables if not wishes.layers else ():
+            report.problem(table, None, "a table without geometries", "its rows are left out")
     return opened.sources
 
 

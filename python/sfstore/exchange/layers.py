@@ -6,7 +6,7 @@
 from __future__ import annotations
 
 from abc import ABC, abstractmethod
-from collections.abc import Iterator, Mapping
+from collections.abc import Iterator, Mapping, Sequence
 from typing import Any, NamedTuple
 
 from sfstore.exchange.stamps import Stamps
@@ -123,3 +123,5 @@ class Source(NamedTuple):
     """The files that it is read from, as they were before."""
     metadata: str = ""
     """What an export has left in a GeoPackage, or nothing."""
+    plain_tables: Sequence[str] = ()
+    """Tables without geometries that are no layers of it."""

@@ -20,6 +20,18 @@ __all__ = ["Opened", "check_unchanged", "mode_for", "open_source"]
 _SHAPEFILE = "ESRI Shapefile"
 # The formats whose files say how many features they have, so that one that was cut is seen.
 _COUNTED = (_SHAPEFILE, "FlatGeobuf")
+# Tables and views of a database in which no column has a geometry. OGR names those of the schema public without it.
+_PLAIN_TABLES = """
+    SELECT CASE nspname WHEN 'public' THEN relname::text ELSE nspname || '.' || relname END AS name
+    FROM pg_catalog.pg_class JOIN pg_catalog.pg_namespace AS n ON n.oid = relnamespace
+    WHERE relkind IN ('r', 'p', 'v', 'm', 'f') AND NOT relispartition
+    AND nspname NOT IN ('pg_catalog', 'information_schema') AND nspname !~ '^pg_(temp|toast)'
+    AND NOT EXISTS (SELECT FROM pg_catalog.pg_depend AS d
+        WHERE d.classid = 'pg_catalog.pg_class'::regclass AND d.objid = pg_class.oid AND d.deptype = 'e')
+    AND NOT EXISTS (SELECT FROM pg_catalog.pg_attribute
+        WHERE attrelid = pg_class.oid AND NOT attisdropped AND format_type(atttypid, NULL) ~ '(^|[.])(geometry|geography)$')
+    ORDER BY 1
+"""
 _SHAPEFILE_METADATA = "SHAPEFILE"
 _JSON = ("GeoJSON", "GeoJSONSeq")
 
@@ -69,7 +81,7 @@ def _opened(name: str, any_format: bool) -> Source:
     data = ogr.open_data(name, None if any_format else list(ogr.DRIVERS))
     metadata = data.GetMetadataItem(wayback.ITEM) if data.GetDriver().ShortName == "GPKG" else ""
     layers: list[Layer] = [OgrLayer(data, data.GetLayer(at)) for at in range(data.GetLayerCount())]
-    return Source(name, layers, files, metadata or "")
+    return Source(name, layers, files, metadata or "", _plain_tables(data, layers))
 
 
 def _reason(name: str, error: RuntimeError) -> str:
@@ -90,6 +102,20 @@ def _opened_files(folder: str, any_format: bool) -> Opened:
             if name.lower().endswith(endings):
                 found.left_out.append((name, str(error)))
     return found
+
+
+def _plain_tables(data: Any, layers: Sequence[Layer]) -> list[str]:
+    """The tables of a database that have no geometries, which OGR does not list, but for those of extensions."""
+    if data.GetDriver().ShortName != "PostgreSQL":
+        return []
+    known = {layer.name for layer in layers}
+    try:
+        result = data.ExecuteSQL(_PLAIN_TABLES)
+    except RuntimeError as error:
+        raise ogr.ExchangeError(f"the database can't be read: {error}") from None
+    names = [str(row.GetField(0)) for row, _ in ogr.features(result)]
+    data.ReleaseResultSet(result)
+    return [name for name in names if name not in known]
 
 
 class OgrLayer(Layer):
