@@ -12,6 +12,7 @@ from support import PROGRAM
 from test_exchange import ExchangeCase, bring_in, give_back
 
 from sfstore import Store
+from sfstore.exchange.jsonlayer import JsonLayer
 from sfstore.exchange.reading import LayerImport
 
 WORDS = ["--grid", "0", "0", "1"]
@@ -149,6 +150,21 @@ class Meanwhile(SourceCase):
             os.replace(self.folder / "new", self.source)
 
         self.assert_refused(self.while_read(exchange, self.source), "a.geojson")
+
+    def test_a_geojson_that_is_written_between_its_two_readings(self):
+        self.source = self.folder / "a.geojson"
+        one = '{"type": "Feature", "id": %s, "properties": {"n": %s, "m": 1}, "geometry": {"type": "Point", "coordinates": [1, 2]}}'
+        columns = JsonLayer.columns
+
+        for identifier, value in (("2", '"x"'), ('"a"', "5"), ("null", "[1]"), ("2", "null")):
+            self.source.write_text(one % (1, 5))
+
+            def written(layer, *words, identifier=identifier, value=value):
+                self.source.write_text(one % (identifier, value))
+                return columns(layer, *words)
+
+            with mock.patch.object(JsonLayer, "columns", written):
+                self.assert_refused(self.brought(self.source), "a.geojson")
 
     def test_a_file_beside_a_shapefile(self):
         target = self.shapefile()

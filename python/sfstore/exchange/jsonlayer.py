@@ -159,7 +159,9 @@ class JsonLayer(Layer):
     def features(self) -> Iterator[Feature]:
         _, module, _ = ogr.gdal()
         for at, found in enumerate(feature for feature in _features(self._path, {}) if not feature.fault):
-            identifier = found.identifier if self._survey.keeps_identifiers else at
+            # One that is none was written since the survey, and the source is refused at the end.
+            is_kept = self._survey.keeps_identifiers and type(found.identifier) is int
+            identifier = found.identifier if is_kept else at
             geometry, fault = None, ""
             try:
                 if found.geometry is not None:
@@ -400,6 +402,8 @@ class _Columns(SourceColumns):
 
 def _stored(taken: _Taken, value: Any) -> tuple[int | str, str]:
     """A value as the store has it, and why it can't have it, or nothing."""
+    if taken.type == INT and not isinstance(value, (int, Decimal)):
+        return 0, "a value that was written since the survey"
     if taken.type == INT:
         return (int(value), "") if _is_whole(value) else (0, "a whole number of more than 64 bits")
     try:
