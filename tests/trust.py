@@ -66,7 +66,7 @@ SUBJECTS: list[tuple[str, list[str]]] = [
     ("Matrices and predicates", ["sf_known", "sf_relate", "sf_query", "sf_joins"]),
     (
         "Features, layers, edits and their inverses",
-        ["sf_refusals", "sf_features", "sf_layers", "sf_steps", "sf_edits"],
+        ["sf_decimals", "sf_dates", "sf_refusals", "sf_features", "sf_layers", "sf_steps", "sf_edits"],
     ),
     ("Several edits as one step", ["sf_patches", "sf_groups", "sf_changes"]),
     ("Rules between features, and the history", ["sf_rules", "sf_ruled_store", "sf_history"]),

@@ -3,31 +3,20 @@ use Rattle.std.proofs.Common.{◌≡◌, ◌∙◌, ℕ, Bool, true, false, cond
 use Rattle.std.specs.Map.{lookup}
 use Rattle.std.specs.Option.{option_map_or}
 use Rattle.std.proofs.lemmas.Bool.{eqb-true}
-use Rattle.std.proofs.lemmas.Bool.Decides.{Decides-int_eq}
 use Rattle.std.proofs.lemmas.List.Elements.{Contains-append_right}
-use Rattle.std.proofs.lemmas.Slice.Eq.{bytes_eq-Decides}
 use Rattle.sf_features.specs.declared.attr_value.AttrValue.{AttrValue}
-use Rattle.sf_features.specs.declared.attr_value.AttrValue.TheVariants.{Int, Text}
+use Rattle.sf_features.proofs.SameLaws.{same-itself, same-value}
 use Rattle.sf_features.specs.Features.{FeatureContent, value_in}
+use Rattle.sf_features.specs.Values.{same_value}
 use Rattle.sf_refusals.specs.declared.refusal.Refusal.TheVariants.{WrongValue}
 use Rattle.sf_layers.specs.Content.{LayerContent}
 use Rattle.sf_layers.proofs.Changes.{IsLayer-layer_of}
 use Rattle.sf_query.proofs.FilterLaws.{found-passes, passes-found, rising-filter}
-use Rattle.sf_console.specs.Answers.{feature_row, found_by, found_in, has_sought, ids_with, is_sought, refusal_line, rows, same_value}
+use Rattle.sf_console.specs.Answers.{feature_row, found_by, found_in, has_sought, ids_with, is_sought, refusal_line, rows}
 use Rattle.sf_console.specs.Laws.{FindRepliesListJustThoseFeatures, RowsOfGetAreRowsOfShow}
 use Rattle.std.specs.Prelude.{decimal}
 
 -- ---- values
-
-same-value : (a b : AttrValue) → same_value a b ≡ true → a ≡ b
-same-value (Int a) (Int b) is = ap Int ((Decides-int_eq a b).0 is)
-same-value (Text a) (Text b) is = ap Text ((bytes_eq-Decides a b).0 is)
-same-value (Int a) (Text b) is = cc
-same-value (Text a) (Int b) is = cc
-
-same-itself : (a : AttrValue) → same_value a a ≡ true
-same-itself (Int a) = (Decides-int_eq a a).1 refl
-same-itself (Text a) = (bytes_eq-Decides a a).1 refl
 
 -- a value that is sought
 abbrev IsSought : Option AttrValue → AttrValue → Type 0

@@ -1,7 +1,7 @@
 //! Features by a value in a column.
 ghost use Rattle.std.specs.Prelude.{◌≡◌, IfOk, option_copied};
 ghost use Rattle.sf_layers.specs.Content.{column_named};
-ghost use Rattle.sf_console.specs.Answers.{has_sought as has_sought_of, ids_with as ids_with_of, is_sought as is_sought_of, may_be_sought as may_be_sought_of, same_value as same_value_of};
+ghost use Rattle.sf_console.specs.Answers.{has_sought as has_sought_of, ids_with as ids_with_of, is_sought as is_sought_of, may_be_sought as may_be_sought_of};
 
 use sf_layers::{AttrValue, Column, ColumnType, Feature, Layer};
 use std::alloc::{AllocError, Global};
@@ -60,18 +60,7 @@ fn is_sought(sought: &Option<AttrValue>, value: &AttrValue) -> bool
     ensures { result ≡ is_sought_of sought.now value.now }
 {
     match sought {
-        Some(sought) => same_value(sought, value),
+        Some(sought) => sought.is_same(value),
         None => true,
-    }
-}
-
-/// Whether two values are one.
-fn same_value(value: &AttrValue, other: &AttrValue) -> bool
-    ensures { result ≡ same_value_of value.now other.now }
-{
-    match (value, other) {
-        (AttrValue::Int(a), AttrValue::Int(b)) => *a == *b,
-        (AttrValue::Text(a), AttrValue::Text(b)) => a.as_str() == b.as_str(),
-        _ => false,
     }
 }

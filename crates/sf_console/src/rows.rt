@@ -1,12 +1,10 @@
 //! Answers of rows: their number, and a line for each.
 ghost use Rattle.std.specs.Prelude.{◌≡◌, ◌++◌, ◌⊎◌, decimal, flat_map, map, string_bytes, None, IfOk, IsSomeAnd, MatchResult, OnOk};
-ghost use Rattle.std.specs.List.{prefix_len};
 ghost use Rattle.sf_commands.specs.Commands.{each};
-ghost use Rattle.sf_commands.specs.Values.{is_plain, quoted};
 ghost use Rattle.sf_console.specs.Answers.{column_rows as column_rows_of, column_type_word as column_type_word_of, feature_row, feature_rows as feature_rows_of, layer_kind_word as layer_kind_word_of, layer_row, line, pair_row, row_under, rows, shown_value};
 
 use sf_geometry::Kind;
-use sf_layers::{AttrValue, Column, ColumnType, Feature, Layer, LayerKind, Store};
+use sf_layers::{Column, ColumnType, Feature, Layer, LayerKind, Store};
 use sf_refusals::Refusal;
 use std::alloc::{AllocError, Global};
 
@@ -66,6 +64,10 @@ fn column_type_word(column_type: ColumnType) -> &'static str
     match column_type {
         ColumnType::Int => "int",
         ColumnType::Text => "text",
+        ColumnType::Decimal => "decimal",
+        ColumnType::Bool => "bool",
+        ColumnType::Date => "date",
+        ColumnType::DateTime => "datetime",
     }
 }
 
@@ -171,44 +173,5 @@ fn push_value(text: &mut String, column: &Column, feature: &Feature) -> Result<(
     text.push(' ')?;
     text.push_str(column.name.as_str())?;
     text.push('=')?;
-    match value {
-        AttrValue::Int(number) => write!(text, "{number}")?,
-        AttrValue::Text(value) => push_quoted(text, value.as_str())?,
-    }
-    Ok(())
-}
-
-/// A text in quotes, each quote in it doubled.
-fn push_quoted(text: &mut String, value: &str) -> Result<(), AllocError>
-    ensures { OnOk result (string_bytes text.new ≡ string_bytes text.old ++ quoted value.now) }
-{
-    text.push('\'')?;
-    let mut rest = value;
-    let mut end = plain_len(rest);
-    while end < rest.len() {
-        text.push_str(&rest[..end])?;
-        text.push_str("''")?;
-        let quote = &rest[end..];
-        rest = &quote[1..];
-        end = plain_len(rest);
-    }
-    text.push_str(rest)?;
-    text.push('\'')
-}
-
-/// How many bytes stand before the first quote of a text.
-fn plain_len(text: &str) -> usize
-    ensures { result ≡ prefix_len is_plain text.now }
-{
-    text.as_bytes()
-        .iter()
-        .take_while(|byte| is_plain_byte(**byte))
-        .count()
-}
-
-/// Whether a byte is no quote.
-fn is_plain_byte(byte: u8) -> bool
-    ensures { result ≡ is_plain byte }
-{
-    byte != b'\''
+    sf_values::push_value(text, value)
 }

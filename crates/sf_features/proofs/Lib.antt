@@ -4,3 +4,4 @@ pub mod Numbers
 pub mod VertexLaws
 pub mod GridLaws
 pub mod Copied
+pub mod SameLaws

@@ -84,6 +84,19 @@ lookup-free test (e ∷ es) none =
 pub lookup-unused : (number : List ℕ → Option ℕ) (entries : List (ℕ × Column)) (n : ℕ) → AreNumbered number entries → numbered (values_of entries) n ≡ None → lookup (nat_eq n) entries ≡ None
 lookup-unused number entries n h unused = lookup-free (nat_eq n) entries (ap (list_any (nat_eq n)) h.keyed ∙ number-free (values_of entries) n unused)
 
+nat_eq-turned : (m n : ℕ) → nat_eq m n ≡ nat_eq n m
+nat_eq-turned m n = grind (arith, nat_tests)
+
+-- the column that stands under a number is the one that has it
+pub lookup-numbered : (entries : List (ℕ × Column)) (n : ℕ) → keys_of entries ≡ map (λ column. column.number) (values_of entries) → lookup (nat_eq n) entries ≡ numbered (values_of entries) n
+lookup-numbered [] n keyed = refl
+lookup-numbered (e ∷ es) n keyed =
+    let first : e.0 ≡ e.1.number = cc in
+    let later : keys_of es ≡ map (λ column. column.number) (values_of es) = cc in
+    ap (λ k. cond (nat_eq n k) (Some e.1) (lookup (nat_eq n) es)) first
+    ∙ ap (λ b. cond b (Some e.1) (lookup (nat_eq n) es)) (nat_eq-turned n e.1.number)
+    ∙ ap (λ o. cond (nat_eq e.1.number n) (Some e.1) o) (lookup-numbered es n later)
+
 -- ---- a column put in at a place
 
 cond-both : {X : Type 0} (a b : Bool) (x y z : X) → (a ≡ true → b ≡ true → ⊥) → cond a x (cond b y z) ≡ cond b y (cond a x z)

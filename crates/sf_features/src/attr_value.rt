@@ -1,30 +1,55 @@
 ghost use Rattle.std.specs.Prelude.{◌≡◌, IfOk};
 ghost use Rattle.std.specs.List.{list_all};
-ghost use Rattle.sf_features.specs.Values.{fits_int as fits_int_of, is_attr_text as is_attr_text_of, is_text_byte as is_text_byte_of, is_of_type};
+ghost use Rattle.sf_dates.specs.Calendar.{is_day as is_day_of, is_moment as is_moment_of};
+ghost use Rattle.sf_features.specs.Values.{fits_int as fits_int_of, is_attr_text as is_attr_text_of, is_text_byte as is_text_byte_of, is_of_type, number_value, same_date, same_datetime, same_decimal, same_value};
 
 use super::column_type::ColumnType;
 use super::text::Text;
+use sf_dates::{Date, DateTime, Day, Moment};
+use sf_decimals::{Decimal, Number};
 use std::alloc::{AllocError, Global};
 
 /// How many bytes an attribute text has at most.
-const TEXT_MAX: usize = 255;
+const TEXT_MAX: usize = 65535;
 
-/// An attribute value.
+/// An attribute value. A whole number is an `Int`, in a column of decimals too, so each number has one form.
 #[derive(Debug, Drop)]
 pub enum AttrValue {
     Int(i64),
     Text(Text),
+    Decimal(Decimal),
+    Bool(bool),
+    Date(Date),
+    DateTime(DateTime),
 }
 
 impl AttrValue {
-    /// Whether the value may stand in a column of the type: a number, or a text of at most 255
-    /// bytes with no control character of ASCII.
+    /// A number as a value, an `Int` where it is whole.
+    pub fn of_number(number: Decimal) -> AttrValue
+        ensures { result ≡ number_value number }
+    {
+        let parts = number.parts();
+        if parts.places == 0 {
+            AttrValue::Int(parts.mantissa)
+        } else {
+            AttrValue::Decimal(number)
+        }
+    }
+
+    /// Whether the value may stand in a column of the type: a whole number; a text of at most 65,535
+    /// bytes with no control character of ASCII; a whole number, or one with 1 to 18 places behind the
+    /// point in its one form; true or false; a day that there is; a moment of such a day.
     pub fn is_of_type(&self, column_type: ColumnType) -> bool
         ensures { result ≡ is_of_type column_type self.now }
     {
         match (column_type, self) {
             (ColumnType::Int, AttrValue::Int(n)) => fits_int(*n),
             (ColumnType::Text, AttrValue::Text(text)) => is_attr_text(text.as_str()),
+            (ColumnType::Decimal, AttrValue::Int(n)) => fits_int(*n),
+            (ColumnType::Decimal, AttrValue::Decimal(number)) => number.is_fraction(),
+            (ColumnType::Bool, AttrValue::Bool(_)) => true,
+            (ColumnType::Date, AttrValue::Date(date)) => is_date(*date),
+            (ColumnType::DateTime, AttrValue::DateTime(moment)) => is_datetime(*moment),
             _ => false,
         }
     }
@@ -33,15 +58,55 @@ impl AttrValue {
     ///
     /// # Errors
     ///
-    /// Out of memory, which a number takes none of.
+    /// Out of memory, which a text alone takes.
     pub fn copy(&self, alloc: Global) -> Result<AttrValue, AllocError>
         ensures { IfOk result (λ copy. copy ≡ self.now) }
     {
         Ok(match self {
             AttrValue::Int(n) => AttrValue::Int(*n),
             AttrValue::Text(text) => AttrValue::Text(text.copy(alloc)?),
+            AttrValue::Decimal(number) => AttrValue::Decimal(*number),
+            AttrValue::Bool(is) => AttrValue::Bool(*is),
+            AttrValue::Date(date) => AttrValue::Date(*date),
+            AttrValue::DateTime(moment) => AttrValue::DateTime(*moment),
         })
     }
+
+    /// Whether two values are one.
+    pub fn is_same(&self, other: &AttrValue) -> bool
+        ensures { result ≡ same_value self.now other.now }
+    {
+        match (self, other) {
+            (AttrValue::Int(a), AttrValue::Int(b)) => *a == *b,
+            (AttrValue::Text(a), AttrValue::Text(b)) => a.as_str() == b.as_str(),
+            (AttrValue::Decimal(a), AttrValue::Decimal(b)) => is_same_decimal(a.parts(), b.parts()),
+            (AttrValue::Bool(a), AttrValue::Bool(b)) => *a == *b,
+            (AttrValue::Date(a), AttrValue::Date(b)) => is_same_date(a.parts(), b.parts()),
+            (AttrValue::DateTime(a), AttrValue::DateTime(b)) => is_same_datetime(
+                a.parts(),
+                b.parts(),
+            ),
+            _ => false,
+        }
+    }
+}
+
+fn is_same_decimal(a: Number, b: Number) -> bool
+    ensures { result ≡ same_decimal a b }
+{
+    a.mantissa == b.mantissa && a.places == b.places
+}
+
+fn is_same_date(a: Day, b: Day) -> bool
+    ensures { result ≡ same_date a b }
+{
+    a.year == b.year && a.month == b.month && a.day == b.day
+}
+
+fn is_same_datetime(a: Moment, b: Moment) -> bool
+    ensures { result ≡ same_datetime a b }
+{
+    is_same_date(a.date, b.date) && a.millisecond == b.millisecond
 }
 
 /// A copy of values by column number.
@@ -67,6 +132,21 @@ fn fits_int(n: i64) -> bool
     ensures { result ≡ fits_int_of n }
 {
     let _ = n;
+    true
+}
+
+// As does each day of the type, and each moment.
+fn is_date(date: Date) -> bool
+    ensures { result ≡ is_day_of date }
+{
+    let _ = date.parts();
+    true
+}
+
+fn is_datetime(moment: DateTime) -> bool
+    ensures { result ≡ is_moment_of moment }
+{
+    let _ = moment.parts();
     true
 }
 

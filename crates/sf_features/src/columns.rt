@@ -87,6 +87,13 @@ impl Columns {
         }
     }
 
+    /// The column of a number, or None where no column has it.
+    pub fn numbered(&self, number: u16) -> Option<&Column>
+        ensures { option_copied result ≡ numbered self.now number }
+    {
+        self.columns.get(&number)
+    }
+
     /// Puts a column at a place of the order, under a name and a number that are free; the columns
     /// from that place on move up by one.
     ///

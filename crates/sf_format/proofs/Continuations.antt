@@ -1,5 +1,8 @@
 -- What follows each field in the definition of its record, under a name that lemmas use.
-use Rattle.std.specs.Prelude.{ℕ, List, [], length, nat_lt, nat_le}
+use Rattle.std.specs.Prelude.{ℕ, ℤ, List, [], length, nat_lt, nat_le}
+use Rattle.sf_dates.specs.declared.day.Day.{Day}
+use Rattle.sf_dates.specs.declared.moment.Moment.{Moment}
+use Rattle.sf_decimals.specs.declared.number.Number.{Number}
 use Rattle.sf_geometry.specs.declared.geometry.Geometry.{Geometry}
 use Rattle.sf_features.specs.declared.column.Column.{Column}
 use Rattle.sf_features.specs.declared.column_type.ColumnType.{ColumnType}
@@ -30,6 +33,26 @@ column_after_number earlier n = do
   column_after_type earlier n column_type
 
 -- ---- a value
+
+abbrev pub decimal_after_mantissa : ℤ → Reading Number
+decimal_after_mantissa mantissa = do
+  places ← number 1
+  done (record { mantissa = mantissa; places = places })
+
+abbrev pub date_after_month : ℕ → ℕ → Reading Day
+date_after_month year month = do
+  day ← number 1
+  done (record { year = year; month = month; day = day })
+
+abbrev pub date_after_year : ℕ → Reading Day
+date_after_year year = do
+  month ← number 1
+  date_after_month year month
+
+abbrev pub moment_after_date : Day → Reading Moment
+moment_after_date day = do
+  millisecond ← number 4
+  done (record { date = day; millisecond = millisecond })
 
 abbrev pub value_after_column : Column → Reading (ℕ × AttrValue)
 value_after_column column = do

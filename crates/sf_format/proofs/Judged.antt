@@ -29,6 +29,9 @@ use Rattle.sf_features.specs.declared.attr_value.AttrValue.{AttrValue}
 use Rattle.sf_features.specs.declared.attr_value.AttrValue.TheVariants as values
 use Rattle.sf_features.specs.Names.{is_name}
 use Rattle.sf_features.specs.Features.{FeatureContent}
+use Rattle.sf_dates.specs.declared.day.Day.{Day}
+use Rattle.sf_dates.specs.declared.moment.Moment.{Moment}
+use Rattle.sf_decimals.specs.declared.number.Number.{Number}
 use Rattle.sf_features.specs.Values.{is_attr_text, text_max}
 use Rattle.sf_layers.specs.declared.layer_kind.LayerKind.{LayerKind}
 use Rattle.sf_layers.specs.Content.{Content, LayerContent, admits, has_layer}
@@ -40,9 +43,9 @@ use Rattle.sf_format.specs.declared.defect.Defect.{Defect}
 use Rattle.sf_format.specs.declared.defect.Defect.TheVariants.{Truncated, TooManyVertices, Invalid, LayerExists, BadName, NoColumn, ColumnExists, WrongValue, WrongKind, IdsExhausted, ColumnsExhausted, BadFile, NoLayer, RuleExists, BadPattern, RuleBroken}
 use Rattle.sf_format.specs.Readings.{Reads, Reading, and_then, ◌>>=◌, done, bytes, judged, field, number, sized, items, end}
 use Rattle.sf_format.specs.Laws.{FilesAreJudgedOverThePlane, HasFaultyGeometry}
-use Rattle.sf_format.specs.Format.{RowReading, row_max, allowed, present, last_number, name, kind_of_byte, type_of_byte, fresh_number, fresh_column_name, column, without_fault, admitted, geometry, typed_value, next_column_of, value, next_of, feature, fresh_layer_name, layer, layers, ask, asked_by, form_of_byte, fresh_rule_name, held_rule, known_layer_name, predicate_of_byte, rule, rules_in, unbroken, head, version_of, on_grid, grid_of, value_of, rules}
+use Rattle.sf_format.specs.Format.{RowReading, row_max, allowed, present, last_number, name, kind_of_byte, type_of_byte, fresh_number, fresh_column_name, column, without_fault, admitted, geometry, signed_number, decimal_parts, decimal_in, bool_of_byte, date_parts, day_in, moment_parts, moment_in, typed_value, next_column_of, value, next_of, feature, fresh_layer_name, layer, layers, ask, asked_by, form_of_byte, fresh_rule_name, held_rule, known_layer_name, predicate_of_byte, rule, rules_in, unbroken, head, version_of, on_grid, grid_of, value_of, rules}
 use Rattle.sf_format.proofs.Again.{at}
-use Rattle.sf_format.proofs.Continuations.{column_after_type, column_after_number, value_after_column, geometry_after_size, feature_after_count, feature_after_geometry, feature_after_id, layer_after_feature_count, layer_after_columns, layer_after_column_count, layer_after_next_column, layer_after_next_id, layer_after_kind, layer_after_name, rule_after_ask, rule_after_first, rule_after_form, rule_after_name, file_after_head, file_after_layers, file_after_rules}
+use Rattle.sf_format.proofs.Continuations.{decimal_after_mantissa, date_after_month, date_after_year, moment_after_date, column_after_type, column_after_number, value_after_column, geometry_after_size, feature_after_count, feature_after_geometry, feature_after_id, layer_after_feature_count, layer_after_columns, layer_after_column_count, layer_after_next_column, layer_after_next_id, layer_after_kind, layer_after_name, rule_after_ask, rule_after_first, rule_after_form, rule_after_name, file_after_head, file_after_layers, file_after_rules}
 use Rattle.sf_format.proofs.Loaded.{GivesSized}
 
 -- what is left of a text is what stands behind its place
@@ -168,11 +171,30 @@ Finds-column row text next earlier =
     (Finds-field row text name (fresh_column_name earlier) (Finds-name row text) (λ title. allowed_other _ ColumnExists title column_exists))
     (λ title. Finds-done {T = Column} row text (record { number = n; name = title; column_type = t }))))
 
+Finds-date : (row : RowReading) (text : List ℕ) → Finds row text date_parts
+Finds-date row text = Finds-then row text (number 2) date_after_year (Finds-number row text 2)
+    (λ year. Finds-then row text (number 1) (date_after_month year) (Finds-number row text 1)
+    (λ month. Finds-then row text (number 1) (λ day. done (record { year = year; month = month; day = day })) (Finds-number row text 1)
+    (λ day. Finds-done {T = Day} row text (record { year = year; month = month; day = day }))))
+
 Finds-typed : (row : RowReading) (text : List ℕ) (t : ColumnType) → Finds row text (typed_value t)
 Finds-typed row text types.Int = Finds-then row text (number 8) (λ n. done (values.Int (cast_signed w64 n))) (Finds-number row text 8) (λ n. Finds-done row text (values.Int (cast_signed w64 n)))
 Finds-typed row text types.Text = Finds-field row text _ _
     (Finds-sized row text 2 _ (λ size. allowed_other (nat_le size text_max) WrongValue size wrong_value))
     (λ word. allowed_other (is_attr_text word) WrongValue (values.Text word) wrong_value)
+Finds-typed row text types.Decimal = Finds-field row text decimal_parts (λ parts. present (decimal_in parts) WrongValue)
+    (Finds-then row text signed_number decimal_after_mantissa
+    (Finds-then row text (number 8) (λ n. done (cast_signed w64 n)) (Finds-number row text 8) (λ n. Finds-done row text (cast_signed w64 n)))
+    (λ m. Finds-then row text (number 1) (λ places. done (record { mantissa = m; places = places })) (Finds-number row text 1)
+    (λ places. Finds-done {T = Number} row text (record { mantissa = m; places = places }))))
+    (λ parts. present_other (decimal_in parts) WrongValue wrong_value)
+Finds-typed row text types.Bool = Finds-rule row text 1 (λ byte. present (bool_of_byte byte) WrongValue) (λ byte. present_other (bool_of_byte byte) WrongValue wrong_value)
+Finds-typed row text types.Date = Finds-field row text date_parts (λ parts. present (day_in parts) WrongValue) (Finds-date row text) (λ parts. present_other (day_in parts) WrongValue wrong_value)
+Finds-typed row text types.DateTime = Finds-field row text moment_parts (λ parts. present (moment_in parts) WrongValue)
+    (Finds-then row text date_parts moment_after_date (Finds-date row text)
+    (λ day. Finds-then row text (number 4) (λ n. done (record { date = day; millisecond = n })) (Finds-number row text 4)
+    (λ n. Finds-done {T = Moment} row text (record { date = day; millisecond = n }))))
+    (λ parts. present_other (moment_in parts) WrongValue wrong_value)
 
 Finds-value : (row : RowReading) (text : List ℕ) (columns : List Column) (earlier : List (ℕ × AttrValue)) → Finds row text (value columns earlier)
 Finds-value row text columns earlier =

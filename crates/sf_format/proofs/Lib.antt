@@ -9,8 +9,9 @@ pub mod Names
 pub mod TakenNames
 pub mod RulesAgain
 pub mod Rows
-pub mod RoundTrip
 pub mod Promises
+pub mod Values
+pub mod RoundTrip
 pub mod Pushed
 pub mod RulesLoaded
 pub mod Loaded

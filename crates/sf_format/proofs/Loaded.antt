@@ -47,8 +47,9 @@ use Rattle.sf_format.specs.declared.defect.Defect.{Defect}
 use Rattle.sf_format.specs.declared.defect.Defect.TheVariants.{TooManyVertices, LayerExists, NoColumn, ColumnExists, WrongValue, WrongKind, IdsExhausted, ColumnsExhausted, BadFile}
 use Rattle.sf_format.specs.Readings.{Fault, Reads, done, bytes, field, number, sized, items, end}
 use Rattle.sf_format.specs.Laws.{AreBytes, FilesAreRuledWell, FilesAreWellFormed, IsRule, IsRuledWell, RulesOfFilesHold}
-use Rattle.sf_format.specs.Format.{RowReading, row_max, allowed, present, last_number, name, kind_of_byte, type_of_byte, fresh_number, fresh_column_name, column, without_fault, admitted, geometry, typed_value, next_column_of, value, next_of, feature, fresh_layer_name, layer, layers, content_in, head, version_of, on_grid, grid_of, rules_in, ruled_content_of, file, value_of}
+use Rattle.sf_format.specs.Format.{RowReading, row_max, allowed, present, last_number, name, kind_of_byte, type_of_byte, fresh_number, fresh_column_name, column, without_fault, admitted, geometry, decimal_parts, decimal_in, bool_of_byte, date_parts, day_in, moment_parts, moment_in, typed_value, next_column_of, value, next_of, feature, fresh_layer_name, layer, layers, content_in, head, version_of, on_grid, grid_of, rules_in, ruled_content_of, file, value_of}
 use Rattle.sf_format.proofs.Again.{at}
+use Rattle.sf_format.proofs.Values.{date-promises, day_in-typed, decimal-promises, decimal_in-typed, moment-promises, moment_in-typed, truth-typed}
 use Rattle.sf_format.proofs.Continuations.{column_after_type, column_after_number, value_after_column, geometry_after_size, feature_after_count, feature_after_geometry, feature_after_id, layer_after_feature_count, layer_after_columns, layer_after_column_count, layer_after_next_column, layer_after_next_id, layer_after_kind, layer_after_name, file_after_head, file_after_layers, file_after_rules}
 use Rattle.sf_format.proofs.Counts.{below_from_cmp}
 use Rattle.sf_format.proofs.Pushed.{all-more, distinct-push, items-length, name-promises}
@@ -144,6 +145,13 @@ typed-promises types.Int = Promises-then (number 8) (λ n. done (values.Int (cas
 typed-promises types.Text = Promises-field (sized 2 (λ size. allowed (nat_le size text_max) WrongValue size)) (λ text. allowed (is_attr_text text) WrongValue (values.Text text)) AreBytes (λ v. IsTrue (is_of_type types.Text v))
     (Promises-sized 2 (λ size. allowed (nat_le size text_max) WrongValue size))
     (λ x y fits e. let r = allowed_of (is_attr_text x) WrongValue (values.Text x) y e in subst (λ v. IsTrue (is_of_type types.Text v)) r.1 r.0)
+typed-promises types.Decimal = Promises-field decimal_parts (λ parts. present (decimal_in parts) WrongValue) (λ d. Unit {0}) (λ v. IsTrue (is_of_type types.Decimal v)) decimal-promises
+    (λ x y any e. decimal_in-typed x y (present_of (decimal_in x) WrongValue y e))
+typed-promises types.Bool = Promises-rule 1 (λ byte. present (bool_of_byte byte) WrongValue) (λ v. IsTrue (is_of_type types.Bool v)) (λ n y fits e. truth-typed n y (present_of (bool_of_byte n) WrongValue y e))
+typed-promises types.Date = Promises-field date_parts (λ parts. present (day_in parts) WrongValue) (λ d. Unit {0}) (λ v. IsTrue (is_of_type types.Date v)) date-promises
+    (λ x y any e. day_in-typed x y (present_of (day_in x) WrongValue y e))
+typed-promises types.DateTime = Promises-field moment_parts (λ parts. present (moment_in parts) WrongValue) (λ m. Unit {0}) (λ v. IsTrue (is_of_type types.DateTime v)) moment-promises
+    (λ x y any e. moment_in-typed x y (present_of (moment_in x) WrongValue y e))
 
 -- what the rule of a column number found
 abbrev pub IsColumnAbove : List Column → ℕ → Column → Type 0

@@ -41,7 +41,7 @@ use Rattle.sf_format.specs.declared.defect.Defect.TheVariants.{TooManyVertices, 
 use Rattle.sf_wkb.specs.declared.grid.Grid.{Grid}
 use Rattle.sf_format.specs.Readings.{Fault, and_then, bytes, field, number, sized, items, Reading, done}
 use Rattle.sf_format.specs.Format.{RowReading, row_max, allowed, present, last_number, name, kind_of_byte, type_of_byte, fresh_number, fresh_column_name, column, without_fault, admitted, geometry, typed_value, next_column_of, value, next_of, feature, fresh_layer_name, layer, layers, content_in, content_of, ruled_content_of, head, version_of, on_grid, grid_of, rules_in, value_of, rules}
-use Rattle.sf_format.specs.Canonical.{behind_length, kind_byte, type_byte, column_bytes, typed_bytes, value_bytes, feature_bytes, layer_bytes, layers_bytes, canonical, front, rules_bytes}
+use Rattle.sf_format.specs.Canonical.{behind_length, kind_byte, type_byte, column_bytes, is_decimal_column, typed_bytes, value_bytes, feature_bytes, layer_bytes, layers_bytes, canonical, front, rules_bytes}
 use Rattle.sf_format.specs.Laws.{CanonicalBytesLoad, CanonicalBytesDiffer, FirstCanonicalBytesLoad, IsRuledWell, RuledBytesDiffer, RuledBytesLoad, SecondCanonicalBytesLoad, ThirdCanonicalBytesLoad, AreIn}
 use Rattle.sf_format.proofs.Again.{at, Again, Again-done, Again-then, Again-made, Again-value, Again-bytes, Again-field, Again-number, Again-number_field, Again-sized, EachAgain, Again-items}
 use Rattle.sf_format.proofs.Continuations.{column_after_type, column_after_number, value_after_column, geometry_after_size, feature_after_count, feature_after_geometry, feature_after_id, layer_after_feature_count, layer_after_columns, layer_after_column_count, layer_after_next_column, layer_after_next_id, layer_after_kind, layer_after_name, file_after_head, file_after_layers, file_after_rules}
@@ -49,6 +49,7 @@ use Rattle.sf_format.proofs.Counts.{below_from_cmp, column-count, feature-count,
 use Rattle.sf_format.proofs.Names.{distinct-fresh, name-again}
 use Rattle.sf_format.proofs.Rules.{allowed-ok, both, both_of}
 use Rattle.sf_format.proofs.RulesAgain.{rules-again}
+use Rattle.sf_format.proofs.Values.{typed-again}
 use Rattle.sf_format.proofs.Rows.{HasRows, IsRow, narrow-rows, wide-rows}
 
 -- ---- what stands before
@@ -90,10 +91,18 @@ last-below (e ∷ (next ∷ more)) x later some rising = last-below (next ∷ mo
 type_byte-fits : (t : ColumnType) → type_byte t < 256
 type_byte-fits types.Int = omega arith
 type_byte-fits types.Text = omega arith
+type_byte-fits types.Decimal = omega arith
+type_byte-fits types.Bool = omega arith
+type_byte-fits types.Date = omega arith
+type_byte-fits types.DateTime = omega arith
 
 type-again : (t : ColumnType) → present (type_of_byte (type_byte t)) WrongValue ≡ Ok t
 type-again types.Int = refl
 type-again types.Text = refl
+type-again types.Decimal = refl
+type-again types.Bool = refl
+type-again types.Date = refl
+type-again types.DateTime = refl
 
 column-again : (next : ℕ) (earlier : List Column) (c : Column) → next ≤ column_end → IsColumn next c
     → list_any (λ e. bytes_eq e.name c.name) earlier ≡ false → list_any (λ e. nat_eq e.number c.number) earlier ≡ false → Again (column next earlier) (column_bytes c) c
@@ -120,31 +129,11 @@ columns-again next earlier (c ∷ cs) ended all names numbers =
 
 -- ---- values
 
-pub text-short : (text : List ℕ) → is_attr_text text ≡ true → length text ≤ text_max
-text-short text is =
-    let front = both_of (nat_le (length text) text_max && is_utf8 text) (list_all is_text_byte text) is in
-    leb-true (length text) text_max (both_of (nat_le (length text) text_max) (is_utf8 text) front.0).0
-
-fits-signed : (n : ℤ) → fits_int n ≡ true → SFits w64 n
-fits-signed (pos n) h = record { sfits = grind (arith, ints) }
-fits-signed (negsuc n) h = record { sfits = grind (arith, ints) }
-
-typed-again : (t : ColumnType) (v : AttrValue) → is_of_type t v ≡ true → Again (typed_value t) (typed_bytes v) v
-typed-again types.Int (values.Int n) is =
-    Again-value (typed_value types.Int) (big_bytes 8 (cast_unsigned w64 n)) _ (values.Int n) (ap values.Int (to_z-of_z w64 n (fits-signed n is)))
-    (Again-made (number 8) (λ n. values.Int (cast_signed w64 n)) (big_bytes 8 (cast_unsigned w64 n)) (cast_unsigned w64 n) (Again-number 8 (cast_unsigned w64 n) (laws.of_z_fits w64 n (fits-signed n is)).fits))
-typed-again types.Text (values.Text text) is =
-    Again-field (sized 2 (λ size. allowed (nat_le size text_max) WrongValue size)) (λ text. allowed (is_attr_text text) WrongValue (values.Text text)) (behind_length 2 text) text (values.Text text)
-    (Again-sized 2 (λ size. allowed (nat_le size text_max) WrongValue size) text (omega (arith, text-short text is)) (allowed-ok _ WrongValue (length text) (le-leb (length text) text_max (text-short text is))))
-    (allowed-ok (is_attr_text text) WrongValue (values.Text text) is)
-typed-again types.Int (values.Text text) is = absurd cc
-typed-again types.Text (values.Int n) is = absurd cc
-
 column-found : (columns : List Column) (before n : ℕ) (v : AttrValue) → before < n → IsValue columns (n, v)
-    → (c : Column) × (next_column_of columns before n ≡ Ok c) × (c.number ≡ n) × (is_of_type c.column_type v ≡ true)
+    → (c : Column) × (next_column_of columns before n ≡ Ok c) × (c.number ≡ n) × (is_of_type c.column_type v ≡ true) × (numbered columns n ≡ Some c)
 column-found columns before n v below is =
     let found = look columns is in
-    (found.0, ap (λ b. present (cond b (numbered columns n) None) NoColumn) (lt-ltb before n below) ∙ ap (λ o. present o NoColumn) found.1, found.2, found.3)
+    (found.0, ap (λ b. present (cond b (numbered columns n) None) NoColumn) (lt-ltb before n below) ∙ ap (λ o. present o NoColumn) found.1, found.2, found.3, found.1)
   where
     look : (cs : List Column) → IsSomeAnd (numbered cs n) (λ c. IsTrue (is_of_type c.column_type v)) → (c : Column) × (numbered cs n ≡ Some c) × (c.number ≡ n) × (is_of_type c.column_type v ≡ true)
     look [] h = absurd h
@@ -157,13 +146,15 @@ column-found columns before n v below is =
         by_test false is later h = let d = later h in (d.0, ap (λ b. cond b (Some c) (numbered cs n)) (sym is) ∙ d.1, d.2, d.3)
 
 value-again : (columns : List Column) (earlier : List (ℕ × AttrValue)) (v : ℕ × AttrValue) → v.0 ≤ column_end → last_number earlier < v.0 → IsValue columns v
-    → Again (value columns earlier) (value_bytes v) v
+    → Again (value columns earlier) (value_bytes columns v) v
 value-again columns earlier v below above is =
     let c = column-found columns (last_number earlier) v.0 v.1 above is in
-    Again-value (value columns earlier) (value_bytes v) (c.0.number, v.1) v (ap (λ n. (n, v.1)) c.2)
-    (Again-then (field (number 2) (next_column_of columns (last_number earlier))) value_after_column (big_bytes 2 v.0) (typed_bytes v.1) c.0 (c.0.number, v.1)
+    let text = typed_bytes (is_decimal_column (numbered columns v.0)) v.1 in
+    Again-value (value columns earlier) (value_bytes columns v) (c.0.number, v.1) v (ap (λ n. (n, v.1)) c.2)
+    (Again-then (field (number 2) (next_column_of columns (last_number earlier))) value_after_column (big_bytes 2 v.0) text c.0 (c.0.number, v.1)
     (Again-number_field 2 v.0 (next_column_of columns (last_number earlier)) c.0 (omega (arith, below)) c.1)
-    (Again-made (typed_value c.0.column_type) (λ content. (c.0.number, content)) (typed_bytes v.1) v.1 (typed-again c.0.column_type v.1 c.3)))
+    (Again-made (typed_value c.0.column_type) (λ content. (c.0.number, content)) text v.1
+    (subst (λ o. Again (typed_value c.0.column_type) (typed_bytes (is_decimal_column o) v.1) v.1) (sym c.4) (typed-again c.0.column_type v.1 c.3))))
 
 -- the number of a value is one of its layer's columns
 value-issued : (next : ℕ) (columns : List Column) (v : ℕ × AttrValue) → AllByRecursion (IsColumn next) columns → IsValue columns v → IsIssued next v.0
@@ -179,7 +170,7 @@ value-issued next columns v all is = look columns all is
         by_test false same later h = later h
 
 values-again : (next : ℕ) (columns : List Column) (earlier vs : List (ℕ × AttrValue)) → next ≤ column_end → AllByRecursion (IsColumn next) columns
-    → AllByRecursion (IsValue columns) vs → IsStrictlySortedBy nat_cmp (keys_of (earlier ++ vs)) → EachAgain (value columns) value_bytes earlier vs
+    → AllByRecursion (IsValue columns) vs → IsStrictlySortedBy nat_cmp (keys_of (earlier ++ vs)) → EachAgain (value columns) (value_bytes columns) earlier vs
 values-again next columns earlier [] ended issued all rising = tt
 values-again next columns earlier (v ∷ vs) ended issued all rising =
     let regrouped : earlier ++ v ∷ vs ≡ (earlier ++ v ∷ []) ++ vs = sym (append_assoc earlier (v ∷ []) vs) in
@@ -198,21 +189,21 @@ geometry-again row kind g is fits =
     (ap (admitted kind) is.read ∙ ap (λ b. cond b (without_fault g (first_fault g)) (Err WrongKind)) fits ∙ ap (without_fault g) is.valid))
 
 feature-again : (row : RowReading) (l : LayerContent) (earlier : List (ℕ × FeatureContent)) (f : ℕ × FeatureContent) → IsRow row f.1.geometry → IsLayer l → IsIssued l.next_id f.0 → IsFeature l.kind l.columns f.1
-    → last_number earlier < f.0 → Again (feature row l.kind l.next_id l.columns earlier) (feature_bytes f) f
+    → last_number earlier < f.0 → Again (feature row l.kind l.next_id l.columns earlier) (feature_bytes l.columns f) f
 feature-again row l earlier f stored is issued fits above =
     let few = value-count l.columns f.1.values fits.rising fits.values in
     let columns = column-count l is in
-    Again-then (field (number 4) (next_of l.next_id (last_number earlier))) (feature_after_id row l.kind l.columns) (big_bytes 4 f.0) (behind_length 4 (canonical_wkb f.1.geometry) ++ (big_bytes 2 (length f.1.values) ++ flat_map value_bytes f.1.values)) f.0 f
+    Again-then (field (number 4) (next_of l.next_id (last_number earlier))) (feature_after_id row l.kind l.columns) (big_bytes 4 f.0) (behind_length 4 (canonical_wkb f.1.geometry) ++ (big_bytes 2 (length f.1.values) ++ flat_map (value_bytes l.columns) f.1.values)) f.0 f
     (Again-number_field 4 f.0 (next_of l.next_id (last_number earlier)) f.0 (omega (arith, issued.1, is.next_id.1)) (allowed-ok _ IdsExhausted f.0 (both _ _ (lt-ltb _ f.0 above) (lt-ltb f.0 l.next_id issued.1))))
-    (Again-then (geometry row l.kind) (feature_after_geometry l.columns f.0) (behind_length 4 (canonical_wkb f.1.geometry)) (big_bytes 2 (length f.1.values) ++ flat_map value_bytes f.1.values) f.1.geometry f
+    (Again-then (geometry row l.kind) (feature_after_geometry l.columns f.0) (behind_length 4 (canonical_wkb f.1.geometry)) (big_bytes 2 (length f.1.values) ++ flat_map (value_bytes l.columns) f.1.values) f.1.geometry f
     (geometry-again row l.kind f.1.geometry stored fits.admitted)
-    (Again-then (field (number 2) (λ n. allowed (nat_le n (length l.columns)) NoColumn n)) (feature_after_count l.columns f.0 f.1.geometry) (big_bytes 2 (length f.1.values)) (flat_map value_bytes f.1.values) (length f.1.values) f
+    (Again-then (field (number 2) (λ n. allowed (nat_le n (length l.columns)) NoColumn n)) (feature_after_count l.columns f.0 f.1.geometry) (big_bytes 2 (length f.1.values)) (flat_map (value_bytes l.columns) f.1.values) (length f.1.values) f
     (Again-number_field 2 (length f.1.values) _ (length f.1.values) (omega (arith, few, columns, is.next_column.1)) (allowed-ok _ NoColumn (length f.1.values) (le-leb _ _ few)))
-    (Again-made (items (value l.columns) (length f.1.values) []) (λ values. (f.0, record { geometry = f.1.geometry; values = values })) (flat_map value_bytes f.1.values) f.1.values
-    (Again-items (value l.columns) value_bytes [] f.1.values (values-again l.next_column l.columns [] f.1.values is.next_column.1 is.columns fits.values fits.rising)))))
+    (Again-made (items (value l.columns) (length f.1.values) []) (λ values. (f.0, record { geometry = f.1.geometry; values = values })) (flat_map (value_bytes l.columns) f.1.values) f.1.values
+    (Again-items (value l.columns) (value_bytes l.columns) [] f.1.values (values-again l.next_column l.columns [] f.1.values is.next_column.1 is.columns fits.values fits.rising)))))
 
 features-again : (row : RowReading) (l : LayerContent) (earlier fs : List (ℕ × FeatureContent)) → AllByRecursion (λ f. IsRow row f.geometry) (values_of fs) → IsLayer l → AllByRecursion (IsIssued l.next_id) (keys_of fs) → AllByRecursion (IsFeature l.kind l.columns) (values_of fs)
-    → IsStrictlySortedBy nat_cmp (keys_of (earlier ++ fs)) → EachAgain (feature row l.kind l.next_id l.columns) feature_bytes earlier fs
+    → IsStrictlySortedBy nat_cmp (keys_of (earlier ++ fs)) → EachAgain (feature row l.kind l.next_id l.columns) (feature_bytes l.columns) earlier fs
 features-again row l earlier [] stored is issued all rising = tt
 features-again row l earlier (f ∷ fs) stored is issued all rising =
     let regrouped : earlier ++ f ∷ fs ≡ (earlier ++ f ∷ []) ++ fs = sym (append_assoc earlier (f ∷ []) fs) in (
@@ -245,7 +236,7 @@ layer-again : (row : RowReading) (earlier : Content) (entry : List ℕ × LayerC
 layer-again row earlier entry stored named free is =
     let title = entry.0 in
     let l = entry.1 in
-    let t7 = flat_map feature_bytes l.features in
+    let t7 = flat_map (feature_bytes l.columns) l.features in
     let t6 = big_bytes 4 (length l.features) ++ t7 in
     let t5 = flat_map column_bytes l.columns ++ t6 in
     let t4 = big_bytes 2 (length l.columns) ++ t5 in
@@ -267,7 +258,7 @@ layer-again row earlier entry stored named free is =
     (Again-then (field (number 4) (λ n. allowed (nat_lt n l.next_id) IdsExhausted n)) (layer_after_feature_count row title l.kind l.next_id l.next_column l.columns) (big_bytes 4 (length l.features)) t7 (length l.features) entry
     (Again-number_field 4 (length l.features) (λ n. allowed (nat_lt n l.next_id) IdsExhausted n) (length l.features) (omega (arith, feature-count l is, is.next_id.1)) (allowed-ok _ IdsExhausted (length l.features) (lt-ltb _ _ (feature-count l is))))
     (Again-made (items (feature row l.kind l.next_id l.columns) (length l.features) []) (λ features. (title, record { kind = l.kind; next_id = l.next_id; next_column = l.next_column; columns = l.columns; features = features })) t7 l.features
-    (Again-items (feature row l.kind l.next_id l.columns) feature_bytes [] l.features (features-again row l [] l.features stored is is.ids is.features is.rising)))))))))
+    (Again-items (feature row l.kind l.next_id l.columns) (feature_bytes l.columns) [] l.features (features-again row l [] l.features stored is is.ids is.features is.rising)))))))))
 
 layers-again : (row : RowReading) (earlier entries : Content) → AllByRecursion (HasRows row) (values_of entries) → AllByRecursion (λ name. IsTrue (is_name name)) (keys_of entries) → IsDistinct bytes_eq (keys_of (earlier ++ entries))
     → AllByRecursion IsLayer (values_of entries) → EachAgain (layer row) layer_bytes earlier entries

@@ -1,5 +1,5 @@
 -- The canonical bytes of a content with rules: the one file that is written for it.
-use Rattle.std.specs.Prelude.{ℕ, List, [], ◌∷◌, ◌++◌, length, flat_map, codes}
+use Rattle.std.specs.Prelude.{ℕ, ℤ, Bool, true, false, List, [], ◌∷◌, ◌++◌, length, flat_map, codes, Option, None, Some}
 use Rattle.std.specs.Int.{w64, cast_unsigned}
 use Rattle.byteorder.specs.Endian.{big_bytes}
 use Rattle.sf_wkb.specs.Grammar.{code_of, canonical as canonical_wkb}
@@ -13,6 +13,10 @@ use Rattle.sf_ruled_store.specs.Ruling.{Form}
 use Rattle.sf_ruled_store.specs.Ruling.{Never, Each}
 use Rattle.sf_ruled_store.specs.Ruled.{Ruled}
 use Rattle.sf_features.specs.Features.{FeatureContent}
+use Rattle.sf_features.specs.Columns.{numbered}
+use Rattle.sf_dates.specs.declared.day.Day.{Day}
+use Rattle.sf_dates.specs.declared.moment.Moment.{Moment}
+use Rattle.sf_decimals.specs.declared.number.Number.{Number}
 use Rattle.sf_layers.specs.Content.{Content, LayerContent}
 use Rattle.sf_layers.specs.declared.layer_kind.LayerKind.{LayerKind}
 use Rattle.sf_layers.specs.declared.layer_kind.LayerKind.TheVariants.{Any, Only}
@@ -35,32 +39,71 @@ kind_byte (Only kind) = code_of kind
 abbrev pub type_byte : ColumnType → ℕ
 type_byte types.Int = 1
 type_byte types.Text = 2
+type_byte types.Decimal = 3
+type_byte types.Bool = 4
+type_byte types.Date = 5
+type_byte types.DateTime = 6
 
 -- the bytes of a column
 abbrev pub column_bytes : Column → List ℕ
 column_bytes column = big_bytes 2 column.number ++ (big_bytes 1 (type_byte column.column_type) ++ behind_length 1 column.name)
 
--- the bytes of a value
-abbrev pub typed_bytes : AttrValue → List ℕ
-typed_bytes (values.Int n) = big_bytes 8 (cast_unsigned w64 n)
-typed_bytes (values.Text text) = behind_length 2 text
+-- whether the numbers of a column have the byte of their places behind them
+abbrev pub is_decimal_type : ColumnType → Bool
+is_decimal_type types.Decimal = true
+is_decimal_type column_type = false
 
--- the bytes of a value, behind the number of its column
-abbrev pub value_bytes : ℕ × AttrValue → List ℕ
-value_bytes entry = big_bytes 2 entry.0 ++ typed_bytes entry.1
+abbrev pub is_decimal_column : Option Column → Bool
+is_decimal_column None = false
+is_decimal_column (Some column) = is_decimal_type column.column_type
 
--- the bytes of a feature, behind its identifier
-abbrev pub feature_bytes : ℕ × FeatureContent → List ℕ
-feature_bytes entry =
+-- the bytes of a whole number; in a column of decimals it has no places
+abbrev pub int_bytes : Bool → ℤ → List ℕ
+int_bytes false n = big_bytes 8 (cast_unsigned w64 n)
+int_bytes true n = big_bytes 8 (cast_unsigned w64 n) ++ big_bytes 1 0
+
+-- the bytes of a number: its digits without the point, and how many of them stand behind it
+abbrev pub decimal_bytes : Number → List ℕ
+decimal_bytes number = big_bytes 8 (cast_unsigned w64 number.mantissa) ++ big_bytes 1 number.places
+
+-- the byte of a truth value
+abbrev pub bool_byte : Bool → ℕ
+bool_byte false = 0
+bool_byte true = 1
+
+-- the bytes of a day: its year, month and day
+abbrev pub date_bytes : Day → List ℕ
+date_bytes day = big_bytes 2 day.year ++ (big_bytes 1 day.month ++ big_bytes 1 day.day)
+
+-- the bytes of a moment: its day, and the millisecond of it
+abbrev pub moment_bytes : Moment → List ℕ
+moment_bytes moment = date_bytes moment.date ++ big_bytes 4 moment.millisecond
+
+-- the bytes of a value, in a column of decimals or in another one
+abbrev pub typed_bytes : Bool → AttrValue → List ℕ
+typed_bytes in_decimals (values.Int n) = int_bytes in_decimals n
+typed_bytes in_decimals (values.Text text) = behind_length 2 text
+typed_bytes in_decimals (values.Decimal number) = decimal_bytes number
+typed_bytes in_decimals (values.Bool b) = big_bytes 1 (bool_byte b)
+typed_bytes in_decimals (values.Date day) = date_bytes day
+typed_bytes in_decimals (values.DateTime moment) = moment_bytes moment
+
+-- the bytes of a value of a feature in a layer with these columns, behind the number of its column
+abbrev pub value_bytes : List Column → ℕ × AttrValue → List ℕ
+value_bytes columns entry = big_bytes 2 entry.0 ++ typed_bytes (is_decimal_column (numbered columns entry.0)) entry.1
+
+-- the bytes of a feature of a layer with these columns, behind its identifier
+abbrev pub feature_bytes : List Column → ℕ × FeatureContent → List ℕ
+feature_bytes columns entry =
     big_bytes 4 entry.0 ++ (behind_length 4 (canonical_wkb entry.1.geometry)
-    ++ (big_bytes 2 (length entry.1.values) ++ flat_map value_bytes entry.1.values))
+    ++ (big_bytes 2 (length entry.1.values) ++ flat_map (value_bytes columns) entry.1.values))
 
 -- the bytes of a layer, behind its name
 abbrev pub layer_bytes : List ℕ × LayerContent → List ℕ
 layer_bytes entry =
     behind_length 1 entry.0 ++ (big_bytes 1 (kind_byte entry.1.kind) ++ (big_bytes 4 entry.1.next_id ++ (big_bytes 2 entry.1.next_column
     ++ (big_bytes 2 (length entry.1.columns) ++ (flat_map column_bytes entry.1.columns
-    ++ (big_bytes 4 (length entry.1.features) ++ flat_map feature_bytes entry.1.features))))))
+    ++ (big_bytes 4 (length entry.1.features) ++ flat_map (feature_bytes entry.1.columns) entry.1.features))))))
 
 -- the bytes of the layers
 abbrev pub layers_bytes : Content → List ℕ

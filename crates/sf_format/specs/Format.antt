@@ -1,5 +1,5 @@
 -- The file format: the content and the rules of a file's bytes, or the first fault in them.
-use Rattle.std.specs.Prelude.{ℕ, Bool, true, false, not, ◌&&◌, List, [], ◌∷◌, length, Option, None, Some, Result, Ok, Err, nat_lt, nat_le, nat_eq, bytes_eq, codes, is_some, option_map, zero, suc, if◌then◌else◌}
+use Rattle.std.specs.Prelude.{ℕ, ℤ, Bool, true, false, not, ◌&&◌, List, [], ◌∷◌, length, Option, None, Some, Result, Ok, Err, nat_lt, nat_le, nat_eq, bytes_eq, codes, is_some, option_map, zero, suc, if◌then◌else◌}
 use Rattle.std.specs.Int.{w64, cast_signed}
 use Rattle.std.specs.Map.{lookup}
 use Rattle.sf_geometry.specs.declared.geometry.Geometry.{Geometry}
@@ -19,7 +19,12 @@ use Rattle.sf_wkb.specs.Grammar.{read_in}
 use Rattle.sf_features.specs.Names.{is_name}
 use Rattle.sf_features.specs.Columns.{named, numbered}
 use Rattle.sf_features.specs.Features.{FeatureContent}
-use Rattle.sf_features.specs.Values.{text_max, is_attr_text}
+use Rattle.sf_features.specs.Values.{text_max, is_attr_text, number_value}
+use Rattle.sf_decimals.specs.declared.number.Number.{Number}
+use Rattle.sf_decimals.specs.Decimals.{is_decimal}
+use Rattle.sf_dates.specs.declared.day.Day.{Day}
+use Rattle.sf_dates.specs.declared.moment.Moment.{Moment}
+use Rattle.sf_dates.specs.Calendar.{is_day, is_moment}
 use Rattle.sf_layers.specs.Content.{Content, LayerContent, has_layer, admits}
 use Rattle.sf_layers.specs.WellFormed.{layers_max}
 use Rattle.sf_layers.specs.declared.layer_kind.LayerKind.{LayerKind}
@@ -75,7 +80,7 @@ kind_of_byte byte = lookup (nat_eq byte) ((0, Any) ∷ (1, Only kinds.Point) ∷
 
 -- the type of a column that a byte stands for
 abbrev pub type_of_byte : ℕ → Option ColumnType
-type_of_byte byte = lookup (nat_eq byte) ((1, types.Int) ∷ (2, types.Text) ∷ [])
+type_of_byte byte = lookup (nat_eq byte) ((1, types.Int) ∷ (2, types.Text) ∷ (3, types.Decimal) ∷ (4, types.Bool) ∷ (5, types.Date) ∷ (6, types.DateTime) ∷ [])
 
 -- a column number that is below the layer's next one and is not used before
 abbrev pub fresh_number : ℕ → List Column → ℕ → Result ℕ Defect
@@ -110,12 +115,60 @@ geometry row kind = do
   size ← field (number 4) (λ size. allowed (nat_le size row_max) TooManyVertices size)
   field (bytes size) (λ text. admitted kind (row text))
 
+-- a number of eight bytes in two's complement
+abbrev pub signed_number : Reading ℤ
+signed_number = do
+  n ← number 8
+  done (cast_signed w64 n)
+
+-- a number: its digits without the point, and how many of them stand behind it
+abbrev pub decimal_parts : Reading Number
+decimal_parts = do
+  mantissa ← signed_number
+  places ← number 1
+  done (record { mantissa = mantissa; places = places })
+
+-- the number as a value, where that is its one form
+abbrev pub decimal_in : Number → Option AttrValue
+decimal_in parts = if is_decimal parts then Some (number_value parts) else None
+
+-- the truth value that a byte stands for
+abbrev pub bool_of_byte : ℕ → Option AttrValue
+bool_of_byte byte = lookup (nat_eq byte) ((0, values.Bool false) ∷ (1, values.Bool true) ∷ [])
+
+-- a year, a month and a day
+abbrev pub date_parts : Reading Day
+date_parts = do
+  year ← number 2
+  month ← number 1
+  day ← number 1
+  done (record { year = year; month = month; day = day })
+
+-- the day, where there is such a day
+abbrev pub day_in : Day → Option AttrValue
+day_in parts = if is_day parts then Some (values.Date parts) else None
+
+-- a day, and a millisecond of it
+abbrev pub moment_parts : Reading Moment
+moment_parts = do
+  day ← date_parts
+  millisecond ← number 4
+  done (record { date = day; millisecond = millisecond })
+
+-- the moment, where there is such a moment
+abbrev pub moment_in : Moment → Option AttrValue
+moment_in parts = if is_moment parts then Some (values.DateTime parts) else None
+
 -- the value of a column of a type
 abbrev pub typed_value : ColumnType → Reading AttrValue
 typed_value types.Int = do
   n ← number 8
   done (values.Int (cast_signed w64 n))
 typed_value types.Text = field (sized 2 (λ size. allowed (nat_le size text_max) WrongValue size)) (λ text. allowed (is_attr_text text) WrongValue (values.Text text))
+typed_value types.Decimal = field decimal_parts (λ parts. present (decimal_in parts) WrongValue)
+typed_value types.Bool = field (number 1) (λ byte. present (bool_of_byte byte) WrongValue)
+typed_value types.Date = field date_parts (λ parts. present (day_in parts) WrongValue)
+typed_value types.DateTime = field moment_parts (λ parts. present (moment_in parts) WrongValue)
 
 -- the column of a number that is above the one before
 abbrev pub next_column_of : List Column → ℕ → ℕ → Result Column Defect

@@ -185,6 +185,13 @@ impl Layer {
         self.columns.place(name)
     }
 
+    /// The column of a number, or None where no column has it.
+    pub fn column_numbered(&self, number: u16) -> Option<&Column>
+        ensures { option_copied result ≡ numbered self.now.columns number }
+    {
+        self.columns.numbered(number)
+    }
+
     /// The index of the features' boxes by identifier, or None where it was lost as memory ran out.
     pub fn index(&self) -> Option<&RTree>
         ensures { IfSome result (λ index. index.now ≡ boxes_of self.now.features) }

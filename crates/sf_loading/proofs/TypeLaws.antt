@@ -1,5 +1,5 @@
 -- Columns by number and their types.
-use Rattle.std.proofs.Common.{◌≡◌, ℕ, Bool, true, false, cond, List, [], ◌∷◌, Option, Some, None, IsTrue, Ok, Err, refl, sym, ap, subst, ◌∙◌, nat_eq}
+use Rattle.std.proofs.Common.{◌≡◌, ℕ, Bool, true, false, cond, List, [], ◌∷◌, Option, Some, None, IfOk, IsTrue, Result, Ok, Err, refl, sym, ap, subst, ◌∙◌, nat_eq}
 use Rattle.std.specs.Prelude.{IsSomeAnd, nat_lt, option_map}
 use Rattle.std.specs.Map.{lookup}
 use Rattle.std.proofs.lemmas.Bool.{eqb-true}
@@ -9,8 +9,10 @@ use Rattle.sf_features.specs.declared.column_type.ColumnType.{ColumnType}
 use Rattle.sf_features.specs.Columns.{numbered}
 use Rattle.sf_features.specs.Values.{is_of_type}
 use Rattle.sf_layers.specs.WellFormed.{IsValue}
-use Rattle.sf_format.specs.declared.defect.Defect.TheVariants.{NoColumn}
+use Rattle.sf_format.specs.declared.defect.Defect.TheVariants.{NoColumn, WrongValue}
 use Rattle.sf_format.specs.Format.{next_column_of, present}
+use Rattle.sf_loading.specs.declared.halt.Halt.{Halt}
+use Rattle.sf_loading.specs.Streaming.{Judges}
 use Rattle.sf_loading.specs.Types.{AreTypesOf}
 
 number-found : (columns : List Column) (n : ℕ) (column : Column) → numbered columns n ≡ Some column → column.number ≡ n
@@ -62,3 +64,10 @@ value-fits columns before x n column value found is typed =
     let there = above-of (nat_lt before x) (numbered columns x) column (present-of (cond (nat_lt before x) (numbered columns x) None) column found) in
     let same = sym (number-found columns x column there) ∙ is in
     subst (λ m. IsValue columns (m, value)) same (subst (λ o. IsSomeAnd o (λ c. IsTrue (is_of_type c.column_type value))) (sym there) typed)
+
+-- where what is there is of a type, so is what a rule lets pass
+pub typed-present : {t : ColumnType} (o : Option AttrValue) (place : ℕ) (r : Result AttrValue Halt) → ((v : AttrValue) → o ≡ Some v → is_of_type t v ≡ true) → Judges (λ v. v) place (present o WrongValue) r
+    → IfOk r (λ v. IsTrue (is_of_type t v))
+typed-present (Some v) place (Ok x) typed is = let same : v ≡ x = cc in typed x (ap Some same)
+typed-present None place (Ok x) typed is = absurd cc
+typed-present o place (Err halt) typed is = tt

@@ -1,12 +1,11 @@
 -- Internal: who wants to trust the program need not read this file.
 -- What happens to a stream while the fields of a file are read from it.
-use Rattle.std.specs.Prelude.{◌≡◌, ℕ, ℤ, false, List, ◌++◌, Option, Some, None, IsTrue, Result, Ok, Err}
-use Rattle.std.specs.Int.{w64, cast_signed}
+use Rattle.std.specs.Prelude.{◌≡◌, ℕ, false, List, ◌++◌, Option, Some, None, IsTrue, Result, Ok, Err}
 use Rattle.std.specs.Io.KnownBytes.{Consumes}
 use Rattle.std.specs.Str.{is_utf8}
 use Rattle.sf_streams.specs.Streams.{Left, AreLeft, Loses, Goes}
 use Rattle.sf_format.specs.declared.defect.Defect.{Defect}
-use Rattle.sf_format.specs.Readings.{Fault, Reading, ◌>>=◌, done, bytes, number}
+use Rattle.sf_format.specs.Readings.{Fault, Reading, done, bytes}
 use Rattle.sf_loading.specs.declared.halt.Halt.{Halt}
 use Rattle.sf_loading.specs.declared.halt.Halt.TheVariants as halts
 
@@ -41,12 +40,6 @@ abbrev pub Judges : {X T : Type 0} → (X → T) → ℕ → Result T Defect →
 Judges view place verdict (Ok x) = verdict ≡ Ok (view x)
 Judges view place verdict (Err (halts.Found there defect)) = (there ≡ place) × (verdict ≡ Err defect)
 Judges view place verdict (Err halt) = Unit {0}
-
--- a number of eight bytes in two's complement
-abbrev pub signed_number : Reading ℤ
-signed_number = do
-  n ← number 8
-  done (cast_signed w64 n)
 
 -- the text of these bytes, or none where they aren't UTF-8
 abbrev pub IsTextOf : List ℕ → Option (List ℕ) → Type 0

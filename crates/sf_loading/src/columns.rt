@@ -107,6 +107,10 @@ fn type_of_byte(byte: u8) -> Option<ColumnType>
     match byte {
         1 => Some(ColumnType::Int),
         2 => Some(ColumnType::Text),
+        3 => Some(ColumnType::Decimal),
+        4 => Some(ColumnType::Bool),
+        5 => Some(ColumnType::Date),
+        6 => Some(ColumnType::DateTime),
         _ => None,
     }
 }

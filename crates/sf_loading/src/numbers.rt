@@ -2,7 +2,8 @@
 ghost use Rattle.std.specs.Prelude.{◌≡◌, ◌≤◌, length, OnOk, IfErr};
 ghost use Rattle.sf_streams.specs.Streams.{ReadsAhead, ahead_max};
 ghost use Rattle.sf_format.specs.Readings.{bytes as read_bytes, number};
-ghost use Rattle.sf_loading.specs.Streaming.{Ends, Gives, signed_number};
+ghost use Rattle.sf_format.specs.Format.{signed_number};
+ghost use Rattle.sf_loading.specs.Streaming.{Ends, Gives};
 
 use super::halt::Halt;
 use byteorder::{BigEndian, ByteOrder};

@@ -10,15 +10,17 @@ ghost use Rattle.sf_features.specs.Values.{is_attr_text, is_of_type, text_max};
 ghost use Rattle.sf_layers.specs.WellFormed.{IsValue};
 ghost use Rattle.sf_format.specs.declared.defect.Defect.TheVariants.{NoColumn, WrongValue};
 ghost use Rattle.sf_format.specs.Readings.{field, items, number};
-ghost use Rattle.sf_format.specs.Format.{allowed as allowed_of, typed_value as typed_value_of, value as value_of};
+ghost use Rattle.sf_format.specs.Format.{allowed as allowed_of, bool_of_byte as bool_of_byte_of, date_parts as date_parts_of, day_in as day_in_of, decimal_in as decimal_in_of, decimal_parts as decimal_parts_of, moment_in as moment_in_of, moment_parts as moment_parts_of, typed_value as typed_value_of, value as value_of};
 ghost use Rattle.sf_loading.specs.Streaming.{Gives, IsTextOf, Judges};
 ghost use Rattle.sf_loading.specs.Types.{AreTypesOf, GivesColumn, value_above};
 
 use super::columns::ColumnTypes;
-use super::fields::allowed;
+use super::fields::{allowed, present};
 use super::halt::Halt;
-use super::numbers::{number_i64, number_u16};
+use super::numbers::{number_i64, number_u8, number_u16, number_u32};
 use super::texts::text;
+use sf_dates::{Date, DateTime, Day, Moment};
+use sf_decimals::{Decimal, Number};
 use sf_features::{AttrValue, ColumnType, Feature, Text};
 use sf_format::Defect;
 use sf_streams::Window;
@@ -26,7 +28,7 @@ use std::alloc::Global;
 use std::io::Read;
 
 /// How many bytes a text has at most.
-const TEXT_MAX: u16 = 255;
+const TEXT_MAX: u16 = 65535;
 
 /// The length of a text.
 fn text_size<R: Read>(window: &mut Window, reader: &mut R) -> Result<u16, Halt>
@@ -81,6 +83,122 @@ fn int_value<R: Read>(window: &mut Window, reader: &mut R) -> Result<AttrValue, 
     Ok(AttrValue::Int(number))
 }
 
+/// The parts of a number: its digits without the point, and how many of them stand behind it.
+fn decimal_parts<R: Read>(window: &mut Window, reader: &mut R) -> Result<Number, Halt>
+    ensures { Gives (λ parts. parts) decimal_parts_of (R.remaining reader.old) (R.remaining reader.new) window.old
+        window.new result }
+{
+    let mantissa = number_i64(window, reader)?;
+    let places = number_u8(window, reader)?;
+    Ok(Number { mantissa, places })
+}
+
+/// The number of these parts as a value, where they are its one form.
+fn decimal_in(parts: Number) -> Option<AttrValue>
+    ensures { result ≡ decimal_in_of parts }
+{
+    match Decimal::new(parts) {
+        Some(number) => Some(AttrValue::of_number(number)),
+        None => None,
+    }
+}
+
+/// A number in its one form.
+fn decimal_value<R: Read>(window: &mut Window, reader: &mut R) -> Result<AttrValue, Halt>
+    ensures gives { Gives (λ v. v) (typed_value_of ColumnType.Decimal) (R.remaining reader.old)
+        (R.remaining reader.new) window.old window.new result }
+    ensures typed { IfOk result (λ v. IsTrue (is_of_type ColumnType.Decimal v)) }
+{
+    let place = window.place();
+    let parts = decimal_parts(window, reader)?;
+    present(decimal_in(parts), place, Defect::WrongValue)
+}
+
+/// The truth value that a byte stands for.
+fn bool_of_byte(byte: u8) -> Option<AttrValue>
+    ensures { result ≡ bool_of_byte_of byte }
+{
+    match byte {
+        0 => Some(AttrValue::Bool(false)),
+        1 => Some(AttrValue::Bool(true)),
+        _ => None,
+    }
+}
+
+/// A truth value.
+fn bool_value<R: Read>(window: &mut Window, reader: &mut R) -> Result<AttrValue, Halt>
+    ensures gives { Gives (λ v. v) (typed_value_of ColumnType.Bool) (R.remaining reader.old)
+        (R.remaining reader.new) window.old window.new result }
+    ensures typed { IfOk result (λ v. IsTrue (is_of_type ColumnType.Bool v)) }
+{
+    let place = window.place();
+    let byte = number_u8(window, reader)?;
+    present(bool_of_byte(byte), place, Defect::WrongValue)
+}
+
+/// The parts of a day: its year, month and day.
+fn date_parts<R: Read>(window: &mut Window, reader: &mut R) -> Result<Day, Halt>
+    ensures { Gives (λ parts. parts) date_parts_of (R.remaining reader.old) (R.remaining reader.new) window.old
+        window.new result }
+{
+    let year = number_u16(window, reader)?;
+    let month = number_u8(window, reader)?;
+    let day = number_u8(window, reader)?;
+    Ok(Day { year, month, day })
+}
+
+/// The day of these parts as a value, where there is such a day.
+fn day_in(parts: Day) -> Option<AttrValue>
+    ensures { result ≡ day_in_of parts }
+{
+    match Date::new(parts) {
+        Some(date) => Some(AttrValue::Date(date)),
+        None => None,
+    }
+}
+
+/// A day.
+fn date_value<R: Read>(window: &mut Window, reader: &mut R) -> Result<AttrValue, Halt>
+    ensures gives { Gives (λ v. v) (typed_value_of ColumnType.Date) (R.remaining reader.old)
+        (R.remaining reader.new) window.old window.new result }
+    ensures typed { IfOk result (λ v. IsTrue (is_of_type ColumnType.Date v)) }
+{
+    let place = window.place();
+    let parts = date_parts(window, reader)?;
+    present(day_in(parts), place, Defect::WrongValue)
+}
+
+/// The parts of a moment: its day, and the millisecond of it.
+fn moment_parts<R: Read>(window: &mut Window, reader: &mut R) -> Result<Moment, Halt>
+    ensures { Gives (λ parts. parts) moment_parts_of (R.remaining reader.old) (R.remaining reader.new) window.old
+        window.new result }
+{
+    let date = date_parts(window, reader)?;
+    let millisecond = number_u32(window, reader)?;
+    Ok(Moment { date, millisecond })
+}
+
+/// The moment of these parts as a value, where there is such a moment.
+fn moment_in(parts: Moment) -> Option<AttrValue>
+    ensures { result ≡ moment_in_of parts }
+{
+    match DateTime::new(parts) {
+        Some(moment) => Some(AttrValue::DateTime(moment)),
+        None => None,
+    }
+}
+
+/// A moment of a day.
+fn datetime_value<R: Read>(window: &mut Window, reader: &mut R) -> Result<AttrValue, Halt>
+    ensures gives { Gives (λ v. v) (typed_value_of ColumnType.DateTime) (R.remaining reader.old)
+        (R.remaining reader.new) window.old window.new result }
+    ensures typed { IfOk result (λ v. IsTrue (is_of_type ColumnType.DateTime v)) }
+{
+    let place = window.place();
+    let parts = moment_parts(window, reader)?;
+    present(moment_in(parts), place, Defect::WrongValue)
+}
+
 /// A value of a column of the type.
 fn typed_value<R: Read>(
     alloc: Global,
@@ -95,6 +213,10 @@ fn typed_value<R: Read>(
     match column_type {
         ColumnType::Int => int_value(window, reader),
         ColumnType::Text => text_value(alloc, window, reader),
+        ColumnType::Decimal => decimal_value(window, reader),
+        ColumnType::Bool => bool_value(window, reader),
+        ColumnType::Date => date_value(window, reader),
+        ColumnType::DateTime => datetime_value(window, reader),
     }
 }
 

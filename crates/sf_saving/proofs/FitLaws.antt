@@ -13,13 +13,21 @@ use Rattle.sf_features.specs.Values.{is_of_type}
 use Rattle.sf_layers.specs.Content.{Content, LayerContent}
 use Rattle.sf_layers.specs.WellFormed.{IsColumn, IsFeature, IsLayer, IsValue, IsWellFormed}
 use Rattle.sf_format.proofs.Counts.{column-count, feature-count, value-count}
-use Rattle.sf_format.proofs.RoundTrip.{text-short}
+use Rattle.sf_format.proofs.Values.{text-short}
 use Rattle.sf_saving.specs.Fits.{EntryFits, FeatureFits, ValueFits}
 
 value-fits : (t : ColumnType) (v : AttrValue) → is_of_type t v ≡ true → ValueFits v
 value-fits t (values.Int n) is = tt
+value-fits t (values.Decimal number) is = tt
+value-fits t (values.Bool b) is = tt
+value-fits t (values.Date day) is = tt
+value-fits t (values.DateTime moment) is = tt
 value-fits types.Text (values.Text text) is = let short = text-short text is in omega (arith, short)
 value-fits types.Int (values.Text text) is = absurd cc
+value-fits types.Decimal (values.Text text) is = absurd cc
+value-fits types.Bool (values.Text text) is = absurd cc
+value-fits types.Date (values.Text text) is = absurd cc
+value-fits types.DateTime (values.Text text) is = absurd cc
 
 values-fit : (columns : List Column) (vs : List (ℕ × AttrValue)) → AllByRecursion (IsValue columns) vs → AllByRecursion (λ entry. ValueFits entry.1) vs
 values-fit columns [] all = tt

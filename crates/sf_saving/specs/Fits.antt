@@ -5,14 +5,14 @@ use Rattle.std.specs.List.{AllByRecursion}
 use Rattle.std.specs.Map.{values_of}
 use Rattle.sf_geometry.specs.Size.{IsSized}
 use Rattle.sf_features.specs.declared.attr_value.AttrValue.{AttrValue}
-use Rattle.sf_features.specs.declared.attr_value.AttrValue.TheVariants.{Int, Text}
+use Rattle.sf_features.specs.declared.attr_value.AttrValue.TheVariants.{Text}
 use Rattle.sf_features.specs.Features.{FeatureContent}
 use Rattle.sf_layers.specs.Content.{LayerContent}
 
 -- a text has a length of two bytes
 abbrev pub ValueFits : AttrValue → Type 0
-ValueFits (Int n) = Unit {0}
 ValueFits (Text text) = length text < 65536
+ValueFits value = Unit {0}
 
 -- a geometry is sized, so that its length has four bytes; the values have a count of two bytes
 pub record FeatureFits (feature : FeatureContent) : Type 0 where

@@ -15,6 +15,10 @@ fn type_byte(column_type: ColumnType) -> u8
     match column_type {
         ColumnType::Int => 1,
         ColumnType::Text => 2,
+        ColumnType::Decimal => 3,
+        ColumnType::Bool => 4,
+        ColumnType::Date => 5,
+        ColumnType::DateTime => 6,
     }
 }
 

@@ -1,56 +1,19 @@
 //! The features of a layer.
-ghost use Rattle.std.specs.Prelude.{◌<◌, ◌++◌, flat_map, length, OnErr, OnOk};
+ghost use Rattle.std.specs.Prelude.{◌++◌, flat_map, OnErr, OnOk};
 ghost use Rattle.std.specs.List.{AllByRecursion};
 ghost use Rattle.std.specs.Map.{values_of};
 ghost use Rattle.sf_geometry.specs.Size.{IsSized};
 ghost use Rattle.sf_wkb.specs.Grammar.{canonical as canonical_wkb};
-ghost use Rattle.sf_format.specs.Canonical.{behind_length, feature_bytes, value_bytes};
-ghost use Rattle.sf_saving.specs.Fits.{FeatureFits, ValueFits};
+ghost use Rattle.sf_format.specs.Canonical.{behind_length, feature_bytes};
+ghost use Rattle.sf_saving.specs.Fits.{FeatureFits};
 ghost use Rattle.sf_streams.specs.Streams.{Puts, WritesFront};
 
-use super::fields::put_text;
 use super::save_fault::SaveFault;
+use super::values::put_values;
 use sf_geometry::Geometry;
-use sf_layers::{AttrValue, Feature, Layer};
-use sf_streams::{Output, WriteFault};
+use sf_layers::{Feature, Layer};
+use sf_streams::Output;
 use std::io::Write;
-
-/// Puts a value behind the number of its column.
-fn put_value<W: Write>(
-    output: &mut Output,
-    writer: &mut W,
-    entry: &(u16, AttrValue),
-) -> Result<(), WriteFault>
-    requires { ValueFits entry.now.1 }
-    ensures ok { OnOk result (Puts (W.contents writer.old) (W.contents writer.new) output.old output.new
-        (value_bytes entry.now)) }
-    ensures broken { OnErr result (WritesFront (W.contents writer.old) (W.contents writer.new)
-        (output.old ++ value_bytes entry.now)) }
-{
-    output.put_u16(writer, entry.0)?;
-    match &entry.1 {
-        AttrValue::Int(n) => output.put_i64(writer, *n),
-        AttrValue::Text(text) => put_text(output, writer, text.as_str()),
-    }
-}
-
-/// Puts the values of a feature, by rising column number.
-fn put_values<W: Write>(
-    output: &mut Output,
-    writer: &mut W,
-    values: &[(u16, AttrValue)],
-) -> Result<(), WriteFault>
-    requires { AllByRecursion (λ entry. ValueFits entry.1) values.now }
-    ensures ok { OnOk result (Puts (W.contents writer.old) (W.contents writer.new) output.old output.new
-        (flat_map value_bytes values.now)) }
-    ensures broken { OnErr result (WritesFront (W.contents writer.old) (W.contents writer.new)
-        (output.old ++ flat_map value_bytes values.now)) }
-{
-    for entry in values {
-        put_value(output, writer, entry)?;
-    }
-    Ok(())
-}
 
 /// Puts the canonical binary form of a geometry behind its length. It is written to `row` first,
 /// whatever stands there.
@@ -74,24 +37,25 @@ fn put_geometry<W: Write>(
     Ok(())
 }
 
-/// Puts a feature behind its identifier.
+/// Puts a feature of a layer behind its identifier.
 fn put_feature<W: Write>(
     output: &mut Output,
     row: &mut Vec<u8>,
     writer: &mut W,
+    layer: &Layer,
     id: u32,
     feature: &Feature,
 ) -> Result<(), SaveFault>
     requires { FeatureFits feature.now }
     ensures ok { OnOk result (Puts (W.contents writer.old) (W.contents writer.new) output.old output.new
-        (feature_bytes (id, feature.now))) }
+        (feature_bytes layer.now.columns (id, feature.now))) }
     ensures broken { OnErr result (WritesFront (W.contents writer.old) (W.contents writer.new)
-        (output.old ++ feature_bytes (id, feature.now))) }
+        (output.old ++ feature_bytes layer.now.columns (id, feature.now))) }
 {
     output.put_u32(writer, id)?;
     put_geometry(output, row, writer, feature.valid().geometry())?;
     output.put_u16(writer, feature.value_count() as u16)?;
-    put_values(output, writer, feature.values())?;
+    put_values(output, writer, layer, feature.values())?;
     Ok(())
 }
 
@@ -104,12 +68,12 @@ pub(crate) fn put_features<W: Write>(
 ) -> Result<(), SaveFault>
     requires { AllByRecursion FeatureFits (values_of layer.now.features) }
     ensures ok { OnOk result (Puts (W.contents writer.old) (W.contents writer.new) output.old output.new
-        (flat_map feature_bytes layer.now.features)) }
+        (flat_map (feature_bytes layer.now.columns) layer.now.features)) }
     ensures broken { OnErr result (WritesFront (W.contents writer.old) (W.contents writer.new)
-        (output.old ++ flat_map feature_bytes layer.now.features)) }
+        (output.old ++ flat_map (feature_bytes layer.now.columns) layer.now.features)) }
 {
     for (id, feature) in layer.features() {
-        put_feature(output, row, writer, *id, feature)?;
+        put_feature(output, row, writer, layer, *id, feature)?;
     }
     Ok(())
 }

@@ -8,6 +8,7 @@ mod layers;
 mod rules;
 mod save_fault;
 mod saving;
+mod values;
 
 pub use save_fault::SaveFault;
 pub use saving::save;

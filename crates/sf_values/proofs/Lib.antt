@@ -1,2 +1,3 @@
-pub mod IntLemmas
 pub mod QuoteLemmas
+pub mod WrittenQuotes
+pub mod WrittenValues

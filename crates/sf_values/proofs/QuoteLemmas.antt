@@ -26,7 +26,7 @@ plain-quoted (b ∷ plain) h = by (plain-quoted plain) (b == 39) refl h
     by later false is h =
         ap (λ x. (if x then 39 ∷ 39 ∷ [] else b ∷ []) ++ flat_map quoted_byte plain) is ∙ ap (λ rest. b ∷ rest) (later h)
 
-undoubled-letter : (b : ℕ) (bytes : List ℕ) → (b == 39) ≡ false → undoubled false (b ∷ bytes) ≡ b ∷ undoubled false bytes
+pub undoubled-letter : (b : ℕ) (bytes : List ℕ) → (b == 39) ≡ false → undoubled false (b ∷ bytes) ≡ b ∷ undoubled false bytes
 undoubled-letter b bytes is = ap (λ x. b ∷ undoubled x bytes) is
 
 -- and are read as they stand

@@ -17,7 +17,8 @@ layer_kind_of word = lookup (bytes_eq word) ((codes "any", Any) ∷ (codes "poin
 
 -- the type of a column that a word spells
 abbrev pub column_type_of : List ℕ → Option ColumnType
-column_type_of word = lookup (bytes_eq word) ((codes "int", types.Int) ∷ (codes "text", types.Text) ∷ [])
+column_type_of word = lookup (bytes_eq word) ((codes "int", types.Int) ∷ (codes "text", types.Text) ∷ (codes "decimal", types.Decimal)
+    ∷ (codes "bool", types.Bool) ∷ (codes "date", types.Date) ∷ (codes "datetime", types.DateTime) ∷ [])
 
 -- the predicate that a word spells
 abbrev pub predicate_of : List ℕ → Option Predicate

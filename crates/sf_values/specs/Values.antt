@@ -1,21 +1,35 @@
--- Numbers, points and values that words spell.
-use Rattle.std.specs.Prelude.{ℕ, ◌-◌, Bool, false, not, ◌&&◌, ◌==◌, List, [], ◌∷◌, ◌++◌, length, drop, take, flat_map, Option, None, Some, nat_lt, bytes_eq, if◌then◌else◌}
-use Rattle.std.specs.Char.{is_ascii_digit}
-use Rattle.std.specs.List.{list_all}
-use Rattle.sf_wkt.specs.Tokens.{digits_value, signed, sign_len, is_negative}
+-- The values that texts spell, and the text of each value.
+use Rattle.std.specs.Prelude.{ℕ, ◌-◌, Bool as Truth, true, false, not, ◌&&◌, ◌==◌, List, [], ◌∷◌, ◌++◌, length, drop, take, flat_map, Option, None, Some, option_map, bytes_eq, codes, if◌then◌else◌}
+use Rattle.std.specs.Fmt.{signed_decimal}
+use Rattle.std.specs.Map.{lookup}
+use Rattle.sf_dates.specs.Texts.{date_spelled, date_text, datetime_spelled, datetime_text}
+use Rattle.sf_decimals.specs.Decimals.{decimal_spelled, decimal_text}
 use Rattle.sf_features.specs.declared.attr_value.AttrValue.{AttrValue}
-use Rattle.sf_features.specs.declared.attr_value.AttrValue.TheVariants.{Int, Text}
-use Rattle.sf_features.specs.Values.{fits_int}
+use Rattle.sf_features.specs.declared.attr_value.AttrValue.TheVariants.{Int, Text, Decimal, Bool, Date, DateTime}
+use Rattle.sf_features.specs.Values.{number_value}
 
--- the number that an optional sign and digits spell, where it has 64 bits
-abbrev pub int_of : List ℕ → Option AttrValue
-int_of text =
-    let digits = drop (sign_len text) text in
-    let n = signed (is_negative text) (digits_value digits) in
-    if nat_lt 0 (length digits) && list_all is_ascii_digit digits && fits_int n then Some (Int n) else None
+-- the first of two that is there
+abbrev pub or_else : Option AttrValue → Option AttrValue → Option AttrValue
+or_else (Some value) other = Some value
+or_else None other = other
+
+-- the truth value that a word spells
+abbrev pub bool_of : List ℕ → Option AttrValue
+bool_of bytes = option_map Bool (lookup (bytes_eq bytes) ((codes "true", true) ∷ (codes "false", false) ∷ []))
+
+-- the day that a text spells, and the moment of a day
+abbrev pub date_of : List ℕ → Option AttrValue
+date_of bytes = option_map Date (date_spelled bytes)
+
+abbrev pub datetime_of : List ℕ → Option AttrValue
+datetime_of bytes = option_map DateTime (datetime_spelled bytes)
+
+-- the number that a text spells
+abbrev pub number_of : List ℕ → Option AttrValue
+number_of bytes = option_map number_value (decimal_spelled bytes)
 
 -- no quote
-abbrev pub is_plain : ℕ → Bool
+abbrev pub is_plain : ℕ → Truth
 is_plain b = not (b == 39)
 
 -- a byte of a text between quotes: each quote is doubled
@@ -27,7 +41,7 @@ abbrev pub quoted : List ℕ → List ℕ
 quoted text = 39 ∷ flat_map quoted_byte text ++ 39 ∷ []
 
 -- the bytes with each second one of two quotes dropped, where the byte before them is a quote that counts or not
-abbrev pub undoubled : Bool → List ℕ → List ℕ
+abbrev pub undoubled : Truth → List ℕ → List ℕ
 undoubled after_quote [] = []
 undoubled after_quote (b ∷ bytes) =
     let second = after_quote && b == 39 in
@@ -41,10 +55,25 @@ text_of bytes =
     if bytes_eq (quoted text) bytes then Some (Text text) else None
 
 -- whether the bytes begin with a quote
-abbrev pub begins_with_quote : List ℕ → Bool
+abbrev pub begins_with_quote : List ℕ → Truth
 begins_with_quote [] = false
 begins_with_quote (b ∷ bytes) = b == 39
 
+-- the value that a text without a quote in front spells
+abbrev pub unquoted_of : List ℕ → Option AttrValue
+unquoted_of bytes = or_else (bool_of bytes) (or_else (date_of bytes) (or_else (datetime_of bytes) (number_of bytes)))
+
 -- the value that the rest of a line spells
 abbrev pub value_of : List ℕ → Option AttrValue
-value_of bytes = if begins_with_quote bytes then text_of bytes else int_of bytes
+value_of bytes = if begins_with_quote bytes then text_of bytes else unquoted_of bytes
+
+-- a value as it is written: a number with no sign for plus and no zero that says nothing, a text in quotes, a word, a day, or a
+-- moment with its milliseconds
+abbrev pub value_text : AttrValue → List ℕ
+value_text (Int n) = signed_decimal n
+value_text (Text text) = quoted text
+value_text (Decimal number) = decimal_text number
+value_text (Bool true) = codes "true"
+value_text (Bool false) = codes "false"
+value_text (Date date) = date_text date
+value_text (DateTime moment) = datetime_text moment

@@ -31,6 +31,10 @@ pub fn column_type_of(word: &str) -> Option<ColumnType>
     match word {
         "int" => Some(ColumnType::Int),
         "text" => Some(ColumnType::Text),
+        "decimal" => Some(ColumnType::Decimal),
+        "bool" => Some(ColumnType::Bool),
+        "date" => Some(ColumnType::Date),
+        "datetime" => Some(ColumnType::DateTime),
         _ => None,
     }
 }

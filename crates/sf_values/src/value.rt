@@ -1,20 +1,27 @@
 //! Attribute values that texts spell.
-ghost use Rattle.std.specs.Prelude.{◌≡◌, ◌≢◌, ℕ, List, [], ◌∷◌, ◌++◌, IfOk, IsTrue, MatchOption};
+ghost use Rattle.std.specs.Prelude.{◌≡◌, ◌≢◌, ℕ, Bool, List, [], ◌∷◌, ◌++◌, IfOk, IsTrue, MatchOption, option_map};
 ghost use Rattle.std.specs.List.{list_all};
-ghost use Rattle.sf_values.specs.Values.{begins_with_quote as begins_with_quote_of, int_of as int_spelled, is_plain, text_of as text_spelled, value_of as value_spelled};
+ghost use Rattle.sf_features.specs.declared.attr_value.AttrValue.TheVariants as kept;
+ghost use Rattle.sf_values.specs.Values.{begins_with_quote as begins_with_quote_of, bool_of as bool_spelled, is_plain, number_of as number_spelled, text_of as text_spelled, unquoted_of as unquoted_spelled, value_of as value_spelled};
 
 use sf_features::{AttrValue, Text};
 use std::alloc::{AllocError, Global};
 
-/// The value that a text spells: digits behind an optional sign, in 64 bits; or a text in single quotes, each quote
-/// in it doubled. None where it spells no value.
+/// The value that a text spells: `true` or `false`; a day, as 2024-02-29; a moment in UTC, as
+/// 2024-02-29T18:30:00.500Z, where the milliseconds may be left out; a number, digits behind an optional sign and
+/// then optionally a point and digits; or a text in single quotes, each quote in it doubled. None where it spells no
+/// value.
+///
+/// # Errors
+///
+/// Out of memory, which a text in quotes alone takes.
 pub fn value_of(alloc: Global, text: &str) -> Result<Option<AttrValue>, AllocError>
     ensures { IfOk result (λ value. value ≡ value_spelled text.now) }
 {
     if begins_with_quote(text.as_bytes()) {
         text_of(alloc, text)
     } else {
-        Ok(int_of(text))
+        Ok(unquoted_of(text))
     }
 }
 
@@ -24,12 +31,41 @@ fn begins_with_quote(bytes: &[u8]) -> bool
     matches!(bytes, [b'\'', ..])
 }
 
-/// The number that digits behind an optional sign spell, if it has 64 bits.
-fn int_of(text: &str) -> Option<AttrValue>
-    ensures { result ≡ int_spelled text.now }
+/// The value that a text without a quote in front spells.
+fn unquoted_of(text: &str) -> Option<AttrValue>
+    ensures { result ≡ unquoted_spelled text.now }
 {
-    let number = text.parse::<i64>().ok()?;
-    Some(AttrValue::Int(number))
+    if let Some(is) = bool_of(text) {
+        return Some(AttrValue::Bool(is));
+    }
+    if let Some(date) = sf_dates::date_of(text) {
+        return Some(AttrValue::Date(date));
+    }
+    if let Some(moment) = sf_dates::datetime_of(text) {
+        return Some(AttrValue::DateTime(moment));
+    }
+    number_of(text)
+}
+
+/// The truth value that a word spells, in small letters.
+fn bool_of(word: &str) -> Option<bool>
+    ensures { option_map (λ (is : Bool). kept.Bool is) result ≡ bool_spelled word.now }
+{
+    match word {
+        "true" => Some(true),
+        "false" => Some(false),
+        _ => None,
+    }
+}
+
+/// The number that a text spells, an `Int` where it is whole.
+fn number_of(text: &str) -> Option<AttrValue>
+    ensures { result ≡ number_spelled text.now }
+{
+    match sf_decimals::decimal_of(text) {
+        Some(number) => Some(AttrValue::of_number(number)),
+        None => None,
+    }
 }
 
 /// The text that is written so in quotes.

@@ -4,7 +4,8 @@ use Rattle.std.proofs.lemmas.Int.{to_z-of_z}
 use Rattle.std.specs.Int.{w64, cast_signed}
 use Rattle.byteorder.specs.Endian.{big_number}
 use Rattle.sf_format.specs.Readings.{bytes, done, number}
-use Rattle.sf_loading.specs.Streaming.{Takes, signed_number}
+use Rattle.sf_format.specs.Format.{signed_number}
+use Rattle.sf_loading.specs.Streaming.{Takes}
 use Rattle.sf_loading.proofs.StreamLaws.{Ends-first, Goes-then, Takes-number}
 use Rattle.sf_loading.proofs.numbers.number_i64.Goals as goal
 

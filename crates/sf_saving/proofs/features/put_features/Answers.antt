@@ -17,11 +17,11 @@ turn g c = rest_more (deref_pair {K = ℕ} {X = FeatureContent}) _ _ _ (c.in-Som
 
 -- so its bytes are the next ones
 next-bytes : (g : _) (c : In-Some g)
-    → Putting (g.W.Write.contents c.args.writer.now) (g.W.Write.contents c.loop-id.writer) c.args.output.now c.loop-id.output (flat_map feature_bytes c.args.layer.now.features)
-    (feature_bytes (c.in-Some.id.now, c.in-Some.feature.now) ++ flat_map feature_bytes c.next.new.self)
+    → Putting (g.W.Write.contents c.args.writer.now) (g.W.Write.contents c.loop-id.writer) c.args.output.now c.loop-id.output (flat_map (feature_bytes c.args.layer.now.columns) c.args.layer.now.features)
+    (feature_bytes c.args.layer.now.columns (c.in-Some.id.now, c.in-Some.feature.now) ++ flat_map (feature_bytes c.args.layer.now.columns) c.next.new.self)
 next-bytes g c =
     let entry : ℕ × FeatureContent = (c.in-Some.id.now, c.in-Some.feature.now) in
-    Putting-left (feature_bytes entry ++ flat_map feature_bytes c.next.new.self) (ap (flat_map feature_bytes) (turn g c) ∙ flat_map-cons feature_bytes entry c.next.new.self) c.loop-id.invariant.0
+    Putting-left (feature_bytes c.args.layer.now.columns entry ++ flat_map (feature_bytes c.args.layer.now.columns) c.next.new.self) (ap (flat_map (feature_bytes c.args.layer.now.columns)) (turn g c) ∙ flat_map-cons (feature_bytes c.args.layer.now.columns) entry c.next.new.self) c.loop-id.invariant.0
 
 -- and it fits, as the others do
 fit : (g : _) (c : In-Some g) → FeatureFits c.in-Some.feature.now × AllByRecursion FeatureFits (values_of c.next.new.self)
@@ -30,8 +30,8 @@ fit g c = subst (λ (left : List (ℕ × FeatureContent)). AllByRecursion Featur
 pub loop-id-init : goal.loop-id-init
 loop-id-init g c =
     let all = c.into_iter-id-iterator.ensures.into_iter_gives ∙ c.features-id-items.ensures.rest in (
-      Putting-left (flat_map feature_bytes c.into_iter-id-iterator.result) (ap (flat_map feature_bytes) (sym all))
-          (Putting-start (g.W.Write.contents c.args.writer.now) c.args.output.now (flat_map feature_bytes c.args.layer.now.features)),
+      Putting-left (flat_map (feature_bytes c.args.layer.now.columns) c.into_iter-id-iterator.result) (ap (flat_map (feature_bytes c.args.layer.now.columns)) (sym all))
+          (Putting-start (g.W.Write.contents c.args.writer.now) c.args.output.now (flat_map (feature_bytes c.args.layer.now.columns) c.args.layer.now.features)),
       subst (λ (left : List (ℕ × FeatureContent)). AllByRecursion FeatureFits (values_of left)) (sym all) c.requires,
     )
 
@@ -41,12 +41,12 @@ put_feature-requires g c = (fit g (goal.at.put_feature-requires g c).In-Some).0
 pub loop-id-preserved : goal.loop-id-preserved
 loop-id-preserved g c =
     let at = (goal.at.loop-id-preserved g c).In-Some in
-    (Putting-more (feature_bytes (c.in-Some.id.now, c.in-Some.feature.now)) (flat_map feature_bytes c.next.new.self) refl (next-bytes g at) c.in_ok-put_feature.ensures.ok, (fit g at).1)
+    (Putting-more (feature_bytes c.args.layer.now.columns (c.in-Some.id.now, c.in-Some.feature.now)) (flat_map (feature_bytes c.args.layer.now.columns) c.next.new.self) refl (next-bytes g at) c.in_ok-put_feature.ensures.ok, (fit g at).1)
 
 pub returns-in_err-put_feature-clause-broken : goal.returns-in_err-put_feature-clause-broken
 returns-in_err-put_feature-clause-broken g c =
     let at = (goal.at.returns-in_err-put_feature-clause-broken g c).In-Some in
-    breaks c.from_residual.result (feature_bytes (c.in-Some.id.now, c.in-Some.feature.now)) (flat_map feature_bytes c.next.new.self) refl (next-bytes g at) c.in_err-put_feature.ensures.broken
+    breaks c.from_residual.result (feature_bytes c.args.layer.now.columns (c.in-Some.id.now, c.in-Some.feature.now)) (flat_map (feature_bytes c.args.layer.now.columns) c.next.new.self) refl (next-bytes g at) c.in_err-put_feature.ensures.broken
 
 pub returns-clause-ok : goal.returns-clause-ok
-returns-clause-ok g c = Putting-done (Putting-left [] (ap (flat_map feature_bytes) c.in-None.ensures.steps.0) c.loop-id.invariant.0)
+returns-clause-ok g c = Putting-done (Putting-left [] (ap (flat_map (feature_bytes c.args.layer.now.columns)) c.in-None.ensures.steps.0) c.loop-id.invariant.0)

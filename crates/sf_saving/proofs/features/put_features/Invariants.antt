@@ -9,5 +9,5 @@ use Rattle.sf_saving.proofs.features.put_features.Given as goal
 -- the features that the iterator has are left, and they fit
 abbrev pub invariant-loop-id : goal.invariant-loop-id
 invariant-loop-id g l =
-    Putting (g.W.Write.contents l.fn.writer) (g.W.Write.contents l.writer) l.fn.output l.output (flat_map feature_bytes l.layer.features) (flat_map feature_bytes l.id-iterator)
+    Putting (g.W.Write.contents l.fn.writer) (g.W.Write.contents l.writer) l.fn.output l.output (flat_map (feature_bytes l.layer.columns) l.layer.features) (flat_map (feature_bytes l.layer.columns) l.id-iterator)
     × AllByRecursion FeatureFits (values_of l.id-iterator)

@@ -8,7 +8,7 @@ use Rattle.sf_saving.proofs.layers.put_layer.Goals.{In_ok-put_name, In_ok-put_u8
 
 -- what is left of a layer's bytes behind each field
 abbrev behind_columns : LayerContent → List ℕ
-behind_columns layer = big_bytes 4 (length layer.features) ++ flat_map feature_bytes layer.features
+behind_columns layer = big_bytes 4 (length layer.features) ++ flat_map (feature_bytes layer.columns) layer.features
 
 abbrev behind_column_count : LayerContent → List ℕ
 behind_column_count layer = flat_map column_bytes layer.columns ++ behind_columns layer
@@ -69,10 +69,10 @@ with_columns g c so_far =
 
 with_feature_count : (g : _) (c : In_ok-put_u32-2 g)
     → Putting (g.W.Write.contents c.args.writer.now) (g.W.Write.contents c.put_columns.new.writer) c.args.output.now c.put_columns.new.output (layer_bytes (c.args.name.now, c.args.layer.now)) (behind_columns c.args.layer.now)
-    → Putting (g.W.Write.contents c.args.writer.now) (g.W.Write.contents c.put_u32-2.new.writer) c.args.output.now c.put_u32-2.new.self (layer_bytes (c.args.name.now, c.args.layer.now)) (flat_map feature_bytes c.args.layer.now.features)
+    → Putting (g.W.Write.contents c.args.writer.now) (g.W.Write.contents c.put_u32-2.new.writer) c.args.output.now c.put_u32-2.new.self (layer_bytes (c.args.name.now, c.args.layer.now)) (flat_map (feature_bytes c.args.layer.now.columns) c.args.layer.now.features)
 with_feature_count g c so_far =
     let layer = c.args.layer.now in
-    Putting-more (big_bytes 4 (length layer.features)) (flat_map feature_bytes layer.features) (ap (big_bytes 4) c.feature_count.ensures) so_far c.in_ok-put_u32-2.ensures.ok
+    Putting-more (big_bytes 4 (length layer.features)) (flat_map (feature_bytes layer.columns) layer.features) (ap (big_bytes 4) c.feature_count.ensures) so_far c.in_ok-put_u32-2.ensures.ok
 
 pub returns-in_err-put_name-clause-broken : goal.returns-in_err-put_name-clause-broken
 returns-in_err-put_name-clause-broken g c =
@@ -125,20 +125,20 @@ pub returns-in_err-put_u32-2-clause-broken : goal.returns-in_err-put_u32-2-claus
 returns-in_err-put_u32-2-clause-broken g c =
     let at = goal.at.returns-in_err-put_u32-2-clause-broken g c in
     let layer = c.args.layer.now in
-    breaks c.from_residual-in_err-put_u32-2.result (big_bytes 4 (length layer.features)) (flat_map feature_bytes layer.features) (ap (big_bytes 4) c.feature_count.ensures)
+    breaks c.from_residual-in_err-put_u32-2.result (big_bytes 4 (length layer.features)) (flat_map (feature_bytes layer.columns) layer.features) (ap (big_bytes 4) c.feature_count.ensures)
     (with_columns g at.In_ok-put_columns (with_column_count g at.In_ok-put_u16-2 (with_next_column g at.In_ok-put_u16 (with_next_id g at.In_ok-put_u32 (with_kind g at.In_ok-put_u8 (with_name g at.In_ok-put_name))))))
     c.in_err-put_u32-2.ensures.broken
 
 pub returns-clause-ok : goal.returns-clause-ok
 returns-clause-ok g c =
     let at = goal.at.returns-clause-ok g c in
-    ends-put c.put_features.result _ _ (flat_map feature_bytes c.args.layer.now.features) refl
+    ends-put c.put_features.result _ _ (flat_map (feature_bytes c.args.layer.now.columns) c.args.layer.now.features) refl
     (with_feature_count g at.In_ok-put_u32-2 (with_columns g at.In_ok-put_columns (with_column_count g at.In_ok-put_u16-2 (with_next_column g at.In_ok-put_u16 (with_next_id g at.In_ok-put_u32 (with_kind g at.In_ok-put_u8 (with_name g at.In_ok-put_name)))))))
     c.put_features.ensures.ok
 
 pub returns-clause-broken : goal.returns-clause-broken
 returns-clause-broken g c =
     let at = goal.at.returns-clause-broken g c in
-    ends-broken c.put_features.result _ (flat_map feature_bytes c.args.layer.now.features) refl
+    ends-broken c.put_features.result _ (flat_map (feature_bytes c.args.layer.now.columns) c.args.layer.now.features) refl
     (with_feature_count g at.In_ok-put_u32-2 (with_columns g at.In_ok-put_columns (with_column_count g at.In_ok-put_u16-2 (with_next_column g at.In_ok-put_u16 (with_next_id g at.In_ok-put_u32 (with_kind g at.In_ok-put_u8 (with_name g at.In_ok-put_name)))))))
     c.put_features.ensures.broken

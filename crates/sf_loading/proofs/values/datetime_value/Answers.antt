@@ -1,0 +1,16 @@
+use Rattle.std.proofs.Common.{◌≡◌, ◌∙◌, ℕ, ap, sym}
+use Rattle.sf_format.specs.declared.defect.Defect.TheVariants.{WrongValue}
+use Rattle.sf_format.specs.Readings.{number}
+use Rattle.sf_format.specs.Format.{moment_in, moment_parts, present}
+use Rattle.sf_format.proofs.Values.{moment_in-typed}
+use Rattle.sf_loading.proofs.StreamLaws.{Gives-ruled}
+use Rattle.sf_loading.proofs.TypeLaws.{typed-present}
+use Rattle.sf_loading.proofs.values.datetime_value.Goals as goal
+use Rattle.sf_dates.specs.declared.moment.Moment.{Moment}
+
+pub returns-clause-gives : goal.returns-clause-gives
+returns-clause-gives g c = Gives-ruled (λ v. v) moment_parts (λ (parts : Moment). present (moment_in parts) WrongValue) c.in_ok-parts.parts (present c.moment_in.result WrongValue) c.place-place.result
+    c.present.result _ _ _ _ c.place-place.ensures c.in_ok-parts.ensures (ap (λ k. present k WrongValue) (sym c.moment_in.ensures)) c.present.ensures
+
+pub returns-clause-typed : goal.returns-clause-typed
+returns-clause-typed g c = typed-present c.moment_in.result c.place-place.result c.present.result (λ v is. moment_in-typed c.in_ok-parts.parts v (sym c.moment_in.ensures ∙ is)) c.present.ensures
