@@ -230,7 +230,8 @@ class Referred(PageCase):
         for limit in (language.GRID_MIN, language.GRID_MAX, language.INT_MIN, language.INT_MAX):
             self.assertIn(f" {limit}", page)
         for limit in (language.EDITOR_MAX, language.TEXT_MAX):
-            self.assertIn(f"| {limit} |", page)
+            self.assertIn(f"| {limit:,} |", page)
+        self.assertIn(f"and {language.PLACES_MAX} |", page)
 
 
 @unittest.skipUnless(servers.binaries(), "no PostgreSQL (postgresql)")

@@ -88,14 +88,14 @@ class Sizes(Preloaded):
                     self.assertEqual(Call(STORE).run(text.encode(), variables).output.decode(), wanted)
 
     def test_the_longest_texts(self) -> None:
-        # What stands between the quotes, and whether it is a value: one of at most 255 bytes, a doubled quote counted once.
+        # What stands between the quotes, and whether it is a value: one of at most 65,535 bytes, a doubled quote counted once.
         texts = {
-            "a" * 255: True,
-            "a" * 256: False,
-            "''" * 255: True,
-            "''" * 256: False,
-            "a" * 251 + "\U0001f600": True,
-            "a" * 252 + "\U0001f600": False,
+            "a" * 65_535: True,
+            "a" * 65_536: False,
+            "''" * 65_535: True,
+            "''" * 65_536: False,
+            "a" * 65_531 + "\U0001f600": True,
+            "a" * 65_532 + "\U0001f600": False,
         }
         head = ["layer add w point", "column add w t text", "add w POINT (1 1)"]
         found = answers(lines_of(*head, *(f"set w 1 t '{text}'" for text in texts))).splitlines()[len(head) :]

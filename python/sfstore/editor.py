@@ -5,7 +5,7 @@ from __future__ import annotations
 from collections.abc import Callable, Iterable, Iterator
 from typing import cast
 
-from sfstore import edits, spelling
+from sfstore import edits, spelling, values
 from sfstore.group import Group
 from sfstore.language import QUESTIONS, words_of_line
 from sfstore.program import Link, batches
@@ -24,6 +24,12 @@ def _pair_of(row: str) -> tuple[int, int]:
     """The pair of identifiers of a row."""
     first, second = row.split(" ")
     return int(first), int(second)
+
+
+def _column_of(row: str) -> Column:
+    """The column of a row."""
+    name, column_type = row.split(" ")
+    return Column(name, cast(ColumnType, column_type))
 
 
 class Editor:
@@ -185,8 +191,7 @@ class Editor:
         ...     store.columns("wells")
         [Column(name='depth', type='int')]
         """
-        rows = (row.split(" ") for row in self._rows(f"columns {spelling.name(layer)}"))
-        return [Column(name, cast(ColumnType, column_type)) for name, column_type in rows]
+        return [_column_of(row) for row in self._rows(f"columns {spelling.name(layer)}")]
 
     def add(self, layer: str, geometry: str | bytes) -> int:
         """Adds a feature to a layer, and gives its identifier.
@@ -289,12 +294,25 @@ class Editor:
     def set(self, layer: str, feature_id: int, column: str, value: Value) -> None:
         """Sets the value of a feature in a column.
 
+        `ValueError` for a value that the column would change, such as a time without a zone; `Value` says which.
+
         >>> with Store() as store:
         ...     store.add_layer("wells")
         ...     store.add_column("wells", "label", "text")
         ...     store.set("wells", store.add("wells", "POINT (3 4)"), "label", "it's old")
         ...     store.show("wells")[0].values
         {'label': "it's old"}
+
+        >>> from datetime import date
+        >>> from decimal import Decimal
+        >>> with Store() as store:
+        ...     store.add_layer("parcels")
+        ...     store.add_column("parcels", "area", "decimal")
+        ...     store.add_column("parcels", "entered", "date")
+        ...     store.set("parcels", store.add("parcels", "POINT (3 4)"), "area", Decimal("812.50"))
+        ...     store.set("parcels", 1, "entered", date(2024, 2, 29))
+        ...     store.show("parcels")[0].values
+        {'area': Decimal('812.5'), 'entered': datetime.date(2024, 2, 29)}
         """
         self.run(edits.set_value(layer, _word(feature_id), column, value))
 
@@ -342,7 +360,7 @@ class Editor:
         1
         [Feature(id=1, wkt='POINT (3 4)', values={})]
         """
-        return [feature_of(row) for row in self._rows(f"show {spelling.name(layer)}")]
+        return self._features(layer, "show", "")
 
     def get(self, layer: str, *feature_ids: int) -> list[Feature]:
         """The features of these identifiers, one to 1,000 of them, in the order asked.
@@ -359,8 +377,7 @@ class Editor:
         2
         [Feature(id=2, wkt='POINT (5 6)', values={})]
         """
-        rows = self._rows(f"get {spelling.name(layer)} {spelling.identifiers(feature_ids)}")
-        return [feature_of(row) for row in rows]
+        return self._features(layer, "get", f" {spelling.identifiers(feature_ids)}")
 
     def find(self, layer: str, column: str, value: Value | None = None) -> list[int]:
         """The features with a value in a column, or without ``value`` those with any there.
@@ -378,7 +395,7 @@ class Editor:
         []
         [1]
         """
-        wanted = "" if value is None else f" {spelling.value(value)}"
+        wanted = "" if value is None else f" {values.spelled(value)}"
         rows = self._rows(f"find {spelling.name(layer)} {spelling.name(column)}{wanted}")
         return [int(row) for row in rows]
 
@@ -566,6 +583,17 @@ class Editor:
         if self._program.has_group and (words_of_line(line) or [""])[0] not in QUESTIONS:
             raise RuntimeError("a group is open: give it the edit, or end it first")
         return spelling.encoded(line, self._address)
+
+    def _features(self, layer: str, word: str, which: str) -> list[Feature]:
+        """The features that a question gives, of which the columns are asked first: a row has no types."""
+        name = spelling.name(layer)
+        answers = self.run_all([f"columns {name}", f"{word} {name}{which}"])
+        for answer in reversed(answers):
+            if isinstance(answer, Refused):
+                raise answer
+        columns, rows = cast("list[list[str]]", answers)
+        found = [_column_of(row) for row in columns]
+        return [feature_of(row, found) for row in rows]
 
     def _line(self, line: str) -> str:
         """The answer of a command that has one line."""

@@ -5,7 +5,7 @@
 
 from __future__ import annotations
 
-from sfstore import spelling
+from sfstore import spelling, values
 from sfstore.results import Value
 
 __all__ = ["add", "delete", "replace", "set_value", "unset", "vertex_insert", "vertex_move", "vertex_remove"]
@@ -45,7 +45,7 @@ def vertex_remove(layer: str, which: str, part: int, ring: int, index: int) -> s
 
 def set_value(layer: str, which: str, column: str, value: Value) -> str:
     """Sets a value."""
-    return f"set {spelling.name(layer)} {which} {spelling.name(column)} {spelling.value(value)}"
+    return f"set {spelling.name(layer)} {which} {spelling.name(column)} {values.spelled(value)}"
 
 
 def unset(layer: str, which: str, column: str) -> str:

@@ -26,6 +26,7 @@ __all__ = [
     "MEMBERS",
     "NAME",
     "PATTERN",
+    "PLACES_MAX",
     "POINTS_MAX",
     "PREDICATES",
     "QUESTIONS",
@@ -40,8 +41,8 @@ __all__ = [
 KINDS = ["any", "point", "linestring", "polygon", "multipoint", "multilinestring", "multipolygon"]
 """The kinds of layers by their codes, which those of well-known binary are too."""
 
-COLUMN_TYPES = ["int", "text"]
-"""The types of columns."""
+COLUMN_TYPES = ["int", "text", "decimal", "bool", "date", "datetime"]
+"""The types of columns, in the order of their numbers in a file, from 1 on."""
 
 PREDICATES = [
     "equals",
@@ -71,9 +72,12 @@ IDENTIFIERS_MAX = 1_000
 """How many identifiers `get` takes at once."""
 
 INT_MIN, INT_MAX = -(2**63), 2**63 - 1
-"""From where to where the values of a column of whole numbers go."""
+"""From where to where the values of a column of whole numbers go, and the mantissa of a decimal."""
 
-TEXT_MAX = 255
+PLACES_MAX = 18
+"""How many digits a decimal has behind the point at most."""
+
+TEXT_MAX = 65_535
 """How many bytes of UTF-8 a text of a column has at most."""
 
 GRID_MIN, GRID_MAX = -1_073_741_824, 1_073_741_823
@@ -128,7 +132,7 @@ COMMANDS = [
     Command("layers", "lists the layers in drawing order", "layers"),
     Command(
         "column add LAYER NAME TYPE",
-        "adds a column: int or text",
+        "adds a column: int, text, decimal, bool, date or datetime",
         "column add wells depth int",
         "columns",
     ),
@@ -168,7 +172,7 @@ COMMANDS = [
     ),
     Command(
         "set LAYER ID COLUMN VALUE",
-        "sets a value: digits, or a 'text'",
+        "sets a value: 12, 'text', 12.5, true, 2024-02-29 or 2024-02-29T12:30:00Z",
         "set wells 1 label 'old'",
         "values",
     ),

@@ -54,7 +54,8 @@ REFUSALS = {
     23: Words("a column of the layer has that name already", "`columns LAYER` lists them."),
     24: Words(
         "the value is none that the column takes",
-        f"An int takes digits; a text takes 'quotes', and at most {TEXT_MAX} bytes.",
+        f"An int takes digits, a decimal a point too; a text takes 'quotes', and at most {TEXT_MAX:,} bytes; a bool takes true "
+        "or false, a date 2024-02-29, a datetime 2024-02-29T12:30:00Z. `columns LAYER` lists the types.",
     ),
     25: Words(
         "the geometry has no such vertex",
@@ -66,7 +67,10 @@ REFUSALS = {
     28: Words("all column numbers of the layer are used up", "Begin another layer."),
     29: Words("there is nothing to undo", "A save and a loading begin a new history."),
     30: Words("there is nothing to redo", "An edit after an undo leaves nothing to redo."),
-    31: Words("that is no command", "`help` lists them, and `help COMMAND` has an example."),
+    31: Words(
+        "that is no command",
+        "`help` lists them, and `help COMMAND` has an example. What stands as a value may spell none, as .5 or 2025-02-29.",
+    ),
     32: Words("that is no pattern", "It has nine letters of T F * 0 1 2."),
     33: Words("the line is too long", f"It has at most {LINE_MAX:,} bytes."),
     35: Words("there is no such place among the layers", "Places count from 0."),

@@ -5,6 +5,8 @@ from __future__ import annotations
 import os
 import re
 from dataclasses import dataclass
+from datetime import date, datetime
+from decimal import Decimal
 from typing import Any, Literal, NamedTuple, Union
 
 from sfstore.groups import member_of
@@ -32,15 +34,27 @@ __all__ = [
 Answer = Union[str, list[str]]
 """What a command is answered with: one line, or the rows behind a line ``rows N``."""
 
-Value = Union[int, str]
-"""The value of a feature in a column: a whole number of 64 bits, or a text."""
+Value = Union[int, str, Decimal, bool, date, datetime]
+"""The value of a feature in a column, which has the column's type.
+
+``int``: an `int` of 64 bits. ``text``: a `str` of at most 65,535 bytes of UTF-8. ``bool``: a `bool`.
+
+``decimal``: a `decimal.Decimal` with at most 18 places behind the point, and a mantissa of 64 bits. An `int` is taken
+too, and comes back as a `decimal.Decimal`; a `float` is not taken.
+
+``date``: a `datetime.date`. ``datetime``: a `datetime.datetime` in UTC, in whole milliseconds. One of another zone is
+converted, and one without a zone is not taken.
+
+A value that the column would change raises `ValueError`, and nothing is sent: none is rounded or cut, and none goes
+through a float.
+"""
 
 Kind = Literal[
     "any", "point", "linestring", "polygon", "multipoint", "multilinestring", "multipolygon"
 ]
 """Which geometries a layer takes."""
 
-ColumnType = Literal["int", "text"]
+ColumnType = Literal["int", "text", "decimal", "bool", "date", "datetime"]
 """Which values a column takes."""
 
 Predicate = Literal[
@@ -278,7 +292,8 @@ class Feature:
     def __geo_interface__(self) -> dict[str, Any]:
         """The feature as a mapping in the form of GeoJSON, with tuples of whole numbers.
 
-        `ValueError` if `wkt` is no canonical text.
+        Its properties are the values as they are, which no float has become: `json.dumps` takes decimals, days and
+        times by ``default=str``. `ValueError` if `wkt` is no canonical text.
 
         >>> Feature(1, "LINESTRING (0 0, 5 -7)", {}).__geo_interface__["geometry"]
         {'type': 'LineString', 'coordinates': ((0, 0), (5, -7))}

@@ -3,23 +3,24 @@
 from __future__ import annotations
 
 import re
-
+from collections.abc import Iterable, Mapping
 from typing import cast
 
-from sfstore.results import Feature, Rule, RuleForm, Value
+from sfstore import values
+from sfstore.results import Column, ColumnType, Feature, Rule, RuleForm, Value
 
 __all__ = ["feature_of", "row_values", "rule_of"]
 
 _ROW = re.compile(r"([0-9]+) ([A-Z]+ \([-0-9 ,()]*\))")
-_ROW_VALUE = re.compile(r" ([A-Za-z][A-Za-z0-9_]*)=(?:(-?[0-9]+)|'([^']*(?:''[^']*)*)')")
+_ROW_VALUE = re.compile(r" ([A-Za-z][A-Za-z0-9_]*)=([-0-9.:TZa-z]+|'[^']*(?:''[^']*)*')")
 
 
-def feature_of(row: str) -> Feature:
-    """The feature of a row of ``show``."""
+def feature_of(row: str, columns: Iterable[Column]) -> Feature:
+    """The feature of a row of ``show``, whose layer has these columns."""
     found = _ROW.match(row)
     if found is None:
         raise ValueError(f"no feature: {row!r}")
-    return Feature(int(found[1]), found[2], row_values(row, found.end()))
+    return Feature(int(found[1]), found[2], row_values(row, found.end(), {column.name: column.type for column in columns}))
 
 
 def rule_of(row: str) -> Rule:
@@ -32,14 +33,14 @@ def rule_of(row: str) -> Rule:
     return Rule(name, cast(RuleForm, form), layer, ask, other)
 
 
-def row_values(row: str, at: int) -> dict[str, Value]:
-    """The values that stand in a row of ``show`` from a place on, by their names."""
-    values: dict[str, Value] = {}
+def row_values(row: str, at: int, types: Mapping[str, ColumnType]) -> dict[str, Value]:
+    """The values that stand in a row of ``show`` from a place on, by their names; the columns have these types."""
+    found_values: dict[str, Value] = {}
     while at < len(row):
         found = _ROW_VALUE.match(row, at)
         if found is None:
             raise ValueError(f"no value at {at}: {row!r}")
-        name, digits, text = found.groups()
-        values[name] = text.replace("''", "'") if digits is None else int(digits)
+        name, text = found.groups()
+        found_values[name] = values.read(text, types[name])
         at = found.end()
-    return values
+    return found_values

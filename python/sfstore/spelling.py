@@ -1,4 +1,4 @@
-"""Names, numbers and texts as words of a line. `ValueError` for those that have no place in one."""
+"""Names and numbers as words of a line. `ValueError` for those that have no place in one."""
 
 from __future__ import annotations
 
@@ -7,8 +7,7 @@ from collections.abc import Sequence
 from typing import Any, get_args
 
 from sfstore.groups import lines_of, size_of
-from sfstore.language import EDITOR_MAX, IDENTIFIER_MAX, IDENTIFIERS_MAX, INT_MAX, INT_MIN, NAME, PATTERN, PREDICATES
-from sfstore.results import Value
+from sfstore.language import EDITOR_MAX, IDENTIFIER_MAX, IDENTIFIERS_MAX, NAME, PATTERN, PREDICATES
 
 __all__ = [
     "editor",
@@ -20,7 +19,6 @@ __all__ = [
     "name",
     "one_of",
     "pattern",
-    "value",
     "vertex",
 ]
 
@@ -118,13 +116,3 @@ def vertex(layer: str, which: str, part: int, ring: int, index: int) -> str:
     """A vertex, by the numbers that name it, and by the word for its feature."""
     numbers = map(identifier, (part, ring, index))
     return " ".join([name(layer), which, *map(str, numbers)])
-
-
-def value(given: Value) -> str:
-    """A value as the console wants it: digits, or a text in quotes, each quote in it doubled."""
-    if isinstance(given, str):
-        return "'" + given.replace("'", "''") + "'"
-    number = integer(given)
-    if not INT_MIN <= number <= INT_MAX:
-        raise ValueError(f"{number} has more than 64 bits")
-    return str(number)

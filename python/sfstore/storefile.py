@@ -7,15 +7,22 @@ from __future__ import annotations
 
 import struct
 from array import array
-from collections.abc import Iterator, Sequence
+from collections.abc import Iterator, Mapping, Sequence
 from dataclasses import dataclass, field
-from typing import BinaryIO, NamedTuple, Union, overload
+from datetime import date, datetime, time, timedelta, timezone
+from decimal import Decimal
+from typing import BinaryIO, NamedTuple, cast, overload
 
+from sfstore import values
 from sfstore.language import PREDICATES
 from sfstore.refusals import BAD_FIELDS
-from sfstore.results import RULE_BROKEN, Rule, RuleForm
+from sfstore.results import RULE_BROKEN, Rule, RuleForm, Value
 
 __all__ = [
+    "BOOL",
+    "DATE",
+    "DATETIME",
+    "DECIMAL",
     "INT",
     "TEXT",
     "FileColumn",
@@ -28,7 +35,7 @@ __all__ = [
     "write",
 ]
 
-INT, TEXT = 1, 2
+INT, TEXT, DECIMAL, BOOL, DATE, DATETIME = range(1, 7)
 """The types of columns in a file."""
 
 _MAGIC = b"SFSTORE4\x1f"
@@ -51,7 +58,7 @@ class FileFeature(NamedTuple):
     id: int
     geometry: bytes
     """Well-known binary."""
-    values: dict[int, Union[int, str]]
+    values: dict[int, Value]
     """The values by the numbers of their columns."""
 
 
@@ -77,7 +84,8 @@ def write(file: BinaryIO, layers: list[FileLayer]) -> None:
         for column in layer.columns:
             file.write(struct.pack(">HB", column.number, column.type) + _name(column.name))
         file.write(struct.pack(">I", len(layer.features)))
-        file.writelines(map(_feature, layer.features))
+        types = {column.number: column.type for column in layer.columns}
+        file.writelines(_feature(feature, types) for feature in layer.features)
     file.write(_NO_RULES)
 
 
@@ -85,16 +93,37 @@ def _name(name: str) -> bytes:
     return struct.pack(">B", len(name)) + name.encode("ascii")
 
 
-def _feature(feature: FileFeature) -> bytes:
+def _feature(feature: FileFeature, types: Mapping[int, int]) -> bytes:
     parts = [struct.pack(">II", feature.id, len(feature.geometry)), feature.geometry]
     parts.append(struct.pack(">H", len(feature.values)))
     for number, value in sorted(feature.values.items()):
-        if isinstance(value, int):
-            parts.append(struct.pack(">Hq", number, value))
-        else:
-            text = value.encode("utf-8")
-            parts.append(struct.pack(">HH", number, len(text)) + text)
+        parts.append(struct.pack(">H", number) + _value_bytes(value, types[number]))
     return b"".join(parts)
+
+
+def _value_bytes(value: Value, kind: int) -> bytes:
+    """A value as a column of a type has it."""
+    if kind == TEXT:
+        text = cast(str, value).encode("utf-8")
+        return struct.pack(">H", len(text)) + text
+    if kind == DECIMAL:
+        return _DECIMAL.pack(*values.mantissa_and_places(Decimal(cast(Decimal, value))))
+    if kind == BOOL:
+        return _BYTE.pack(cast(bool, value))
+    if kind == DATE:
+        return _date_bytes(cast(date, value))
+    if kind == DATETIME:
+        moment = values.in_utc(cast(datetime, value))
+        return _date_bytes(moment) + _MILLISECONDS.pack((moment - _midnight(moment)) // _MILLISECOND)
+    return _LONG.pack(value)
+
+
+def _date_bytes(day: date) -> bytes:
+    return _DATE.pack(day.year, day.month, day.day)
+
+
+def _midnight(day: date) -> datetime:
+    return datetime.combine(day, time(), timezone.utc)
 
 
 def read(data: bytes) -> list[FileLayer]:
@@ -138,7 +167,37 @@ def fault_words(path: str, last: str) -> str:
     return f"place {place}, {name}: {BAD_FIELDS.get(number, 'it is wrong')} ({number})"
 
 
-_HEAD, _SHORT, _LONG = struct.Struct(">II"), struct.Struct(">H"), struct.Struct(">q")
+_HEAD, _BYTE, _SHORT, _LONG = struct.Struct(">II"), struct.Struct(">B"), struct.Struct(">H"), struct.Struct(">q")
+_DECIMAL, _DATE, _MILLISECONDS = struct.Struct(">qB"), struct.Struct(">HBB"), struct.Struct(">I")
+_MILLISECOND = timedelta(milliseconds=1)
+_WIDTHS = {INT: 8, DECIMAL: 9, BOOL: 1, DATE: 4, DATETIME: 8}
+"""How many bytes a value of each type has; a text says itself how many."""
+
+
+def _behind_value(data: bytes, at: int, kind: int) -> int:
+    """The place behind a value of a type."""
+    if kind == TEXT:
+        (length,) = _SHORT.unpack_from(data, at)
+        return at + 2 + int(length)
+    return at + _WIDTHS[kind]
+
+
+def _value_at(data: bytes, at: int, kind: int) -> Value:
+    """The value of a type that stands at a place."""
+    if kind == TEXT:
+        (length,) = _SHORT.unpack_from(data, at)
+        return str(data[at + 2 : at + 2 + length], "utf-8")
+    if kind == DECIMAL:
+        return values.of_mantissa(*_DECIMAL.unpack_from(data, at))
+    if kind == BOOL:
+        return bool(data[at])
+    if kind == DATE:
+        return date(*_DATE.unpack_from(data, at))
+    if kind == DATETIME:
+        milliseconds: int = _MILLISECONDS.unpack_from(data, at + 4)[0]
+        return _midnight(date(*_DATE.unpack_from(data, at))) + milliseconds * _MILLISECOND
+    (number,) = _LONG.unpack_from(data, at)
+    return int(number)
 
 
 def _behind_feature(data: bytes, at: int, types: dict[int, int]) -> int:
@@ -149,11 +208,7 @@ def _behind_feature(data: bytes, at: int, types: dict[int, int]) -> int:
     at += 2
     for _ in range(count):
         (column,) = _SHORT.unpack_from(data, at)
-        if types.get(column) == INT:
-            at += 10
-        else:
-            (length,) = _SHORT.unpack_from(data, at + 2)
-            at += 4 + length
+        at = _behind_value(data, at + 2, types.get(column, INT))
     return at
 
 
@@ -192,17 +247,23 @@ class _Features(Sequence[FileFeature]):
         geometry, at = data[at + 8 : at + 8 + length], at + 8 + length
         (count,) = _SHORT.unpack_from(data, at)
         at += 2
-        values: dict[int, Union[int, str]] = {}
+        found: dict[int, Value] = {}
         for _ in range(count):
             (column,) = _SHORT.unpack_from(data, at)
-            if self._types.get(column) == INT:
-                (values[column],) = _LONG.unpack_from(data, at + 2)
-                at += 10
-            else:
-                (length,) = _SHORT.unpack_from(data, at + 2)
-                values[column] = data[at + 4 : at + 4 + length].decode("utf-8")
-                at += 4 + length
-        return FileFeature(identifier, geometry, values)
+            kind = self._types[column]
+            found[column] = _value_at(data, at + 2, kind)
+            at = _behind_value(data, at + 2, kind)
+        return FileFeature(identifier, geometry, found)
+
+
+_VALUE_NAMES = {
+    INT: "whole number of a value",
+    TEXT: "text of a value",
+    DECIMAL: "decimal of a value",
+    BOOL: "bool of a value",
+    DATE: "date of a value",
+    DATETIME: "date and time of a value",
+}
 
 
 class _Found(Exception):
@@ -268,11 +329,11 @@ class _Reader:
         self._number("I", "identifier of a feature")
         self._bytes(self._number("I", "length of a geometry"), "geometry")
         for _ in range(self._number("H", "number of values")):
-            column = self._number("H", "column number of a value")
-            if types.get(column) == INT:
-                self._number("q", "whole number of a value")
+            kind = types[self._number("H", "column number of a value")]
+            if kind == TEXT:
+                self._text("H", _VALUE_NAMES[kind])
             else:
-                self._text("H", "text of a value")
+                self._bytes(_WIDTHS[kind], _VALUE_NAMES[kind])
 
     def _rule(self) -> Rule:
         name = self._text("B", "name of a rule")

@@ -550,7 +550,7 @@ class Words(TestCase):
             ("set wells 1 ", ["depth", "label"]),
             ("set other 1 ", []),
             ("column drop wells l", ["label"]),
-            ("column add wells x ", ["int", "text"]),
+            ("column add wells x ", ["int", "text", "decimal", "bool", "date", "datetime"]),
             ("query wells to", ["touches"]),
             ("add wells POL", ["POLYGON ("]),
             ("help qu", ["query", "quit"]),

@@ -426,6 +426,65 @@ class Editing(PageCase):
         page.use("#replace")
         page.logged("replace wells 1 POINT (460 150)", "ok")
 
+    def test_values_of_each_type(self):
+        page = self.open()
+        for column_type in ("decimal", "bool", "date", "datetime"):
+            page.type(f"column add wells c_{column_type} {column_type}", "ok")
+        page.choose((450, 150), "wells 1, a point")
+        page.until(lambda: page.all("#value-c_datetime"))
+        labels = page.script("return [...document.querySelectorAll('#values label')].map((label) => label.textContent)")
+        self.assertEqual(labels[-4:], ["c_decimal (decimal)", "c_bool (bool)", "c_date (date)", "c_datetime (datetime, UTC)"])
+        kinds = page.script("return [...document.querySelectorAll('[id^=value-c_]')].map((field) => field.type)")
+        self.assertEqual(kinds, ["text", "select-one", "date", "datetime-local"])
+        keys = page.keys
+        for typed, shown in (("0.1000000000000000050", "0.100000000000000005"), ("+9007199254740993.0", "9007199254740993")):
+            page.one("#value-c_decimal").send_keys(keys.CONTROL + "a" + keys.NULL, typed, keys.ENTER)
+            page.logged(f"set wells 1 c_decimal {typed}", "ok")
+            self.shows(page, "decimal", shown)
+        for typed in (".5", "1,5", "0.0000000000000000001"):
+            page.one("#value-c_decimal").send_keys(keys.CONTROL + "a" + keys.NULL, typed, keys.ENTER)
+            page.logged(f"set wells 1 c_decimal {typed}")
+            page.until(lambda: "12.5, true, 2024-02-29" in page.one("#refusal").text)
+            self.shows(page, "decimal", "9007199254740993")
+        page.pick("#value-c_bool", "true")
+        page.logged("set wells 1 c_bool true", "ok")
+        page.pick("#value-c_bool", "false")
+        page.logged("set wells 1 c_bool false", "ok")
+        page.pick("#value-c_bool", "")
+        page.logged("unset wells 1 c_bool", "ok")
+        self.put(page, "date", "2024-02-29")
+        page.logged("set wells 1 c_date 2024-02-29", "ok")
+        self.put(page, "datetime", "2026-11-29T19:28")
+        page.logged("set wells 1 c_datetime 2026-11-29T19:28:00.000Z", "ok")
+        self.put(page, "datetime", "2026-11-29T19:28:11.05")
+        page.logged("set wells 1 c_datetime 2026-11-29T19:28:11.050Z", "ok")
+        page.type("set wells 1 c_datetime 0001-01-01T00:00:00Z", "ok")
+        self.shows(page, "datetime", "0001-01-01T00:00")
+        page.type("set wells 1 c_datetime 9999-12-31T23:59:59.999Z", "ok")
+        self.shows(page, "datetime", "9999-12-31T23:59:59.999")
+        # A field that is left as it was sends nothing, and one that is emptied clears the value.
+        count = len(page.log())
+        self.put(page, "datetime", "9999-12-31T23:59:59.999")
+        self.put(page, "date", "2024-02-29")
+        self.assertEqual(len(page.log()), count)
+        self.put(page, "date", "")
+        page.logged("unset wells 1 c_date", "ok")
+        # A day that is typed in part is none: it is said, and nothing is sent.
+        page.one("#value-c_date").send_keys("02")
+        page.one("#value-c_decimal").click()
+        page.logged("set wells 1 c_date", "The date in c_date is not whole: nothing was sent.")
+        self.assertFalse(page.script("return document.getElementById('value-c_date').validity.badInput"))
+        row = str(self.serving.log_in("Ben").line("get wells 1"))
+        self.assertIn(" c_decimal=9007199254740993 c_datetime=9999-12-31T23:59:59.999Z", row)
+
+    def shows(self, page, column_type, value):
+        page.until(lambda: page.one(f"#value-c_{column_type}").get_property("value") == value)
+
+    def put(self, page, column_type, value):
+        """What a person types into a field of a day, in whatever order the browser's language has its parts."""
+        script = "const field = document.getElementById(arguments[0]); field.focus(); field.value = arguments[1]; field.blur();"
+        page.script(script, f"value-c_{column_type}", value)
+
     def test_all_by_keys(self):
         page = self.open()
         keys = page.keys

@@ -113,7 +113,7 @@ class Commands(TestCase):
         store.add_column("w", "n", "int")
         store.add_column("w", "t", "text")
         store.add("w", "POINT (1 1)")
-        for number in (0, 7, -7, 2**63 - 1, -(2**63), True):
+        for number in (0, 7, -7, 2**63 - 1, -(2**63)):
             store.set("w", 1, "n", number)
             self.assertEqual(store.show("w")[0].values, {"n": number})
         store.set("w", 1, "t", "12")
@@ -212,7 +212,7 @@ class Commands(TestCase):
         self.assert_refused(18, "NoLayer", store.find, "v", "depth")
         self.assert_refused(22, "NoColumn", store.find, "w", "name", 1)
         self.assert_refused(24, "WrongValue", store.find, "w", "depth", "12")
-        self.assert_refused(24, "WrongValue", store.find, "w", "label", "x" * 256)
+        self.assert_refused(24, "WrongValue", store.find, "w", "label", "x" * 65_536)
         self.assert_refused(31, "BadCommand", store.run, "find w depth x")
         store.undo()
         self.assertEqual(store.find("w", "label"), [4])
@@ -490,7 +490,7 @@ class Refusals(TestCase):
         (22, "NoColumn", "unset w 1 c"),
         (23, "ColumnExists", "column add w n text"),
         (24, "WrongValue", "set w 1 n 'x'"),
-        (24, "WrongValue", f"set w 1 t '{'x' * 256}'"),
+        (24, "WrongValue", f"set w 1 t '{'x' * 65_536}'"),
         (25, "NoVertex", "vertex move w 1 0 0 1 2 2"),
         (26, "WrongKind", "add p POINT (1 1)"),
         (30, "NothingToRedo", "redo"),

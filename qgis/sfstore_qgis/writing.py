@@ -13,6 +13,7 @@ from sfstore import spelling
 from sfstore.exchange.grid import Grid, OffGrid, Outside, Rounding
 from sfstore.geometry import NotTaken, read_wkb, write_wkt
 from sfstore.results import Value
+from sfstore.values import spelled
 
 from .fields import COLUMN_TYPES, IDENTIFIER
 
@@ -161,6 +162,6 @@ def _is_none(found: Any) -> bool:
 
 def _value(found: Value) -> str:
     try:
-        return spelling.value(found)
+        return spelled(found)
     except (TypeError, ValueError) as error:
         raise NotSent(f"{found!r}: {error}") from None

@@ -9,6 +9,7 @@ from __future__ import annotations
 from collections.abc import Iterator, Sequence
 from typing import NamedTuple
 
+from sfstore.exchange.columns import values_of
 from sfstore.exchange.ogr import ExchangeError
 from sfstore.exchange.placing import room_beside
 from sfstore.exchange.ruling import Breaks, breaks_of, converse
@@ -57,7 +58,7 @@ class _Piece(NamedTuple):
     @property
     def values(self) -> dict[str, int | str]:
         """The values by the names of their columns."""
-        known = self.feature.values
+        known = values_of(self.feature)
         return {column.name: known[column.number] for column in self.layer.columns if column.number in known}
 
 

@@ -10,13 +10,13 @@ import math
 import struct
 from collections.abc import Callable
 from dataclasses import dataclass, field
-from typing import NamedTuple, Union
+from typing import NamedTuple, Union, cast
 
 from sfstore.exchange.moments import day_of, moment_of
 from sfstore.sidecar import ColumnOrigin
-from sfstore.storefile import INT, FileColumn, FileLayer
+from sfstore.storefile import INT, FileColumn, FileFeature, FileLayer
 
-__all__ = ["DATE", "DATE_TIME", "INTEGER", "INTEGER_64", "REAL", "STRING", "Sort", "Survey", "real_of", "sort_of", "surveyed"]
+__all__ = ["DATE", "DATE_TIME", "INTEGER", "INTEGER_64", "REAL", "STRING", "Sort", "Survey", "real_of", "sort_of", "surveyed", "values_of"]
 
 INTEGER, INTEGER_64, REAL, STRING = "Integer", "Integer64", "Real", "String"
 DATE, DATE_TIME = "Date", "DateTime"
@@ -151,12 +151,17 @@ def surveyed(layer: FileLayer, origins: dict[int, ColumnOrigin]) -> Survey:
         found.codes.add(_code(feature.geometry))
         found.count += 1
         found.last = max(found.last, feature.id)
-        for number, value in feature.values.items():
+        for number, value in values_of(feature).items():
             if isinstance(value, int):
                 found.numbers[number].add(value)
             else:
                 found.texts[number].add(feature.id, value)
     return found
+
+
+def values_of(feature: FileFeature) -> dict[int, Value]:
+    """The values of a feature, of the types that maps are made of: a store with others is not exported."""
+    return cast("dict[int, Value]", feature.values)
 
 
 def _code(binary: bytes) -> int:

@@ -10,7 +10,7 @@ from collections.abc import Sequence
 from typing import Any
 
 from sfstore.exchange import geojson, ogr, wayback
-from sfstore.exchange.columns import DATE, DATE_TIME, INTEGER, INTEGER_64, REAL, Sort
+from sfstore.exchange.columns import DATE, DATE_TIME, INTEGER, INTEGER_64, REAL, Sort, values_of
 from sfstore.exchange.formats import FORMATS, Part
 from sfstore.exchange.grid import Grid
 from sfstore.exchange.moments import day_of, moment_of, text_of_day, text_of_moment
@@ -145,7 +145,7 @@ class _LayerCheck:
         if geometry is None or not self._is_same_shape(bytes(geometry.ExportToIsoWkb(_LEAST_FIRST)), shape):
             raise self._other(f"feature {feature.id} has another geometry")
         for number, place in self._fields.items():
-            value = feature.values.get(number)
+            value = values_of(feature).get(number)
             sort = self._part.sorts[number]
             if not self._is_same_value(value, sort, there, place):
                 known = there.GetFieldAsString(place) if there.IsFieldSetAndNotNull(place) else "none"

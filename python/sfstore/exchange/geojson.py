@@ -10,7 +10,7 @@ from collections.abc import Iterable, Iterator
 from typing import Any
 
 from sfstore.exchange import ogr
-from sfstore.exchange.columns import REAL, Sort
+from sfstore.exchange.columns import REAL, Sort, values_of
 from sfstore.exchange.formats import Part
 from sfstore.exchange.grid import Grid
 from sfstore.geometry import Flat, Shape, read_wkb
@@ -68,7 +68,7 @@ def _text(content: object) -> str:
 
 def _feature(feature: FileFeature, part: Part, grid: Grid) -> dict[str, Any]:
     known = {
-        part.columns[number]: _value(feature.values[number], sort)
+        part.columns[number]: _value(values_of(feature)[number], sort)
         for number, sort in part.sorts.items()
         if number in feature.values
     }

@@ -15,7 +15,7 @@ from collections.abc import Iterator, Sequence
 from typing import Any, NamedTuple
 
 from sfstore.exchange import ogr
-from sfstore.exchange.columns import DATE, DATE_TIME, INTEGER, INTEGER_64, REAL, Sort
+from sfstore.exchange.columns import DATE, DATE_TIME, INTEGER, INTEGER_64, REAL, Sort, values_of
 from sfstore.exchange.formats import Part
 from sfstore.exchange.grid import Grid
 from sfstore.exchange.moments import day_of, moment_of
@@ -425,7 +425,7 @@ class _LayerExport:
         with ogr.progress(self._part.name, len(features)) as show:
             for feature in features:
                 fields = [str(feature.id), self._geometry(feature)]
-                fields += [_field(feature.values.get(column.number), column.sort) for column in self._columns]
+                fields += [_field(values_of(feature).get(column.number), column.sort) for column in self._columns]
                 rows.append("\t".join(fields) + "\n")
                 if len(rows) == _BATCH:
                     yield "".join(rows).encode("utf-8")
@@ -482,7 +482,7 @@ class _LayerExport:
         if row[1] != self._geometry(feature):
             raise self._other(f"has another geometry of feature {feature.id}")
         for column, text in zip(self._columns, row[2:]):
-            value = feature.values.get(column.number)
+            value = values_of(feature).get(column.number)
             if isinstance(value, str) and column.name in self._padded:
                 value = value.rstrip(" ")
             if not _is_same(value, text, column.sort):

@@ -6,7 +6,7 @@ from collections.abc import Sequence
 from typing import Any
 
 from sfstore.exchange import geojson, ogr, wayback
-from sfstore.exchange.columns import DATE, DATE_TIME, REAL, Sort
+from sfstore.exchange.columns import DATE, DATE_TIME, REAL, Sort, values_of
 from sfstore.exchange.comparing import compare
 from sfstore.exchange.formats import FORMATS, Part
 from sfstore.exchange.grid import Grid
@@ -84,7 +84,7 @@ class _LayerExport:
         written.SetFID(feature.id)
         shape = read_wkb(feature.geometry).mapped(self._grid.places)
         written.SetGeometryDirectly(self._ogr.CreateGeometryFromWkb(write_wkb(shape)))
-        for number, value in feature.values.items():
+        for number, value in values_of(feature).items():
             _set(written, self._places[number], self._part.sorts[number], value)
         return written
 

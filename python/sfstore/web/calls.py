@@ -17,7 +17,8 @@ from sfstore.groups import text_of
 from sfstore.language import GRID_MAX, GRID_MIN, QUESTIONS, parted
 from sfstore.lines import geometry_refused
 from sfstore.refusals import words_of
-from sfstore.store import Answer, Refused, Store
+from sfstore.store import Answer, Refused, Store, Value
+from sfstore.values import spelled
 from sfstore.web.batches import LineRefused, batch_of
 from sfstore.web.changed import changed_by, merged
 from sfstore.web.changes import Change, Target, features_of, seen_of
@@ -169,7 +170,7 @@ class Calls:
             shape = read_wkb(bytes.fromhex(store.hex(layer, feature)))
             values = store.get(layer, feature)[0].values
             told = [
-                {**column._asdict(), "value": str(values[name]) if (name := column.name) in values else None}
+                {**column._asdict(), "value": _shown(values[name]) if (name := column.name) in values else None}
                 for column in store.columns(layer)
             ]
             return {"wkt": write_wkt(shape), **_shape(shape), "values": told, "version": self._looks.version}
@@ -328,6 +329,11 @@ class Calls:
         if step is None:
             return None
         return {"number": step.editor, "editor": self._editors.name_of(step.editor), "line": step.line}
+
+
+def _shown(value: Value) -> str:
+    """A value as a field of the page has it: texts without quotes, others as lines spell them."""
+    return value if isinstance(value, str) else spelled(value)
 
 
 def _broken(broken: Broken) -> Body:

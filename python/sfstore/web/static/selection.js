@@ -3,6 +3,7 @@
 import { byId, drawn, element, sure } from "./dom.js";
 import { boxOf, isInBox, KINDS, middlesOf, onGrid, verticesOf, withVertex } from "./geometry.js";
 import { call } from "./server.js";
+import { NO_VALUE, fieldOf, isTyped, labelOf, show, valueIn, wordOf } from "./values.js";
 
 // How many vertices can be taken hold of at a time.
 const HANDLES_MAX = 300;
@@ -96,9 +97,9 @@ export class Selection {
     for (const { name, type, value } of before.values) {
       const input = byId(`value-${name}`);
       const left = now?.values.find((other) => other.name === name && other.type === type);
-      if (input.value === input.defaultValue || (left && left.value === value)) continue;
-      this.app.miss(valueLine(before, name, type, input.value), words);
-      input.value = input.defaultValue;
+      if (!isTyped(input) || (left && left.value === value)) continue;
+      this.app.miss(valueLine(before, name, type, valueIn(input)), words);
+      show(input, input.shown);
     }
   }
 
@@ -117,26 +118,29 @@ export class Selection {
 
   /** A row of the table: the name of a column, and a field for its value. */
   #row({ name, type }, feature) {
-    const input = element("input", { id: `value-${name}`, autocomplete: "off", spellcheck: false });
-    if (type === "int") input.inputMode = "numeric";
-    input.onchange = () => this.#set(feature, name, type, input);
+    const input = fieldOf(name, type, () => this.#set(feature, name, type, input));
     const clear = element("button", { type: "button", ariaLabel: `Clear ${name}`, title: `Clear ${name}` }, "×");
     clear.onclick = () => this.#edit((words) => `unset ${words} ${name}`, feature);
-    const label = element("label", { htmlFor: input.id }, `${name} (${type})`);
+    const label = element("label", { htmlFor: input.id }, labelOf(name, type));
     return element("tr", {}, element("th", { scope: "row" }, label), element("td", {}, input), element("td", {}, clear));
   }
 
   /** Sets a value that was typed. Where that is not done, the field shows the value that is there. */
   async #set(feature, name, type, input) {
-    const before = input.defaultValue;
-    input.defaultValue = input.value;
+    const before = input.shown;
+    if (input.validity.badInput) {
+      this.app.miss(`set ${nameOf(feature)} ${name}`, `The ${type} in ${name} is not whole: nothing was sent.`);
+      show(input, before);
+      return;
+    }
+    input.shown = valueIn(input);
     let isSet = false;
     try {
-      const answer = await this.#edit(() => valueLine(feature, name, type, input.value), feature);
+      const answer = await this.#edit(() => valueLine(feature, name, type, valueIn(input)), feature);
       isSet = !answer.refused;
     } finally {
       if (!isSet) {
-        input.value = input.defaultValue = before;
+        show(input, before);
         await this.refresh();
       }
     }
@@ -271,18 +275,16 @@ function vertexLine({ vertex, tried }, feature) {
 
 /** The line that sets a value that was typed, or clears it. */
 function valueLine(feature, name, type, typed) {
-  const value = type === "text" ? `'${typed.replaceAll("'", "''")}'` : typed.trim();
-  const isGone = type === "int" && value === "";
-  return isGone ? `unset ${nameOf(feature)} ${name}` : `set ${nameOf(feature)} ${name} ${value}`;
+  const word = wordOf(type, typed);
+  return word === "" ? `unset ${nameOf(feature)} ${name}` : `set ${nameOf(feature)} ${name} ${word}`;
 }
 
 /** Shows a value in its field, but not over what is being typed there. */
 function fill({ name, value }) {
   const input = byId(`value-${name}`);
-  const isTyped = input === document.activeElement && input.value !== input.defaultValue;
-  input.defaultValue = value ?? "";
-  if (!isTyped) input.value = input.defaultValue;
-  input.placeholder = value === null ? "no value" : "";
+  if (input === document.activeElement && isTyped(input)) input.shown = value ?? "";
+  else show(input, value ?? "");
+  input.placeholder = value === null ? NO_VALUE : "";
   input.closest("tr").querySelector("button").disabled = value === null;
 }
 
