@@ -23,15 +23,16 @@ from qgis.core import (
     QgsVectorLayer,
     QgsVectorLayerUtils,
 )
-from qgis.PyQt.QtCore import NULL, QVariant
-from qgis.PyQt.QtWidgets import QApplication, QPushButton, QTextBrowser
+from qgis.gui import QgsGui
+from qgis.PyQt.QtCore import NULL, QDate, QDateTime, Qt, QTime, QVariant
+from qgis.PyQt.QtWidgets import QApplication, QLineEdit, QPushButton, QTextBrowser
 from qgis_support import CROSSED, SQUARE, Plugin, QgisCase, Session
 
 from sfstore_qgis.fields import Places
 from sfstore_qgis.reading import rows_of
 
 from sfstore.exchange.grid import Grid
-from sfstore.language import GRID_MAX, GRID_MIN
+from sfstore.language import COLUMN_TYPES, GRID_MAX, GRID_MIN, TEXT_MAX
 from sfstore.rows import feature_of
 from sfstore.web.client import CallFailed, Client
 
@@ -70,7 +71,7 @@ class Reading(unittest.TestCase):
             grid = Grid(*words)
             points = list(zip(steps, steps[::-1]))
             rows = [f"{number} POINT ({x} {y})" for number, (x, y) in enumerate(points)]
-            found = [row.geometry.asPoint() for row in rows_of(rows, Places(1, {}, {}), grid)]
+            found = [row.geometry.asPoint() for row in rows_of(rows, Places(1, {}), grid)]
             self.assertEqual([(point.x(), point.y()) for point in found], [tuple(grid.places(point)) for point in points])
 
 
@@ -407,7 +408,118 @@ FEW = "".join(
         *(f"set parcels {at} number {at}\nset parcels {at} owner 'owner {at}'\n" for at in range(1, 7)),
     ]
 ).encode()
-TEXT, NUMBER = QgsField("mine", QVariant.String, "text", 255), QgsField("mine", QVariant.LongLong, "int")
+TEXT, NUMBER = QgsField("mine", QVariant.String, "text", TEXT_MAX), QgsField("mine", QVariant.LongLong, "int")
+
+
+class Types(QgisCase):
+    """Columns of each type."""
+
+    lines = FEW + "".join(f"column add parcels c_{kind} {kind}\n" for kind in COLUMN_TYPES).encode()
+    MOST = {
+        "int": (str(2**63 - 1), str(-(2**63))),
+        "text": (f"'{'日' * (TEXT_MAX // 3)}'", "''"),
+        "decimal": ("-922337203685477580.8", "0.000000000000000001", "9007199254740993", "0.1"),
+        "bool": ("true", "false"),
+        "date": ("0001-01-01", "9999-12-31", "2024-02-29"),
+        "datetime": ("0001-01-01T00:00:00.000Z", "9999-12-31T23:59:59.999Z", "2026-10-25T01:30:11.005Z"),
+    }
+
+    def saved(self, column, value, answer=""):
+        """The row of a feature once a value was set and saved; where it is refused, by its field, as it was."""
+        parcels, before = self.layer(), self.stored()[2]
+        parcels.startEditing()
+        self.set(2, column, value)
+        is_taken = parcels.commitChanges()
+        said = " ".join([*self.said(), *parcels.commitErrors()])
+        self.assertEqual(is_taken, not answer, said)
+        if answer:
+            self.assertIn(f"{column} can't be ", said)
+            self.assertIn(answer, said)
+            parcels.rollBack()
+            self.assertEqual(self.stored()[2], before)
+        self.settle()
+        self.assert_alike()
+        return self.stored()[2]
+
+    def test_each_value_is_shown_and_saved_as_it_is(self):
+        ben, parcels = self.ben(), self.layer()
+        kinds = [field.type() for field in parcels.fields()][3:]
+        self.assertEqual(kinds, [QVariant.LongLong, *[QVariant.String] * 2, QVariant.Bool, QVariant.Date, QVariant.DateTime])
+        for kind, words in self.MOST.items():
+            for word in words:
+                self.bens(ben, f"set parcels 1 c_{kind} {word}")
+                self.assert_alike()
+                # What QGIS shows of one feature is saved in another one.
+                shown = self.feature(1)[f"c_{kind}"]
+                self.assertIn(f" c_{kind}={word}", self.saved(f"c_{kind}", shown))
+                self.bens(ben, f"unset parcels 2 c_{kind}")
+
+    def test_what_is_written_otherwise_is_shown_as_the_store_has_it(self):
+        for typed, word in ((" +0812.50", "812.5"), ("12.0", "12"), (7, "7"), ("-0.0", "0")):
+            self.assertIn(f" c_decimal={word}", self.saved("c_decimal", typed))
+            self.assertEqual(self.feature(2)["c_decimal"], word)
+        berlin = QDateTime(QDate(2026, 11, 29), QTime(20, 28, 11, 5), Qt.OffsetFromUTC, 3600)
+        self.assertIn(" c_datetime=2026-11-29T19:28:11.005Z", self.saved("c_datetime", berlin))
+        self.assertEqual(self.feature(2)["c_datetime"].time(), QTime(19, 28, 11, 5))
+
+    def test_what_would_be_changed_is_refused_by_its_field(self):
+        a_decimal = "a decimal is digits"
+        for value in ("1,5", "1e3", ".5", "", "NaN", "1 000"):
+            self.saved("c_decimal", value, a_decimal)
+        self.saved("c_decimal", "0.0000000000000000001", "more than 18 places")
+        self.saved("c_decimal", "9223372036854775808", "more than 64 bits")
+        # Whoever made it meant other digits than a double has.
+        self.saved("c_decimal", 0.1, "not float")
+        # The form's have the digits of UTC, and those of `now()` the ones of this machine's zone.
+        self.saved("c_datetime", QDateTime(QDate(2026, 11, 29), QTime(19, 28, 11)), "it has no zone")
+        self.saved("c_date", QDate(10_000, 1, 1), "year 10000 is out of range")
+
+    def test_fields_of_each_type_are_added(self):
+        parcels = self.layer()
+        natives = {native.mTypeName: native for native in parcels.dataProvider().nativeTypes()}
+        self.assertEqual(list(natives), COLUMN_TYPES)
+        parcels.startEditing()
+        for kind, native in natives.items():
+            self.assertTrue(parcels.addAttribute(QgsField(f"n_{kind}", native.mType, native.mTypeName)), kind)
+        values = {"int": 7, "text": "x", "decimal": "8.50", "bool": True, "date": QDate(2024, 2, 29)}
+        values["datetime"] = QDateTime(QDate(2024, 2, 29), QTime(1, 2, 3), Qt.UTC)
+        for kind, value in values.items():
+            self.set(2, f"n_{kind}", value)
+        self.draw(SQUARE, number=9001, **{f"n_{kind}": value for kind, value in values.items()})
+        self.assertTrue(parcels.commitChanges(), parcels.commitErrors())
+        told = " n_int=7 n_text='x' n_decimal=8.5 n_bool=true n_date=2024-02-29 n_datetime=2024-02-29T01:02:03.000Z"
+        for number in (2, 7):
+            self.assertTrue(self.stored()[number].endswith(told), self.stored()[number])
+        columns = [(column.name, column.type) for column in self.session.columns("parcels")]
+        self.assertEqual(columns[-6:], [(f"n_{kind}", kind) for kind in COLUMN_TYPES])
+        self.settle()
+        self.assert_alike()
+
+    def test_a_field_of_doubles_is_refused(self):
+        parcels = self.layer()
+        parcels.startEditing()
+        # QGIS asks the provider for what it takes; a script can do without.
+        is_added = parcels.addAttribute(QgsField("size", QVariant.Double, "double"))
+        self.assertFalse(is_added and parcels.commitChanges())
+        parcels.rollBack()
+        self.assertFalse(parcels.dataProvider().addAttributes([QgsField("size", QVariant.Double, "double")]))
+        self.assertIn("size: the store has no columns of this type", " ".join(parcels.dataProvider().errors()))
+
+    def test_forms_have_a_widget_that_keeps_the_value(self):
+        widgets = QgsGui.editorWidgetRegistry()
+        widgets.initEditors()
+        parcels = self.layer()
+        best = [widgets.findBest(parcels, f"c_{kind}").type() for kind in COLUMN_TYPES]
+        self.assertEqual(best[1:], ["TextEdit", "TextEdit", "CheckBox", "DateTime", "TextEdit"])
+        self.bens(self.ben(), "set parcels 2 c_datetime 2026-10-25T01:30:11.005Z")
+        at, line = parcels.fields().indexOf("c_datetime"), QLineEdit()
+        wrapper = widgets.create("TextEdit", parcels, at, {}, line, None)
+        wrapper.setFeature(self.feature(2))
+        self.assertEqual(wrapper.value(), self.feature(2)["c_datetime"])
+        line.setText("2026-11-29T19:28:11Z")
+        self.assertIn(" c_datetime=2026-11-29T19:28:11.000Z", self.saved("c_datetime", wrapper.value()))
+        line.setText("2026-11-29T19:28:11")
+        self.saved("c_datetime", wrapper.value(), "it has no zone")
 
 
 class Identifiers(QgisCase):
@@ -567,8 +679,9 @@ class FieldsOfTwo(QgisCase):
 
     def content(self, name):
         """The columns of a layer of the store, and the values of each feature."""
-        columns = {column.name: column.type for column in self.session.columns(name)}
-        return columns, {number: feature_of(row).values for number, row in self.stored(name).items()}
+        columns = self.session.columns(name)
+        values = {number: feature_of(row, columns).values for number, row in self.stored(name).items()}
+        return {column.name: column.type for column in columns}, values
 
     def expected(self, before, ann):
         """What the store has once it has taken what Ann did."""
@@ -664,15 +777,15 @@ class FieldsOfOne(QgisCase):
 
     def test_a_text_that_was_to_be_shorter_is_a_column_as_any_other(self):
         parcels = self.layer()
-        for name, length in (("none", 0), ("ten", 10), ("most", 255)):
+        for name, length in (("none", 0), ("ten", 10), ("most", TEXT_MAX)):
             parcels.startEditing()
             self.assertTrue(parcels.addAttribute(QgsField(name, QVariant.String, "text", length)))
             self.set(2, name, "x")
             self.assertTrue(parcels.commitChanges(), parcels.commitErrors())
             self.assertIn(f"{name}='x'", self.stored()[2])
-        self.assertEqual([field.length() for field in parcels.fields()][-3:], [255] * 3)
-        self.bens(self.ben(), f"set parcels 2 ten '{'y' * 255}'")
-        self.assertEqual(self.feature(2)["ten"], "y" * 255)
+        self.assertEqual([field.length() for field in parcels.fields()][-3:], [TEXT_MAX] * 3)
+        self.bens(self.ben(), f"set parcels 2 ten '{'y' * TEXT_MAX}'")
+        self.assertEqual(self.feature(2)["ten"], "y" * TEXT_MAX)
         self.assert_alike()
 
     def test_of_fields_behind_one_that_went_the_right_one_is_dropped(self):
@@ -727,9 +840,9 @@ class FieldsOfOne(QgisCase):
         QgsProject.instance().addMapLayer(twice)
         for layer in (parcels, twice):
             layer.startEditing()
-        self.assertTrue(twice.addAttribute(QgsField("extra", QVariant.String, "text", 255)))
+        self.assertTrue(twice.addAttribute(QgsField("extra", QVariant.String, "text", TEXT_MAX)))
         self.draw(SQUARE, twice, owner="Ann", extra="E")
-        self.assertTrue(parcels.addAttribute(QgsField("other", QVariant.String, "text", 255)))
+        self.assertTrue(parcels.addAttribute(QgsField("other", QVariant.String, "text", TEXT_MAX)))
         self.draw(SQUARE, parcels, owner="Ann 2", other="O")
         for layer in (parcels, twice):
             self.assertFalse(layer.commitChanges())
@@ -1327,8 +1440,9 @@ class AtRandom(QgisCase):
 
     def content(self):
         """The columns of the parcels, and the values of each."""
-        columns = {column.name: column.type for column in self.session.columns("parcels")}
-        return columns, {number: feature_of(row).values for number, row in self.stored().items()}
+        columns = self.session.columns("parcels")
+        values = {number: feature_of(row, columns).values for number, row in self.stored().items()}
+        return {column.name: column.type for column in columns}, values
 
     def edit_columns(self, rng, parcels, value):
         """Some edits by names, and what they make of the store's content."""

@@ -5,11 +5,13 @@ Only `test_qgis` starts them, in processes of their own: QGIS may end a process.
 
 from __future__ import annotations
 
+import datetime
 import html
 import json
 import os
 import sys
 import time
+from decimal import Decimal
 
 from support import FOLDER, PROGRAM
 from web_support import TOWN, WebCase
@@ -20,7 +22,7 @@ sys.path.insert(0, str(FOLDER.parent / "qgis"))
 
 from qgis.core import Qgis, QgsApplication, QgsFeature, QgsGeometry, QgsProject, QgsSettings  # noqa: E402
 from qgis.gui import QgsMapCanvas, QgsMessageBar  # noqa: E402
-from qgis.PyQt.QtCore import NULL, QCoreApplication, pyqtSignal  # noqa: E402
+from qgis.PyQt.QtCore import NULL, QCoreApplication, QDate, QDateTime, Qt, pyqtSignal  # noqa: E402
 from qgis.PyQt.QtWidgets import QAction, QMainWindow, QVBoxLayout, QWidget  # noqa: E402
 
 QCoreApplication.setOrganizationName("sfstore-tests")
@@ -43,6 +45,7 @@ from sfstore_qgis.session import Session  # noqa: E402
 
 from sfstore import files  # noqa: E402
 from sfstore.rows import feature_of  # noqa: E402
+from sfstore.values import spelled  # noqa: E402
 from sfstore.web import client  # noqa: E402
 from sfstore.web.client import Client  # noqa: E402
 
@@ -221,15 +224,24 @@ class QgisCase(WebCase):
             for feature in editing.layer.getFeatures():
                 values = dict(zip(names, feature.attributes()))
                 number = values.pop("_id")
-                told = {name: value for name, value in values.items() if value is not None and value != NULL}
+                told = {name: known(value) for name, value in values.items() if value is not None and value != NULL}
                 shown[number] = (editing.provider.wkt(feature.geometry()), told)
-            expected = {number: parts_of(row) for number, row in rows.items() if kind_of(row) == mirror.kind}
+            columns = self.session.columns(mirror.name)
+            expected = {number: parts_of(row, columns) for number, row in rows.items() if kind_of(row) == mirror.kind}
             self.assertEqual(shown, expected)
 
 
-def parts_of(row):
-    found = feature_of(row)
-    return found.wkt, found.values
+def known(value):
+    """A value of QGIS as Python has it; decimals are texts there."""
+    if isinstance(value, QDateTime):
+        assert value.timeSpec() == Qt.UTC
+        return value.toPyDateTime().replace(tzinfo=datetime.timezone.utc)
+    return value.toPyDate() if isinstance(value, QDate) else value
+
+
+def parts_of(row, columns):
+    found = feature_of(row, columns)
+    return found.wkt, {name: spelled(value) if isinstance(value, Decimal) else value for name, value in found.values.items()}
 
 
 def kind_of(row):

@@ -12,18 +12,14 @@ from typing import Any, NamedTuple
 from qgis.core import QgsField, QgsFields, QgsVectorLayer
 from qgis.PyQt.QtCore import NULL, QVariant
 
-from sfstore.results import Column
+from sfstore.results import Column, ColumnType
 
-__all__ = ["COLUMN_TYPES", "IDENTIFIER", "Fields", "FieldsDiffer", "Places", "as_columns", "check_layer", "names_of"]
+from .values import column_type_of, field_of, shown, spelling_of
+
+__all__ = ["IDENTIFIER", "Fields", "FieldsDiffer", "Places", "as_columns", "check_layer", "columns_of", "names_of"]
 
 IDENTIFIER = "_id"
 """The field of a feature's identifier. No column has this name: those of a store begin with a letter."""
-
-COLUMN_TYPES = {QVariant.Int: "int", QVariant.LongLong: "int", QVariant.String: "text"}
-"""What a column of the store may be, by QGIS' types of fields."""
-
-_KINDS = ("int", "text")
-
 
 class FieldsDiffer(Exception):
     """A provider or a layer of QGIS has other fields than it has to have. The text says which ones."""
@@ -37,8 +33,7 @@ class Places(NamedTuple):
 
     width: int
     """How many fields there are, that of the identifier counted, which is the first one."""
-    ints: dict[str, int]
-    texts: dict[str, int]
+    columns: dict[str, tuple[int, ColumnType]]
 
     def row(self, number: int, values: Mapping[str, Any]) -> list[Any]:
         """The values of a feature in the order of the fields, the identifier first; NULL where there is none."""
@@ -46,13 +41,22 @@ class Places(NamedTuple):
         return [number, *(placed.get(at, NULL) for at in range(1, self.width))]
 
     def placed(self, values: Mapping[str, Any]) -> dict[int, Any]:
-        """Values of columns by their places, be they there or NULL."""
-        return {at: value for name, value in values.items() if (at := self._place(name, value)) is not None}
+        """Values of columns by their places, be they there or NULL: each as the store has it now."""
+        placed = {}
+        for name, value in values.items():
+            at, column_type = self.columns.get(name, (0, "int"))
+            stored = value if value is None or value == NULL else _stored(value, column_type)
+            if at and (stored is not None or value is None):
+                placed[at] = stored
+        return placed
 
-    def _place(self, name: str, value: Any) -> int | None:
-        if value is None or value == NULL:
-            return self.ints.get(name, self.texts.get(name))
-        return (self.ints if isinstance(value, int) else self.texts).get(name)
+
+def _stored(value: Any, column_type: ColumnType) -> Any:
+    """What the store has made of a value of a field; None where it is of another type."""
+    try:
+        return shown(spelling_of(value, column_type), column_type)
+    except (TypeError, ValueError):
+        return None
 
 
 class Fields:
@@ -70,7 +74,7 @@ class Fields:
         # The memory layer's own, as they were when they were looked at last.
         self._agreed = QgsFields()
         self.columns = list(columns)
-        memory.addAttributes([QgsField(IDENTIFIER, QVariant.LongLong, "int"), *map(_field_of, columns)])
+        memory.addAttributes([QgsField(IDENTIFIER, QVariant.LongLong, "int"), *map(field_of, columns)])
         self._show()
 
     def add(self, columns: Sequence[Column], asked: Iterable[QgsField] = ()) -> None:
@@ -80,7 +84,7 @@ class Fields:
         """
         self.check()
         self._asked.update({field.name(): field for field in asked})
-        self._memory.addAttributes([_field_of(column) for column in columns])
+        self._memory.addAttributes([field_of(column) for column in columns])
         self.columns += columns
         self._show()
 
@@ -97,7 +101,7 @@ class Fields:
         fields = self._memory.fields()
         if fields == self._agreed:
             return
-        found = [(field.name(), COLUMN_TYPES.get(field.type())) for field in fields]
+        found = [(field.name(), column_type_of(field)) for field in fields]
         if found != [(IDENTIFIER, "int"), *self.columns]:
             raise FieldsDiffer(f"it has the fields {_listed(found)}, and the columns are {_listed(self.columns)}")
 
@@ -112,9 +116,8 @@ class Fields:
         self._agreed, self.shown = self._memory.fields(), QgsFields()
         for at, field in enumerate(self._agreed):
             self.shown.append(self._asked.get(field.name(), field), QgsFields.OriginProvider, at)
-        at_of = {column: place for place, column in enumerate(self.columns, 1)}
-        ints, texts = ({column.name: at_of[column] for column in at_of if column.type == kind} for kind in _KINDS)
-        self._places = Places(1 + len(self.columns), ints, texts)
+        places = {column.name: (place, column.type) for place, column in enumerate(self.columns, 1)}
+        self._places = Places(1 + len(self.columns), places)
 
     def places(self) -> Places:
         """Where values stand. `FieldsDiffer` where the memory layer has other fields."""
@@ -128,9 +131,15 @@ def names_of(fields: QgsFields) -> list[str | None]:
     return [None if fields.fieldOrigin(at) in others else field.name() for at, field in enumerate(fields)]
 
 
+def columns_of(fields: QgsFields) -> list[Column | None]:
+    """The columns that fields show, in their order; none for those that are joined or computed."""
+    columns = as_columns(fields)
+    return [None if name is None else column for name, column in zip(names_of(fields), columns)]
+
+
 def as_columns(fields: Iterable[QgsField]) -> list[Column]:
     """The columns that fields become which the store has taken."""
-    return [Column(field.name(), COLUMN_TYPES[field.type()]) for field in fields]  # type: ignore[arg-type]
+    return [Column(field.name(), column_type_of(field) or "text") for field in fields]
 
 
 def check_layer(layer: QgsVectorLayer) -> None:
@@ -143,12 +152,6 @@ def check_layer(layer: QgsVectorLayer) -> None:
     found = [name for name in names_of(layer.fields()) if name is not None]
     if found != wanted:
         raise FieldsDiffer(f"it has the fields {', '.join(found)}, and ought to have {', '.join(map(str, wanted))}")
-
-
-def _field_of(column: Column) -> QgsField:
-    if column.type == "int":
-        return QgsField(column.name, QVariant.LongLong, "int")
-    return QgsField(column.name, QVariant.String, "text", 255)
 
 
 def _listed(columns: Iterable[Sequence[Any]]) -> str:

@@ -75,9 +75,9 @@ class Mirror(QObject):
     def wkb_type(self) -> Any:
         return getattr(QgsWkbTypes, WKB_NAMES[self.kind])
 
-    def written(self, names: Sequence[str | None]) -> Layer:
-        """What has to be known to write its edits, of a layer with fields of these names."""
-        return Layer(self.name, self.kind, self.session.grid, self.numbers, self.fids, names)
+    def written(self, columns: Sequence[Column | None]) -> Layer:
+        """What has to be known to write its edits, of a layer whose fields show these columns."""
+        return Layer(self.name, self.kind, self.session.grid, self.numbers, self.fids, columns)
 
     def load(self) -> None:
         """Takes over all features as they are now."""

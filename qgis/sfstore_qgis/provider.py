@@ -22,14 +22,14 @@ from qgis.core import (
     QgsProviderRegistry,
     QgsVectorDataProvider,
 )
-from qgis.PyQt.QtCore import QVariant
 
 from sfstore.exchange.grid import Rounding
 from sfstore.web.client import CallFailed, ServerGone
 
-from .fields import IDENTIFIER, names_of
+from .fields import IDENTIFIER, columns_of, names_of
 from .session import LayerRefused, Session
 from .told import as_shown, words_of
+from .values import FORMS
 from .writing import NOT_GIVEN, Edits, Line, NotSent, added_numbers, lines_of, wkt_of
 
 __all__ = ["KEY", "Outcome", "Provider", "Source", "register", "source_of"]
@@ -74,12 +74,8 @@ class Provider(QgsVectorDataProvider):
             uri, options or QgsDataProvider.ProviderOptions(), flags or QgsDataProvider.ReadFlags()
         )
         native = QgsVectorDataProvider.NativeType
-        self.setNativeTypes(
-            [
-                native("Whole number (64 bit)", "int", QVariant.LongLong, 0, 0, 0, 0),
-                native("Text (255 bytes)", "text", QVariant.String, 0, 255),
-            ]
-        )
+        # The lengths that a text may be given stand behind its least one; numbers and days have none.
+        self.setNativeTypes([native(form.label, name, form.type, 0, form.length) for name, form in FORMS.items()])
         self.outcome: Outcome | None = None
         self.source = source_of(uri)
         self.mirror: Any = None
@@ -214,7 +210,7 @@ class Provider(QgsVectorDataProvider):
     def lines(self, edits: Edits, fields: QgsFields, rounding: Rounding) -> list[Line]:
         """The lines of edits of a layer with these fields. `NotSent` where an edit has none."""
         self.mirror.fields.check()
-        return lines_of(self.mirror.written(names_of(fields)), edits, rounding)
+        return lines_of(self.mirror.written(columns_of(fields)), edits, rounding)
 
     def check_fields_may_change(self, layer: str = "") -> None:
         """`NotSent` where other layers over this one's features have edits that were not sent: they count its fields.

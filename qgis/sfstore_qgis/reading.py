@@ -16,11 +16,12 @@ from sfstore.geometry import read_wkt, write_wkb
 from sfstore.language import GRID_MIN
 
 from .fields import Places
+from .values import shown
 
 __all__ = ["Row", "geometry_of", "rows_of"]
 
 _ROW = re.compile(r"([0-9]+) ([A-Z]+) (\([-0-9 ,()]*\))(.*)")
-_VALUE = re.compile(r" ([A-Za-z][A-Za-z0-9_]*)=(?:(-?[0-9]+)|'([^']*(?:''[^']*)*)')")
+_VALUE = re.compile(r" ([A-Za-z][A-Za-z0-9_]*)=([-0-9.:TZa-z]+|'[^']*(?:''[^']*)*')")
 _BLANKS = str.maketrans("(),", "   ")
 # How many parentheses a text has whose geometry is one list of points.
 _FLAT = {"POINT": 1, "LINESTRING": 1, "POLYGON": 2}
@@ -71,10 +72,11 @@ def _parted(row: str) -> tuple[str, str, str, str]:
 def _values(number: int, nothing: list[Any], rest: str, places: Places) -> list[Any]:
     """The identifier, and then a value for each further field."""
     values = [number, *nothing]
-    for name, digits, text in _VALUE.findall(rest):
-        at = (places.ints if digits else places.texts).get(name)
-        if at is not None:
-            values[at] = int(digits) if digits else text.replace("''", "'")
+    for name, text in _VALUE.findall(rest):
+        at, column_type = places.columns.get(name, (0, "int"))
+        found = shown(text, column_type)
+        if at and found is not None:
+            values[at] = found
     return values
 
 

@@ -12,10 +12,10 @@ from qgis.PyQt.QtCore import NULL
 from sfstore import spelling
 from sfstore.exchange.grid import Grid, OffGrid, Outside, Rounding
 from sfstore.geometry import NotTaken, read_wkb, write_wkt
-from sfstore.results import Value
-from sfstore.values import spelled
+from sfstore.results import Column
 
-from .fields import COLUMN_TYPES, IDENTIFIER
+from .fields import IDENTIFIER
+from .values import column_type_of, spelling_of, told
 
 __all__ = ["NOT_GIVEN", "Edits", "Layer", "Line", "NotSent", "added_numbers", "lines_of", "wkt_of"]
 
@@ -61,8 +61,8 @@ class Layer(NamedTuple):
     """The store's identifiers by QGIS' numbers."""
     known: Container[int]
     """The identifiers of the features that are there."""
-    fields: Sequence[str | None]
-    """The names of QGIS' fields in their order, that of the identifier among them; none for what is joined or computed."""
+    fields: Sequence[Column | None]
+    """What QGIS' fields show, in their order, the identifier among them; none for what is joined or computed."""
 
 
 def lines_of(layer: Layer, edits: Edits, rounding: Rounding) -> list[Line]:
@@ -120,9 +120,12 @@ def _fitted(geometry: QgsGeometry, kind: str) -> QgsGeometry:
 
 def _column(field: QgsField) -> str:
     """A column as a line has it."""
-    if field.type() not in COLUMN_TYPES:
-        raise NotSent(f"{field.name()}: the store has columns of whole numbers and of texts alone")
-    return f"{_checked_name(field.name())} {COLUMN_TYPES[field.type()]}"
+    column_type = column_type_of(field)
+    if column_type is None:
+        raise NotSent(
+            f"{field.name()}: the store has no columns of this type. For numbers with a fraction take Decimal, which is exact"
+        )
+    return f"{_checked_name(field.name())} {column_type}"
 
 
 def _checked_name(name: str) -> str:
@@ -142,12 +145,14 @@ def _settings(
     lines = []
     for index, found in values.items():
         column = layer.fields[index] if index < len(layer.fields) else None
-        if column == IDENTIFIER:
+        if column is None:
+            continue
+        if column.name == IDENTIFIER:
             _check_number(found, numbers)
-        elif column is not None and _is_none(found):
-            lines.append((column, f"unset {layer.name} {feature} {column}"))
-        elif column is not None:
-            lines.append((column, f"set {layer.name} {feature} {column} {_value(found)}"))
+        elif _is_none(found):
+            lines.append((column.name, f"unset {layer.name} {feature} {column.name}"))
+        else:
+            lines.append((column.name, f"set {layer.name} {feature} {column.name} {_value(found, column)}"))
     return lines
 
 
@@ -160,8 +165,8 @@ def _is_none(found: Any) -> bool:
     return found is None or bool(found == NULL)
 
 
-def _value(found: Value) -> str:
+def _value(found: Any, column: Column) -> str:
     try:
-        return spelled(found)
+        return spelling_of(found, column.type)
     except (TypeError, ValueError) as error:
-        raise NotSent(f"{found!r}: {error}") from None
+        raise NotSent(f"{column.name} can't be {told(found)}: {error}") from None
