@@ -10,6 +10,7 @@ import shutil
 import subprocess
 import sys
 import unittest
+from decimal import Decimal
 from importlib.util import find_spec
 from pathlib import Path
 from unittest import mock
@@ -196,7 +197,7 @@ class Import(ExchangeCase):
     }
 
     def awkward(self):
-        values = {"t": "x" * 256, "u": "two\nlines"}
+        values = {"t": "x" * 65_536, "u": "two\nlines"}
         features = {
             number: (text, {**values, "area": 0.5} if number == 14 else {})
             for number, (text, _) in self.AWKWARD.items()
@@ -226,7 +227,7 @@ class Import(ExchangeCase):
             self.assertTrue(told[str(number)].startswith(reason), (number, told[str(number)]))
         texts = [line[2] for line in lines if line[1] == "14"]
         self.assertEqual(
-            texts, ["a text of more than 255 bytes", "a text with a control character"]
+            texts, ["a text of more than 65535 bytes", "a text with a control character"]
         )
         self.assertIn("1 column of type Real is left out (--as-text keeps it): area\n", out)
         self.assertIn("1 column of type Date is left out (--as-text keeps it): day\n", out)
@@ -585,6 +586,19 @@ class Export(ExchangeCase):
         data = ogr.Open(str(self.target))
         names = [data.GetLayer(place).GetName() for place in range(data.GetLayerCount())]
         self.assertEqual(names[0], "void")
+
+    def test_a_column_that_no_export_writes_is_named(self):
+        self.stored(20)
+        with Store(self.store, journal=True, program=PROGRAM) as store:
+            store.add_layer("sold", "point")
+            store.add_column("sold", "area", "decimal")
+            store.set("sold", store.add("sold", "POINT (5 5)"), "area", Decimal("812.5"))
+        status, _, err = give_back(self.store, self.target)
+        self.assertEqual(status, 3)
+        self.assertIn("the column area of sold is of the type decimal, which no export writes yet", err)
+        self.assertFalse(self.target.exists())
+        # Layers without such columns go out.
+        self.assertEqual(give_back(self.store, self.target, "--layer", "of_point")[0], 0)
 
     def test_types_of_columns_come_back(self):
         definition = ogr.FieldDefn("yes", ogr.OFTInteger)

@@ -301,10 +301,10 @@ class Written(DatabaseCase):
     def test_numbers_that_are_no_doubles_come_in_as_they_are(self):
         self.ask("CREATE TABLE wells (gid serial PRIMARY KEY, whole numeric, part numeric, long numeric, geom geometry(Point)); "
                  "INSERT INTO wells VALUES (1, 9007199254740993, 0.12345678901234567891, 1e300, 'POINT(1 2)'), "
-                 "(2, 7, 0.5, 0.1, 'POINT(1 2)'), (3, -9223372036854775808, 1e-200, repeat('7', 400)::numeric, 'POINT(1 2)')")
+                 "(2, 7, 0.5, 0.1, 'POINT(1 2)'), (3, -9223372036854775808, 1e-200, repeat('7', 70000)::numeric, 'POINT(1 2)')")
         status, out, err = bring_in(self.target, self.store, *GRID, "--layer", "wells", "--as-text")
         self.assertEqual((status, err), (1, ""), out)
-        self.assertIn("1 a text of more than 255 bytes: 3 (the value of column long is left out)\n", out)
+        self.assertIn("1 a text of more than 65535 bytes: 3 (the value of column long is left out)\n", out)
         with Store(PROGRAM, load=self.store) as store:
             rows = [feature.values for feature in store.show("wells")]
         self.assertEqual([row.get("whole") for row in rows], [9007199254740993, 7, -(2**63)])

@@ -215,6 +215,20 @@ class Writing(ReplicaCase):
         long = "add w " + "9" * 4_194_294
         self.assertEqual(ann.run_all([long])[0].number, 33)
 
+    def test_values_of_each_type_reach_all_as_they_are(self):
+        ann, ben = self.town("ann", "ben")
+        given = {"int": "-9223372036854775808", "text": f"'{'日' * 21_845}'", "decimal": "-922337203685477580.8", "bool": "false"}
+        given |= {"date": "0001-01-01", "datetime": "9999-12-31T23:59:59.999Z"}
+        ann.run_all(["add w POINT (3 4)", *(f"column add w c_{kind} {kind}" for kind in given)])
+        answers = ann.run_all([f"set w 1 c_{kind} {word}" for kind, word in given.items()] + ["set w 1 c_date 2025-02-29"])
+        self.assertEqual(shown(answers[:-1]), ["ok"] * len(given))
+        self.assertEqual(answers[-1].number, 31)
+        ben.follow()
+        wanted = "1 POINT (3 4)" + "".join(f" c_{kind}={word}" for kind, word in given.items())
+        for replica in (ann, ben):
+            self.assertEqual(replica.run("show w"), [wanted])
+        self.assertEqual(ben.run("find w c_decimal -0922337203685477580.80"), ["1"])
+
     def test_editors_see_one_another_and_move_their_own_steps(self):
         ann, ben = self.town("ann", "ben")
         ann.run("add w POINT (1 1)")
