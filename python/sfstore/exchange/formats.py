@@ -300,7 +300,7 @@ def _shapefile_layer_losses(part: Part) -> list[str]:
     numbers = part.survey.numbers
     wide = [column.name for column in part.layer.columns if column.number in numbers and _is_wide(part, column.number)]
     lost = {
-        f"the 255th byte of texts of {name}": any(text.most_bytes > 254 for text in texts),
+        f"bytes behind the 254th of texts of {name}": any(text.most_bytes > 254 for text in texts),
         f"empty texts of {name}: they have no value then": any(text.has_empty for text in texts),
         f"blanks at the begin and end of texts of {name}": any(text.has_blank_end for text in texts),
         f"digits of {', '.join(wide)} of {name} behind the 15th, since a number has more than 18 characters": bool(wide),
