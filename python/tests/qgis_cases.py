@@ -260,7 +260,7 @@ class Commits(QgisCase):
     def test_texts_and_numbers(self):
         parcels = self.layer()
         parcels.startEditing()
-        values = ["it's $1 last", "ä" * 127, "", NULL]
+        values = ["it's $1 last", "ä" * (TEXT_MAX // 2), "", NULL]
         for number, owner in enumerate(values, 1):
             self.set(number, "owner", owner)
         self.set(5, "number", -(2**63))
@@ -270,7 +270,7 @@ class Commits(QgisCase):
         self.assert_alike()
         self.assertIn("owner='it''s $1 last'", self.stored()[1])
         self.assertNotIn("owner", self.stored()[4])
-        for owner in ("ä" * 128, "two\nlines"):
+        for owner in ("ä" * (TEXT_MAX // 2 + 1), "two\nlines"):
             parcels.startEditing()
             self.set(1, "owner", owner)
             self.assertFalse(parcels.commitChanges())

@@ -340,6 +340,16 @@ class Values(WebCase):
         self.assertEqual(told["values"], values)
         self.assertEqual(self.values(2), {"n": None, "t": None})
 
+    def test_values_of_each_type_are_texts_as_the_store_writes_them(self):
+        given = {"decimal": "9007199254740993.5", "bool": "false", "date": "0001-01-01", "datetime": "2026-11-29T19:28:11.000Z"}
+        for kind, word in given.items():
+            self.assertEqual(self.ann.answer(f"column add w c_{kind} {kind}"), "ok")
+            self.assertEqual(self.ann.answer(f"set w 1 c_{kind} {word}"), "ok")
+        wanted = [{"name": f"c_{kind}", "type": kind, "value": word} for kind, word in given.items()]
+        self.assertEqual(self.serving.call("/feature", layer="w", id=1)["values"][2:], wanted)
+        self.assertEqual(self.ann.answer("set w 1 c_decimal 12.0"), "ok")
+        self.assertEqual(self.values()["c_decimal"], "12")
+
     def test_what_changes_them(self):
         text = "a=b 'c' d='e"
         for line, values in (
