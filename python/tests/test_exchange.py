@@ -3,6 +3,7 @@
 from __future__ import annotations
 
 import contextlib
+import datetime
 import io
 import json
 import os
@@ -229,8 +230,6 @@ class Import(ExchangeCase):
         self.assertEqual(
             texts, ["a text of more than 65535 bytes", "a text with a control character"]
         )
-        self.assertIn("1 column of type Real is left out (--as-text keeps it): area\n", out)
-        self.assertIn("1 column of type Date is left out (--as-text keeps it): day\n", out)
         details = [line[3] for line in lines if line[0] == "awkward" and not line[1]]
         self.assertIn("column 'a b' has the name a_b", details)
         self.assertIn("column 'a-b' has the name a_b_2", details)
@@ -263,7 +262,7 @@ class Import(ExchangeCase):
         self.points({1: (KINDS["point"], values)}, columns=columns)
         self.assertEqual(bring_in(self.source, self.store, *GRID, "--as-text")[0], 0)
         shown = self.shown("wells")[0].values
-        self.assertEqual(shown, {"area": "0.30000000000000004", "day": "2026-11-24", "one": "x"})
+        self.assertEqual(shown, {"area": Decimal("0.30000000000000004"), "day": datetime.date(2026, 11, 24), "one": "x"})
 
     def test_rounding(self):
         self.points({1: ("POINT (500000.004 5600000.006)", {}), 2: (KINDS["point"], {})})
@@ -587,19 +586,6 @@ class Export(ExchangeCase):
         names = [data.GetLayer(place).GetName() for place in range(data.GetLayerCount())]
         self.assertEqual(names[0], "void")
 
-    def test_a_column_that_no_export_writes_is_named(self):
-        self.stored(20)
-        with Store(self.store, journal=True, program=PROGRAM) as store:
-            store.add_layer("sold", "point")
-            store.add_column("sold", "area", "decimal")
-            store.set("sold", store.add("sold", "POINT (5 5)"), "area", Decimal("812.5"))
-        status, _, err = give_back(self.store, self.target)
-        self.assertEqual(status, 3)
-        self.assertIn("the column area of sold is of the type decimal, which no export writes yet", err)
-        self.assertFalse(self.target.exists())
-        # Layers without such columns go out.
-        self.assertEqual(give_back(self.store, self.target, "--layer", "of_point")[0], 0)
-
     def test_types_of_columns_come_back(self):
         definition = ogr.FieldDefn("yes", ogr.OFTInteger)
         definition.SetSubType(ogr.OFSTBoolean)
@@ -621,12 +607,13 @@ class Export(ExchangeCase):
             self.types(self.target),
             [("small", "Integer"), ("large", "Integer64"), ("text", "String"), ("yes", "Integer(Boolean)")],
         )
+        self.assertEqual(self.shown("w")[0].values, {"small": 1, "large": 2, "text": "x", "yes": True})
         with Store(self.store, journal=True, program=PROGRAM) as store:
             store.set("w", 1, "small", 2**31)
-            store.set("w", 1, "yes", 2)
+            store.set("w", 1, "yes", False)
         self.assertEqual(give_back(self.store, self.target, "--overwrite")[0], 0)
         types = dict(self.types(self.target))
-        self.assertEqual((types["small"], types["yes"]), ("Integer64", "Integer"))
+        self.assertEqual((types["small"], types["yes"]), ("Integer64", "Integer(Boolean)"))
 
     def types(self, path):
         definition = (data := ogr.Open(str(path))).GetLayer(0).GetLayerDefn()

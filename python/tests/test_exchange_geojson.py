@@ -6,6 +6,7 @@ import json
 import tracemalloc
 import unittest
 import zipfile
+from decimal import Decimal
 from unittest import mock
 
 from support import PROGRAM
@@ -60,10 +61,12 @@ class Values(GeoJsonCase):
 
     def test_numbers_keep_their_digits(self):
         text = collection(feature('{"r": 1.10, "w": 2.0, "n": 0.12345678901234567890123}'), feature('{"r": 3}'))
-        self.assertIn("2 columns of type Real are left out (--as-text keeps them): r, n\n", self.brought(text, status=1))
-        self.assertEqual(self.values(), [{"w": 2}, {}])
+        out = self.brought(text, status=1)
+        self.assertIn("1 a number with more than 18 places: 0 (the value of column n is left out)\n", out)
+        self.assertEqual(self.columns(), ["r decimal", "w decimal", "n decimal"])
+        self.assertEqual(self.values(), [{"r": Decimal("1.1"), "w": 2}, {"r": 3}])
         self.brought(text, "--as-text")
-        self.assertEqual(self.values(), [{"r": "1.10", "w": 2, "n": "0.12345678901234567890123"}, {"r": "3"}])
+        self.assertEqual(self.values(), [{"r": Decimal("1.1"), "w": 2, "n": "0.12345678901234567890123"}, {"r": 3}])
 
     def test_the_greatest_whole_numbers_are_taken_untold(self):
         known = '{"a": 9223372036854775807, "b": -9223372036854775808, "c": 9007199254740993}'
@@ -75,7 +78,8 @@ class Values(GeoJsonCase):
         out = self.brought(collection(feature('{"a": 9223372036854775808}'), feature(f'{{"a": 1{"0" * 5000}}}'), feature('{"a": 5}')), status=1)
         self.assertIn("2 a whole number of more than 64 bits: 0 (the value of column a is left out), 1 (", out)
         self.assertEqual(self.values(), [{}, {}, {"a": 5}])
-        self.assertIn("of type Real is left out", self.brought(collection(feature('{"a": 1e400000}')), status=1))
+        out = self.brought(collection(feature('{"a": 1e400000}'), feature('{"a": 0.5}')), status=1)
+        self.assertIn("1 a number of more than 64 bits: 0 (the value of column a is left out)", out)
 
     def test_values_of_several_kinds_are_texts_and_that_is_told(self):
         known = ["1", '"x"', "true", "2.50", "null", '{"b": 1}', '"1"']
@@ -83,10 +87,10 @@ class Values(GeoJsonCase):
         self.assertIn("column a has whole numbers, real numbers, booleans, texts, objects: all are texts\n", out)
         self.assertEqual([row.get("a") for row in self.values()], ["1", "x", "true", "2.50", None, '{"b": 1}', "1"])
 
-    def test_booleans_alone_are_numbers_that_go_back_as_booleans(self):
+    def test_booleans_alone_are_truth_values(self):
         self.brought(collection(feature('{"a": true, "none": null}'), feature('{"a": false}')))
-        self.assertEqual(self.values(), [{"a": 1}, {"a": 0}])
-        self.assertEqual(self.columns(), ["a int", "none text"])
+        self.assertEqual(self.values(), [{"a": True}, {"a": False}])
+        self.assertEqual(self.columns(), ["a bool", "none text"])
         side_car = json.loads((self.store.parent / (self.store.name + ".json")).read_text())
         self.assertIn("Boolean", json.dumps(side_car))
 
@@ -205,7 +209,7 @@ class Files(GeoJsonCase):
             archive.writestr("a.geojson", collection(feature('{"r": 1.10}')))
         source = f"/vsizip/{self.folder}/a.zip/a.geojson"
         self.assertEqual(bring_in(source, self.store, "--grid", "0", "0", "1", "--as-text")[0], 0)
-        self.assertEqual(self.values(), [{"r": "1.10"}])
+        self.assertEqual(self.values(), [{"r": Decimal("1.1")}])
 
     def test_what_is_no_geojson_is_refused_by_name(self):
         one = feature()
@@ -291,7 +295,7 @@ class Files(GeoJsonCase):
         line = ", ".join(f"[{number}, 0]" for number in range(60_000))
         text = collection(feature(f'{{"t": "{"x" * 3_000_000}"}}', f'{{"type": "LineString", "coordinates": [{line}]}}'), feature('{"n": 5}'))
         out = self.brought(text, status=1)
-        self.assertIn("1 a text of more than 255 bytes: 0 (the value of column t is left out)", out)
+        self.assertIn("1 a text of more than 65535 bytes: 0 (the value of column t is left out)", out)
         self.assertEqual(self.values(), [{}, {"n": 5}])
 
 

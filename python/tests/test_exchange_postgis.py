@@ -10,6 +10,7 @@ import subprocess
 import sys
 import tempfile
 import unittest
+from decimal import Decimal
 from importlib.util import find_spec
 from pathlib import Path
 from unittest import mock
@@ -301,15 +302,20 @@ class Written(DatabaseCase):
     def test_numbers_that_are_no_doubles_come_in_as_they_are(self):
         self.ask("CREATE TABLE wells (gid serial PRIMARY KEY, whole numeric, part numeric, long numeric, geom geometry(Point)); "
                  "INSERT INTO wells VALUES (1, 9007199254740993, 0.12345678901234567891, 1e300, 'POINT(1 2)'), "
-                 "(2, 7, 0.5, 0.1, 'POINT(1 2)'), (3, -9223372036854775808, 1e-200, repeat('7', 70000)::numeric, 'POINT(1 2)')")
+                 "(2, 7, 0.5, 0.1, 'POINT(1 2)'), (3, -9223372036854775808, 1e-200, repeat('7', 400)::numeric, 'POINT(1 2)')")
         status, out, err = bring_in(self.target, self.store, *GRID, "--layer", "wells", "--as-text")
-        self.assertEqual((status, err), (1, ""), out)
-        self.assertIn("1 a text of more than 65535 bytes: 3 (the value of column long is left out)\n", out)
+        self.assertEqual((status, err), (0, ""), out)
         with Store(PROGRAM, load=self.store) as store:
             rows = [feature.values for feature in store.show("wells")]
         self.assertEqual([row.get("whole") for row in rows], [9007199254740993, 7, -(2**63)])
         self.assertEqual([row.get("part") for row in rows], ["0.12345678901234567891", "0.5", "1e-200"])
-        self.assertEqual([row.get("long") for row in rows], ["1e+300", "0.1", None])
+        self.assertEqual([row.get("long") for row in rows], ["1e+300", "0.1", "7" * 400])
+        status, out, _ = bring_in(self.target, self.store, *GRID, "--layer", "wells", "--overwrite")
+        self.assertEqual(status, 1)
+        self.assertIn("2 a number with more than 18 places: 1 (the value of column part is left out), 3 (", out)
+        self.assertIn("2 a number of more than 64 bits: 1 (the value of column long is left out), 3 (", out)
+        with Store(PROGRAM, load=self.store) as store:
+            self.assertEqual([feature.values for feature in store.show("wells")][1], {"whole": 7, "part": Decimal("0.5"), "long": Decimal("0.1")})
 
     def test_tables_without_geometries_are_told(self):
         self.ask("CREATE SCHEMA maps; CREATE TABLE maps.owners (x int); CREATE TABLE prices (x int); CREATE VIEW all_prices AS SELECT * FROM prices; "

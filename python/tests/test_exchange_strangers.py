@@ -6,6 +6,7 @@ import contextlib
 import json
 import sqlite3
 import unittest
+from decimal import Decimal
 from unittest import mock
 
 from support import PROGRAM
@@ -170,18 +171,18 @@ class Stored(ExchangeCase):
             [(identifier, reason, detail)] = told
             self.assertEqual((identifier, reason), ("3", f"a value that is none of the column's type {kind}"))
             self.assertIn("is left out", detail)
-            self.assertEqual((len(shown[3]), len(shown[2])), (3, 4), (column, value))
+            self.assertEqual((len(shown[3]), len(shown[2])), (4, 5), (column, value))
 
     def test_values_of_the_type_are_kept(self):
         self.changed("n = -2147483648, big = -9223372036854775808 WHERE fid = 1", "n = NULL WHERE fid = 2")
         status, _, told, shown = self.brought_in("--as-text")
         self.assertEqual((status, told), (0, set()))
-        self.assertEqual((shown[1]["n"], shown[1]["big"], shown[1]["r"]), (-(2**31), -(2**63), "0.5"))
+        self.assertEqual((shown[1]["n"], shown[1]["big"], shown[1]["r"]), (-(2**31), -(2**63), Decimal("0.5")))
         self.assertNotIn("n", shown[2])
         self.changed("r = 'abc' WHERE fid = 1", "r = 7 WHERE fid = 2")
         status, _, told, shown = self.brought_in("--as-text")
         self.assertEqual([row[0] for row in told], ["1"])
-        self.assertEqual((shown[2]["r"], "r" in shown[1]), ("7.0", False))
+        self.assertEqual((shown[2]["r"], "r" in shown[1]), (7, False))
 
     def test_identifiers_that_no_store_has(self):
         self.changed("fid = 5000000000 WHERE fid = 5", "fid = -3 WHERE fid = 1", "n = 'abc' WHERE fid = -3")

@@ -2,9 +2,11 @@
 
 from __future__ import annotations
 
+import datetime
 import json
 import sqlite3
 import unittest
+from decimal import Decimal
 
 from support import PROGRAM
 
@@ -18,6 +20,11 @@ if HAS_GDAL:
 
 POINT = "POINT (500000 5600000)"
 FILES = {"GPKG": "back.gpkg", "GeoJSON": "back.geojson", "FlatGeobuf": "back.fgb", "ESRI Shapefile": "back.shp"}
+
+
+def made(row, **makers):
+    """A row with the values that some columns make of their texts."""
+    return {name: makers.get(name, str)(text) for name, text in row.items()}
 
 
 class TypesCase(ExchangeCase):
@@ -45,33 +52,42 @@ class TypesCase(ExchangeCase):
 
 
 class Reals(TypesCase):
-    def test_whole_ones_are_whole_numbers_and_go_back_as_reals(self):
+    def test_they_are_decimals_and_go_back_as_reals(self):
         rows = [{"area": 12.0, "big": 2.0**60, "none": None}, {"area": -3.0}, {}]
         columns = [("area", ogr.OFTReal), ("big", ogr.OFTReal), ("none", ogr.OFTReal)]
         self.source_of([{k: v for k, v in row.items() if v is not None} for row in rows], columns)
         self.brought_in()
         with Store(PROGRAM, load=self.store) as store:
-            self.assertEqual(store.run("columns w"), ["area int", "big int", "none int"])
+            self.assertEqual(store.run("columns w"), ["area decimal", "big decimal", "none decimal"])
         self.assertEqual([f.values for f in self.shown("w")], [{"area": 12, "big": 2**60}, {"area": -3}, {}])
         for name, file in FILES.items():
             target = self.folder / file
-            self.assertEqual(give_back(self.store, target)[0], 0)
+            status, _, err = give_back(self.store, target)
+            self.assertEqual((status, "the type Real of column big of w" in err), (0, name == "ESRI Shapefile"), err)
             types, values = self.fields(target)
             wanted = {"area": "Real", "big": "Real", "none": "Real"}
             if name == "GeoJSON":
                 del wanted["none"]
+            # A real number of a Shapefile has room for 15 digits before its point.
+            big: object = 2.0**60
+            if name == "ESRI Shapefile":
+                wanted["big"], big = "String", str(2**60)
             self.assertEqual(types, wanted, name)
             self.assertEqual([row["area"] for row in values], [12.0, -3.0, None], name)
-            self.assertEqual([row["big"] for row in values], [2.0**60, None, None], name)
+            self.assertEqual([row["big"] for row in values], [big, None, None], name)
 
-    def test_a_number_that_is_no_double_goes_back_as_a_whole_one(self):
+    def test_digits_that_no_double_has_are_told_and_stay_where_a_format_has_room(self):
         self.source_of([{"area": 12.0}], [("area", ogr.OFTReal)])
         self.brought_in()
         self.edited(f"set w 1 area {2**53 + 1}")
         status, _, err = give_back(self.store, self.target)
         self.assertEqual(status, 0)
-        self.assertIn("GPKG does not keep the type Real of column area of w", err)
-        self.assertEqual(self.fields(self.target), ({"area": "Integer64"}, [{"area": 2**53 + 1}]))
+        self.assertIn(f"GPKG does not keep digits of column area of w that no double has, as those of {2**53 + 1}", err)
+        self.assertEqual(self.fields(self.target), ({"area": "Real"}, [{"area": 2.0**53}]))
+        text = self.folder / "own.geojson"
+        status, _, err = give_back(self.store, text)
+        self.assertEqual((status, "digits" in err), (0, False), err)
+        self.assertIn(f'"area": {2**53 + 1}', text.read_text())
 
     def test_a_whole_number_that_ogr_may_have_changed_is_reported(self):
         other = Source(self.folder / "wide.shp", "ESRI Shapefile")
@@ -89,14 +105,28 @@ class Reals(TypesCase):
         self.assertEqual((status, err), (1, ""), out)
         self.assertIn("1 a whole number whose last digits OGR may have changed: 0 (1234567890123456768 in column n)", out)
 
-    def test_others_are_left_out_in_one_sentence_for_each_type(self):
-        columns = [(f"c{at}", ogr.OFTReal) for at in range(5)] + [("day", ogr.OFTDate), ("n", ogr.OFTInteger)]
-        rows = [{f"c{at}": at + 0.5 for at in range(5)} | {"n": 7, "c0": 1.0}, {"c1": 2.0, "c0": float("inf")}]
-        self.source_of(rows, columns)
+    def test_columns_of_other_types_are_left_out_in_one_sentence_for_each(self):
+        columns = [(f"c{at}", ogr.OFTBinary) for at in range(5)] + [("n", ogr.OFTInteger)]
+        self.source_of([{"n": 7}], columns)
         out = self.brought_in(status=1)
-        self.assertIn("  5 columns of type Real are left out (--as-text keeps them): c0, c1, c2, c3, c4\n", out)
-        self.assertIn("  1 column of type Date is left out (--as-text keeps it): day\n", out)
-        self.assertEqual([f.values for f in self.shown("w")], [{"n": 7}, {}])
+        self.assertIn("  5 columns of type Binary are left out (--as-text keeps them): c0, c1, c2, c3, c4\n", out)
+        self.assertEqual([f.values for f in self.shown("w")], [{"n": 7}])
+
+    def test_numbers_that_are_no_decimals_are_left_out_or_have_their_column_become_one_of_texts(self):
+        numbers = [812.5, float("inf"), 0.0, 1e-19, 1e19, -(2.0**63), 0.1 + 0.2]
+        self.source_of([{"area": number} for number in numbers], [("area", ogr.OFTReal)])
+        out = self.brought_in(status=1)
+        for reason, feature in (
+            ("no number", 2), ("a number with more than 18 places", 4), ("a number of more than 64 bits", 5)
+        ):
+            self.assertIn(f"  1 {reason}: {feature} (the value of column area is left out)\n", out)
+        self.assertEqual(
+            [f.values.get("area") for f in self.shown("w")],
+            [Decimal("812.5"), None, 0, None, None, -(2**63), Decimal("0.30000000000000004")],
+        )
+        self.brought_in("--as-text")
+        texts = ["812.5", "inf", "0.0", "1e-19", "1e+19", "-9.223372036854776e+18", "0.30000000000000004"]
+        self.assertEqual([f.values["area"] for f in self.shown("w")], texts)
 
     def test_as_texts_they_go_back_as_reals(self):
         numbers = [0.1 + 0.2, 1e300, -2.5e-7, 3.0]
@@ -136,7 +166,8 @@ class Reals(TypesCase):
     def test_a_text_that_is_none_goes_back_as_a_text(self):
         self.source_of([{"area": 0.5}, {"area": 1.5}], [("area", ogr.OFTReal)])
         self.brought_in("--as-text")
-        self.edited("set w 2 area 'about 2'")
+        with Store(self.store, journal=True, program=PROGRAM) as store:
+            store.run_all(["column drop w area", "column add w area text", "set w 1 area '0.5'", "set w 2 area 'about 2'"])
         for name, file in FILES.items():
             target = self.folder / file
             status, _, err = give_back(self.store, target)
@@ -145,13 +176,13 @@ class Reals(TypesCase):
             self.assertEqual(self.fields(target), ({"area": "String"}, [{"area": "0.5"}, {"area": "about 2"}]))
 
     def test_a_layer_of_whole_ones_is_added_to_a_column_of_texts(self):
-        self.source_of([{"area": 0.5}], [("area", ogr.OFTReal)])
+        self.source_of([{"area": 1e-30}], [("area", ogr.OFTReal)])
         self.brought_in("--as-text")
         more = self.folder / "more.gpkg"
         Source(more).layer("w", {1: (POINT, {"area": 7.0})}, columns=[("area", ogr.OFTReal)]).close()
         self.assertEqual(bring_in(more, self.store, "--add", "--as-text")[0], 0)
         with Store(self.store, journal=True, program=PROGRAM) as store:
-            self.assertEqual([f.values for f in store.show("w")], [{"area": "0.5"}, {"area": "7.0"}])
+            self.assertEqual([f.values for f in store.show("w")], [{"area": "1e-30"}, {"area": "7.0"}])
 
 
 class Dates(TypesCase):
@@ -160,12 +191,22 @@ class Dates(TypesCase):
     def columns(self):
         return [(name, getattr(ogr, kind)) for name, kind in self.COLUMNS]
 
-    def test_as_texts_they_are_iso_and_go_back_as_dates(self):
+    def odd(self, number, change):
+        """Puts a value into a GeoPackage past OGR."""
+        database = sqlite3.connect(self.source)
+        for (trigger,) in database.execute("SELECT name FROM sqlite_master WHERE type = 'trigger'").fetchall():
+            database.execute(f'DROP TRIGGER "{trigger}"')
+        database.execute(f"UPDATE w SET {change} WHERE fid = {number}")
+        database.commit()
+        database.close()
+
+    def test_they_go_back_as_dates_or_as_texts_where_a_format_has_none(self):
         rows = [{"day": "2020/01/31", "at": "2020/01/31 10:00:00.5+00"}, {"day": "1899/12/01"}, {"at": "2020/06/30 23:59:59+00"}]
         self.source_of(rows, self.columns())
-        self.brought_in("--as-text")
+        self.brought_in()
         texts = [{"day": "2020-01-31", "at": "2020-01-31T10:00:00.500Z"}, {"day": "1899-12-01"}, {"at": "2020-06-30T23:59:59Z"}]
-        self.assertEqual([f.values for f in self.shown("w")], texts)
+        day, moment = datetime.date.fromisoformat, lambda text: datetime.datetime.fromisoformat(text.replace("Z", "+00:00"))
+        self.assertEqual([f.values for f in self.shown("w")], [made(row, day=day, at=moment) for row in texts])
         for name, types in (
             ("GPKG", {"day": "Date", "at": "DateTime"}),
             ("FlatGeobuf", {"day": "String", "at": "DateTime"}),
@@ -173,7 +214,11 @@ class Dates(TypesCase):
             ("GeoJSON", {"day": "String", "at": "String"}),
         ):
             target = self.folder / FILES[name]
-            self.assertEqual(give_back(self.store, target)[0], 0)
+            status, _, err = give_back(self.store, target)
+            self.assertEqual(status, 0)
+            for column, kind in (("day", "date"), ("at", "datetime")):
+                lost = f"the type {kind} of column {column} of w: it has texts there"
+                self.assertEqual(lost in err, types[column] == "String", (name, err))
             data = ogr.Open(str(target)) if name != "GeoJSON" else None
             if data is not None:
                 self.assertEqual(self.fields(target)[0], types)
@@ -181,10 +226,22 @@ class Dates(TypesCase):
             self.assertEqual(bring_in(target, again, *GRID, "--overwrite", "--as-text", "--layer", data.GetLayer(0).GetName() if data else "w")[0], 0)
             with Store(PROGRAM, load=again) as store:
                 [layer] = store.layers()
-                self.assertEqual([f.values for f in store.show(layer.name)], texts, name)
+                makers = {column: maker for column, maker in (("day", day), ("at", moment)) if types[column] != "String"}
+                self.assertEqual([f.values for f in store.show(layer.name)], [made(row, **makers) for row in texts], name)
+
+    def test_other_zones_are_kept_in_utc_and_that_is_told(self):
+        rows = [{"at": "2020/01/31 10:00:00+05:45"}, {"at": "2020/01/31 10:00:00"}, {"at": "2020/01/31 10:00:00+00"}]
+        self.source_of(rows, self.columns())
+        self.odd(3, "at = '0001-01-01T00:00:00+01:00'")
+        out = self.brought_in(status=1)
+        self.assertIn("  column at: 1 value is of another zone: kept in UTC\n", out)
+        self.assertIn("  1 no moment from the year 1 to 9999: 3 (the value of column at is left out)\n", out)
+        first = datetime.datetime(2020, 1, 31, 4, 15, tzinfo=datetime.timezone.utc)
+        self.assertEqual([f.values for f in self.shown("w")], [{"at": first}, {"at": first.replace(hour=10, minute=0)}, {}])
 
     def test_zones_and_parts_of_seconds_are_kept(self):
         self.source_of([{"at": "2020/01/31 10:00:00+00"}], self.columns())
+        self.odd(1, "at = '2020-01-31T10:00:00.123456Z'")
         self.brought_in("--as-text")
         for text, kind in (
             ("2020-01-31T10:00:00+05:45", "DateTime"),
@@ -204,7 +261,8 @@ class Dates(TypesCase):
             self.assertEqual(again.read_bytes(), self.store.read_bytes())
 
     def test_another_form_is_said_to_be_lost(self):
-        self.source_of([{"at": "2020/01/31 10:00:00+00", "area": 0.5}], [*self.columns(), ("area", ogr.OFTReal)])
+        self.source_of([{"at": "2020/01/31 10:00:00+00", "area": 1e-30}], [*self.columns(), ("area", ogr.OFTReal)])
+        self.odd(1, "at = '2020-01-31T10:00:00.123456Z'")
         self.brought_in("--as-text")
         self.edited("set w 1 at '2020-01-31 10:00:00.5Z'", "set w 1 area '1.50'")
         status, _, err = give_back(self.store, self.target)
@@ -225,19 +283,14 @@ class Dates(TypesCase):
 
     def test_what_a_geopackage_has_in_their_place(self):
         self.source_of([{"day": "2020/01/31", "at": "2020/01/31 10:00:00+00"}] * 6, self.columns())
-        database = sqlite3.connect(self.source)
-        for (trigger,) in database.execute("SELECT name FROM sqlite_master WHERE type = 'trigger'").fetchall():
-            database.execute(f'DROP TRIGGER "{trigger}"')
         for number, change in enumerate(
             ("day = '31.1.2020'", "day = '2020-02-31'", "at = '2020-01-31T10:00:00.123456Z'",
              "at = '2020-01-31 10:00'", "at = 5"), 1
         ):
-            database.execute(f"UPDATE w SET {change} WHERE fid = {number}")
-        database.commit()
-        database.close()
+            self.odd(number, change)
         report = self.folder / "report.txt"
         self.brought_in("--as-text", "--report", report, status=1)
-        day, at = "2020-01-31", "2020-01-31T10:00:00Z"
+        day, at = datetime.date(2020, 1, 31), "2020-01-31T10:00:00Z"
         self.assertEqual(
             [f.values for f in self.shown("w")],
             [{"at": at}, {"at": at}, {"day": day, "at": "2020-01-31T10:00:00.123456Z"}, {"day": day}, {"day": day},
@@ -358,9 +411,9 @@ class OfPostGis(DatabaseCase):
         types = dict(self.ask("SELECT column_name, data_type FROM information_schema.columns WHERE table_name = 'w'"))
         self.assertEqual(
             {name: types[name] for name in row},
-            {"r": "double precision", "whole": "double precision", "d": "date", "z": "timestamp with time zone", "i": "integer"},
+            {"r": "numeric", "whole": "numeric", "d": "date", "z": "timestamp with time zone", "i": "integer"},
         )
-        self.assertEqual(self.ask("SELECT r, whole, d::text, i FROM w"), [(0.1, 5.0, "2020-01-31", 3)])
+        self.assertEqual(self.ask("SELECT r::text, whole::text, d::text, i FROM w"), [("0.1", "5", "2020-01-31", 3)])
 
     def test_a_second_column_of_geometries_is_reported(self):
         self.ask(

@@ -25,7 +25,7 @@ if HAS_GDAL:
 
 TEXTS = [
     *("", " ", "  lead", "trail  ", "a\u00a0", "\u3000x\u3000", "NULL", "null", "''", '"q"', "a;b,c", "2020-01-31"),
-    *("12", "1e5", "true", "ä" * 127, "x" * 255, "x" * 254, "x" * 65_535, "日" * 85, "😀" * 63, "e\u0301", "\u00e9", "\ufeffbom"),
+    *("12", "1e5", "true", "ä" * 127, "x" * 255, "x" * 254, "日" * 85, "😀" * 63, "e\u0301", "\u00e9", "\ufeffbom"),
     *("\u2028", "\u0085nel", "\\n", "\\N", "\\", "%s%d", "\u202eabc", '{"a": 1}', '{"a":1,"a":2,"b":1.10}', "[1,2]"),
     *("\u200b", "\ufffe", "<b>", "&amp;", "****", "?", "T", "0x41", "2020-01-31T10:00:00Z", "Größe", "A", "a"),
 ]
@@ -65,7 +65,7 @@ def excused(name, value):
     if value != value.strip(" "):
         return "blanks at the begin and end of texts of w"
     if len(value.encode("utf-8")) > 254:
-        return "bytes behind the 254th of texts of w"
+        return "the bytes of texts of w behind the 254th"
     return None
 
 
@@ -344,7 +344,7 @@ class ReadBack(SetCase):
         )
         self.check(
             "it has the reference system EPSG:25833 in place of EPSG:25832",
-            self.replaced(geojson, "write_collection", lambda path, name, crs, features: (path, name, other, features)),
+            self.replaced(geojson, "_write_texts", lambda path, name, crs, features: (path, name, other, features)),
             names=("GeoJSON",),
         )
         self.check(

@@ -9,13 +9,12 @@ from __future__ import annotations
 from collections.abc import Iterator, Sequence
 from typing import NamedTuple
 
-from sfstore.exchange.columns import values_of
 from sfstore.exchange.ogr import ExchangeError
 from sfstore.exchange.placing import room_beside
 from sfstore.exchange.ruling import Breaks, breaks_of, converse
 from sfstore.geometry import read_wkb, write_wkt
 from sfstore.language import GROUP_MAX
-from sfstore.results import RULE_BROKEN, JournalError, ProgramEnded, Refused, Rule
+from sfstore.results import RULE_BROKEN, JournalError, ProgramEnded, Refused, Rule, Value
 from sfstore.store import Editor, Store
 from sfstore.storefile import FileFeature, FileLayer
 
@@ -56,9 +55,9 @@ class _Piece(NamedTuple):
         return 1 + len(self.values)
 
     @property
-    def values(self) -> dict[str, int | str]:
+    def values(self) -> dict[str, Value]:
         """The values by the names of their columns."""
-        known = values_of(self.feature)
+        known = self.feature.values
         return {column.name: known[column.number] for column in self.layer.columns if column.number in known}
 
 

@@ -1,7 +1,8 @@
 """How the columns of a layer go out: their types and widths, by what they were in the source and by their values.
 
-A column of the store has whole numbers or texts. One that was of another type in the source goes back as that type,
-where each of its values still is one of it.
+Maps are made of whole numbers and texts here. A decimal, a day or a moment stands as its text, and a truth value as 0 or
+1, of a column whose type says so. A column that was of another type in the source goes back as that type, where each
+of its values still is one of it.
 """
 
 from __future__ import annotations
@@ -10,13 +11,18 @@ import math
 import struct
 from collections.abc import Callable
 from dataclasses import dataclass, field
-from typing import NamedTuple, Union, cast
+from decimal import Decimal
+from typing import NamedTuple, Union
 
+from sfstore import values
 from sfstore.exchange.moments import day_of, moment_of
+from sfstore.exchange.stored import decimal_of
+from sfstore.results import Value as StoreValue
 from sfstore.sidecar import ColumnOrigin
-from sfstore.storefile import INT, FileColumn, FileFeature, FileLayer
+from sfstore.storefile import BOOL, DATETIME, DECIMAL, INT, FileColumn, FileFeature, FileLayer
+from sfstore.storefile import DATE as FILE_DATE
 
-__all__ = ["DATE", "DATE_TIME", "INTEGER", "INTEGER_64", "REAL", "STRING", "Sort", "Survey", "real_of", "sort_of", "surveyed", "values_of"]
+__all__ = ["DATE", "DATE_TIME", "INTEGER", "INTEGER_64", "REAL", "STRING", "Sort", "Survey", "origin_of", "real_of", "sort_of", "surveyed", "values_of"]
 
 INTEGER, INTEGER_64, REAL, STRING = "Integer", "Integer64", "Real", "String"
 DATE, DATE_TIME = "Date", "DateTime"
@@ -38,6 +44,8 @@ class Sort(NamedTuple):
     """The most characters of a text, 0 where it says none."""
     is_zoned: bool = False
     """Whether each date with a time has its zone."""
+    is_exact: bool = False
+    """Whether real numbers are decimals of the store, which some formats keep with all their digits."""
 
 
 @dataclass
@@ -71,6 +79,8 @@ class _Texts:
 
     is_one: Callable[[str], bool]
     """Whether a text is a value of the source's type."""
+    are_decimals: bool = False
+    """Whether the texts are those of decimals."""
     count: int = 0
     longest: int = 0
     """The most characters."""
@@ -114,6 +124,8 @@ class _Texts:
         """Whether a text comes back as it is, where it is one of the source's type."""
         if self.is_one is _is_real:
             number = real_of(value)
+            if number is not None and self.are_decimals:
+                return decimal_of(number).value == Decimal(value)
             return number is None or repr(number) == value
         moment = moment_of(value) if self.is_one is _is_moment else None
         return moment is None or moment.text == value
@@ -142,11 +154,11 @@ def surveyed(layer: FileLayer, origins: dict[int, ColumnOrigin]) -> Survey:
     """One pass over the features of a layer."""
     found = Survey()
     for column in layer.columns:
-        if column.type == INT:
+        if column.type in (INT, BOOL):
             found.numbers[column.number] = _Numbers()
         else:
             type_name = origins[column.number].type if column.number in origins else STRING
-            found.texts[column.number] = _Texts(_TESTS.get(type_name, _is_text))
+            found.texts[column.number] = _Texts(_TESTS.get(type_name, _is_text), column.type == DECIMAL)
     for feature in layer.features:
         found.codes.add(_code(feature.geometry))
         found.count += 1
@@ -160,8 +172,31 @@ def surveyed(layer: FileLayer, origins: dict[int, ColumnOrigin]) -> Survey:
 
 
 def values_of(feature: FileFeature) -> dict[int, Value]:
-    """The values of a feature, of the types that maps are made of: a store with others is not exported."""
-    return cast("dict[int, Value]", feature.values)
+    """The values of a feature as whole numbers and texts, by the numbers of their columns.
+
+    >>> values_of(FileFeature(1, b"", {1: True, 2: Decimal("812.50"), 3: date(2024, 2, 29), 4: "it's"}))
+    {1: 1, 2: '812.5', 3: '2024-02-29', 4: "it's"}
+    """
+    return {number: _plain(value) for number, value in feature.values.items()}
+
+
+def _plain(value: StoreValue) -> Value:
+    if isinstance(value, str):
+        return value
+    if isinstance(value, int):
+        return int(value)
+    # A moment with no part of a second has none in its text.
+    return values.spelled(value).replace(".000Z", "Z")
+
+
+def origin_of(column: FileColumn, known: ColumnOrigin | None) -> ColumnOrigin | None:
+    """What a column was in the source, where its values still are of that type; else what is nearest to its own type."""
+    if column.type not in _NEAREST:
+        return known
+    type_name, subtype = _NEAREST[column.type]
+    if known is not None and known.type == type_name and (subtype == "None" or known.subtype == subtype):
+        return known
+    return ColumnOrigin(column.name, known.source_name if known else column.name, type_name, subtype, 0)
 
 
 def _code(binary: bytes) -> int:
@@ -174,10 +209,11 @@ def sort_of(
     column: FileColumn, origin: ColumnOrigin | None, survey: Survey, kept: frozenset[str], largest: float = math.inf
 ) -> Sort:
     """How a column goes out to a format that keeps some types beside whole numbers and texts, and reals below the largest."""
-    if column.type == INT:
+    if column.type in (INT, BOOL):
         return _number_sort(origin, survey.numbers[column.number], kept)
-    values = survey.texts[column.number]
-    return _text_sort(origin, values, kept if values.most_real < largest else kept - {REAL})
+    texts = survey.texts[column.number]
+    sort = _text_sort(origin, texts, kept if texts.most_real < largest else kept - {REAL})
+    return sort._replace(is_exact=column.type == DECIMAL)
 
 
 def _number_sort(origin: ColumnOrigin | None, values: _Numbers, kept: frozenset[str]) -> Sort:
@@ -237,6 +273,9 @@ def _is_moment(text: str) -> bool:
 def _is_text(text: str) -> bool:
     return True
 
+
+_NEAREST = {DECIMAL: (REAL, "None"), BOOL: (INTEGER, "Boolean"), FILE_DATE: (DATE, "None"), DATETIME: (DATE_TIME, "None")}
+"""The types of maps, with their subtypes, that are nearest to those of columns of the store."""
 
 _TESTS: dict[str, Callable[[str], bool]] = {REAL: _is_real, DATE: _is_day, DATE_TIME: _is_moment}
 """Whether a text is a value of a type that the store has not."""

@@ -24,11 +24,10 @@ from sfstore.exchange.placing import Place, placed
 from sfstore.exchange.postgis import write_database
 from sfstore.exchange.writing import write_data
 from sfstore.geometry import read_wkb
-from sfstore.language import COLUMN_TYPES
 from sfstore.program import ProgramMissing
 from sfstore.results import Rule
 from sfstore.sidecar import Sidecar
-from sfstore.storefile import INT, TEXT, FileLayer, fault_words
+from sfstore.storefile import FileLayer, fault_words
 from sfstore.storefile import read_with_rules as read_store
 
 __all__ = ["Wishes", "give_back", "main"]
@@ -82,9 +81,6 @@ def give_back(wishes: Wishes, say: Say) -> None:
     for name in wishes.layers:
         if name not in (names := [layer.name for layer in layers]):
             raise ogr.ExchangeError(f"the store has no layer {name}: it has {', '.join(names)}")
-    for layer in layers:
-        if not wishes.layers or layer.name in wishes.layers:
-            _check_types(layer)
     parts, told, losses = parts_of(layers, found, wishes.layers, wanted)
     for line in told:
         say(line)
@@ -101,16 +97,6 @@ def give_back(wishes: Wishes, say: Say) -> None:
         _keep_grid(wishes, found)
     if wishes.rules is not None:
         _write_rules(wishes, wishes.rules, rules, say)
-
-
-def _check_types(layer: FileLayer) -> None:
-    """`ogr.ExchangeError` where a layer has a column of a type that no map is made of yet."""
-    for column in layer.columns:
-        if column.type not in (INT, TEXT):
-            raise ogr.ExchangeError(
-                f"the column {column.name} of {layer.name} is of the type {COLUMN_TYPES[column.type - 1]}, which no export "
-                "writes yet: drop it from a copy of the store, or name other layers by --layer"
-            )
 
 
 def _blurred(parts: list[Part], grid: Grid) -> list[str]:

@@ -1,8 +1,8 @@
 """The columns of a layer of OGR as columns of a store: which are taken, and the values of a feature.
 
-The store has whole numbers and texts. A column of real numbers is one of whole numbers where all of its values are
-whole, which is known behind the last feature. OGR reads a value as the type of its column says, whatever it is. So a
-GeoPackage and a database are asked for those that are of another type.
+Real numbers are decimals of the store. A value that the store can't have is left out and reported; where texts are
+wanted for those, its column becomes one of texts, which is known behind the last feature. OGR reads a value as the type
+of its column says, whatever it is. So a GeoPackage and a database are asked for those that are of another type.
 """
 
 from __future__ import annotations
@@ -10,8 +10,7 @@ from __future__ import annotations
 import json
 import re
 from collections import Counter
-from collections.abc import Iterator, Mapping
-from decimal import Decimal
+from collections.abc import Callable, Iterator, Mapping
 from typing import Any, NamedTuple
 
 from sfstore.exchange import ogr
@@ -19,13 +18,17 @@ from sfstore.exchange.columns import DATE, DATE_TIME, INTEGER, INTEGER_64, REAL,
 from sfstore.exchange.layers import Fault, Feature, Left, SourceColumns
 from sfstore.exchange.moments import day_of, moment_of, text_of_day, text_of_moment, text_of_time
 from sfstore.exchange.names import kept_name, new_name
-from sfstore.language import INT_MAX, INT_MIN, TEXT_MAX
+from sfstore.exchange.stored import MAKERS, Made, whole_of
+from sfstore.language import TEXT_MAX
+from sfstore.results import Value
 from sfstore.sidecar import ColumnOrigin
-from sfstore.store import Value
-from sfstore.storefile import INT, TEXT, FileColumn, FileFeature
+from sfstore.storefile import BOOL, DATETIME, DECIMAL, INT, TEXT, FileColumn, FileFeature
+from sfstore.storefile import DATE as FILE_DATE
 
 __all__ = ["Fields", "text_fault"]
 
+# The types of the store that are those of OGR.
+_TYPES = {REAL: DECIMAL, DATE: FILE_DATE, DATE_TIME: DATETIME}
 _WHOLE = re.compile(r"-?[0-9]{1,19}", re.ASCII)
 _DECIMAL = re.compile(r"-?[0-9]+(\.[0-9]+)?", re.ASCII)
 _TIME = re.compile(r"[0-9]{2}:[0-9]{2}:[0-9]{2}\.[0-9]{1,6}([+-][0-9]{2}(:?[0-9]{2})*)?", re.ASCII)
@@ -51,7 +54,7 @@ _WHOLE_TYPES = {"smallint", "integer", "bigint", "boolean", "numeric", "oid"}
 _STAMP = "to_char({0} AT TIME ZONE 'UTC', 'YYYY-MM-DD\"T\"HH24:MI:SS.US\"Z\"')"
 # A number of PostgreSQL that is other than its double, in the shortest text of it.
 _NO_DOUBLE = (
-    "CASE WHEN {0}::text IN ('NaN', 'Infinity', '-Infinity') OR {0} = 0 THEN false "
+    "CASE WHEN {0} IS NULL OR {0}::text IN ('NaN', 'Infinity', '-Infinity') OR {0} = 0 THEN false "
     "WHEN abs({0}) BETWEEN 1e-300 AND 1e300 THEN {0}::float8::text::numeric <> {0} ELSE true END"
 )
 # Below it each whole number is a double.
@@ -82,10 +85,17 @@ class _Field(NamedTuple):
     place: int
     """Its place among the source's."""
     name: str
-    type: int | None
-    """None for one of real numbers, of which that is known at the end."""
+    type: int
+    """The type in the store; at the end it may be that of texts in its place."""
     source_name: str
     source_type: str
+
+    @property
+    def maker(self) -> Callable[[Any], Made] | None:
+        """What makes values of the store of the source's, where these are others."""
+        if self.source_type == REAL and self.type == INT:
+            return whole_of
+        return MAKERS.get(self.type)
 
 
 class Fields(SourceColumns):
@@ -107,6 +117,7 @@ class Fields(SourceColumns):
         self._wanted = wanted or {}
         self._driver: str = source.GetDriver().ShortName
         self._broken: set[int] = set()
+        self._changed: Counter[tuple[str, str]] = Counter()
         self._fields: list[_Field] = []
         self._origins: dict[int, ColumnOrigin] = {}
         self._take(names)
@@ -115,7 +126,7 @@ class Fields(SourceColumns):
     def values(self, read: Feature) -> tuple[dict[int, Any], list[Fault]]:
         """The values of a feature by the numbers of their columns, and what is left out of them.
 
-        Real numbers are among them, until `finished` has made whole numbers or texts of them.
+        Numbers, days and moments are as the source has them, until `finished` has made values of the store of them.
         """
         values: dict[int, Any] = {}
         faults: list[Fault] = []
@@ -127,58 +138,62 @@ class Fields(SourceColumns):
             if odd is not None and odd[1] is None:
                 reason = f"a value that is none of the column's type {field.source_type}"
                 faults.append(Fault(reason, f"the value {odd[0]} of column {field.name} is left out"))
-            elif field.type is None:
-                number = feature.GetFieldAsDouble(field.place) if odd is None else _exact(str(odd[1]))
-                if isinstance(number, str) and len(number) > TEXT_MAX:
-                    faults.append(Fault(text_fault(number), f"the value of column {field.name} is left out"))
-                    continue
-                self._add_real(field, number, values)
-                if isinstance(number, float) and self._is_doubtful(number):
-                    detail = f"{int(number)} in column {field.name}"
-                    faults.append(Fault("a whole number whose last digits OGR may have changed", detail))
-            elif field.type == INT:
-                values[field.number] = feature.GetFieldAsInteger64(field.place)
-            else:
-                text = odd[1] if odd is not None else _text(feature, field)
-                fault = "a text that is not UTF-8" if text is None else text_fault(text)
-                if fault:
-                    faults.append(Fault(fault, f"the value of column {field.name} is left out"))
-                else:
-                    values[field.number] = text
+                continue
+            value = _read(feature, field) if odd is None else odd[1]
+            fault = self._fault(field, value)
+            if fault:
+                faults.append(Fault(fault, f"the value of column {field.name} is left out"))
+                continue
+            values[field.number] = value
+            if isinstance(value, float) and self._is_doubtful(value):
+                detail = f"{int(value)} in column {field.name}"
+                faults.append(Fault("a whole number whose last digits OGR may have changed", detail))
         return values, faults
 
     def _is_doubtful(self, number: float) -> bool:
         """Whether the source may have another whole number, of which OGR has made the nearest double."""
-        return self._driver == "ESRI Shapefile" and abs(number) >= _FIRST_GAP and _is_whole(number)
+        return self._driver == "ESRI Shapefile" and abs(number) >= _FIRST_GAP and number.is_integer()
 
-    def _add_real(self, field: _Field, value: float | int | str, values: dict[int, Any]) -> None:
-        if isinstance(value, str) or not _is_whole(value):
+    def _fault(self, field: _Field, value: Any) -> str:
+        """Why the store can't have a value, or nothing. Where its column becomes one of texts, those are the measure."""
+        maker = field.maker
+        if maker is None:
+            return "" if isinstance(value, int) else _text_fault(value)
+        if field.number not in self._broken:
+            fault = self._made(field, maker(value)).fault
+            if not fault or not self._is_text(field.name):
+                return fault
             self._broken.add(field.number)
-        if field.number not in self._broken or self._is_text(field.name):
-            values[field.number] = value
+        return _text_fault(_text_of(value))
+
+    def _made(self, field: _Field, made: Made) -> Made:
+        """The value of the store that a value of the source is. What was done to it is counted."""
+        if made.change:
+            self._changed[field.name, made.change] += 1
+        return made
 
     def finished(self, features: list[FileFeature]) -> tuple[list[FileColumn], list[FileFeature], list[ColumnOrigin]]:
         """The columns at the end, the features with them, and what the columns were in the source."""
-        types = {field.number: self._final_type(field) for field in self._fields}
-        dropped = [field.source_name for field in self._fields if types[field.number] is None]
-        if dropped:
-            self.left.append(self._left(REAL, dropped))
-        kept = [field for field in self._fields if types[field.number] is not None]
-        new = {field.number: number for number, field in enumerate(kept, 1)}
-        reals = {field.number: types[field.number] for field in self._fields if field.type is None}
-        columns = [FileColumn(new[field.number], types[field.number] or TEXT, field.name) for field in kept]
-        if reals or any(number != old for old, number in new.items()):
-            features = [feature._replace(values=_settled(feature.values, reals, new)) for feature in features]
-        return columns, features, [self._origins[field.number] for field in kept]
+        # Those that were left out have no number.
+        new = {field.number: number for number, field in enumerate(self._fields, 1)}
+        columns = [FileColumn(new[field.number], self._final_type(field), field.name) for field in self._fields]
+        makers: dict[int, Callable[[Any], Any]] = {}
+        for field in self._fields:
+            if self._final_type(field) == TEXT and field.source_type == REAL:
+                makers[field.number] = _text_of
+            elif field.maker and field.number not in self._broken:
+                makers[field.number] = field.maker
+        if makers or any(number != old for old, number in new.items()):
+            features = [feature._replace(values=_settled(feature.values, makers, new)) for feature in features]
+        self.notes += [
+            f"column {name}: {count:,} {'value is' if count == 1 else 'values are'} {change}"
+            for (name, change), count in self._changed.items()
+        ]
+        return columns, features, [self._origins[field.number] for field in self._fields]
 
-    def _final_type(self, field: _Field) -> int | None:
-        """The type of a column in the store; none where it is left out."""
-        if field.type is not None:
-            return field.type
-        is_whole = field.number not in self._broken
-        if self._wanted.get(field.name) == "text" or (self._as_text and not is_whole):
-            return TEXT
-        return INT if is_whole else None
+    def _final_type(self, field: _Field) -> int:
+        """The type of a column in the store."""
+        return TEXT if field.number in self._broken else field.type
 
     def _is_text(self, name: str) -> bool:
         """Whether a column of another type than the store's is to be one of texts."""
@@ -194,28 +209,39 @@ class Fields(SourceColumns):
         for place in range(definition.GetFieldCount()):
             field = definition.GetFieldDefn(place)
             source_name, type_name = field.GetName(), field.GetTypeName()
-            kind: int | None = TEXT
             if source_name in confused:
                 continue
             if source_name in foreign:
                 left.setdefault(foreign[source_name], []).append(source_name)
                 continue
-            if field.GetType() in (module.OFTInteger, module.OFTInteger64):
-                kind = INT
-            elif field.GetType() == module.OFTReal:
-                kind = None
-            elif field.GetType() != module.OFTString and not self._is_text(names.get(source_name, source_name)):
+            subtype = module.GetFieldSubTypeName(field.GetSubType())
+            known = names.get(source_name, source_name)
+            kind = self._type(known, type_name, subtype)
+            if kind is None:
                 left.setdefault(type_name, []).append(source_name)
                 continue
-            name = new_name(names.get(source_name, source_name), taken)
+            name = new_name(known, taken)
             if name != source_name:
                 self.renamed.append((source_name, name))
             number = len(self._fields) + 1
             self._fields.append(_Field(number, place, name, kind, source_name, type_name))
-            subtype = module.GetFieldSubTypeName(field.GetSubType())
             kept = kept_name(source_name, name)
             self._origins[number] = ColumnOrigin(name, kept, type_name, subtype, field.GetWidth())
         self.left += [self._left(type_name, several) for type_name, several in left.items()]
+
+    def _type(self, name: str, type_name: str, subtype: str) -> int | None:
+        """The type that a column has in the store, or none where the store has none for it."""
+        wanted = self._wanted.get(name, "")
+        if type_name in (INTEGER, INTEGER_64):
+            # A store that knows no truth values yet has them as whole numbers.
+            own = BOOL if subtype == "Boolean" else INT
+            return {"int": INT, "decimal": DECIMAL}.get(wanted, own)
+        own_type = _TYPES.get(type_name)
+        if own_type is None:
+            return TEXT if type_name == STRING or self._is_text(name) else None
+        if type_name == REAL and wanted == "int":
+            return INT
+        return TEXT if wanted == "text" else own_type
 
     def _left(self, type_name: str, names: list[str]) -> Left:
         """That columns of a type are left out, in words."""
@@ -262,7 +288,7 @@ class Fields(SourceColumns):
         for field in list(self._fields):
             if types.get(field.source_name) in _ODD_OF_POSTGRESQL:
                 condition, shown = _ODD_OF_POSTGRESQL[types[field.source_name]]
-                if field.type is None:
+                if field.source_type == REAL:
                     condition = _NO_DOUBLE
                 quoted = _quoted(field.source_name)
                 shown = f"quote_literal({shown.format(quoted)})"
@@ -300,10 +326,10 @@ class Fields(SourceColumns):
 
     def _odd_text(self, field: _Field, shown: str) -> str | None:
         """The text of a value that OGR would change, as SQL writes it; none where it is no value of the column's type."""
-        if field.type == INT or not (shown.startswith("'") and shown.endswith("'")):
+        if field.source_type in (INTEGER, INTEGER_64) or not (shown.startswith("'") and shown.endswith("'")):
             return None
         text = shown[1:-1].replace("''", "'")
-        if field.type is None:
+        if field.source_type == REAL:
             return text if self._driver == "PostgreSQL" and _DECIMAL.fullmatch(text) else None
         if field.source_type == DATE:
             return text if day_of(text) or text in ("infinity", "-infinity") else None
@@ -377,30 +403,37 @@ def _literal(text: str) -> str:
     return "'" + text.replace("'", "''") + "'"
 
 
-def _exact(text: str) -> int | str:
-    """A number that is no double: as a whole one of the store, or else its text."""
-    number = Decimal(text)
-    if number == number.to_integral_value() and INT_MIN <= number <= INT_MAX:
-        return int(number)
-    return text
+def _read(feature: Any, field: _Field) -> int | float | str | None:
+    """A value of a feature as OGR has it: a number, or a text; none where that is not UTF-8."""
+    if field.source_type in (INTEGER, INTEGER_64):
+        return int(feature.GetFieldAsInteger64(field.place))
+    if field.source_type == REAL:
+        return float(feature.GetFieldAsDouble(field.place))
+    return _text(feature, field)
 
 
-def _is_whole(value: float | int) -> bool:
-    """Whether a real number is a whole one of the store."""
-    return isinstance(value, int) or (value.is_integer() and INT_MIN <= value <= INT_MAX)
+def _text_of(value: float | int | str) -> str:
+    """The text of a value of another type: of a double the shortest one."""
+    return repr(value) if isinstance(value, float) else str(value)
 
 
-def _settled(values: Mapping[int, Any], reals: Mapping[int, int | None], new: Mapping[int, int]) -> dict[int, Value]:
-    """Values with those of real columns as the store has them, by the columns' new numbers."""
-    settled: dict[int, Value] = {}
-    for number, value in values.items():
-        if number not in new:
-            continue
-        if number in reals:
-            # The shortest text of the same double, or the source's own of what is none.
-            value = int(value) if reals[number] == INT else value if isinstance(value, str) else repr(value)
-        settled[new[number]] = value
-    return settled
+def _text_fault(text: Any) -> str:
+    """Why a text that was read is none of the store, or nothing."""
+    if text is None:
+        return "a text that is not UTF-8"
+    return text_fault(_text_of(text))
+
+
+def _settled(
+    values: Mapping[int, Any], makers: Mapping[int, Callable[[Any], Any]], new: Mapping[int, int]
+) -> dict[int, Value]:
+    """Values as the store has them, by the columns' new numbers."""
+    return {new[number]: _made(value, makers.get(number)) for number, value in values.items() if number in new}
+
+
+def _made(value: Any, maker: Callable[[Any], Any] | None) -> Any:
+    found = value if maker is None else maker(value)
+    return found.value if isinstance(found, Made) else found
 
 
 def _text(feature: Any, field: _Field) -> str | None:

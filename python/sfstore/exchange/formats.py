@@ -7,11 +7,13 @@ from collections.abc import Callable, Iterable
 from dataclasses import dataclass
 from typing import NamedTuple
 
-from sfstore.exchange.columns import DATE, DATE_TIME, REAL, STRING, Sort, Survey, sort_of, surveyed
+from sfstore.exchange.columns import DATE, DATE_TIME, REAL, STRING, Sort, Survey, origin_of, sort_of, surveyed
 from sfstore.exchange.ogr import printable
+from sfstore.language import COLUMN_TYPES
 from sfstore.results import Rule
 from sfstore.sidecar import ColumnOrigin, LayerOrigin, Sidecar
-from sfstore.storefile import FileColumn, FileLayer
+from sfstore.storefile import DATE as FILE_DATE
+from sfstore.storefile import DATETIME, FileColumn, FileLayer
 
 __all__ = ["FORMATS", "RULES_MAX", "Format", "Part", "column_origin", "format_of", "parts_of", "rules_kept"]
 
@@ -74,6 +76,8 @@ class Format:
     """How many rules of a store it has a place for."""
     kept_types: frozenset[str] = frozenset((REAL,))
     """The types of columns that it has beside whole numbers and texts."""
+    keeps_digits: bool = False
+    """Whether it has numbers with more digits than a double."""
     keeps_identifiers: bool = True
     largest_real: float = math.inf
     """Reals are below it, or their column goes out as texts."""
@@ -188,7 +192,7 @@ def _own_names(origin: LayerOrigin, columns: set[str], written: Format) -> tuple
 
 def _column_origins(layer: FileLayer, origin: LayerOrigin) -> dict[int, ColumnOrigin]:
     """What the columns were in the source, by their numbers."""
-    found = ((column.number, column_origin(origin, column)) for column in layer.columns)
+    found = ((column.number, origin_of(column, column_origin(origin, column))) for column in layer.columns)
     return {number: known for number, known in found if known}
 
 
@@ -200,10 +204,17 @@ def _types_lost(
     for column in layer.columns:
         known = origins.get(column.number)
         texts = survey.texts.get(column.number)
-        if texts is not None and texts.other_form is not None and sorts[column.number].type != STRING:
+        sort = sorts[column.number]
+        if texts is not None and texts.other_form is not None and sort.type != STRING:
             shown = printable(texts.other_form[:40])
-            told.append(f"the form of texts of column {column.name} of {layer.name}, such as {shown!r}")
-        if known is None or known.type not in written.kept_types or sorts[column.number].type == known.type:
+            if not sort.is_exact:
+                told.append(f"the form of texts of column {column.name} of {layer.name}, such as {shown!r}")
+            elif not written.keeps_digits:
+                told.append(f"digits of column {column.name} of {layer.name} that no double has, as those of {shown}")
+        if column.type in (FILE_DATE, DATETIME) and sort.type == STRING:
+            told.append(f"the type {COLUMN_TYPES[column.type - 1]} of column {column.name} of {layer.name}: it has texts there")
+            continue
+        if known is None or known.type not in written.kept_types or sort.type == known.type:
             continue
         why = ""
         if texts is not None and texts.other is not None:
@@ -300,7 +311,7 @@ def _shapefile_layer_losses(part: Part) -> list[str]:
     numbers = part.survey.numbers
     wide = [column.name for column in part.layer.columns if column.number in numbers and _is_wide(part, column.number)]
     lost = {
-        f"bytes behind the 254th of texts of {name}": any(text.most_bytes > 254 for text in texts),
+        f"the bytes of texts of {name} behind the 254th": any(text.most_bytes > 254 for text in texts),
         f"empty texts of {name}: they have no value then": any(text.has_empty for text in texts),
         f"blanks at the begin and end of texts of {name}": any(text.has_blank_end for text in texts),
         f"digits of {', '.join(wide)} of {name} behind the 15th, since a number has more than 18 characters": bool(wide),
@@ -352,8 +363,9 @@ FORMATS = {
         ),
         own_columns=("ogc_fid", "wkb_geometry"),
         kept_types=frozenset((REAL, DATE, DATE_TIME, "DateTime without zone")),
+        keeps_digits=True,
     ),
-    "GeoJSON": Format((".geojson",), False, _geojson_losses),
+    "GeoJSON": Format((".geojson",), False, _geojson_losses, keeps_digits=True),
     "FlatGeobuf": Format(
         (".fgb",),
         False,

@@ -7,12 +7,14 @@ from __future__ import annotations
 
 import json
 from collections.abc import Iterable, Iterator
+from decimal import Decimal
 from typing import Any
 
 from sfstore.exchange import ogr
 from sfstore.exchange.columns import REAL, Sort, values_of
 from sfstore.exchange.formats import Part
 from sfstore.exchange.grid import Grid
+from sfstore.exchange.jsontext import text_of
 from sfstore.geometry import Flat, Shape, read_wkb
 from sfstore.sidecar import Crs, Sidecar
 from sfstore.storefile import FileFeature
@@ -30,16 +32,20 @@ def write(path: str, part: Part, found: Sidecar) -> None:
     count = len(part.layer.features)
     with ogr.progress(part.name, count) as show:
 
-        def features() -> Iterator[dict[str, Any]]:
+        def features() -> Iterator[str]:
             for feature in part.layer.features:
                 yield _feature(feature, part, grid)
                 show(1)
 
-        write_collection(path, part.name, found.crs, features())
+        _write_texts(path, part.name, found.crs, features())
 
 
 def write_collection(path: str, name: str, crs: Crs | None, features: Iterable[dict[str, Any]]) -> None:
     """Writes features as a collection with a name and a reference system. `OSError` where it can't be written."""
+    _write_texts(path, name, crs, map(_text, features))
+
+
+def _write_texts(path: str, name: str, crs: Crs | None, features: Iterable[str]) -> None:
     head: dict[str, Any] = {"type": "FeatureCollection", "name": name}
     member = crs_member(crs)
     if member is not None:
@@ -48,7 +54,7 @@ def write_collection(path: str, name: str, crs: Crs | None, features: Iterable[d
         file.write(_text(head)[:-1] + ', "features": [\n')
         between = ""
         for feature in features:
-            file.write(between + _text(feature))
+            file.write(between + feature)
             between = ",\n"
         file.write("\n]}\n")
 
@@ -66,18 +72,24 @@ def _text(content: object) -> str:
     return json.dumps(content, ensure_ascii=False, allow_nan=False)
 
 
-def _feature(feature: FileFeature, part: Part, grid: Grid) -> dict[str, Any]:
+def _feature(feature: FileFeature, part: Part, grid: Grid) -> str:
+    values = values_of(feature)
     known = {
-        part.columns[number]: _value(values_of(feature)[number], sort)
-        for number, sort in part.sorts.items()
-        if number in feature.values
+        part.columns[number]: _value(values[number], sort) for number, sort in part.sorts.items() if number in values
     }
     shape = read_wkb(feature.geometry).mapped(grid.places)
-    return {"type": "Feature", "id": feature.id, "properties": known, "geometry": _geometry(shape)}
+    # Decimals keep their own digits, of which JSON has any number.
+    geometry = _text(_geometry(shape))
+    return f'{{"type": "Feature", "id": {feature.id}, "properties": {text_of(known)}, "geometry": {geometry}}}'
 
 
-def _value(value: int | str, sort: Sort) -> int | float | str:
-    return float(value) if sort.type == REAL else value
+def _value(value: int | str, sort: Sort) -> int | float | bool | Decimal | str:
+    if sort.subtype == "Boolean":
+        return bool(value)
+    if sort.type != REAL:
+        return value
+    # With a place behind its point a whole number is known as a real one.
+    return Decimal(f"{value}.0" if str(value).lstrip("-").isdigit() else value) if sort.is_exact else float(value)
 
 
 def _geometry(shape: Shape) -> dict[str, Any]:

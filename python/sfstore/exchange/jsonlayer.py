@@ -19,11 +19,13 @@ from sfstore.exchange.columns import INTEGER, INTEGER_64, REAL, STRING
 from sfstore.exchange.fields import text_fault
 from sfstore.exchange.jsongeometry import KINDS, binary
 from sfstore.exchange.jsontext import Repeated, members, object_of, text_of
-from sfstore.exchange.layers import Fault, Feature, Layer, Left, Lost, SourceColumns
+from sfstore.exchange.layers import Fault, Feature, Layer, Lost, SourceColumns
 from sfstore.exchange.names import kept_name, new_name
+from sfstore.exchange.stored import MAKERS, decimal_of
 from sfstore.language import IDENTIFIER_MAX, INT_MAX, INT_MIN
+from sfstore.results import Value
 from sfstore.sidecar import ColumnOrigin, Crs
-from sfstore.storefile import INT, TEXT, FileColumn, FileFeature
+from sfstore.storefile import BOOL, DECIMAL, INT, TEXT, FileColumn, FileFeature
 
 __all__ = ["JsonLayer"]
 
@@ -62,14 +64,14 @@ class _Column:
     kinds: set[str] = field(default_factory=set)
     is_short: bool = True
     """Whether each whole number has 32 bits."""
-    is_whole: bool = True
-    """Whether each number is a whole one of the store."""
+    fits: bool = True
+    """Whether each number is one of the store."""
 
     def add(self, value: Any) -> None:
         kind = _kind_of(value)
         self.kinds.add(kind)
         if kind in _NUMBERS:
-            self.is_whole = self.is_whole and _is_whole(value)
+            self.fits = self.fits and not decimal_of(value).fault
             self.is_short = self.is_short and _SHORT_MIN <= value <= _SHORT_MAX
 
     @property
@@ -347,35 +349,25 @@ class _Columns(SourceColumns):
         self._taken: dict[str, _Taken] = {}
         self._origins: list[ColumnOrigin] = []
         self._identifiers: _Taken | None = None
-        reals: list[str] = []
         used: set[str] = set()
         for source_name, column in survey.columns.items():
             name = names.get(source_name, source_name)
-            is_text = as_text or wanted.get(name) == "text"
-            if column.type[0] == REAL and not column.is_whole and not is_text:
-                reals.append(source_name)
-                continue
-            self._taken[source_name] = self._take(source_name, new_name(name, used), column)
-        if reals:
-            one = len(reals) == 1
-            words = "1 column" if one else f"{len(reals)} columns"
-            keeps = f"(--as-text keeps {'it' if one else 'them'})"
-            self.left.append(Left(f"{words} of type {REAL} {'is' if one else 'are'} left out {keeps}", reals))
+            kind = _type(column, as_text, wanted.get(name, ""))
+            self._taken[source_name] = self._take(source_name, new_name(name, used), column, kind)
         if survey.has_column_of_identifiers:
             name = new_name(names.get(_IDENTIFIER, _IDENTIFIER), used)
-            self._identifiers = self._take(_IDENTIFIER, name, survey.identifier)
+            self._identifiers = self._take(_IDENTIFIER, name, survey.identifier, _type(survey.identifier, as_text, ""))
             self.notes.append(f"identifiers that the store can't have are in the column {name}")
 
-    def _take(self, source_name: str, name: str, column: _Column) -> _Taken:
+    def _take(self, source_name: str, name: str, column: _Column, kind: int) -> _Taken:
         type_name, subtype = column.type
-        is_number = type_name in (INTEGER, INTEGER_64) or (type_name == REAL and column.is_whole)
         if name != source_name:
             self.renamed.append((source_name, name))
         if column.is_mixed:
             kinds = ", ".join(kind for kind in _KINDS_OF_VALUES if kind in column.kinds)
             self.notes.append(f"column {name} has {kinds}: all are texts")
         self._origins.append(ColumnOrigin(name, kept_name(source_name, name), type_name, subtype, 0))
-        return _Taken(len(self._origins), INT if is_number else TEXT, name, source_name, column)
+        return _Taken(len(self._origins), kind, name, source_name, column)
 
     def values(self, feature: Feature) -> tuple[dict[int, Any], list[Fault]]:
         values: dict[int, Any] = {}
@@ -400,12 +392,25 @@ class _Columns(SourceColumns):
         return [FileColumn(each.number, each.type, each.name) for each in taken], features, self._origins
 
 
-def _stored(taken: _Taken, value: Any) -> tuple[int | str, str]:
+def _type(column: _Column, as_text: bool, wanted: str) -> int:
+    """The type of a column in the store. ``wanted`` is that of the store's layer that it is added to, if there is one."""
+    type_name, subtype = column.type
+    if type_name == STRING or wanted == "text" or (type_name == REAL and as_text and not column.fits):
+        return TEXT
+    if type_name == REAL or wanted == "decimal":
+        return DECIMAL
+    return BOOL if subtype == "Boolean" and wanted != "int" else INT
+
+
+def _stored(taken: _Taken, value: Any) -> tuple[Value, str]:
     """A value as the store has it, and why it can't have it, or nothing."""
-    if taken.type == INT and not isinstance(value, (int, Decimal)):
+    if taken.type != TEXT and not isinstance(value, (int, Decimal)):
         return 0, "a value that was written since the survey"
     if taken.type == INT:
         return (int(value), "") if _is_whole(value) else (0, "a whole number of more than 64 bits")
+    if taken.type in MAKERS:
+        made = MAKERS[taken.type](value)
+        return (0 if made.value is None else made.value), made.fault
     try:
         text = value if isinstance(value, str) else text_of(value)
     except RecursionError:
@@ -415,4 +420,3 @@ def _stored(taken: _Taken, value: Any) -> tuple[int | str, str]:
     except UnicodeError:
         return "", "a text that is not UTF-8"
     return text, text_fault(text)
-

@@ -12,6 +12,7 @@ import datetime
 import re
 import struct
 from collections.abc import Iterator, Sequence
+from decimal import Decimal
 from typing import Any, NamedTuple
 
 from sfstore.exchange import ogr
@@ -504,6 +505,8 @@ def _type(sort: Sort) -> str:
         return _SUBTYPES[sort.subtype]
     if sort.type == DATE_TIME:
         return "timestamp with time zone" if sort.is_zoned else "timestamp without time zone"
+    if sort.type == REAL and sort.is_exact:
+        return "numeric"
     if sort.type in _TYPES:
         return _TYPES[sort.type]
     return f"varchar({sort.width})" if sort.width else "varchar"
@@ -523,7 +526,7 @@ def _is_same(value: int | str | None, text: str | None, sort: Sort) -> bool:
     if value is None or text is None:
         return value is None and text is None
     if sort.type == REAL:
-        return float(text) == float(value)
+        return Decimal(text) == Decimal(value) if sort.is_exact else float(text) == float(value)
     if isinstance(value, int):
         return text in (str(value), {0: "false", 1: "true"}.get(value))
     if sort.type == DATE:

@@ -104,14 +104,14 @@ class LayerImport:
         """The layer as the store is to have it. `ogr.ExchangeError` where the source breaks off."""
         for source_name, name in self._fields.renamed:
             self._note(f"column {source_name!r} has the name {name}")
-        for note in self._fields.notes:
-            self._note(note)
         self._fields.find_odd()
         with Store(self._taking.program) as scratch:
             scratch.add_layer("c", self._taken_kind)
             for batch in self._batches():
                 self._judge(scratch, batch)
         self._columns, self._features, self._origins = self._fields.finished(self._features)
+        for note in self._fields.notes:
+            self._note(note)
         self._make_multi()
         self._number_features()
         self._tell()
