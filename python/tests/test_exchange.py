@@ -233,7 +233,7 @@ class Import(ExchangeCase):
         details = [line[3] for line in lines if line[0] == "awkward" and not line[1]]
         self.assertIn("column 'a b' has the name a_b", details)
         self.assertIn("column 'a-b' has the name a_b_2", details)
-        self.assertEqual([(f.id, f.values) for f in self.shown("awkward")], [(14, {})])
+        self.assertEqual([(f.id, f.values) for f in self.shown("awkward")], [(14, {"area": Decimal("0.5")})])
 
     def test_faulty_features_as_a_map(self):
         self.awkward()
