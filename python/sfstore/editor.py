@@ -592,8 +592,8 @@ class Editor:
             if isinstance(answer, Refused):
                 raise answer
         columns, rows = cast("list[list[str]]", answers)
-        found = [_column_of(row) for row in columns]
-        return [feature_of(row, found) for row in rows]
+        types = dict(map(_column_of, columns))
+        return [feature_of(row, types) for row in rows]
 
     def _line(self, line: str) -> str:
         """The answer of a command that has one line."""

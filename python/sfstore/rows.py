@@ -3,11 +3,11 @@
 from __future__ import annotations
 
 import re
-from collections.abc import Iterable, Mapping
+from collections.abc import Mapping
 from typing import cast
 
 from sfstore import values
-from sfstore.results import Column, ColumnType, Feature, Rule, RuleForm, Value
+from sfstore.results import ColumnType, Feature, Rule, RuleForm, Value
 
 __all__ = ["feature_of", "row_values", "rule_of"]
 
@@ -15,12 +15,12 @@ _ROW = re.compile(r"([0-9]+) ([A-Z]+ \([-0-9 ,()]*\))")
 _ROW_VALUE = re.compile(r" ([A-Za-z][A-Za-z0-9_]*)=([-0-9.:TZa-z]+|'[^']*(?:''[^']*)*')")
 
 
-def feature_of(row: str, columns: Iterable[Column]) -> Feature:
-    """The feature of a row of ``show``, whose layer has these columns."""
+def feature_of(row: str, types: Mapping[str, ColumnType]) -> Feature:
+    """The feature of a row of ``show``, whose layer has columns of these names and types."""
     found = _ROW.match(row)
     if found is None:
         raise ValueError(f"no feature: {row!r}")
-    return Feature(int(found[1]), found[2], row_values(row, found.end(), {column.name: column.type for column in columns}))
+    return Feature(int(found[1]), found[2], row_values(row, found.end(), types))
 
 
 def rule_of(row: str) -> Rule:

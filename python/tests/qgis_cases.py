@@ -679,9 +679,8 @@ class FieldsOfTwo(QgisCase):
 
     def content(self, name):
         """The columns of a layer of the store, and the values of each feature."""
-        columns = self.session.columns(name)
-        values = {number: feature_of(row, columns).values for number, row in self.stored(name).items()}
-        return {column.name: column.type for column in columns}, values
+        columns = dict(self.session.columns(name))
+        return columns, {number: feature_of(row, columns).values for number, row in self.stored(name).items()}
 
     def expected(self, before, ann):
         """What the store has once it has taken what Ann did."""
@@ -1440,9 +1439,8 @@ class AtRandom(QgisCase):
 
     def content(self):
         """The columns of the parcels, and the values of each."""
-        columns = self.session.columns("parcels")
-        values = {number: feature_of(row, columns).values for number, row in self.stored().items()}
-        return {column.name: column.type for column in columns}, values
+        columns = dict(self.session.columns("parcels"))
+        return columns, {number: feature_of(row, columns).values for number, row in self.stored().items()}
 
     def edit_columns(self, rng, parcels, value):
         """Some edits by names, and what they make of the store's content."""

@@ -226,8 +226,8 @@ class QgisCase(WebCase):
                 number = values.pop("_id")
                 told = {name: known(value) for name, value in values.items() if value is not None and value != NULL}
                 shown[number] = (editing.provider.wkt(feature.geometry()), told)
-            columns = self.session.columns(mirror.name)
-            expected = {number: parts_of(row, columns) for number, row in rows.items() if kind_of(row) == mirror.kind}
+            types = dict(self.session.columns(mirror.name))
+            expected = {number: parts_of(row, types) for number, row in rows.items() if kind_of(row) == mirror.kind}
             self.assertEqual(shown, expected)
 
 
@@ -239,8 +239,8 @@ def known(value):
     return value.toPyDate() if isinstance(value, QDate) else value
 
 
-def parts_of(row, columns):
-    found = feature_of(row, columns)
+def parts_of(row, types):
+    found = feature_of(row, types)
     return found.wkt, {name: spelled(value) if isinstance(value, Decimal) else value for name, value in found.values.items()}
 
 
