@@ -20,7 +20,7 @@ from web_support import WebCase
 
 from sfstore import Refused, Store, groups, journal
 from sfstore.web.batches import Batch, LineRefused, batch_of, carry_out, is_group
-from sfstore.web.batchlog import BatchLog
+from sfstore.web.batchlog import BatchLog, new_mark
 from sfstore.web.changed import Changed, changed_by, merged
 from sfstore.web.changes import Target
 from sfstore.web.keeper import Asked, Keeper, Unavailable
@@ -645,7 +645,7 @@ class FullDisk(TestCase):
 
         keeper.carry_out_all(both("a", "b"))
         # Up to some bytes before the end of a page of the journal, which has room then for no line.
-        while (room := 4096 - journal.stat().st_size) > 35:
+        while (room := -journal.stat().st_size % 4096) > 35:
             text = "x" * max(1, min(200, room - 70))
             keeper.carry_out(Asked(1, "page", f"set p 1 owner '{text}'", None))
         self.fill()
@@ -847,6 +847,40 @@ class Cut(TestCase):
                 self.assertIn("owner='y'", keeper.ask(lambda store: store.run("get p 2"))[0])
                 self.assertEqual(keeper.steps()[1].line, first)
                 keeper.close()
+
+    def test_a_line_that_is_answered_before_the_next_opening_is_none_of_a_batch_of_which_nothing_came(self):
+        """The server is killed behind the entry of a batch, and the program is given its first line."""
+        sent = ["column add p more int", "column add p last int"]
+        for lines, first in ((sent, sent[0]), (["undo", "undo"], "undo")):
+            with self.subTest(first):
+                self.opened([])
+                for ending in (".journal", ".batches"):
+                    (self.folder / f"town.sfs{ending}").unlink(missing_ok=True)
+                with Store(self.path, journal=True, program=PROGRAM) as store:
+                    store.editor(1).run_all(["set p 1 owner 'a'", "set p 1 owner 'b'"])
+                    BatchLog(str(self.path)).begin(2, 1, [line + new_mark() for line in lines])
+                    store.editor(1).run(first)
+                    after = store.run("show p"), store.run("columns p")
+                    store.close(save=False)
+                keeper = self.keeper()
+                self.assertEqual(keeper.ask(lambda store: (store.run("show p"), store.run("columns p"))), after)
+                keeper.close()
+
+    def test_lines_of_a_batch_are_marked_and_are_one_step_without_the_mark(self):
+        keeper = self.keeper()
+        lines = ["column add p more int", "set p 1 more 7"]
+        keeper.carry_out_all(Batch(1, "page", lines, [None, 1]))
+        with open(self.folder / "town.sfs.journal", encoding="ascii") as file:
+            records = file.read().splitlines()[-2:]
+        blanks = {len(record) - len(record.rstrip(" ")) for record in records}
+        self.assertEqual(len(blanks), 1, records)
+        self.assertGreaterEqual(blanks.pop(), 8)
+        keeper.close()
+        keeper = self.keeper()
+        self.assertEqual(keeper.steps()[1].line, lines[1])
+        keeper.carry_out(Asked(1, "page", "undo", None))
+        self.assertNotIn("more int", keeper.ask(lambda store: store.run("columns p")))
+        keeper.close()
 
     def test_of_the_list_whole_batches_stay(self):
         log = self.folder / "town.sfs.batches"

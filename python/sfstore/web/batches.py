@@ -155,26 +155,26 @@ def _check(line: object, version: object) -> None:
 
 
 def carry_out(
-    editor: Editor, lines: Sequence[str], begin: Callable[[list[str]], object] = lambda sent: None
+    editor: Editor, lines: Sequence[str], begin: Callable[[list[str]], object] = lambda sent: None, mark: str = ""
 ) -> Outcome:
     """Carries out lines as a whole.
 
     Lines that name a new feature as ``last`` are carried out behind all others. ``begin`` is called
-    with the lines in this order, before the first of them is carried out.
+    with the lines in this order, before the first of them is carried out. Each is sent with ``mark`` at its end.
     """
     late = _late_ones(lines)
     refused = _judged(editor, lines)
     if refused is not None:
         return Outcome([], [], refused)
-    begin([*(line for at, line in enumerate(lines) if at not in late), *(lines[at] for at in late)])
+    early = [line for at, line in enumerate(lines) if at not in late]
+    begin([line + mark for line in (*early, *(lines[at] for at in late))])
     accepted: list[tuple[str, str]] = []
     answers: dict[int, Answer | Refused] = {}
-    early = {at: line for at, line in enumerate(lines) if at not in late}
-    accepted += _sent(editor, early, answers)
+    accepted += _sent(editor, {at: line for at, line in enumerate(lines) if at not in late}, answers, mark)
     refused = _first_refused(answers)
     if refused is None:
         numbered = {at: _numbered(each, answers) for at, each in late.items()}
-        accepted += _sent(editor, numbered, answers)
+        accepted += _sent(editor, numbered, answers, mark)
         refused = _first_refused(answers)
     if refused is not None:
         return Outcome([], accepted + take_back(editor, len(accepted)), refused)
@@ -216,9 +216,11 @@ def _question(line: str) -> str:
     return f"check {words[1]} {' '.join(words[before:])}" if len(words) > before else ""
 
 
-def _sent(editor: Editor, lines: dict[int, str], answers: dict[int, Answer | Refused]) -> list[tuple[str, str]]:
-    """Has lines carried out, and notes their answers. Gives those that were accepted."""
-    outcomes = editor.run_all(lines.values())
+def _sent(
+    editor: Editor, lines: dict[int, str], answers: dict[int, Answer | Refused], mark: str
+) -> list[tuple[str, str]]:
+    """Has lines carried out, each with a mark at its end, and notes their answers. Gives those that were accepted."""
+    outcomes = editor.run_all([line + mark for line in lines.values()])
     answers.update(zip(lines, outcomes))
     return [(line, str(each)) for line, each in zip(lines.values(), outcomes) if is_edit(line.encode(), each)]
 

@@ -4,7 +4,9 @@ A batch of edits of features needs none of this: it is a group, and one record o
 before the first line of its batch is sent. The next opening finds by it what a crash has left of a batch that was not
 carried out to its end, and which steps are one.
 
-No entry of a batch that was not carried out stays: lines that somebody sends later could be taken for its own.
+No entry of a batch that was not carried out stays: lines that somebody sends later could be taken for its own. Where the
+server is killed before it can take an entry away, somebody may send its first line to the program alone. So the lines of a
+batch end in blanks that are its mark: nobody else sends them, and their records are no others.
 """
 
 from __future__ import annotations
@@ -13,13 +15,17 @@ import contextlib
 import json
 import os
 import re
+import secrets
 from collections.abc import Sequence
 from typing import NamedTuple
 
 from sfstore import files, journal
 from sfstore.web.changes import LAST
 
-__all__ = ["BatchLog", "Entry", "Found"]
+__all__ = ["BatchLog", "Entry", "Found", "new_mark"]
+
+# How many blanks a mark has.
+_LEAST_BLANKS, _MOST_BLANKS = 8, 63
 
 
 class Entry(NamedTuple):
@@ -47,6 +53,11 @@ class Found(NamedTuple):
     """What takes them back."""
     is_move: bool = False
     """Whether they are of an undo or a redo: a batch that was answered is whole again without them."""
+
+
+def new_mark() -> str:
+    """What the lines of a batch end in, and those of nobody else. To the program such blanks say nothing."""
+    return " " * (_LEAST_BLANKS + secrets.randbelow(_MOST_BLANKS - _LEAST_BLANKS + 1))
 
 
 class BatchLog:

@@ -12,7 +12,7 @@ from sfstore.journal import JournalError
 from sfstore.program import is_edit
 from sfstore.store import Answer, Editor, ProgramEnded, Refused, Store
 from sfstore.web.batches import Batch, Done, LineRefused, carry_out, carry_out_group, is_group, take_back
-from sfstore.web.batchlog import BatchLog
+from sfstore.web.batchlog import BatchLog, new_mark
 from sfstore.web.changes import Change, Changes, Target, seen_of
 from sfstore.web.steps import Step, Steps
 
@@ -228,7 +228,8 @@ class Keeper:
         self._log.give_up()
         editor, page, line, _ = asked
         # An undo moves all steps of a batch, or none: they are one editor's.
-        lines = [line] * max(1, self._steps.moved_by(line))
+        count = self._steps.moved_by(line)
+        lines = [line + new_mark()] * count if count > 1 else [line]
         if len(lines) > 1:
             self._log.begin(store.unsaved, editor, lines)
         answers = _speaker(store, editor).run_all(lines)
@@ -256,7 +257,8 @@ class Keeper:
             if len(lines) > 1:
                 self._log.begin(store.unsaved, editor, lines)
 
-        outcome = carry_out(_speaker(store, editor), batch.lines, begin)
+        mark = new_mark() if len(batch.lines) > 1 else ""
+        outcome = carry_out(_speaker(store, editor), batch.lines, begin, mark)
         number = self._version + 1
         asked = (Asked(editor, page, line, None) for line, _ in outcome.accepted)
         answers = (answer for _, answer in outcome.accepted)

@@ -66,7 +66,8 @@ class Steps:
         for at, line in enumerate(lines):
             found = _ADDRESS.match(line)
             editor, rest = (0, line) if found is None else (int(found[1]), line[found.end() :])
-            self.take(editor, rest, "", group_at.get(at, 0))
+            # Lines of batches end in blanks.
+            self.take(editor, rest.rstrip(" "), "", group_at.get(at, 0))
 
     def take(self, editor: int, line: str, answer: str = "", group: int = 0) -> Step:
         """Follows an accepted line, or a group, and gives the step that it made or moved.
