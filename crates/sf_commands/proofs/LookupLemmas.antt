@@ -1,13 +1,16 @@
 -- What `get` and `find` make of the words after them.
-use Rattle.std.proofs.Common.{◌≡◌, ◌≢◌, ◌∙◌, ◌⊎◌, ℕ, suc, ◌+◌, ◌<◌, ◌≤◌, Bool, true, false, ◌&&◌, nat_lt, nat_le, inl, inr, List, [], ◌∷◌, ◌++◌, length, Option, None, Some, option_map, option_and_then, ok_or, Result, Ok, Err, if◌then◌else◌, refl, sym, ap, subst, arith, append_assoc, append-nil}
+use Rattle.std.proofs.Common.{◌≡◌, ◌≢◌, ◌∙◌, ◌⊎◌, ℕ, suc, ◌+◌, ◌<◌, ◌≤◌, Bool, true, false, ◌&&◌, is_some, nat_lt, nat_le, inl, inr, List, [], ◌∷◌, ◌++◌, length, Option, None, Some, option_map, option_and_then, ok_or, Result, Ok, Err, if◌then◌else◌, refl, sym, ap, subst, arith, append_assoc, append-nil}
 use Rattle.std.proofs.lemmas.Grind.{common_steps}
 use Rattle.std.specs.Result.{IsErrAnd}
 use Rattle.sf_refusals.specs.declared.refusal.Refusal.{Refusal}
 use Rattle.sf_refusals.specs.declared.refusal.Refusal.TheVariants.{Memory, BadCommand}
 use Rattle.sf_commands.specs.declared.command.Command.{Command}
 use Rattle.sf_commands.specs.declared.command.Command.TheVariants.{Get}
+use Rattle.sf_features.specs.declared.attr_value.AttrValue.{AttrValue}
+use Rattle.sf_values.specs.Values.{value_of}
 use Rattle.sf_words.specs.Naming.{given, id_of}
-use Rattle.sf_commands.specs.Commands.{each, get_arguments, ids_max, ids_of, OrMemory}
+use Rattle.sf_words.specs.Words.{trimmed_end}
+use Rattle.sf_commands.specs.Commands.{each, get_arguments, ids_max, ids_of, sought_of, OrMemory}
 use Rattle.sf_commands.proofs.AddLemmas.{OrMemory-memory, OrMemory-refused}
 
 -- ---- identifiers
@@ -115,3 +118,19 @@ pub get-refused : (all ids : List (List ℕ)) (layer : List ℕ) (refusal : Refu
     → OrMemory (ok_or (ids_of ids) BadCommand) (Err refusal) → IsErrAnd r (λ e. e ≡ refusal) → OrMemory (get_arguments all) r
 get-refused all ids layer refusal r is or refused =
     subst (λ w. OrMemory (get_arguments w) r) (sym is) (OrMemory-given (ids_of ids) (λ ids. Ok (Get layer ids)) refusal r or refused)
+
+-- ---- a value that is sought
+
+-- words that spell no value
+pub sought-none : (all : List (List ℕ)) (text : List ℕ) (value : Option AttrValue) → all ≢ [] → value ≡ value_of (trimmed_end text) → is_some value ≡ false
+    → Err BadCommand ≡ sought_of all text
+sought-none [] text value some is none = absurd (some refl)
+sought-none (first ∷ more) text None some is none = ap (λ o. given o (λ v. Ok (Some v))) is
+sought-none (first ∷ more) text (Some v) some is none = absurd cc
+
+-- words that spell one
+pub sought-some : (all : List (List ℕ)) (text : List ℕ) (value : Option AttrValue) → all ≢ [] → value ≡ value_of (trimmed_end text) → is_some value ≡ true
+    → Ok value ≡ sought_of all text
+sought-some [] text value some is there = absurd (some refl)
+sought-some (first ∷ more) text (Some v) some is there = ap (λ o. given o (λ v. Ok (Some v))) is
+sought-some (first ∷ more) text None some is there = absurd cc

@@ -244,7 +244,7 @@ pub column_numbers_fall : load (layer_front 1 3 (0 ∷ 2 ∷ 0 ∷ 2 ∷ 1 ∷ 1
 ) ∷ [])
 column_numbers_fall = refl
 
-pub unknown_type : load (layer_front 1 3 (0 ∷ 1 ∷ 0 ∷ 1 ∷ 3 ∷ [])) ≡ Err (25, 24)
+pub unknown_type : load (layer_front 1 3 (0 ∷ 1 ∷ 0 ∷ 1 ∷ 7 ∷ [])) ≡ Err (25, 24)
 unknown_type = refl
 
 pub column_name_of_no_byte : load (layer_front 1 3 (0 ∷ 1 ∷ 0 ∷ 1 ∷ 1 ∷ 0 ∷ [])) ≡ Err (26, 20)
@@ -282,8 +282,8 @@ value_of_column_zero = refl
 pub int_cut_off : load (feature_front 1 (0 ∷ 1 ∷ 0 ∷ 1 ∷ 0 ∷ 0 ∷ 0 ∷ 0 ∷ 0 ∷ 0 ∷ 0 ∷ [])) ≡ Err (72, 7)
 int_cut_off = refl
 
-pub text_of_256_bytes : load (feature_front 2 (0 ∷ 1 ∷ 0 ∷ 1 ∷ 1 ∷ 0 ∷ [])) ≡ Err (65, 24)
-text_of_256_bytes = refl
+pub text_of_256_bytes_cut_off : load (feature_front 2 (0 ∷ 1 ∷ 0 ∷ 1 ∷ 1 ∷ 0 ∷ [])) ≡ Err (67, 7)
+text_of_256_bytes_cut_off = refl
 
 pub text_cut_off : load (feature_front 2 (0 ∷ 1 ∷ 0 ∷ 1 ∷ 0 ∷ 255 ∷ 97 ∷ [])) ≡ Err (68, 7)
 text_cut_off = refl

@@ -1,17 +1,13 @@
 -- The canonical bytes of a well-formed content load as it.
-use Rattle.std.proofs.Common.{SFits, ◌≡◌, ℕ, ◌+◌, ◌<◌, ◌≤◌, Bool, true, false, cond, not, ◌&&◌, ℤ, pos, negsuc, List, [], ◌∷◌, ◌++◌, map, length, Some, None, IsTrue, Result, Ok, Err, bytes_eq, nat_eq, codes, refl, sym, ap, subst, ◌∙◌, append_assoc, append-nil, arith}
+use Rattle.std.proofs.Common.{◌≡◌, ℕ, ◌+◌, ◌<◌, ◌≤◌, Bool, true, false, cond, not, List, [], ◌∷◌, ◌++◌, map, length, Some, None, IsTrue, Result, Ok, Err, bytes_eq, nat_eq, codes, refl, sym, ap, subst, ◌∙◌, append_assoc, append-nil, arith}
 use Rattle.std.specs.Prelude.{IsSomeAnd, find, nat_lt, nat_le, is_some}
-use Rattle.std.specs.Int.{w64, cast_unsigned, cast_signed}
-use Rattle.std.specs.List.{flat_map, list_any, list_all, AllByRecursion}
+use Rattle.std.specs.List.{flat_map, list_any, AllByRecursion}
 use Rattle.std.specs.List.Sorted.{IsStrictlySortedBy}
 use Rattle.std.specs.Map.{keys_of, values_of}
 use Rattle.std.specs.Ordering.{nat_cmp}
-use Rattle.std.specs.Str.{is_utf8}
 use Rattle.std.specs.Cmp.Lexicographic.{nat_list_eq_equiv}
 use Rattle.std.specs.declared.cmp.Ordering.TheVariants.{Less}
-use Rattle.std.proofs.lemmas.Bool.{le-leb, leb-true, lt-ltb, eqb-true}
-use Rattle.std.proofs.lemmas.Int.{to_z-of_z, ints}
-use mir.ValLaws as laws
+use Rattle.std.proofs.lemmas.Bool.{le-leb, lt-ltb, eqb-true}
 use Rattle.byteorder.specs.Endian.{big_bytes}
 use Rattle.sf_geometry.specs.declared.geometry.Geometry.{Geometry}
 use Rattle.sf_geometry.specs.declared.kind.Kind.TheVariants as kinds
@@ -23,11 +19,10 @@ use Rattle.sf_features.specs.declared.column.Column.{Column}
 use Rattle.sf_features.specs.declared.column_type.ColumnType.{ColumnType}
 use Rattle.sf_features.specs.declared.column_type.ColumnType.TheVariants as types
 use Rattle.sf_features.specs.declared.attr_value.AttrValue.{AttrValue}
-use Rattle.sf_features.specs.declared.attr_value.AttrValue.TheVariants as values
 use Rattle.sf_features.specs.Names.{is_name}
 use Rattle.sf_features.specs.Columns.{IsDistinct, named, numbered}
 use Rattle.sf_features.specs.Features.{FeatureContent}
-use Rattle.sf_features.specs.Values.{fits_int, is_attr_text, is_of_type, is_text_byte, text_max}
+use Rattle.sf_features.specs.Values.{is_of_type}
 use Rattle.sf_layers.specs.declared.layer_kind.LayerKind.{LayerKind}
 use Rattle.sf_layers.specs.declared.layer_kind.LayerKind.TheVariants.{Any, Only}
 use Rattle.sf_layers.specs.Content.{Content, LayerContent, layer_of, admits}
@@ -39,15 +34,15 @@ use Rattle.sf_format.specs.declared.version.Version.{Version}
 use Rattle.sf_format.specs.declared.version.Version.TheVariants.{First, Second, Third, Fourth}
 use Rattle.sf_format.specs.declared.defect.Defect.TheVariants.{TooManyVertices, LayerExists, NoColumn, ColumnExists, WrongValue, WrongKind, IdsExhausted, ColumnsExhausted, BadFile}
 use Rattle.sf_wkb.specs.declared.grid.Grid.{Grid}
-use Rattle.sf_format.specs.Readings.{Fault, and_then, bytes, field, number, sized, items, Reading, done}
+use Rattle.sf_format.specs.Readings.{Fault, and_then, bytes, field, number, items, Reading, done}
 use Rattle.sf_format.specs.Format.{RowReading, row_max, allowed, present, last_number, name, kind_of_byte, type_of_byte, fresh_number, fresh_column_name, column, without_fault, admitted, geometry, typed_value, next_column_of, value, next_of, feature, fresh_layer_name, layer, layers, content_in, content_of, ruled_content_of, head, version_of, on_grid, grid_of, rules_in, value_of, rules}
 use Rattle.sf_format.specs.Canonical.{behind_length, kind_byte, type_byte, column_bytes, is_decimal_column, typed_bytes, value_bytes, feature_bytes, layer_bytes, layers_bytes, canonical, front, rules_bytes}
 use Rattle.sf_format.specs.Laws.{CanonicalBytesLoad, CanonicalBytesDiffer, FirstCanonicalBytesLoad, IsRuledWell, RuledBytesDiffer, RuledBytesLoad, SecondCanonicalBytesLoad, ThirdCanonicalBytesLoad, AreIn}
-use Rattle.sf_format.proofs.Again.{at, Again, Again-done, Again-then, Again-made, Again-value, Again-bytes, Again-field, Again-number, Again-number_field, Again-sized, EachAgain, Again-items}
+use Rattle.sf_format.proofs.Again.{at, Again, Again-done, Again-then, Again-made, Again-value, Again-bytes, Again-field, Again-number_field, EachAgain, Again-items}
 use Rattle.sf_format.proofs.Continuations.{column_after_type, column_after_number, value_after_column, geometry_after_size, feature_after_count, feature_after_geometry, feature_after_id, layer_after_feature_count, layer_after_columns, layer_after_column_count, layer_after_next_column, layer_after_next_id, layer_after_kind, layer_after_name, file_after_head, file_after_layers, file_after_rules}
 use Rattle.sf_format.proofs.Counts.{below_from_cmp, column-count, feature-count, value-count}
 use Rattle.sf_format.proofs.Names.{distinct-fresh, name-again}
-use Rattle.sf_format.proofs.Rules.{allowed-ok, both, both_of}
+use Rattle.sf_format.proofs.Rules.{allowed-ok, both}
 use Rattle.sf_format.proofs.RulesAgain.{rules-again}
 use Rattle.sf_format.proofs.Values.{typed-again}
 use Rattle.sf_format.proofs.Rows.{HasRows, IsRow, narrow-rows, wide-rows}

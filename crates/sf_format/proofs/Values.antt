@@ -1,6 +1,6 @@
 -- The bytes of a value are read as that value, and what is read of a column is a value of its type.
-use Rattle.std.proofs.Common.{SFits, ◌≡◌, ℕ, zero, suc, ◌<◌, ◌≤◌, ◌^◌, Bool, true, false, ◌&&◌, ℤ, pos, negsuc, List, ◌++◌, length, None, Ok, Some, refl, ap, sym, ◌∙◌, arith}
-use Rattle.std.specs.Prelude.{◌==◌, ◌||◌, if◌then◌else◌, nat_le, nat_lt}
+use Rattle.std.proofs.Common.{SFits, ◌≡◌, ℕ, ◌<◌, ◌≤◌, ◌^◌, Bool, true, false, ◌&&◌, ℤ, pos, negsuc, List, ◌++◌, length, None, Ok, Some, refl, ap, sym, ◌∙◌, arith}
+use Rattle.std.specs.Prelude.{◌==◌, ◌||◌, if◌then◌else◌, nat_eq, nat_le, nat_lt}
 use Rattle.std.specs.Int.{w64, cast_signed, cast_unsigned}
 use Rattle.std.specs.List.{list_all}
 use Rattle.std.specs.Str.{is_utf8}
@@ -11,9 +11,9 @@ use mir.ValLaws as laws
 use Rattle.byteorder.specs.Endian.{big_bytes}
 use Rattle.sf_dates.specs.declared.day.Day.{Day}
 use Rattle.sf_dates.specs.declared.moment.Moment.{Moment}
-use Rattle.sf_dates.specs.Calendar.{day_milliseconds, is_date, is_day, is_leap, is_moment, month_days}
+use Rattle.sf_dates.specs.Calendar.{day_milliseconds, is_day, is_leap, is_moment, month_days}
 use Rattle.sf_decimals.specs.declared.number.Number.{Number}
-use Rattle.sf_decimals.specs.Decimals.{fits_int, is_decimal, is_fraction, is_reduced, magnitude, places_max}
+use Rattle.sf_decimals.specs.Decimals.{fits_int, is_decimal, is_reduced, magnitude, places_max}
 use Rattle.sf_features.specs.declared.column_type.ColumnType.{ColumnType}
 use Rattle.sf_features.specs.declared.column_type.ColumnType.TheVariants as types
 use Rattle.sf_features.specs.declared.attr_value.AttrValue.{AttrValue}
@@ -22,7 +22,7 @@ use Rattle.sf_features.specs.Values.{is_attr_text, is_of_type, is_text_byte, num
 use Rattle.sf_format.specs.declared.defect.Defect.TheVariants.{WrongValue}
 use Rattle.sf_format.specs.Readings.{done, number, sized}
 use Rattle.sf_format.specs.Format.{allowed, bool_of_byte, date_parts, day_in, decimal_in, decimal_parts, moment_in, moment_parts, present, signed_number, typed_value}
-use Rattle.sf_format.specs.Canonical.{behind_length, bool_byte, date_bytes, decimal_bytes, int_bytes, is_decimal_type, moment_bytes, typed_bytes}
+use Rattle.sf_format.specs.Canonical.{behind_length, date_bytes, decimal_bytes, int_bytes, is_decimal_type, moment_bytes, typed_bytes}
 use Rattle.sf_format.proofs.Again.{Again, Again-field, Again-made, Again-number, Again-number_field, Again-sized, Again-then, Again-value}
 use Rattle.sf_format.proofs.Continuations.{date_after_month, date_after_year, decimal_after_mantissa, moment_after_date}
 use Rattle.sf_format.proofs.Promises.{Promises, Promises-done, Promises-number, Promises-then}
@@ -203,9 +203,12 @@ moment_in-typed m v h = let r = let-pass (values.DateTime m) v h in ap (is_of_ty
 
 -- a byte of a truth value stands for one
 pub truth-typed : (byte : ℕ) (v : AttrValue) → bool_of_byte byte ≡ Some v → is_of_type types.Bool v ≡ true
-truth-typed zero v is = let same : values.Bool false ≡ v = cc in ap (is_of_type types.Bool) (sym same)
-truth-typed (suc zero) v is = let same : values.Bool true ≡ v = cc in ap (is_of_type types.Bool) (sym same)
-truth-typed (suc (suc n)) v is = absurd cc
+truth-typed byte v is = by (nat_eq byte 0) (nat_eq byte 1) is
+  where
+    by : (a b : Bool) → (if a then Some (values.Bool false) else (if b then Some (values.Bool true) else None)) ≡ Some v → is_of_type types.Bool v ≡ true
+    by true b is = let same : values.Bool false ≡ v = cc in ap (is_of_type types.Bool) (sym same)
+    by false true is = let same : values.Bool true ≡ v = cc in ap (is_of_type types.Bool) (sym same)
+    by false false is = absurd cc
 
 pub decimal-promises : Promises decimal_parts (λ d. Unit {0})
 decimal-promises = Promises-then signed_number decimal_after_mantissa (λ n. Unit {0}) (λ d. Unit {0})

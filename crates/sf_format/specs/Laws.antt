@@ -1,5 +1,5 @@
 -- Laws of files.
-use Rattle.std.specs.Prelude.{◌≡◌, ◌<◌, ◌≤◌, ℕ, List, [], ◌++◌, Result, Ok, Err, IsTrue, bytes_eq, codes, drop, length, map, take}
+use Rattle.std.specs.Prelude.{◌≡◌, ◌<◌, ℕ, List, [], ◌++◌, Result, Ok, Err, IsTrue, codes, drop, take}
 use Rattle.std.specs.List.{AllByRecursion}
 use Rattle.std.specs.Map.{values_of}
 use Rattle.sf_geometry.specs.declared.geometry.Geometry.{Geometry}
@@ -10,14 +10,13 @@ use Rattle.sf_wkb.specs.declared.grid.Grid.{Grid}
 use Rattle.sf_wkb.specs.declared.grid.Grid.TheVariants.{Bits20, Bits24}
 use Rattle.sf_wkb.specs.Grammar.{read_in}
 use Rattle.sf_wkb.specs.Words.{IsIn}
-use Rattle.sf_features.specs.Columns.{IsDistinct}
 use Rattle.sf_features.specs.Names.{is_name}
 use Rattle.sf_layers.specs.Content.{Content}
 use Rattle.sf_layers.specs.WellFormed.{IsWellFormed}
 use Rattle.sf_ruled_store.specs.Ruling.{HasNineLetters}
 use Rattle.sf_ruled_store.specs.Ruling.{Rule}
 use Rattle.sf_ruled_store.specs.Ruling.{AllHold}
-use Rattle.sf_ruled_store.specs.Ruled.{Ruled, rules_max}
+use Rattle.sf_ruled_store.specs.Ruled.{Ruled}
 use Rattle.sf_ruled_store.specs.Undos.{IsSettled}
 use Rattle.sf_streams.specs.Streams.{Left}
 use Rattle.sf_format.specs.declared.version.Version.{Version}
