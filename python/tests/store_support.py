@@ -31,6 +31,8 @@ import growths  # noqa: E402
 library = growths.library
 
 SECONDS = 60
+# Whoever else may be on the machine.
+NOBODY = 65_534
 # How many runs go side by side, and where: a kill takes nothing away that was written, so no disk is needed.
 WORKERS = 2
 MEMORY = "/dev/shm" if os.access("/dev/shm", os.W_OK) else None
@@ -215,11 +217,13 @@ def pieces(dice: random.Random, lines: Sequence[str]) -> Iterator[list[str]]:
 class Running:
     """A session under way. What it answers goes into a file, so that nothing of it is lost when it is killed."""
 
-    def __init__(self, path: Path, answers: Path) -> None:
+    def __init__(self, path: Path, answers: Path, variables: dict[str, str] | None = None, kept: Sequence[int] = ()) -> None:
         self.answers = answers
+        words = [PROGRAM, "--store", str(path)]
+        with_these = {**os.environ, **(variables or {})}
         with answers.open("wb") as output:
             self.process = subprocess.Popen(
-                [PROGRAM, "--store", str(path)], stdin=subprocess.PIPE, stdout=output, stderr=subprocess.DEVNULL
+                words, stdin=subprocess.PIPE, stdout=output, stderr=subprocess.DEVNULL, env=with_these, pass_fds=tuple(kept)
             )
         assert self.process.stdin is not None
         self.input: IO[bytes] = self.process.stdin
@@ -420,6 +424,16 @@ class StoreCase(TestCase):
         """The opening is refused, and nothing on the disk changes."""
         self.town.refused_untouched(status, last)
 
+    def met(self, at: str, comes: str, words: Sequence[str], lines: Iterable[str] = ()) -> Ended:
+        """A run in which somebody comes at a call: a command of the shell is carried out, in the store's folder."""
+        told = Path(self.folder) / "met"
+        with told.open("wb") as file:
+            come = {"AT": at, "COMES": f"cd {self.place} && {comes}", "MET": str(file.fileno())}
+            ended = ran(words, lines, {**come, "LD_PRELOAD": str(library(Path(self.folder), COMING))}, [file.fileno()])
+        self.assertTrue(told.stat().st_size, f"no call {at}")
+        told.unlink()
+        return ended
+
 
 class DiskCase(StoreCase):
     """Tests over a file on a small disk, where one can be mounted."""
@@ -464,9 +478,10 @@ FAULTS = r"""
 #include <string.h>
 #include <sys/stat.h>
 
-/* Which call fails, with a full disk from then on, which sync fails, and before, behind or within which call the process
-   is killed: each counted from 1. Where it is put down that it came to that, and what was synced; who is waited for. */
-static long fails, stays_full, sync_fails, kills, kills_behind, kills_within, calls;
+/* Which call fails, with a full disk from then on, which sync and which read of the input fail, and before, behind or within
+   which call the process is killed: each counted from 1. Where it is put down that it came to that, and what was synced; who
+   is waited for. */
+static long fails, stays_full, sync_fails, read_fails, kills, kills_behind, kills_within, calls;
 static const char *failed, *synced, *meeting;
 static int is_full;
 
@@ -474,6 +489,7 @@ __attribute__((constructor)) static void begin(void) {
     fails = number("FAILS");
     stays_full = number("STAYS_FULL");
     sync_fails = number("SYNC_FAILS");
+    read_fails = number("READ_FAILS");
     kills = number("KILLS");
     kills_behind = number("KILLS_BEHIND");
     kills_within = number("KILLS_WITHIN");
@@ -626,4 +642,72 @@ static ssize_t written(int file, const void *bytes, size_t count) {
 
 ssize_t write(int file, const void *bytes, size_t count) { return written(file, bytes, count); }
 ssize_t __write(int file, const void *bytes, size_t count) { return written(file, bytes, count); }
+
+static ssize_t read_from(int file, void *bytes, size_t count) {
+    if (file == STDIN_FILENO && is_now(&read_fails)) FAIL(EIO);
+    return syscall(SYS_read, file, bytes, count);
+}
+
+ssize_t read(int file, void *bytes, size_t count) { return read_from(file, bytes, count); }
+ssize_t __read(int file, void *bytes, size_t count) { return read_from(file, bytes, count); }
+"""
+
+# Somebody comes once, before or behind the first call of a kind for a file of a name, as "before flock town.sfs.lock": a command
+# of the shell is carried out then.
+COMING = r"""
+#include <signal.h>
+#include <stdio.h>
+#include <string.h>
+
+static int has_come;
+
+static void come(const char *when, const char *call, const char *path) {
+    char here[4200];
+    const char *slash = strrchr(path, '/');
+    int known = errno;
+    snprintf(here, sizeof here, "%s %s %s", when, call, slash ? slash + 1 : path);
+    if (!has_come && strcmp(here, getenv("AT")) == 0) {
+        has_come = met();
+        unsetenv("LD_PRELOAD");
+        if (system(getenv("COMES"))) syscall(SYS_kill, getpid(), SIGKILL);
+    }
+    errno = known;
+}
+
+static void come_to_file(const char *when, const char *call, int file) {
+    char link[64], path[4096];
+    snprintf(link, sizeof link, "/proc/self/fd/%d", file);
+    ssize_t size = readlink(link, path, sizeof path - 1);
+    path[size > 0 ? size : 0] = 0;
+    come(when, call, path);
+}
+
+int flock(int file, int operation) {
+    come_to_file("before", "flock", file);
+    return syscall(SYS_flock, file, operation);
+}
+
+int fsync(int file) {
+    come_to_file("before", "sync", file);
+    return syscall(SYS_fsync, file);
+}
+
+off64_t lseek64(int file, off64_t place, int from) {
+    come_to_file("before", "seek", file);
+    return syscall(SYS_lseek, file, place, from);
+}
+
+off_t lseek(int file, off_t place, int from) { return lseek64(file, place, from); }
+
+int rename(const char *from, const char *to) {
+    long done = syscall(SYS_rename, from, to);
+    come("behind", "rename", to);
+    return done;
+}
+
+int renameat(int one, const char *from, int other, const char *to) {
+    long done = syscall(SYS_renameat, one, from, other, to);
+    come("behind", "rename", to);
+    return done;
+}
 """

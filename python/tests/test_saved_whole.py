@@ -15,13 +15,11 @@ import unittest
 from collections.abc import Iterator
 from pathlib import Path
 
-from store_support import FAULTS, SECONDS, DiskCase, Ended, Running, StoreCase, library, plain, ran
+from store_support import FAULTS, NOBODY, SECONDS, DiskCase, Ended, Running, StoreCase, library, plain, ran
 from support import PROGRAM
 
 OLD = ["layer add old any"]
 NEW = ["layer add new any", "add new POINT (1 2)"]
-# Whoever else may be on the machine.
-NOBODY = 65_534
 
 
 class SaveCase(StoreCase):
@@ -214,29 +212,6 @@ class FullDisk(DiskCase):
         self.assertEqual(sorted(os.listdir(self.place)), ["filler", "town.sfs"])
 
 
-# Another file takes the place of one right behind its rename, once.
-RENAMED_OVER = r"""
-#include <fcntl.h>
-#include <stdio.h>
-#include <string.h>
-
-static long over(long done, const char *to) {
-    const char *name = strrchr(to, '/');
-    if (done == 0 && strcmp(name ? name + 1 : to, getenv("PLACE")) == 0)
-        syscall(SYS_renameat, AT_FDCWD, getenv("THEIRS"), AT_FDCWD, to);
-    return done;
-}
-
-int rename(const char *from, const char *to) {
-    return over(syscall(SYS_renameat, AT_FDCWD, from, AT_FDCWD, to), to);
-}
-
-int renameat(int one, const char *from, int other, const char *to) {
-    return over(syscall(SYS_renameat, one, from, other, to), to);
-}
-"""
-
-
 @unittest.skipIf(shutil.which("cc") is None, "cc is missing")
 class FailingSaves(SaveCase):
     """Each write, sync and rename of a save fails in turn, or is the last thing that the process does."""
@@ -262,6 +237,33 @@ class FailingSaves(SaveCase):
                 self.assert_ends(ended, 4, "fault save Write")
                 self.assertIn(self.path.read_bytes(), (old, plain(NEW).file))
                 self.assertFalse(self.beside_save.exists())
+
+    def test_the_order_of_the_calls_of_a_save_to_a_path(self) -> None:
+        """The new file is synced before it takes its place, and its name behind that."""
+        self.put_old()
+        told = self.place / "calls"
+        with told.open("wb") as calls:
+            variables = {"LD_PRELOAD": str(library(self.place, FAULTS)), "CALLS": str(calls.fileno())}
+            self.assertEqual(ran(["--save", str(self.path)], NEW, variables, [calls.fileno()]).status, 0)
+        beside = self.beside_save.name
+        wanted = [f"write {beside}", f"sync {beside}", "rename town.sfs", f"sync {self.place.name}"]
+        self.assertEqual(told.read_text().splitlines(), wanted)
+
+    def test_a_file_beside_that_is_taken_away_is_begun_again(self) -> None:
+        """Another run takes it for what a crash has left, before it is locked."""
+        self.put_old()
+        name = self.beside_save.name
+        self.assertEqual(self.met(f"before flock {name}", f"rm {name}", ["--save", str(self.path)], NEW).status, 0)
+        self.assertEqual(self.path.read_bytes(), plain(NEW).file)
+        self.assertFalse(self.beside_save.exists())
+
+    def test_a_file_beside_of_another_run_does_not_take_the_place(self) -> None:
+        """It stands there in the place of the run's own, half written."""
+        old = self.put_old()
+        name = self.beside_save.name
+        ended = self.met(f"before sync {name}", f"rm {name} && echo half > {name}", ["--save", str(self.path)], NEW)
+        self.assert_ends(ended, 4, "fault save Write")
+        self.assertEqual((self.path.read_bytes(), self.beside_save.read_bytes()), (old, b"half\n"))
 
     def test_killed_before_and_behind_each_call(self) -> None:
         for variable in ("KILLS", "KILLS_BEHIND"):
@@ -375,17 +377,24 @@ class Looks(StoreCase):
         self.assert_ended(running, 4, "fault save Changed")
         self.assertEqual(self.path.read_bytes(), b"another's")
 
+    def assert_not_saved_over(self, comes: str, answers: bytes) -> None:
+        """What another program does to the file right behind the rename of a save is not saved over, behind these answers."""
+        theirs = plain(["layer add theirs any"]).file
+        self.path.with_name("theirs").write_bytes(theirs)
+        lines = [*self.LINES, "save", "add a POINT (5 5)", "save", "layers"]
+        ended = self.met("behind rename town.sfs", comes, ["--store", str(self.path)], lines)
+        self.assertEqual((ended.status, ended.output), (4, answers + b"fault save Changed\n"))
+        self.assertEqual(self.path.read_bytes(), theirs)
+
     @unittest.skipIf(shutil.which("cc") is None, "cc is missing")
     def test_what_is_put_there_right_behind_a_save_is_another_programs(self) -> None:
-        """Another file takes the place of the store before the call that renames the new one there has returned."""
-        theirs = self.path.with_name("theirs")
-        theirs.write_bytes(plain(["layer add theirs any"]).file)
-        data = theirs.read_bytes()
-        variables = {"LD_PRELOAD": str(library(Path(self.folder), RENAMED_OVER)), "THEIRS": str(theirs), "PLACE": self.path.name}
-        lines = [*self.LINES, "save", "add a POINT (5 5)", "save", "layers"]
-        ended = ran(["--store", str(self.path)], lines, variables)
-        self.assertEqual((ended.status, ended.output), (4, b"ok\nok 1\nok\nok 2\nfault save Changed\n"))
-        self.assertEqual(self.path.read_bytes(), data)
+        """Another file takes its place. The next save sees that."""
+        self.assert_not_saved_over("mv -T theirs town.sfs", b"ok\nok 1\nok\nok 2\n")
+
+    @unittest.skipIf(shutil.which("cc") is None, "cc is missing")
+    def test_what_is_written_right_behind_a_save_is_another_programs(self) -> None:
+        """It is written in its place. The save itself sees that."""
+        self.assert_not_saved_over("cat theirs > town.sfs", b"ok\nok 1\n")
 
     def test_a_change_of_the_mode_alone_is_none(self) -> None:
         running = self.begun()
@@ -395,6 +404,17 @@ class Looks(StoreCase):
         running.input.close()
         self.assertEqual(running.process.wait(SECONDS), 0)
         self.assertEqual(stat.S_IMODE(self.path.stat().st_mode), 0o640)
+        self.assertEqual(self.points(), 3)
+
+    def test_the_mode_may_change_between_two_saves(self) -> None:
+        running = self.begun()
+        size = running.answers.stat().st_size
+        running.send(["save"])
+        running.wait_for(size + len(b"ok\n"))
+        self.path.chmod(0o640)
+        running.send(["add a POINT (5 5)", "save"])
+        running.input.close()
+        self.assertEqual(running.process.wait(SECONDS), 0)
         self.assertEqual(self.points(), 3)
 
     def test_saves_one_after_another_know_what_they_saved(self) -> None:

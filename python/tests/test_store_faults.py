@@ -7,6 +7,7 @@ answered among them.
 from __future__ import annotations
 
 import contextlib
+import itertools
 import os
 import random
 import shutil
@@ -30,9 +31,12 @@ from store_support import (
     Running,
     StoreCase,
     Town,
+    journal_behind,
+    growths,
     library,
     pieces,
     plain,
+    ran,
     sent,
     session,
     shortened,
@@ -233,11 +237,18 @@ class FailingCalls(StoreCase):
 
     def met(self, town: Town, lines: Sequence[str], variables: dict[str, str]) -> Ended:
         """A run over the store that each begins with, in which the library is told what to do."""
+        self.begin_again(town)
+        return self.read_from(town, sent(lines), variables)
+
+    def begin_again(self, town: Town) -> None:
+        """Puts down the store that each run begins with."""
         town.bare()
         for path, data in zip((town.path, town.journal), self.begun):
             path.write_bytes(data)
-        # Lines in a file are read at once, so that each run makes the same calls.
-        (town.place / "lines").write_bytes(sent(lines))
+
+    def read_from(self, town: Town, text: bytes, variables: dict[str, str]) -> Ended:
+        """A run that is told by the library what to do. Lines in a file are read at once, so that each makes the same calls."""
+        (town.place / "lines").write_bytes(text)
         told = {**os.environ, **variables, "LD_PRELOAD": str(self.before)}
         with (town.place / "lines").open("rb") as source, (town.place / "calls").open("wb") as calls:
             told = {**told, "CALLS": str(calls.fileno())}
@@ -313,6 +324,26 @@ class FailingCalls(StoreCase):
 
         self.assertGreaterEqual(side_by_side(dies, range(len(moments))), WITHIN_SAVES)
 
+    def test_a_journal_that_was_taken_away_is_synced_before_the_answer(self) -> None:
+        """Its bytes are written to a new one, which is synced before it takes its name, and the name behind that."""
+        town = Town(self.place / "folder")
+        town.place.mkdir()
+        told = self.place / "calls"
+        with told.open("wb") as calls:
+            variables = {"LD_PRELOAD": str(self.before), "CALLS": str(calls.fileno())}
+            running = Running(town.path, self.place / "answers", variables, [calls.fileno()])
+        running.send([BEGINNING[0]])
+        running.wait_for(len(b"ok\n"))
+        size = told.stat().st_size
+        town.journal.unlink()
+        running.send(["add a POINT (1 1)"])
+        running.wait_for(len(b"ok\nok 1\n"))
+        running.kill()
+        beside = ".town.sfs.sfstore-journal"
+        anew = [f"write {beside}", f"sync {beside}", "rename town.sfs.journal", "sync folder"]
+        # Before that the record was written to the file that has no name any more, and behind it comes the answer.
+        self.assertEqual(told.read_text()[size:].splitlines()[2:-1], anew)
+
     def test_nothing_is_answered_that_was_not_synced(self) -> None:
         """The first sync of a session's edits fails: none of them is answered."""
         opening = [(call.call, call.name) for call in self.calls([])]
@@ -322,6 +353,72 @@ class FailingCalls(StoreCase):
         syncs = sum(call == "sync" for call, _ in calls[:place])
         ended = self.met(self.town, ["add a POINT (3 3)", "save"], {"SYNC_FAILS": str(syncs + 1)})
         self.assertEqual((ended.status, ended.output), (1, b"fault serve Journal\n"))
+
+    def test_a_read_of_the_input_that_fails(self) -> None:
+        """What had no line feed by then may be the front of another line: nothing of it is carried out, nor of a group."""
+        for last in (b"delete a 1", b"save", b"together 2\nadd a POINT (3 3)\n", b"together 1\ndelete a 1"):
+            with self.subTest(last):
+                self.begin_again(self.town)
+                ended = self.read_from(self.town, b"add a POINT (3 3)\n" + last, {"READ_FAILS": "2"})
+                self.assertEqual((ended.status, ended.output), (1, b"ok 3\nfault serve Read\n"))
+                self.assertEqual(self.path.read_bytes(), self.begun[0])
+                self.town.agreed(self.HISTORY, ["add a POINT (3 3)"], b"ok 3\n")
+
+
+@unittest.skipIf(shutil.which("cc") is None, "cc is missing")
+class Growths(StoreCase):
+    """Each growth of memory of an opening is refused in turn."""
+
+    def test_each_growth_of_an_opening_refused(self) -> None:
+        """Where the journal or the file needs memory that is told, and no fault of the disk; what was kept stays."""
+        self.left([*BEGINNING, "add a POINT (1 1)", "save", "add a POINT (2 2)"])
+        kept = self.path.read_bytes(), self.journal.read_bytes()
+        before, met = library(self.place, growths.REFUSING), self.place / "met"
+        lasts: list[bytes] = []
+        for number in itertools.count(1):
+            with met.open("wb") as told:
+                variables = {"GROWTH": str(number), "LD_PRELOAD": str(before), "MET": str(told.fileno())}
+                ended = ran(["--store", str(self.path), "--keep"], ["show a"], variables, [told.fileno()])
+            if not met.stat().st_size:
+                break
+            self.assertEqual((self.path.read_bytes(), self.journal.read_bytes()), kept)
+            lasts.append(ended.last)
+        # The places of the files are made before anything else is: for want of memory there no file can be opened.
+        faults = {b"fault words Memory\n", b"fault load Open\n", b"fault load Memory\n", b"fault journal Memory\n", b"fault serve Memory\n"}
+        self.assertEqual(set(lasts), faults | {b"refused 1 Memory\n", b"2 POINT (2 2)\n"})
+
+
+class FullOutputs(StoreCase):
+    """An output that can't be written: the run ends there and saves nothing. What was carried out by then is in the journal."""
+
+    def assert_ends_there(self, lines: Sequence[str]) -> None:
+        file = self.path.read_bytes()
+        with open("/dev/full", "wb") as full:
+            words = [PROGRAM, "--store", str(self.path)]
+            ended = subprocess.run(words, input=sent([*lines, "save"]), stdout=full, check=False, timeout=SECONDS)
+        self.assertEqual(ended.returncode, 1)
+        self.assertEqual(self.path.read_bytes(), file)
+
+    def test_the_answer_of_an_edit(self) -> None:
+        history = [*BEGINNING, "save", "add a POINT (7 7)"]
+        self.left(history)
+        self.assert_ends_there(["add a POINT (1 1)"])
+        self.town.agreed(history, ["add a POINT (1 1)"], b"ok 2\n")
+
+    def test_an_answer_longer_than_all_room(self) -> None:
+        places = ", ".join(f"{k} {k}" for k in range(10_000))
+        history = [*BEGINNING, *(f"add b MULTIPOINT ({places}, -{k} 0)" for k in range(1, 91)), "save"]
+        self.left(history)
+        self.assertGreater(len(plain([*history[:-1], "show b"]).answers[-1]), 8_388_608)
+        self.assert_ends_there(["show b", "add a POINT (1 1)"])
+        self.assertEqual(self.journal.read_bytes(), journal_behind(history))
+
+    def test_the_answer_of_a_group_longer_than_a_line(self) -> None:
+        self.left([*BEGINNING, "save"])
+        places = ", ".join(f"{1_000 + k} {1_000 + k}" for k in range(100))
+        members = [f"add b MULTIPOINT ({places}, {k} 0)" for k in range(4_000)]
+        self.assert_ends_there([f"together {len(members)}", *members])
+        self.assertEqual(self.stored(["show b"], "--keep").output.partition(b"\n")[0], b"rows 4000")
 
 
 if __name__ == "__main__":

@@ -8,6 +8,7 @@ from __future__ import annotations
 
 import os
 import random
+import shutil
 import stat
 import subprocess
 import unittest
@@ -18,7 +19,9 @@ from typing import ClassVar
 from store_support import (
     BEGINNING,
     DUMP,
+    NOBODY,
     PROBE,
+    SECONDS,
     WARNING,
     Ended,
     Running,
@@ -315,6 +318,29 @@ class OtherFiles(StoreCase):
             self.journal.write_bytes(data)
             self.assert_refused_untouched(3, "fault journal OtherFile")
 
+    @unittest.skipUnless(os.geteuid() == 0, "takes another user's place")
+    def test_a_file_that_may_not_be_read_is_no_new_store(self) -> None:
+        self.stored(self.LINES)
+        self.place.chmod(0o777)
+        self.path.chmod(0)
+        self.journal.unlink()
+        self.lock.unlink()
+        before = self.all_there()
+        words = [PROGRAM, "--store", str(self.path), "--keep"]
+        ended = subprocess.run(words, input=b"layer add v any\n", capture_output=True, user=NOBODY, check=False, timeout=SECONDS)
+        self.assert_ends(Ended(ended.returncode, ended.stdout, ended.stderr), 3, "fault load Open")
+        self.assertEqual(self.all_there(), before)
+
+    @unittest.skipIf(shutil.which("cc") is None, "cc is missing")
+    def test_a_file_that_is_written_while_it_is_loaded_is_refused(self) -> None:
+        """Another program writes it between the sum of its bytes and the load."""
+        self.stored(self.LINES)
+        theirs = plain(["layer add theirs any"]).file
+        (self.place / "theirs").write_bytes(theirs)
+        ended = self.met("before seek town.sfs", "cat theirs > town.sfs", ["--store", str(self.path)], ["layers"])
+        self.assertEqual((ended.status, ended.output), (3, b"fault load Changed\n"))
+        self.assertEqual(self.path.read_bytes(), theirs)
+
     def test_a_file_that_is_no_store(self) -> None:
         self.path.write_bytes(b"no store")
         before = self.all_there()
@@ -363,6 +389,17 @@ class Locks(StoreCase):
         self.assert_ends(self.stored(), 3, "fault load Taken")
         self.assertEqual(running.end(), 0)
         self.assertEqual(self.path.read_bytes(), plain(["layer add w any", "layer add u any", "layer add t any"]).file)
+
+    @unittest.skipIf(shutil.which("cc") is None, "cc is missing")
+    def test_a_session_that_saves_while_another_begins(self) -> None:
+        """It ends before the other one has the lock, which then goes on from what it saved."""
+        self.stored(["layer add a point"])
+        other = f"echo 'add a POINT (1 1)' | {PROGRAM} --store town.sfs"
+        lines = ["add a POINT (2 2)", "show a"]
+        ended = self.met("before flock town.sfs.lock", other, ["--store", str(self.path), "--keep"], lines)
+        # The first line is the other's.
+        self.assertEqual((ended.status, ended.output), (0, b"ok 1\nok 2\nrows 2\n1 POINT (1 1)\n2 POINT (2 2)\n"))
+        self.assertEqual(self.stored(["show a"], "--keep").output, b"rows 2\n1 POINT (1 1)\n2 POINT (2 2)\n")
 
     def test_of_several_that_begin_at_once_one_at_a_time_has_the_store(self) -> None:
         """Each that got it has its point kept; each that did not is told so, and has changed nothing."""
