@@ -208,7 +208,7 @@ class Editor:
         return int(self._line(edits.add(layer, geometry)).split(" ")[1])
 
     def check(self, layer: str, wkt: str) -> Refused | None:
-        """What adding a geometry to a layer would bring, without adding it.
+        """What adding a geometry to a layer would bring, without adding it. Rules between features are not looked at.
 
         None where it would be added. Else the refusal, and for a geometry that is not valid its
         `Refused.places` say where: the first place in the order of docs/use/CONSOLE.md.
