@@ -9,7 +9,7 @@ small library that the C compiler makes stands before the C library's calls.
 
     bench/growths.py
 
-rt run is needed once in crates/sfstore: it builds the program. tests/test_growths.py has more sessions.
+rt run is needed once in crates/sfstore: it builds the program. tests/program/test_growths.py has more sessions.
 """
 
 from __future__ import annotations

@@ -8,7 +8,7 @@ how many features a query looks at and how many steps are in past and future. Gr
 
     bench/refusing.py
 
-The program is made first, of the crate of tests/crates, where it isn't there yet. tests/test_refusing.py has what has to hold.
+The program is made first, of the crate of tests/crates, where it isn't there yet. tests/program/test_refusing.py has what has to hold.
 """
 
 from __future__ import annotations

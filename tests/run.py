@@ -24,7 +24,7 @@ from concurrent.futures import ThreadPoolExecutor
 from pathlib import Path
 
 TOP = Path(__file__).resolve().parent.parent
-FOLDERS = (TOP / "python" / "tests", TOP / "tests")
+ROOTS = (TOP / "python" / "tests", TOP / "tests")
 sys.path.insert(0, str(TOP / "tools"))
 
 import building  # noqa: E402
@@ -55,17 +55,24 @@ LONG = {
 COUNTED = re.compile(r"^(\d+) passed, (\d+) failed", re.MULTILINE)
 
 
+def paths() -> list[Path]:
+    """All files of tests. They stand in folders by what they test, and no two have one name."""
+    return sorted((path for root in ROOTS for path in root.glob("*/test_*.py")), key=lambda path: path.stem)
+
+
 def files() -> list[str]:
     """The names of all files of tests."""
-    return sorted(path.stem for folder in FOLDERS for path in folder.glob("test_*.py"))
+    return [path.stem for path in paths()]
+
+
+def make_importable() -> None:
+    """Has files of tests, and what they share, found by their names."""
+    sys.path[:0] = [*map(str, ROOTS), *sorted({str(path.parent) for path in paths()})]
 
 
 def suite() -> unittest.TestSuite:
     """All tests."""
-    whole = unittest.TestSuite()
-    for folder in FOLDERS:
-        whole.addTests(unittest.TestLoader().discover(str(folder), top_level_dir=str(folder)))
-    return whole
+    return unittest.TestLoader().loadTestsFromNames(files())
 
 
 def each(tests: unittest.TestSuite) -> Iterator[unittest.TestCase]:
@@ -79,13 +86,11 @@ def each(tests: unittest.TestSuite) -> Iterator[unittest.TestCase]:
 
 def files_with(word: str) -> list[str]:
     """The files of tests that have a word in them."""
-    paths = (path for folder in FOLDERS for path in folder.glob("test_*.py"))
-    return sorted(path.stem for path in paths if word in path.read_text(encoding="utf-8"))
+    return [path.stem for path in paths() if word in path.read_text(encoding="utf-8")]
 
 
 def named(names: list[str]) -> unittest.TestSuite:
     """The tests that are asked for. Files that have nothing to do with it are not read: some look for much at first."""
-    sys.path[:0] = [str(folder) for folder in FOLDERS]
     whole = [name for name in names if name.partition(".")[0] in files()]
     found = unittest.TestSuite(unittest.TestLoader().loadTestsFromNames(whole))
     for word in set(names) - set(whole):
@@ -154,6 +159,7 @@ def main() -> int:
     asked = parser.parse_args()
     # A shell ignores it for what it starts in the background, and tests interrupt what they start.
     signal.signal(signal.SIGINT, signal.default_int_handler)
+    make_importable()
     if asked.gate:
         counts = [counted(file) for file in (asked.gate, asked.turns) if file]
         return run(suite(), sum(good for good, _ in counts), sum(bad for _, bad in counts))

@@ -1,6 +1,6 @@
 """Puts crates that are tests alone together with the crates that they call, in a copy of a checkout.
 
-tests/crates has these crates. They promise nothing, so the gate does not prove them: `tests/test_crate_rows.py` runs them
+tests/crates has these crates. They promise nothing, so the gate does not prove them: `tests/program/test_crate_rows.py` runs them
 with the toolchain's checks. Their files of Rattle end in `.in`, since the gate takes none outside of the crates that it
 proves; `tests/crates/crates.txt.in` is their part of crates.txt.
 """

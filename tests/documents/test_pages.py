@@ -12,7 +12,7 @@ from importlib.util import find_spec
 from itertools import takewhile
 from pathlib import Path
 
-sys.path.insert(0, str(Path(__file__).resolve().parent))
+sys.path.insert(0, str(Path(__file__).resolve().parents[1]))
 
 from shown import TOP, Shown  # noqa: E402
 

@@ -11,7 +11,7 @@ import unittest
 from functools import lru_cache
 from pathlib import Path
 
-TOP = Path(__file__).resolve().parent.parent
+TOP = Path(__file__).resolve().parents[2]
 NAMES = re.compile(r"ghost use [^;]*\{([^}]*)\}")
 # What a machine takes some six minutes for. Fewer are wanted.
 STEPS = 340_000_000

@@ -28,7 +28,7 @@ from preloaded import FAILING, MANY_BYTES, ONE_BYTE, STORE, Preloaded
 from growths import WORKERS, Call, Ended
 from test_growths import COMMANDS
 
-TOP = Path(__file__).resolve().parent.parent
+TOP = Path(__file__).resolve().parents[2]
 FOLDER = TOP / "tests" / "sessions"
 ASKED, ANSWERED = "asked.txt", "answered.txt"
 # What the gate asks of the program, as each of its two compilers makes it: these sessions among other lines.

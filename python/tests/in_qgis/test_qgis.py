@@ -18,7 +18,7 @@ from web_support import WebCase
 from sfstore import Store
 from sfstore.web.client import Client
 
-HERE = Path(__file__).resolve().parent
+HERE = Path(__file__).resolve().parents[1]
 CASES = HERE / "qgis_cases.py"
 
 

@@ -1,6 +1,6 @@
 """Tests of the module against the real program.
 
-From the folder `python/tests`: python3 -m unittest test_sfstore.py
+`./test test_sfstore` runs them.
 """
 
 from __future__ import annotations

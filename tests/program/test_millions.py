@@ -13,7 +13,7 @@ import unittest
 from collections.abc import Iterable, Iterator
 from pathlib import Path
 
-TOP = Path(__file__).resolve().parent.parent
+TOP = Path(__file__).resolve().parents[2]
 sys.path.insert(0, str(TOP / "tools"))
 
 from programs import path_of  # noqa: E402

@@ -16,7 +16,7 @@ from importlib.util import find_spec
 from pathlib import Path
 from unittest import mock
 
-TOP = Path(__file__).resolve().parent.parent
+TOP = Path(__file__).resolve().parents[2]
 sys.path[:0] = [str(TOP / "tools"), str(TOP / "tests")]
 
 import building  # noqa: E402

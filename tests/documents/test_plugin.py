@@ -13,7 +13,7 @@ import unittest
 import zipfile
 from pathlib import Path
 
-TOP = Path(__file__).resolve().parent.parent
+TOP = Path(__file__).resolve().parents[2]
 sys.path.insert(0, str(TOP / "package"))
 
 import plugin  # noqa: E402

@@ -10,7 +10,7 @@ import tempfile
 import unittest
 from pathlib import Path
 
-TOP = Path(__file__).resolve().parent.parent
+TOP = Path(__file__).resolve().parents[2]
 SCRIPTS = [
     "bench/calls.py",
     "bench/counted.py",
@@ -27,7 +27,7 @@ SCRIPTS = [
     "tests/made_pages.py",
     "tests/run.py",
     "tests/shown.py",
-    "tests/test_crate_rows.py",
+    "tests/program/test_crate_rows.py",
     "tests/trust.py",
     "tests/wrong_bodies.py",
     "tools/building.py",

@@ -15,7 +15,7 @@ import unittest
 from importlib.util import find_spec
 from pathlib import Path
 
-sys.path.insert(0, str(Path(__file__).resolve().parent))
+sys.path.insert(0, str(Path(__file__).resolve().parents[1]))
 
 from shown import TOP, Shown  # noqa: E402
 

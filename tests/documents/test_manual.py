@@ -12,7 +12,7 @@ import tomllib
 import unittest
 from pathlib import Path
 
-TOP = Path(__file__).resolve().parent.parent
+TOP = Path(__file__).resolve().parents[2]
 sys.path[:0] = [str(TOP / "package"), str(TOP / "tools")]
 
 import manual  # noqa: E402

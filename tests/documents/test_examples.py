@@ -11,7 +11,7 @@ import unittest
 from importlib.util import find_spec
 from pathlib import Path
 
-TOP = Path(__file__).resolve().parent.parent
+TOP = Path(__file__).resolve().parents[2]
 sys.path[:0] = [str(TOP / "python"), str(TOP / "tools")]
 
 from programs import path_of  # noqa: E402

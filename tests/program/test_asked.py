@@ -8,7 +8,7 @@ from pathlib import Path
 
 from asking import answers
 
-ASKED = Path(__file__).resolve().parent / "asked.txt"
+ASKED = Path(__file__).resolve().parents[1] / "asked.txt"
 
 
 @dataclass(frozen=True)

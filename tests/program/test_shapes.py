@@ -10,7 +10,7 @@ from pathlib import Path
 
 from asking import answered
 
-SHAPES = Path(__file__).resolve().parent / "shapes.txt"
+SHAPES = Path(__file__).resolve().parents[1] / "shapes.txt"
 
 PREDICATES = ["equals", "disjoint", "intersects", "touches", "within", "contains", "crosses", "overlaps"]
 

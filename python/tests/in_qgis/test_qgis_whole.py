@@ -20,7 +20,7 @@ from web_support import TOWN
 
 from sfstore import files
 
-TOUR = Path(__file__).resolve().parent / "qgis_tour.py"
+TOUR = Path(__file__).resolve().parents[1] / "qgis_tour.py"
 PLUGIN = FOLDER.parent / "qgis" / "sfstore_qgis"
 SIDECAR = {
     "format": "sfstore side-car 1",
