@@ -66,8 +66,8 @@ value-fits columns before x n column value found is typed =
     subst (λ m. IsValue columns (m, value)) same (subst (λ o. IsSomeAnd o (λ c. IsTrue (is_of_type c.column_type value))) (sym there) typed)
 
 -- where what is there is of a type, so is what a rule lets pass
-pub typed-present : {t : ColumnType} (o : Option AttrValue) (place : ℕ) (r : Result AttrValue Halt) → ((v : AttrValue) → o ≡ Some v → is_of_type t v ≡ true) → Judges (λ v. v) place (present o WrongValue) r
+pub typed-present : (t : ColumnType) (o : Option AttrValue) (place : ℕ) (r : Result AttrValue Halt) → ((v : AttrValue) → o ≡ Some v → is_of_type t v ≡ true) → Judges (λ v. v) place (present o WrongValue) r
     → IfOk r (λ v. IsTrue (is_of_type t v))
-typed-present (Some v) place (Ok x) typed is = let same : v ≡ x = cc in typed x (ap Some same)
-typed-present None place (Ok x) typed is = absurd cc
-typed-present o place (Err halt) typed is = tt
+typed-present t (Some v) place (Ok x) typed is = let same : v ≡ x = cc in typed x (ap Some same)
+typed-present t None place (Ok x) typed is = absurd cc
+typed-present t o place (Err halt) typed is = tt

@@ -11,7 +11,7 @@ use Rattle.sf_features.specs.Columns.{numbered}
 use Rattle.sf_features.specs.Features.{FeatureContent}
 use Rattle.sf_features.specs.Values.{is_of_type}
 use Rattle.sf_layers.specs.Content.{Content, LayerContent}
-use Rattle.sf_layers.specs.WellFormed.{IsColumn, IsFeature, IsLayer, IsValue, IsWellFormed}
+use Rattle.sf_layers.specs.WellFormed.{IsFeature, IsLayer, IsValue, IsWellFormed}
 use Rattle.sf_format.proofs.Counts.{column-count, feature-count, value-count}
 use Rattle.sf_format.proofs.Values.{text-short}
 use Rattle.sf_saving.specs.Fits.{EntryFits, FeatureFits, ValueFits}

@@ -1,5 +1,5 @@
 -- The bytes that are written of a number are its lowest ones.
-use Rattle.std.proofs.Common.{◌≡◌, ◌%◌, ℕ, List, [], ◌∷◌, refl, ap, arith, ◌∙◌}
+use Rattle.std.proofs.Common.{◌≡◌, ◌%◌, ℕ, [], ◌∷◌, ap, arith, ◌∙◌}
 use Rattle.byteorder.specs.Endian.{big_bytes}
 use Rattle.std.specs.Int.{byte_at}
 

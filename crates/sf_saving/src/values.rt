@@ -14,7 +14,7 @@ use std::io::Write;
 
 /// Whether the numbers of a column have the byte of their places behind them.
 fn is_decimal_column(column: Option<&Column>) -> bool
-    ensures { result ≡ is_decimal_column_of (option_copied column) }
+    ensures { result ≡ is_decimal_column_of (option_copied column.entry) }
 {
     match column {
         Some(column) => matches!(column.column_type, ColumnType::Decimal),

@@ -1,4 +1,5 @@
 use Rattle.std.proofs.Common.{◌≡◌, ◌∙◌, ℕ, ap, sym}
+use Rattle.sf_features.specs.declared.column_type.ColumnType.TheVariants as types
 use Rattle.sf_format.specs.declared.defect.Defect.TheVariants.{WrongValue}
 use Rattle.sf_format.specs.Readings.{number}
 use Rattle.sf_format.specs.Format.{bool_of_byte, present}
@@ -12,4 +13,4 @@ returns-clause-gives g c = Gives-ruled (λ v. v) (number 1) (λ (parts : ℕ). p
     c.present.result _ _ _ _ c.place-place.ensures c.in_ok-byte.ensures (ap (λ k. present k WrongValue) (sym c.bool_of_byte.ensures)) c.present.ensures
 
 pub returns-clause-typed : goal.returns-clause-typed
-returns-clause-typed g c = typed-present c.bool_of_byte.result c.place-place.result c.present.result (λ v is. truth-typed (c.in_ok-byte.byte) v (sym c.bool_of_byte.ensures ∙ is)) c.present.ensures
+returns-clause-typed g c = typed-present types.Bool c.bool_of_byte.result c.place-place.result c.present.result (λ v is. truth-typed (c.in_ok-byte.byte) v (sym c.bool_of_byte.ensures ∙ is)) c.present.ensures

@@ -1,3 +1,5 @@
+use Rattle.std.proofs.Common.{SFits, rules, w64}
+use Rattle.std.proofs.lemmas.Int.{to_z-of_z}
 use Rattle.std.proofs.lemmas.Result.{err_from_is_err_and}
 use Rattle.sf_format.specs.Readings.{done, number}
 use Rattle.sf_format.specs.Format.{decimal_parts, signed_number}
@@ -20,5 +22,6 @@ returns-in_err-places g c =
 pub returns : goal.returns
 returns g c =
     let m = c.in_ok-mantissa.mantissa in
-    Goes-step decimal_parts (number 1) (λ n. done (record { mantissa = m; places = n })) c.in_ok-places.places _ _ _ _ _ _
-    (Goes-then signed_number decimal_after_mantissa m _ _ _ _ c.in_ok-mantissa.ensures) c.in_ok-places.ensures
+    let fits : SFits w64 m = search rules in
+    rw (to_z-of_z w64 m fits) (Goes-step decimal_parts (number 1) (λ n. done (record { mantissa = m; places = n })) c.in_ok-places.places _ _ _ _ _ _
+    (Goes-then signed_number decimal_after_mantissa m _ _ _ _ c.in_ok-mantissa.ensures) c.in_ok-places.ensures)

@@ -1,4 +1,5 @@
 use Rattle.std.proofs.Common.{◌≡◌, ◌∙◌, ℕ, ap, sym}
+use Rattle.sf_features.specs.declared.column_type.ColumnType.TheVariants as types
 use Rattle.sf_format.specs.declared.defect.Defect.TheVariants.{WrongValue}
 use Rattle.sf_format.specs.Readings.{number}
 use Rattle.sf_format.specs.Format.{decimal_in, decimal_parts, present}
@@ -13,4 +14,4 @@ returns-clause-gives g c = Gives-ruled (λ v. v) decimal_parts (λ (parts : Numb
     c.present.result _ _ _ _ c.place-place.ensures c.in_ok-parts.ensures (ap (λ k. present k WrongValue) (sym c.decimal_in.ensures)) c.present.ensures
 
 pub returns-clause-typed : goal.returns-clause-typed
-returns-clause-typed g c = typed-present c.decimal_in.result c.place-place.result c.present.result (λ v is. decimal_in-typed c.in_ok-parts.parts v (sym c.decimal_in.ensures ∙ is)) c.present.ensures
+returns-clause-typed g c = typed-present types.Decimal c.decimal_in.result c.place-place.result c.present.result (λ v is. decimal_in-typed c.in_ok-parts.parts v (sym c.decimal_in.ensures ∙ is)) c.present.ensures

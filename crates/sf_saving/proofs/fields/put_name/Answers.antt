@@ -1,4 +1,4 @@
-use Rattle.std.proofs.Common.{◌≡◌, ◌%◌, ℕ, List, ◌∷◌, length, refl, ap, arith}
+use Rattle.std.proofs.Common.{length}
 use Rattle.byteorder.specs.Endian.{big_bytes}
 use Rattle.sf_format.specs.Canonical.{behind_length}
 use Rattle.sf_streams.proofs.Putting.{Putting-start, Putting-more, breaks, ends-put, ends-broken}

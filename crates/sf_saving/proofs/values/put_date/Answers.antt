@@ -1,4 +1,4 @@
-use Rattle.std.proofs.Common.{◌++◌, ap, refl}
+use Rattle.std.proofs.Common.{◌++◌, refl}
 use Rattle.byteorder.specs.Endian.{big_bytes}
 use Rattle.sf_format.specs.Canonical.{date_bytes}
 use Rattle.sf_streams.proofs.Putting.{Putting-start, Putting-more, breaks, ends-put, ends-broken}

@@ -1,10 +1,9 @@
-use Rattle.std.proofs.Common.{SFits, ◌≡◌, ◌∙◌, ℕ, ℤ, Bool, List, ap, refl, rules, sym, w64}
+use Rattle.std.proofs.Common.{SFits, ◌∙◌, ℕ, Bool, List, ap, refl, rules, sym, w64}
 use Rattle.std.proofs.lemmas.Int.{to_z-of_z}
 use Rattle.byteorder.specs.Endian.{big_bytes}
 use Rattle.sf_features.specs.Columns.{numbered}
 use Rattle.sf_features.specs.declared.column.Column.{Column}
-use Rattle.sf_features.specs.declared.attr_value.AttrValue.TheVariants as values
-use Rattle.sf_format.specs.Canonical.{behind_length, decimal_bytes, int_bytes, is_decimal_column, typed_bytes, value_bytes}
+use Rattle.sf_format.specs.Canonical.{behind_length, date_bytes, moment_bytes, decimal_bytes, int_bytes, is_decimal_column, typed_bytes, value_bytes}
 use Rattle.sf_streams.proofs.Putting.{Putting, Putting-more, Putting-start, breaks, ends-broken, ends-put}
 use Rattle.sf_saving.proofs.values.put_value.Goals as goal
 use Rattle.sf_saving.proofs.values.put_value.Goals.{In_ok-put_u16}
@@ -34,7 +33,7 @@ returns-in-Int-clause-ok g c =
     let number = c.args.entry.now.0 in
     let n = c.in-Int.number in
     let fits : SFits w64 n = search rules in
-    ends-put c.put_int.result _ _ (typed_bytes (at_column columns number) c.args.entry.now.1) (ap (λ b. int_bytes b n) (c.is_decimal_column-in_decimals.ensures ∙ ap is_decimal_column c.column_numbered.ensures) ∙ ap (λ (m : ℤ). typed_bytes (at_column columns number) (values.Int m)) (to_z-of_z w64 n fits) ∙ ap (typed_bytes (at_column columns number)) (sym c.in-Int.is))
+    ends-put c.put_int.result _ _ (typed_bytes (at_column columns number) c.args.entry.now.1) (ap (int_bytes c.is_decimal_column-in_decimals.result) (to_z-of_z w64 n fits) ∙ ap (λ b. int_bytes b n) (c.is_decimal_column-in_decimals.ensures ∙ ap is_decimal_column c.column_numbered.ensures) ∙ ap (typed_bytes (at_column columns number)) (sym c.in-Int.is))
     (with_number g (goal.at.returns-in-Int-clause-ok g c).In_ok-put_u16) c.put_int.ensures.ok
 
 pub returns-in-Int-clause-broken : goal.returns-in-Int-clause-broken
@@ -43,7 +42,7 @@ returns-in-Int-clause-broken g c =
     let number = c.args.entry.now.0 in
     let n = c.in-Int.number in
     let fits : SFits w64 n = search rules in
-    ends-broken c.put_int.result _ (typed_bytes (at_column columns number) c.args.entry.now.1) (ap (λ b. int_bytes b n) (c.is_decimal_column-in_decimals.ensures ∙ ap is_decimal_column c.column_numbered.ensures) ∙ ap (λ (m : ℤ). typed_bytes (at_column columns number) (values.Int m)) (to_z-of_z w64 n fits) ∙ ap (typed_bytes (at_column columns number)) (sym c.in-Int.is))
+    ends-broken c.put_int.result _ (typed_bytes (at_column columns number) c.args.entry.now.1) (ap (int_bytes c.is_decimal_column-in_decimals.result) (to_z-of_z w64 n fits) ∙ ap (λ b. int_bytes b n) (c.is_decimal_column-in_decimals.ensures ∙ ap is_decimal_column c.column_numbered.ensures) ∙ ap (typed_bytes (at_column columns number)) (sym c.in-Int.is))
     (with_number g (goal.at.returns-in-Int-clause-broken g c).In_ok-put_u16) c.put_int.ensures.broken
 
 pub returns-in-Text-clause-ok : goal.returns-in-Text-clause-ok
@@ -92,26 +91,26 @@ pub returns-in-Date-clause-ok : goal.returns-in-Date-clause-ok
 returns-in-Date-clause-ok g c =
     let columns = c.args.layer.now.columns in
     let number = c.args.entry.now.0 in
-    ends-put c.put_date.result _ _ (typed_bytes (at_column columns number) c.args.entry.now.1) (ap date_bytes c.parts-2.ensures.value ∙ ap (typed_bytes (at_column columns number)) (sym c.in-Date.is))
+    ends-put c.put_date.result _ _ (typed_bytes (at_column columns number) c.args.entry.now.1) (ap date_bytes c.parts-in-Date.ensures.value ∙ ap (typed_bytes (at_column columns number)) (sym c.in-Date.is))
     (with_number g (goal.at.returns-in-Date-clause-ok g c).In_ok-put_u16) c.put_date.ensures.ok
 
 pub returns-in-Date-clause-broken : goal.returns-in-Date-clause-broken
 returns-in-Date-clause-broken g c =
     let columns = c.args.layer.now.columns in
     let number = c.args.entry.now.0 in
-    ends-broken c.put_date.result _ (typed_bytes (at_column columns number) c.args.entry.now.1) (ap (typed_bytes (at_column columns number)) (sym c.in-Date.is))
+    ends-broken c.put_date.result _ (typed_bytes (at_column columns number) c.args.entry.now.1) (ap date_bytes c.parts-in-Date.ensures.value ∙ ap (typed_bytes (at_column columns number)) (sym c.in-Date.is))
     (with_number g (goal.at.returns-in-Date-clause-broken g c).In_ok-put_u16) c.put_date.ensures.broken
 
 pub returns-in-DateTime-clause-ok : goal.returns-in-DateTime-clause-ok
 returns-in-DateTime-clause-ok g c =
     let columns = c.args.layer.now.columns in
     let number = c.args.entry.now.0 in
-    ends-put c.put_moment.result _ _ (typed_bytes (at_column columns number) c.args.entry.now.1) (ap (typed_bytes (at_column columns number)) (sym c.in-DateTime.is))
+    ends-put c.put_moment.result _ _ (typed_bytes (at_column columns number) c.args.entry.now.1) (ap moment_bytes c.parts-in-DateTime.ensures.value ∙ ap (typed_bytes (at_column columns number)) (sym c.in-DateTime.is))
     (with_number g (goal.at.returns-in-DateTime-clause-ok g c).In_ok-put_u16) c.put_moment.ensures.ok
 
 pub returns-in-DateTime-clause-broken : goal.returns-in-DateTime-clause-broken
 returns-in-DateTime-clause-broken g c =
     let columns = c.args.layer.now.columns in
     let number = c.args.entry.now.0 in
-    ends-broken c.put_moment.result _ (typed_bytes (at_column columns number) c.args.entry.now.1) (ap (typed_bytes (at_column columns number)) (sym c.in-DateTime.is))
+    ends-broken c.put_moment.result _ (typed_bytes (at_column columns number) c.args.entry.now.1) (ap moment_bytes c.parts-in-DateTime.ensures.value ∙ ap (typed_bytes (at_column columns number)) (sym c.in-DateTime.is))
     (with_number g (goal.at.returns-in-DateTime-clause-broken g c).In_ok-put_u16) c.put_moment.ensures.broken
