@@ -37,6 +37,7 @@ _SHORT_MIN, _SHORT_MAX = -(2**31), 2**31 - 1
 _SHOWN = 8
 # Names of reference systems that OGR looks up in its own tables. Others could be those of files, or of the network.
 _CRS_NAME = re.compile(r"(urn:|https?://(www\.)?opengis\.net/def/crs/)[A-Za-z0-9:/._-]+|[A-Z]+:[A-Za-z0-9]+")
+_EPSG_CODE = re.compile("[1-9][0-9]{0,8}", re.ASCII)
 # The column of identifiers that the store can't have.
 _IDENTIFIER = "id"
 # In which order the kinds of values are told.
@@ -197,7 +198,9 @@ class JsonLayer(Layer):
         further = [name for name in head if name not in _OF_A_COLLECTION]
         if further:
             yield Lost("members of the file beside its features are left out", ", ".join(further))
-        if head.get("crs") is not None and not _is_known(head["crs"]):
+        if "crs" in head and head["crs"] is None:
+            yield Lost("it says that its reference system is unknown", "crs: null")
+        elif "crs" in head and not _is_known(head["crs"]):
             yield Lost("a reference system that is unknown is left out", f"{text_of(head['crs']):.100}")
 
 
@@ -293,24 +296,36 @@ def _columns_of_names(columns: Mapping[str, _Column]) -> list[str]:
     return (exact or [name for name in texts if "name" in name.casefold()])[:1]
 
 
+def _named_crs(member: Any) -> str:
+    """The name of the reference system that a member says; nothing where it says none without doubt."""
+    properties = member.get("properties") if isinstance(member, dict) else None
+    if not isinstance(properties, dict) or isinstance(member, Repeated) or isinstance(properties, Repeated):
+        return ""
+    name, code = properties.get("name"), properties.get("code")
+    if member.get("type") == "name" and isinstance(name, str):
+        return name if _CRS_NAME.fullmatch(name) else ""
+    if member.get("type") == "EPSG" and type(code) in (int, str):
+        return f"EPSG:{code}" if _EPSG_CODE.fullmatch(str(code)) else ""
+    return ""
+
+
 def _is_known(member: Any) -> bool:
     """Whether OGR knows the reference system that a member names, without a look into the network."""
-    kind = member.get("type") if isinstance(member, dict) else None
-    if kind != "name":
-        return kind == "EPSG"
+    name = _named_crs(member)
     try:
-        name = member["properties"]["name"]
-        return _CRS_NAME.fullmatch(name) is not None and bool(ogr.crs_named(name))
-    except (ogr.ExchangeError, LookupError, TypeError):
+        return bool(name) and bool(ogr.crs_named(name))
+    except ogr.ExchangeError:
         return False
 
 
 def _crs(head: Mapping[str, Any]) -> Crs | None:
-    """The reference system of a collection, as OGR reads the member that names it: degrees where there is none."""
-    member = head.get("crs", "")
-    if member not in (None, "") and not _is_known(member):
+    """The reference system of a collection, as OGR reads the member that names it: degrees where there is none.
+
+    OGR takes degrees for one that it does not know, and for ``null``, which says that it is unknown.
+    """
+    if "crs" in head and not _is_known(head["crs"]):
         return None
-    crs = {} if member == "" else {"crs": member}
+    crs = {"crs": head["crs"]} if "crs" in head else {}
     try:
         empty = ogr.open_data(text_of({"type": "FeatureCollection", **crs, "features": []}), ["GeoJSON"])
         return ogr.crs_of(empty.GetLayer(0))

@@ -250,12 +250,23 @@ class Files(GeoJsonCase):
                 self.assertNotIn("reference system", self.brought(text))
                 found = json.loads((self.folder / f"{self.store.name}.json").read_text())["crs"]["code"]
                 self.assertIn(found, (code,) if code else ("4326", "CRS84"))
-        self.brought(collection(feature(), more='"crs": null,'))
         for member in ('{"type": "link", "properties": {"href": "http://127.0.0.1:1/"}}', '{"type": "name"}', "5",
                        '{"type": "name", "properties": {"name": "nonsense"}}',
                        '{"type": "name", "properties": {"name": "http://127.0.0.1:1/"}}'):
             out = self.brought(collection(feature(), more=f'"crs": {member},'), status=1)
             self.assertIn(f"a reference system that is unknown is left out: {member}\n", out)
+
+    def test_degrees_are_taken_for_no_reference_system_that_is_unknown(self):
+        def said(member):
+            out = self.brought(collection(feature(), more=f'"crs": {member},'), status=1)
+            self.assertIsNone(json.loads((self.folder / f"{self.store.name}.json").read_text())["crs"])
+            return out
+
+        self.assertIn("it says that its reference system is unknown: crs: null\n", said("null"))
+        named = '{"type": "name", "type": "EPSG", "properties": {"code": 25832}}'
+        for member in ('""', "false", "0", "[]", "{}", '{"type": "EPSG"}', '{"type": "EPSG", "properties": null}', named,
+                       *(f'{{"type": "EPSG", "properties": {{"code": {code}}}}}' for code in ("999999", "25832.7", "true", '"x"', "-1"))):
+            self.assertIn(f"a reference system that is unknown is left out: {member}\n", said(member))
 
     def test_a_large_file_is_read_a_feature_at_a_time(self):
         path = self.folder / "large.geojson"
