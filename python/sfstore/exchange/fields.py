@@ -17,7 +17,7 @@ from sfstore.exchange import ogr
 from sfstore.exchange.columns import DATE, DATE_TIME, INTEGER, INTEGER_64, REAL, STRING
 from sfstore.exchange.layers import Fault, Feature, Left, SourceColumns
 from sfstore.exchange.moments import day_of, moment_of, text_of_day, text_of_moment, text_of_time
-from sfstore.exchange.names import kept_name, new_name
+from sfstore.exchange.names import Names, kept_name
 from sfstore.exchange.stored import MAKERS, Made, whole_of
 from sfstore.language import TEXT_MAX
 from sfstore.results import Value
@@ -204,7 +204,7 @@ class Fields(SourceColumns):
         _, module, _ = ogr.gdal()
         definition = self._layer.GetLayerDefn()
         left: dict[str, list[str]] = {}
-        taken: set[str] = set()
+        taken = Names()
         confused, foreign = self._confused(), self._foreign_types()
         for place in range(definition.GetFieldCount()):
             field = definition.GetFieldDefn(place)
@@ -220,7 +220,7 @@ class Fields(SourceColumns):
             if kind is None:
                 left.setdefault(type_name, []).append(source_name)
                 continue
-            name = new_name(known, taken)
+            name = taken.new(known)
             if name != source_name:
                 self.renamed.append((source_name, name))
             number = len(self._fields) + 1

@@ -22,7 +22,7 @@ from sfstore.exchange import ogr, outcome, rulesfile, wayback
 from sfstore.exchange.adding import Broken, add
 from sfstore.exchange.grid import Grid
 from sfstore.exchange.layers import Layer, Source
-from sfstore.exchange.names import new_name
+from sfstore.exchange.names import Names
 from sfstore.exchange.publishing import check_target, publish
 from sfstore.exchange.reading import LayerImport, Taking
 from sfstore.exchange.reports import FEATURE_FORMATS, Report
@@ -210,11 +210,11 @@ def _read_layers(
     report: Report,
 ) -> tuple[list[FileLayer], list[LayerImport]]:
     """The layers as the store is to have them, and what has read them."""
-    names: set[str] = set()
+    names = Names()
     contents, readings = [], []
     for (_, layer), shown in zip(layers, _shown_names(layers)):
         told = left.layer(layer.name)
-        name = new_name(told.store_name if told else layer.name, names)
+        name = names.new(told.store_name if told else layer.name)
         if name != layer.name:
             report.note(shown, f"the layer has the name {name}")
         reading = LayerImport(layer, name, grid, wishes.taking(), told, report, shown=shown)
@@ -309,11 +309,11 @@ def _read_into(
     taking = wishes.taking(keeps_identifiers=False)
     kinds = {layer.name: layer.kind for layer in store.layers()}
     origins = {origin.source_name: wayback.left_of(origin) for origin in known.layers}
-    names: set[str] = set()
+    names = Names()
     contents, readings = [], []
     for (_, layer), shown in zip(layers, _shown_names(layers)):
         told = left.layer(layer.name) or origins.get(layer.name)
-        name = new_name(told.store_name if told else layer.name, names)
+        name = names.new(told.store_name if told else layer.name)
         if name not in kinds:
             detail = f"{name}: its {layer.count()} features are left out"
             report.problem(shown, None, "the store has no such layer", detail)

@@ -20,7 +20,7 @@ from sfstore.exchange.fields import text_fault
 from sfstore.exchange.jsongeometry import KINDS, binary
 from sfstore.exchange.jsontext import Repeated, members, object_of, text_of
 from sfstore.exchange.layers import Fault, Feature, Layer, Lost, SourceColumns
-from sfstore.exchange.names import kept_name, new_name
+from sfstore.exchange.names import Names, kept_name
 from sfstore.exchange.stored import MAKERS, decimal_of
 from sfstore.language import IDENTIFIER_MAX, INT_MAX, INT_MIN
 from sfstore.results import Value
@@ -364,13 +364,13 @@ class _Columns(SourceColumns):
         self._taken: dict[str, _Taken] = {}
         self._origins: list[ColumnOrigin] = []
         self._identifiers: _Taken | None = None
-        used: set[str] = set()
+        used = Names()
         for source_name, column in survey.columns.items():
             name = names.get(source_name, source_name)
             kind = _type(column, as_text, wanted.get(name, ""))
-            self._taken[source_name] = self._take(source_name, new_name(name, used), column, kind)
+            self._taken[source_name] = self._take(source_name, used.new(name), column, kind)
         if survey.has_column_of_identifiers:
-            name = new_name(names.get(_IDENTIFIER, _IDENTIFIER), used)
+            name = used.new(names.get(_IDENTIFIER, _IDENTIFIER))
             self._identifiers = self._take(_IDENTIFIER, name, survey.identifier, _type(survey.identifier, as_text, ""))
             self.notes.append(f"identifiers that the store can't have are in the column {name}")
 

@@ -11,6 +11,7 @@ import io
 import json
 import os
 import re
+from collections import Counter
 from collections.abc import Iterator
 from decimal import Decimal, InvalidOperation
 from json import JSONDecodeError
@@ -44,8 +45,8 @@ class Repeated(Dict[str, Any]):
     @property
     def names(self) -> list[str]:
         """The names that stand more than once."""
-        names = [name for name, _ in self.pairs]
-        return [name for name in self if names.count(name) > 1]
+        counts = Counter(name for name, _ in self.pairs)
+        return [name for name in self if counts[name] > 1]
 
 
 class Member(NamedTuple):

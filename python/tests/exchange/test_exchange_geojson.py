@@ -3,6 +3,7 @@
 from __future__ import annotations
 
 import json
+import time
 import tracemalloc
 import unittest
 import zipfile
@@ -115,6 +116,27 @@ class Values(GeoJsonCase):
     def test_members_in_the_place_of_properties_are_taken(self):
         self.brought(collection(f'{{"type": "Feature", "a": 5, "geometry": {POINT}}}'))
         self.assertEqual(self.values(), [{"a": 5}])
+
+
+class ManyNames(GeoJsonCase):
+    """Files that a stranger has made so that each name is compared with each other one."""
+
+    COUNT = 20_000
+
+    def seconds(self, names, status=0):
+        known = "{" + ", ".join(f'"{name}": 1' for name in names) + "}"
+        begin = time.process_time()
+        self.brought(collection(feature(known)), status=status)
+        return time.process_time() - begin
+
+    def test_names_that_become_one_name(self):
+        self.assertLess(self.seconds("a" * 32 + str(number) for number in range(self.COUNT)), 10)
+        [values] = self.values()
+        names = ["a" * 32, *("a" * (32 - len(tail)) + tail for tail in (f"_{number}" for number in range(2, self.COUNT + 1)))]
+        self.assertEqual(list(values), names)
+
+    def test_a_name_that_stands_twice_among_many(self):
+        self.assertLess(self.seconds([*(f"c{number}" for number in range(self.COUNT)), "c0"], status=1), 4)
 
 
 class Identifiers(GeoJsonCase):
