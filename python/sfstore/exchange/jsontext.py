@@ -25,6 +25,9 @@ __all__ = ["Member", "Repeated", "is_json", "members", "object_of", "text_of"]
 _CHUNK, _LONGEST = 1 << 20, 1 << 28
 # What may stand between two texts, and at the beginning.
 _BETWEEN = re.compile(r"[ \t\n\r\x1e]*")
+# What OGR passes over before a text, calls in which it finds one, and how many bytes are read to see them.
+_BLANKS, _CALLS, _BEGIN = b" \t\n\r\x1e\v\f", (b"jsonp(", b"loadGeoJSON("), 1 << 12
+_CALL_LONGEST = max(map(len, _CALLS))
 _UTF_8_MARK, _UTF_16_MARKS = b"\xef\xbb\xbf", (b"\xff\xfe", b"\xfe\xff")
 # A whole number of more digits is none of the store, and Python takes long for very long ones.
 _DIGITS_MAX = 20
@@ -61,17 +64,31 @@ class Member(NamedTuple):
 
 
 def is_json(path: str) -> bool:
-    """Whether a file begins as an object of JSON. `ExchangeError` where it does in UTF-16, which no JSON is in."""
+    """Whether a file begins as JSON that OGR would read. `ExchangeError` where it does in UTF-16, which no JSON is in.
+
+    OGR looks behind blanks that JSON has not, and into a call of JavaScript. `members` refuses these.
+    """
     if not (os.path.isfile(path) or path.startswith("/vsi")):
         return False
     try:
         with _bytes(path) as file:
-            begin: bytes = file.read(64)
+            begin = _begin(file)
     except (OSError, RuntimeError):
         return False
     if begin.startswith(_UTF_16_MARKS) and begin[2:].strip(b"\0 \r\n\t").startswith(b"{"):
         raise ExchangeError(f"{printable(path)} is UTF-16: GeoJSON is UTF-8")
-    return begin.removeprefix(_UTF_8_MARK).lstrip(b" \t\n\r\x1e").startswith(b"{")
+    return begin.startswith((b"{", *_CALLS))
+
+
+def _begin(file: IO[bytes]) -> bytes:
+    """Some bytes of a file from the first one on that is no blank."""
+    found = file.read(_BEGIN).removeprefix(_UTF_8_MARK).lstrip(_BLANKS)
+    while not found:
+        more = file.read(_BEGIN)
+        if not more:
+            break
+        found = more.lstrip(_BLANKS)
+    return found if len(found) > _CALL_LONGEST else found + file.read(_BEGIN)
 
 
 def members(path: str) -> Iterator[Member]:

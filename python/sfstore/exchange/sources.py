@@ -79,6 +79,9 @@ def _opened(name: str, any_format: bool) -> Source:
     if jsontext.is_json(name) and not (any_format and ogr.format_of(name) not in (*_JSON, "")):
         return Source(name, [JsonLayer(name)], files)
     data = ogr.open_data(name, None if any_format else list(ogr.DRIVERS))
+    if data.GetDriver().ShortName in _JSON and not any_format:
+        # OGR reads it otherwise: it changes numbers, and drops names that stand twice, without a word.
+        raise ogr.ExchangeError(f"{ogr.printable(name):.200} is GeoJSON, and no file that begins as one: name its file alone")
     metadata = data.GetMetadataItem(wayback.ITEM) if data.GetDriver().ShortName == "GPKG" else ""
     layers: list[Layer] = [OgrLayer(data, data.GetLayer(at)) for at in range(data.GetLayerCount())]
     return Source(name, layers, files, metadata or "", _plain_tables(data, layers))
@@ -162,6 +165,8 @@ class OgrLayer(Layer):
         count = self._layer.GetFeatureCount(0) if self.format in _COUNTED else -1
         if count > read:
             yield Lost("it is cut off", f"{read} of the {count} features that the file counts")
+        if self.format in _JSON:
+            yield Lost("it is read by OGR, which may change numbers and drops names that stand twice", "name the file alone")
         if self.format == _SHAPEFILE and not _has_values(self._data, self.name):
             yield Lost("it has no values", "its .dbf is missing")
         told = self._layer.GetMetadata(_SHAPEFILE_METADATA) if self.format == _SHAPEFILE else {}

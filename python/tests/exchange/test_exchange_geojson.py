@@ -259,6 +259,25 @@ class Files(GeoJsonCase):
             self.assertIn(": it breaks off", self.brought(whole[:size], status=3), whole[:size])
         self.assertFalse(self.store.exists())
 
+    def test_no_beginning_leads_past_the_reader(self):
+        text = collection(feature('{"a": 1, "a": 0.1234567890123456789}'), more='"title": "x",')
+        for blanks in (64, 5_000):
+            out = self.brought("\n" * blanks + text, status=1)
+            self.assertIn("members of the file beside its features are left out: title\n", out)
+            self.assertIn("1 a name that stands more than once among the properties: 0 (", out)
+        for begin, end in (("\v", ""), (" " * 99 + "\f", ""), ("loadGeoJSON(", ")"), ("\ufeff\n jsonp(", ");")):
+            self.assertIn("a.geojson is no JSON, in line", self.brought(begin + text + end, status=3))
+        self.brought(text, status=1)
+        before = self.store.read_bytes()
+        for name in (text, "  " + text, f"GeoJSON:{self.source}"):
+            words = [name, self.store, "--grid", "0", "0", "1", "--overwrite"]
+            status, _, err = bring_in(*words)
+            self.assertEqual((status, self.store.read_bytes()), (3, before))
+            self.assertIn("is GeoJSON, and no file that begins as one: name its file alone\n", err)
+        status, out, _ = bring_in(*words, "--any-format")
+        self.assertEqual(status, 1)
+        self.assertIn("it is read by OGR, which may change numbers and drops names that stand twice: name the file alone\n", out)
+
     def test_reference_systems(self):
         known = {
             "": "4326",
