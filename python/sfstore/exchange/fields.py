@@ -10,10 +10,11 @@ from __future__ import annotations
 import json
 import re
 from collections import Counter
-from collections.abc import Callable, Iterator, Mapping
+from collections.abc import Callable, Mapping
 from typing import Any, NamedTuple
 
 from sfstore.exchange import ogr
+from sfstore.exchange.asking import asked, quoted, table_of, tells_apart
 from sfstore.exchange.columns import DATE, DATE_TIME, INTEGER, INTEGER_64, REAL, STRING
 from sfstore.exchange.layers import Fault, Feature, Left, SourceColumns
 from sfstore.exchange.moments import day_of, moment_of, text_of_day, text_of_moment, text_of_time
@@ -278,10 +279,10 @@ class Fields(SourceColumns):
         for field in list(self._fields):
             if field.source_type not in _FITTING:
                 continue
-            quoted = _quoted(field.source_name)
-            condition = f"{quoted} IS NOT NULL AND NOT ({_FITTING[field.source_type].format(quoted)})"
-            shown = f"substr(quote({quoted}), 1, 60)"
-            self._note_odd(field, _quoted(self._layer.GetName()), condition, shown, "TEXT")
+            name = quoted(field.source_name)
+            condition = f"{name} IS NOT NULL AND NOT ({_FITTING[field.source_type].format(name)})"
+            shown = f"substr(quote({name}), 1, 60)"
+            self._note_odd(field, condition, shown)
 
     def _find_odd_of_postgresql(self) -> None:
         types = self._postgresql_types()
@@ -290,22 +291,22 @@ class Fields(SourceColumns):
                 condition, shown = _ODD_OF_POSTGRESQL[types[field.source_name]]
                 if field.source_type == REAL:
                     condition = _NO_DOUBLE
-                quoted = _quoted(field.source_name)
-                shown = f"quote_literal({shown.format(quoted)})"
-                self._note_odd(field, self._table(), condition.format(quoted), shown, "text")
+                name = quoted(field.source_name)
+                self._note_odd(field, condition.format(name), f"quote_literal({shown.format(name)})")
 
-    def _note_odd(self, field: _Field, table: str, condition: str, shown: str, text_type: str) -> None:
+    def _note_odd(self, field: _Field, condition: str, shown: str) -> None:
         """Notes the odd values of a column, or leaves it out where no identifiers say of which features they are."""
+        table = table_of(self._source, self._layer)
         where = f"FROM {table} WHERE {condition}"
         identifier = self._layer.GetFIDColumn()
         if not identifier:
-            [(count, _)] = self._asked(f"SELECT CAST(count(*) AS {text_type}) AS place, '' AS value {where}")
+            [(count, _)] = asked(self._source, self._layer, f"SELECT CAST(count(*) AS text) AS place, '' AS value {where}")
             if count != "0":
                 self._leave_out(field, int(count))
             return
-        query = f"SELECT CAST({_quoted(identifier)} AS {text_type}) AS place, {shown} AS value {where}"
-        found = self._asked(query)
-        if found and not self._tells_apart(identifier, table, text_type):
+        query = f"SELECT CAST({quoted(identifier)} AS text) AS place, {shown} AS value {where}"
+        found = asked(self._source, self._layer, query)
+        if found and not tells_apart(self._source, self._layer, table):
             self._leave_out(field, len(found))
             return
         for place, value in found:
@@ -317,12 +318,6 @@ class Fields(SourceColumns):
         reason = f"a column with {count} values that are none of its type {field.source_type} is left out"
         self.left.append(Left(f"{reason}, since no identifiers say of which features", [field.source_name]))
         self._fields.remove(field)
-
-    def _tells_apart(self, identifier: str, table: str, text_type: str) -> bool:
-        """Whether a column has an identifier for each row, and another one. In a view it need not."""
-        count = f"count(*) - count(DISTINCT {_quoted(identifier)})"
-        query = f"SELECT CAST({count} AS {text_type}) AS place, '' AS value FROM {table}"
-        return self._asked(query) == [("0", "")]
 
     def _odd_text(self, field: _Field, shown: str) -> str | None:
         """The text of a value that OGR would change, as SQL writes it; none where it is no value of the column's type."""
@@ -344,13 +339,12 @@ class Fields(SourceColumns):
 
     def _postgresql_types(self) -> dict[str, str]:
         """The types of a table's columns in PostgreSQL's words."""
-        table = self._table().replace("'", "''")
-        return dict(
-            self._asked(
-                "SELECT attname::text AS place, format_type(atttypid, NULL)::text AS value FROM pg_attribute "
-                f"WHERE attrelid = to_regclass('{table}') AND attnum > 0 AND NOT attisdropped"
-            )
+        table = table_of(self._source, self._layer).replace("'", "''")
+        query = (
+            "SELECT attname::text AS place, format_type(atttypid, NULL)::text AS value FROM pg_attribute "
+            f"WHERE attrelid = to_regclass('{table}') AND attnum > 0 AND NOT attisdropped"
         )
+        return dict(asked(self._source, self._layer, query))
 
     def _foreign_types(self) -> dict[str, str]:
         """The columns of a database that OGR takes for whole numbers and that are none, with their types."""
@@ -365,42 +359,6 @@ class Fields(SourceColumns):
             if field.GetType() in (module.OFTInteger, module.OFTInteger64)
             and types.get(field.GetName(), "integer") not in _WHOLE_TYPES
         }
-
-    def _table(self) -> str:
-        """The table of a layer of a database, quoted. OGR writes its schema before it, and one of several geometries behind."""
-        name = self._layer.GetName().removesuffix(f"({self._layer.GetGeometryColumn()})")
-        before, dot, behind = name.partition(".")
-        if dot and self._asked(f"SELECT nspname::text AS place, '' AS value FROM pg_namespace WHERE nspname = {_literal(before)}"):
-            return f"{_quoted(before)}.{_quoted(behind)}"
-        return _quoted(name)
-
-    def _asked(self, query: str) -> list[tuple[str, str]]:
-        """The two columns of a query's rows. `ogr.ExchangeError` where there is no answer."""
-        try:
-            result = self._source.ExecuteSQL(query)
-        except RuntimeError as error:
-            name = ogr.printable(self._layer.GetName())
-            raise ogr.ExchangeError(f"layer {name} can't be read: {error}") from None
-        if result is None:
-            return []
-        rows = list(_rows(result))
-        self._source.ReleaseResultSet(result)
-        return rows
-
-
-def _rows(result: Any) -> Iterator[tuple[str, str]]:
-    for row, _ in ogr.features(result):
-        yield str(row.GetField(0)), str(row.GetField(1))
-
-
-def _quoted(name: str) -> str:
-    """A name in SQL."""
-    return '"' + name.replace('"', '""') + '"'
-
-
-def _literal(text: str) -> str:
-    """A text in SQL, of PostgreSQL's standard."""
-    return "'" + text.replace("'", "''") + "'"
 
 
 def _read(feature: Any, field: _Field) -> int | float | str | None:

@@ -25,7 +25,9 @@ class Feature(NamedTuple):
     content: Any
     """What the layer's columns and its names are read from."""
     fault: str = ""
-    """Why it can't be read, or nothing."""
+    """Why it can't be taken, or nothing."""
+    reason: str = "could not be read"
+    """The same words for all features that have such a fault."""
 
 
 class Left(NamedTuple):

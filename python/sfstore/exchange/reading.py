@@ -150,7 +150,7 @@ class LayerImport:
             for feature in self._layer.features():
                 self._identifiers.append(feature.identifier)
                 if feature.fault:
-                    self._problem(feature.identifier, "could not be read", feature.fault)
+                    self._problem(feature.identifier, feature.reason, feature.fault)
                     continue
                 found = self._candidates(feature)
                 batch += found

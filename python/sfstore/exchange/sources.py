@@ -12,6 +12,7 @@ from sfstore.exchange import jsontext, ogr, wayback
 from sfstore.exchange.fields import Fields
 from sfstore.exchange.jsonlayer import JsonLayer
 from sfstore.exchange.layers import Feature, Layer, Lost, Source
+from sfstore.exchange.srids import strangers
 from sfstore.exchange.stamps import changed, mode_of, stamps_of
 from sfstore.sidecar import Crs
 
@@ -133,6 +134,7 @@ class OgrLayer(Layer):
         self.geometry_column = layer.GetGeometryColumn()
         self.has_geometries = layer.GetLayerDefn().GetGeomFieldCount() > 0
         self._name_place = _name_place(layer)
+        self._unnamed = 0
 
     def crs(self) -> Crs | None:
         return ogr.crs_of(self._layer)
@@ -141,8 +143,15 @@ class OgrLayer(Layer):
         return int(self._layer.GetFeatureCount())
 
     def features(self) -> Iterator[Feature]:
+        found = strangers(self._data, self._layer)
+        self._unnamed = len(found.unnamed)
         for feature, fault in ogr.features(self._layer):
-            yield Feature(feature.GetFID(), None if fault else feature.GetGeometryRef(), feature, fault)
+            identifier = feature.GetFID()
+            if identifier in found.others:
+                detail = f"its SRID is {found.others[identifier]}"
+                yield Feature(identifier, None, feature, detail, "a geometry of another reference system than the layer's")
+                continue
+            yield Feature(identifier, None if fault else feature.GetGeometryRef(), feature, fault)
 
     def kind(self) -> int:
         _, module, _ = ogr.gdal()
@@ -165,6 +174,8 @@ class OgrLayer(Layer):
         count = self._layer.GetFeatureCount(0) if self.format in _COUNTED else -1
         if count > read:
             yield Lost("it is cut off", f"{read} of the {count} features that the file counts")
+        if self._unnamed:
+            yield Lost("geometries that name no reference system are taken as of the layer's", f"{self._unnamed} of them")
         if self.format in _JSON:
             yield Lost("it is read by OGR, which may change numbers and drops names that stand twice", "name the file alone")
         if self.format == _SHAPEFILE and not _has_values(self._data, self.name):

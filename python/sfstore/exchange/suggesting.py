@@ -73,7 +73,7 @@ def _survey(layers: list[Layer], survey: _Survey) -> None:
         with ogr.progress(layer.name, layer.count()) as show:
             for feature in layer.features():
                 if feature.fault:
-                    survey.left_out[f"could not be read: {feature.fault}"] += 1
+                    survey.left_out[f"{feature.reason}: {feature.fault}"] += 1
                 else:
                     _look_at(feature.geometry, survey)
                 show(1)

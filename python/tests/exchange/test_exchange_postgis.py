@@ -317,6 +317,36 @@ class Written(DatabaseCase):
         with Store(PROGRAM, load=self.store) as store:
             self.assertEqual([feature.values for feature in store.show("wells")][1], {"whole": 7, "part": Decimal("0.5"), "long": Decimal("0.1")})
 
+    def test_geometries_of_other_reference_systems_are_told(self):
+        def made(*srids):
+            with self.asking() as ask:
+                ask("DROP TABLE IF EXISTS wells")
+                ask("CREATE TABLE wells (id serial PRIMARY KEY, g geometry)")
+                for srid in srids:
+                    ask(f"INSERT INTO wells (g) VALUES (ST_SetSRID(ST_MakePoint(1, 1), {srid}))")
+            status, out, _ = bring_in(self.target, self.store, *GRID, "--overwrite")
+            code = json.loads((self.folder / f"{self.store.name}.json").read_text())["crs"]
+            return status, code and code["code"], [feature.id for feature in self.shown("wells")], out
+
+        reason = "a geometry of another reference system than the layer's: "
+        status, code, taken, out = made(25832, 4326, 25832, 2056)
+        self.assertEqual((status, code, taken), (1, "25832", [1, 3]))
+        self.assertIn(f"2 {reason}2 (its SRID is 4326), 4 (its SRID is 2056)\n", out)
+        self.assertEqual(made(4326, 4326)[:3], (0, "4326", [1, 2]))
+        status, code, taken, out = made(0, 4326)
+        self.assertEqual((status, code, taken), (1, None, [1]))
+        self.assertIn(f"1 {reason}2 (its SRID is 4326)\n", out)
+        status, code, taken, out = made(4326, 0)
+        self.assertEqual((status, code, taken), (1, "4326", [1, 2]))
+        self.assertIn("geometries that name no reference system are taken as of the layer's: 1 of them\n", out)
+        with self.asking() as ask:
+            ask("INSERT INTO wells (g) VALUES (ST_SetSRID(ST_MakePoint(1, 1), 25832))")
+            ask("CREATE VIEW seen AS SELECT g FROM wells")
+        before = self.store.read_bytes()
+        status, _, err = bring_in(self.target, self.store, *GRID, "--overwrite", "--layer", "seen")
+        self.assertEqual((status, self.store.read_bytes()), (3, before))
+        self.assertIn("layer seen has geometries of other reference systems than its own, and no identifiers say which\n", err)
+
     def test_tables_without_geometries_are_told(self):
         self.ask("CREATE SCHEMA maps; CREATE TABLE maps.owners (x int); CREATE TABLE prices (x int); CREATE VIEW all_prices AS SELECT * FROM prices; "
                  "CREATE TABLE w (gid serial PRIMARY KEY, geom geometry(Point)); INSERT INTO w (geom) VALUES ('POINT(1 1)')")

@@ -19,6 +19,7 @@ if HAS_GDAL:
     from osgeo import ogr
 
 POINT = KINDS["point"]
+ZERO = "x'00'"
 
 
 def quoted(name):
@@ -142,6 +143,24 @@ class Stored(ExchangeCase):
         with Store(PROGRAM, load=self.store) as store:
             [layer] = store.layers()
             return status, out, told, {feature.id: feature.values for feature in store.show(layer.name)}
+
+    def test_a_geometry_of_another_reference_system_is_told_and_the_others_are_taken(self):
+        def naming(number, order="little", flags="substr(geom, 4, 1)"):
+            # In SQLite this is a text, which OGR reads nevertheless.
+            return f"geom = substr(geom, 1, 3) || {flags} || x'{number.to_bytes(4, order).hex()}' || substr(geom, 9)"
+
+        self.changed(f"{naming(4326)} WHERE fid = 2", f"{naming(2056)} WHERE fid = 5", "geom = CAST(geom AS BLOB)", f"{naming(0)} WHERE fid IN (3, 4)")
+        status, out, told, shown = self.brought_in()
+        self.assertEqual((status, sorted(shown)), (1, [1, 3, 4, 6]))
+        reason = "a geometry of another reference system than the layer's"
+        self.assertEqual({row for row in told if row[1] == reason}, {("2", reason, "its SRID is 4326"), ("5", reason, "its SRID is 2056")})
+        self.assertIn("geometries that name no reference system are taken as of the layer's: 2 of them\n", out)
+        self.assertIn(reason, bring_in("--suggest", self.source)[1])
+        # The other order of bytes says the same.
+        self.changed(f"{naming(25832, 'big', ZERO)} WHERE fid = 1")
+        self.assertNotIn(reason, self.brought_in()[1])
+        self.changed()
+        self.assertEqual(self.brought_in()[0], 0)
 
     def test_a_geometry_that_can_not_be_read_is_told_and_the_others_are_taken(self):
         for wrong in ("x'0102'", "'not a blob'", "x''", "5", "zeroblob(3)"):
