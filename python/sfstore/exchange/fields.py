@@ -38,11 +38,15 @@ _CONTROL = re.compile(r"[\x00-\x1f\x7f]")
 _DAY_FORM = "[0-9][0-9][0-9][0-9]-[0-9][0-9]-[0-9][0-9]"
 _TIME_FORM = "[0-9][0-9]:[0-9][0-9]:[0-9][0-9]"
 
+_BINARY = "Binary"
+
 # SQLite keeps a value of any kind in a column of any type. These say which are of the column's type.
 _FITTING = {
     INTEGER: "typeof({0}) = 'integer' AND {0} BETWEEN -2147483648 AND 2147483647",
     INTEGER_64: "typeof({0}) = 'integer'",
-    REAL: "typeof({0}) IN ('real', 'integer')",
+    # OGR makes a double of a whole number, which further ones are not.
+    REAL: f"typeof({{0}}) = 'real' OR typeof({{0}}) = 'integer' AND {{0}} BETWEEN -{2**53} AND {2**53}",
+    _BINARY: "typeof({0}) = 'blob'",
     STRING: "typeof({0}) = 'text' AND instr({0}, char(0)) = 0",
     DATE: f"typeof({{0}}) = 'text' AND {{0}} GLOB '{_DAY_FORM}' AND date({{0}}, '+0 days') IS {{0}}",
     DATE_TIME: f"typeof({{0}}) = 'text' AND ({{0}} GLOB '{_DAY_FORM}T{_TIME_FORM}Z' "
@@ -321,6 +325,8 @@ class Fields(SourceColumns):
 
     def _odd_text(self, field: _Field, shown: str) -> str | None:
         """The text of a value that OGR would change, as SQL writes it; none where it is no value of the column's type."""
+        if field.source_type == REAL and self._driver == "GPKG" and _WHOLE.fullmatch(shown):
+            return shown
         if field.source_type in (INTEGER, INTEGER_64) or not (shown.startswith("'") and shown.endswith("'")):
             return None
         text = shown[1:-1].replace("''", "'")
@@ -414,7 +420,7 @@ def _plain_text(feature: Any, field: _Field) -> str:
         return text_of_time(feature.GetFieldAsDateTime(place))
     if field.source_type.endswith("List"):
         return json.dumps(feature.GetField(place), ensure_ascii=False)
-    if field.source_type == "Binary":
+    if field.source_type == _BINARY:
         return bytes(feature.GetFieldAsBinary(place)).hex()
     return str(feature.GetFieldAsString(place))
 

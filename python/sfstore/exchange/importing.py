@@ -176,7 +176,7 @@ def _heard(wishes: Wishes, report: Report) -> Iterator[None]:
             yield
         except BaseException:
             for warning in warnings:
-                print(f"OGR warns: {ogr.printable(warning)}", file=sys.stderr)
+                print(ogr.warned(warning), file=sys.stderr)
             raise
     for warning in warnings:
         report.problem(_shown_source(wishes), None, "OGR warns", warning)

@@ -24,6 +24,7 @@ __all__ = [
     "printable",
     "progress",
     "spatial_reference",
+    "warned",
 ]
 
 DRIVERS: dict[str, list[str]] = {
@@ -55,6 +56,8 @@ _hearers: list[list[str]] = []
 _HARMLESS = ("successfully parsed", "not successfully written. Possibly due to too larger number")
 # How many different warnings are heard.
 _HEARD = 100
+# How much of a warning stands on the terminal: it may have the words of a stranger's file.
+_LINE = 200
 
 
 class ExchangeError(Exception):
@@ -87,7 +90,12 @@ def _tell_warning(level: int, number: int, text: str) -> None:
             _hearers[-1].append(text)
     elif level == _WARNING and text not in _told_warnings:
         _told_warnings.add(text)
-        print(f"OGR warns: {text}", file=sys.stderr)
+        print(warned(text), file=sys.stderr)
+
+
+def warned(text: str) -> str:
+    """A warning as a line of a terminal."""
+    return f"OGR warns: {printable(text[:_LINE])}"[:_LINE]
 
 
 @contextlib.contextmanager

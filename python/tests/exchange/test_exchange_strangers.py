@@ -113,6 +113,7 @@ class Metadata(ExchangeCase):
 class Stored(ExchangeCase):
     """GeoPackages that were changed by SQL."""
 
+    NAME = 'w"; DROP TABLE x; --'
     COLUMNS = (("n", "OFTInteger"), ("big", "OFTInteger64"), ("t", "OFTString"), ("r", "OFTReal"))
 
     def changed(self, *changes):
@@ -122,7 +123,7 @@ class Stored(ExchangeCase):
         columns.append(('a"b', ogr.OFTInteger))
         values = {"n": 5, "big": 6, "t": "x", "r": 0.5, 'a"b': 7}
         source = Source(self.source)
-        name = 'w"; DROP TABLE x; --'
+        name = self.NAME
         source.layer(name, {k: (POINT, values) for k in range(1, 7)}, columns=columns)
         source.close()
         database = sqlite3.connect(self.source)
@@ -143,6 +144,45 @@ class Stored(ExchangeCase):
         with Store(PROGRAM, load=self.store) as store:
             [layer] = store.layers()
             return status, out, told, {feature.id: feature.values for feature in store.show(layer.name)}
+
+    def with_columns(self, **columns):
+        """Has columns of types that a stranger may give them, each with values by identifiers, as SQL writes them."""
+        self.changed()
+        with contextlib.closing(sqlite3.connect(self.source)) as database:
+            table = quoted(self.NAME)
+            for name, (kind, values) in columns.items():
+                database.execute(f"ALTER TABLE {table} ADD COLUMN {name} {kind}")
+                for identifier, value in values.items():
+                    database.execute(f"UPDATE {table} SET {name} = {value} WHERE fid = {identifier}")
+            database.commit()
+
+    def test_whole_numbers_among_reals_come_in_as_they_are(self):
+        numbers = {1: 2**53 + 1, 2: 2**63 - 1, 3: -(2**63), 4: 2**53, 5: -(2**53) - 1}
+        self.with_columns(many=("NUMERIC", numbers))
+        for words in ([], ["--as-text"]):
+            status, out, told, shown = self.brought_in(*words)
+            self.assertEqual((status, told), (0, set()), out)
+            self.assertEqual({k: row["many"] for k, row in shown.items() if "many" in row}, numbers)
+        numbers[6] = "12.5"
+        self.with_columns(many=("NUMERIC", {**numbers, 4: "'12,5'"}))
+        status, out, told, shown = self.brought_in("--as-text")
+        self.assertEqual(told, {("4", "a value that is none of the column's type Real", "the value '12,5' of column many is left out")})
+        self.assertEqual([shown[k]["many"] for k in (1, 2, 3, 5, 6)], [2**53 + 1, 2**63 - 1, -(2**63), -(2**53) - 1, Decimal("12.5")])
+
+    def test_a_warning_of_a_strangers_words_is_a_line(self):
+        self.with_columns(odd=('"A\x1b[2J\n' + "B" * 999 + '"', {}))
+        status, _, err = bring_in("--suggest", self.source)
+        self.assertEqual(status, 0)
+        self.assertIn("OGR warns: Field format 'A\\x1b[2J\\nBBB", err)
+        self.assertTrue(all(len(line) <= 200 and line.isprintable() for line in err.splitlines()), err)
+
+    def test_what_is_no_blob_among_blobs_is_told(self):
+        self.with_columns(b=("BLOB", {1: "x'00ff'", 2: "'text'", 3: "12345", 4: "1.5"}))
+        status, _, told, shown = self.brought_in("--as-text")
+        reason = "a value that is none of the column's type Binary"
+        values = {"2": "'text'", "3": "12345", "4": "1.5"}
+        self.assertEqual(told, {(k, reason, f"the value {value} of column b is left out") for k, value in values.items()})
+        self.assertEqual((status, {k: row["b"] for k, row in shown.items() if "b" in row}), (1, {1: "00ff"}))
 
     def test_a_geometry_of_another_reference_system_is_told_and_the_others_are_taken(self):
         def naming(number, order="little", flags="substr(geom, 4, 1)"):
