@@ -31,7 +31,7 @@ __all__ = ["JsonLayer"]
 
 _OF_A_COLLECTION = {"type", "features", "name", "crs", "bbox"}
 _OF_A_FEATURE = {"type", "id", "geometry", "properties", "bbox"}
-_OF_A_GEOMETRY = {"type", "coordinates", "geometries", "bbox"}
+_OF_A_GEOMETRY, _OF_SEVERAL = {"type", "coordinates", "bbox"}, {"type", "geometries", "bbox"}
 _SHORT_MIN, _SHORT_MAX = -(2**31), 2**31 - 1
 # How many faults are told.
 _SHOWN = 8
@@ -270,9 +270,21 @@ def _parted(feature: Any) -> _Properties:
         # Some programs write them so, and OGR reads them.
         known, further = {name: feature[name] for name in further}, []
     geometry = feature.get("geometry")
-    if isinstance(geometry, dict):
-        further += [f"geometry.{name}" for name in geometry if name not in _OF_A_GEOMETRY]
-    return _Properties(feature.get("id"), geometry, known or {}, further)
+    for each in _geometries(geometry):
+        own = _OF_SEVERAL if each.get("type") == KINDS[-1] else _OF_A_GEOMETRY
+        further += [f"geometry.{name}" for name in each if name not in own]
+    return _Properties(feature.get("id"), geometry, known or {}, list(dict.fromkeys(further)))
+
+
+def _geometries(geometry: Any) -> Iterator[dict[str, Any]]:
+    """A geometry, and all that it is a collection of: a stranger's may be deep, so that no function calls itself."""
+    left = [geometry]
+    while left:
+        found = left.pop()
+        if isinstance(found, dict):
+            yield found
+            members = found.get("geometries") if found.get("type") == KINDS[-1] else None
+            left += reversed(members) if isinstance(members, list) else []
 
 
 def _fault_of(feature: Any) -> str:
@@ -281,7 +293,7 @@ def _fault_of(feature: Any) -> str:
         return "an element that is no object"
     if feature.get("type") != "Feature":
         return ogr.printable(f"an element of the type {feature.get('type')!r:.60}")
-    for each in (feature, feature.get("geometry")):
+    for each in (feature, *_geometries(feature.get("geometry"))):
         if isinstance(each, Repeated):
             return f"{', '.join(each.names)} stands more than once in it"
     if not isinstance(feature.get("properties"), (dict, type(None))):
@@ -381,6 +393,9 @@ class _Columns(SourceColumns):
         if column.is_mixed:
             kinds = ", ".join(kind for kind in _KINDS_OF_VALUES if kind in column.kinds)
             self.notes.append(f"column {name} has {kinds}: all are texts")
+        elif column.kinds & _NESTED:
+            kinds = " and ".join(kind for kind in (_OBJECT, _LIST) if kind in column.kinds)
+            self.notes.append(f"column {name} has {kinds}: each is the text of its JSON")
         self._origins.append(ColumnOrigin(name, kept_name(source_name, name), type_name, subtype, 0))
         return _Taken(len(self._origins), kind, name, source_name, column)
 

@@ -53,7 +53,8 @@ class Values(GeoJsonCase):
     def test_objects_and_lists_stand_as_they_are(self):
         known = '{"o": {"b": 1.10, "a": 1, "a": 2, "e": 1.0E+3}, "l": [1, 2.50, "x", null, true], "t": "{\\"a\\":1}"}'
         out = self.brought(collection(feature(known), feature('{"o": [], "l": {"ü": "ü"}}')))
-        self.assertEqual(out, f"a: 2 features read, 2 taken\n  {NUMBERED_ANEW}\n")
+        notes = "".join(f"  column {name} has objects and lists: each is the text of its JSON\n" for name in "ol")
+        self.assertEqual(out, f"a: 2 features read, 2 taken\n{notes}  {NUMBERED_ANEW}\n")
         self.assertEqual(
             self.values(),
             [{"o": '{"b": 1.10, "a": 1, "a": 2, "e": 1.0E+3}', "l": '[1, 2.50, "x", null, true]', "t": '{"a":1}'},
@@ -112,6 +113,21 @@ class Values(GeoJsonCase):
         self.assertIn("members of features that are no properties are left out: title of 1, geometry.m of 1\n", out)
         self.assertIn("members of the file beside its features are left out: generator\n", out)
         self.assertNotIn("bbox", out)
+
+    def test_members_in_a_collection_of_geometries_are_told(self):
+        twice = '{"type": "Point", "coordinates": [1, 2], "coordinates": [3, 4]}'
+        noted = '{"type": "Point", "coordinates": [1, 2], "note": "x", "geometries": []}'
+
+        def several(member, more=""):
+            return f'{{"type": "GeometryCollection", {more} "geometries": [{POINT}, {member}]}}'
+
+        text = collection(feature(geometry=several(noted)), feature(geometry=several(several(twice))), feature(geometry=noted),
+                          feature(geometry=several(POINT, '"coordinates": [5, 6],')))
+        out = self.brought(text, "--part-collections", status=1)
+        told = "geometry.note of 2, geometry.geometries of 2, geometry.coordinates of 1"
+        self.assertIn(f"members of features that are no properties are left out: {told}\n", out)
+        self.assertIn("elements that are no features are left out: element 2 (coordinates stands more than once in it)\n", out)
+        self.assertEqual([wkt for _, wkt, _ in self.rows()], ["POINT (1 2)"] * 5)
 
     def test_members_in_the_place_of_properties_are_taken(self):
         self.brought(collection(f'{{"type": "Feature", "a": 5, "geometry": {POINT}}}'))
