@@ -11,11 +11,13 @@ import json
 import re
 from collections import Counter
 from collections.abc import Callable, Mapping
+from decimal import Decimal
 from typing import Any, NamedTuple
 
 from sfstore.exchange import ogr
 from sfstore.exchange.asking import asked, quoted, table_of, tells_apart
 from sfstore.exchange.columns import DATE, DATE_TIME, INTEGER, INTEGER_64, REAL, STRING
+from sfstore.exchange.jsontext import text_of
 from sfstore.exchange.layers import Fault, Feature, Left, SourceColumns
 from sfstore.exchange.moments import day_of, moment_of, text_of_day, text_of_moment, text_of_time
 from sfstore.exchange.names import Names, kept_name
@@ -32,7 +34,11 @@ __all__ = ["Fields", "text_fault"]
 _TYPES = {REAL: DECIMAL, DATE: FILE_DATE, DATE_TIME: DATETIME}
 _WHOLE = re.compile(r"-?[0-9]{1,19}", re.ASCII)
 _DECIMAL = re.compile(r"-?[0-9]+(\.[0-9]+)?", re.ASCII)
-_TIME = re.compile(r"[0-9]{2}:[0-9]{2}:[0-9]{2}\.[0-9]{1,6}([+-][0-9]{2}(:?[0-9]{2})*)?", re.ASCII)
+_TIME = re.compile(r"[0-9]{2}:[0-9]{2}:[0-9]{2}(\.[0-9]{1,6})?([+-][0-9]{2}(:?[0-9]{2})*)?", re.ASCII)
+# Days and moments of PostgreSQL before the year 1 and behind the year 9999.
+_FAR_DAY = re.compile(r"([0-9]{4,7}-[0-9]{2}-[0-9]{2} BC|[0-9]{5,7}-[0-9]{2}-[0-9]{2})", re.ASCII)
+_FAR_MOMENT = re.compile(r"[0-9]{4,7}-[0-9]{2}-[0-9]{2}T[0-9]{2}:[0-9]{2}:[0-9]{2}\.[0-9]{6}Z?( BC)?", re.ASCII)
+_INFINITE = ("infinity", "-infinity")
 _CONTROL = re.compile(r"[\x00-\x1f\x7f]")
 
 _DAY_FORM = "[0-9][0-9][0-9][0-9]-[0-9][0-9]-[0-9][0-9]"
@@ -56,7 +62,6 @@ _FITTING = {
 
 # The types of PostgreSQL that OGR reads as whole numbers and that are some. It takes an interval for one.
 _WHOLE_TYPES = {"smallint", "integer", "bigint", "boolean", "numeric", "oid"}
-_STAMP = "to_char({0} AT TIME ZONE 'UTC', 'YYYY-MM-DD\"T\"HH24:MI:SS.US\"Z\"')"
 # A number of PostgreSQL that is other than its double, in the shortest text of it.
 _NO_DOUBLE = (
     "CASE WHEN {0} IS NULL OR {0}::text IN ('NaN', 'Infinity', '-Infinity') OR {0} = 0 THEN false "
@@ -64,23 +69,37 @@ _NO_DOUBLE = (
 )
 # Below it each whole number is a double.
 _FIRST_GAP = 2.0**53
-# A time with parts of a millisecond.
-_SHORT = "{0}::text LIKE '%.____%'"
+# A time that OGR would change: one with parts of a millisecond, and the end of a day, which it drops.
+_ODD_TIME = "({0}::text LIKE '%.____%' OR {0}::text LIKE '24:%')"
+# Days of which OGR drops those before the year 1.
+_ODD_DAY = "(NOT isfinite({0}) OR {0} NOT BETWEEN '0001-01-01' AND '9999-12-31')"
+_ODD_MOMENT = "(NOT isfinite({0}) OR {0} < '0001-01-02' OR {0} >= '9999-12-31' OR date_trunc('milliseconds', {0}) <> {0})"
+# A list with a place that has nothing, or with lists in it, of which OGR makes other numbers and one list.
+_ODD_LIST = "CASE WHEN array_ndims({0}) > 1 THEN true ELSE array_position({0}, NULL) IS NOT NULL END"
+_NO_JSON_NUMBER = " OR 'NaN' = ANY({0}) OR 'Infinity' = ANY({0}) OR '-Infinity' = ANY({0})"
+
+
+def _dated(value: str, form: str) -> str:
+    """The text of a day or moment of PostgreSQL in a form, as SQL."""
+    before = f"WHEN {value} < '0001-01-01' THEN to_char({value}, '{form} BC')"
+    return f"CASE WHEN NOT isfinite({value}) THEN {value}::text {before} ELSE to_char({value}, '{form}') END"
+
+
+_MOMENT_FORM = 'YYYY-MM-DD"T"HH24:MI:SS.US'
 # Of a type of PostgreSQL, the values that OGR would change, with their texts.
 _ODD_OF_POSTGRESQL = {
     "numeric": ("{0} NOT BETWEEN -9223372036854775808 AND 9223372036854775807", "{0}::text"),
-    "date": ("NOT isfinite({0})", "{0}::text"),
-    "timestamp without time zone": (
-        "NOT isfinite({0}) OR date_trunc('milliseconds', {0}) <> {0}",
-        "CASE WHEN isfinite({0}) THEN to_char({0}, 'YYYY-MM-DD\"T\"HH24:MI:SS.US') ELSE {0}::text END",
-    ),
-    "timestamp with time zone": (
-        "NOT isfinite({0}) OR date_trunc('milliseconds', {0}) <> {0}",
-        f"CASE WHEN isfinite({{0}}) THEN {_STAMP} ELSE {{0}}::text END",
-    ),
-    "time without time zone": (_SHORT, "{0}::text"),
-    "time with time zone": (_SHORT, "{0}::text"),
+    "date": (_ODD_DAY, _dated("{0}", "YYYY-MM-DD")),
+    "timestamp without time zone": (_ODD_MOMENT, _dated("{0}", _MOMENT_FORM)),
+    "timestamp with time zone": (_ODD_MOMENT, _dated("({0} AT TIME ZONE 'UTC')", _MOMENT_FORM + '"Z"')),
+    "time without time zone": (_ODD_TIME, "{0}::text"),
+    "time with time zone": (_ODD_TIME, "{0}::text"),
+    # Of these OGR makes doubles.
+    "numeric[]": ("{0} IS NOT NULL", "to_json({0})::text"),
+    "real[]": (_ODD_LIST + _NO_JSON_NUMBER, "to_json({0})::text"),
+    "double precision[]": (_ODD_LIST + _NO_JSON_NUMBER, "to_json({0})::text"),
 }
+_OF_LISTS = (_ODD_LIST, "to_json({0})::text")
 
 
 class _Field(NamedTuple):
@@ -94,6 +113,10 @@ class _Field(NamedTuple):
     """The type in the store; at the end it may be that of texts in its place."""
     source_name: str
     source_type: str
+
+    @property
+    def is_list(self) -> bool:
+        return self.source_type.endswith("List")
 
     @property
     def maker(self) -> Callable[[Any], Made] | None:
@@ -291,8 +314,9 @@ class Fields(SourceColumns):
     def _find_odd_of_postgresql(self) -> None:
         types = self._postgresql_types()
         for field in list(self._fields):
-            if types.get(field.source_name) in _ODD_OF_POSTGRESQL:
-                condition, shown = _ODD_OF_POSTGRESQL[types[field.source_name]]
+            known = _ODD_OF_POSTGRESQL.get(types.get(field.source_name, ""), _OF_LISTS if field.is_list else None)
+            if known is not None:
+                condition, shown = known
                 if field.source_type == REAL:
                     condition = _NO_DOUBLE
                 name = quoted(field.source_name)
@@ -327,18 +351,20 @@ class Fields(SourceColumns):
         """The text of a value that OGR would change, as SQL writes it; none where it is no value of the column's type."""
         if field.source_type == REAL and self._driver == "GPKG" and _WHOLE.fullmatch(shown):
             return shown
-        if field.source_type in (INTEGER, INTEGER_64) or not (shown.startswith("'") and shown.endswith("'")):
+        text = _unquoted(shown)
+        if text is None or field.source_type in (INTEGER, INTEGER_64):
             return None
-        text = shown[1:-1].replace("''", "'")
+        if field.is_list:
+            return text_of(json.loads(text, parse_float=Decimal, parse_int=Decimal))
         if field.source_type == REAL:
             return text if self._driver == "PostgreSQL" and _DECIMAL.fullmatch(text) else None
         if field.source_type == DATE:
-            return text if day_of(text) or text in ("infinity", "-infinity") else None
+            return text if day_of(text) or _FAR_DAY.fullmatch(text) or text in _INFINITE else None
         if field.source_type == DATE_TIME:
             moment = moment_of(text)
             if moment is not None:
                 return moment.text
-            return text if text in ("infinity", "-infinity") else None
+            return text if _FAR_MOMENT.fullmatch(text) or text in _INFINITE else None
         if field.source_type == "Time":
             return text if _TIME.fullmatch(text) else None
         return None
@@ -365,6 +391,14 @@ class Fields(SourceColumns):
             if field.GetType() in (module.OFTInteger, module.OFTInteger64)
             and types.get(field.GetName(), "integer") not in _WHOLE_TYPES
         }
+
+
+def _unquoted(shown: str) -> str | None:
+    """The text that stands quoted, as SQL writes it; none where it is none."""
+    if shown.startswith("E'") and shown.endswith("'"):
+        # PostgreSQL's own form of a text with a backslash.
+        return shown[2:-1].replace("''", "'").replace("\\\\", "\\")
+    return shown[1:-1].replace("''", "'") if shown.startswith("'") and shown.endswith("'") else None
 
 
 def _read(feature: Any, field: _Field) -> int | float | str | None:
@@ -418,7 +452,7 @@ def _plain_text(feature: Any, field: _Field) -> str:
         return text_of_moment(feature.GetFieldAsDateTime(place))
     if field.source_type == "Time":
         return text_of_time(feature.GetFieldAsDateTime(place))
-    if field.source_type.endswith("List"):
+    if field.is_list:
         return json.dumps(feature.GetField(place), ensure_ascii=False)
     if field.source_type == _BINARY:
         return bytes(feature.GetFieldAsBinary(place)).hex()

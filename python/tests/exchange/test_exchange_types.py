@@ -387,6 +387,45 @@ class OfPostGis(DatabaseCase):
             [{"at": "10:00:00.123456", "there": "10:00:00.123456+05:30"}, {"at": "10:00:00.500", "there": "10:00:00+02:00"}],
         )
 
+    def test_days_before_the_year_1_and_the_end_of_a_day(self):
+        self.ask("CREATE TABLE w (gid serial PRIMARY KEY, d date, t timestamp, z timestamptz, at time, geom geometry(Point)); INSERT INTO w VALUES "
+                 "(1, '0044-03-15 BC', '0044-03-15 10:00 BC', '0044-03-15 10:00+00 BC', '24:00', 'POINT(1 2)'), "
+                 "(2, '10000-01-01', '10000-01-01', '10000-01-01 00:00+00', '10:00', 'POINT(1 3)'), "
+                 "(3, '0001-01-01', '9999-12-31 23:59:59.999', '9999-12-31 23:59:59.999+00', '00:00', 'POINT(1 4)')")
+        words = [self.target, self.store, "--grid", "0", "0", "1", "--layer", "w", "--overwrite"]
+        status, out, err = bring_in(*words)
+        self.assertEqual((status, err), (1, ""), out)
+        self.assertIn("2 no day from the year 1 to 9999: 1 (the value of column d is left out), 2 (", out)
+        self.assertIn("4 no moment from the year 1 to 9999: 1 (the value of column t is left out), 1 (", out)
+        self.assertEqual(len(self.shown("w")[2].values), 3)
+        status, out, err = bring_in(*words, "--as-text")
+        self.assertEqual((status, err), (0, ""), out)
+        first, second, third = (feature.values for feature in self.shown("w"))
+        moments = {"t": "0044-03-15T10:00:00.000000 BC", "z": "0044-03-15T10:00:00.000000Z BC"}
+        self.assertEqual(first, {"d": "0044-03-15 BC", **moments, "at": "24:00:00"})
+        self.assertEqual((second["d"], second["t"], second["at"]), ("10000-01-01", "10000-01-01T00:00:00.000000", "10:00:00"))
+        self.assertEqual((third["d"], third["t"], third["at"]), ("0001-01-01", "9999-12-31T23:59:59.999", "00:00:00"))
+
+    def test_lists_are_what_they_are(self):
+        kinds = {"i": "int", "n": "numeric", "s": "text", "f": "float8", "b": "boolean"}
+        made = ", ".join(f"{name} {kind}[]" for name, kind in kinds.items())
+        texts = "ARRAY['a' || chr(34) || 'b', NULL, chr(92), chr(39)]"
+        self.ask(f"CREATE TABLE w (gid serial PRIMARY KEY, {made}, geom geometry(Point)); INSERT INTO w VALUES "
+                 f"(1, '{{1,NULL,3}}', '{{1.10,12345678901234567890.5}}', {texts}, '{{0.1,NULL}}', '{{t,NULL,f}}', 'POINT(1 2)'), "
+                 "(2, '{{1,2},{3,4}}', '{{1},{2.0}}', '{{a},{b}}', '{NaN,1}', '{}', 'POINT(1 3)'), "
+                 "(3, '{1,2}', NULL, '{a}', '{0.5}', '{t}', 'POINT(1 4)')")
+        status, out, err = bring_in(self.target, self.store, "--grid", "0", "0", "1", "--layer", "w", "--as-text")
+        # OGR's own reading of lists in lists of texts, which is not taken.
+        told = "w: 3 features read, 3 taken\nthe database: 0 features read, 0 taken\n  OGR warns: Incorrect string list : {{a},{b}}\n"
+        self.assertEqual((status, out, err), (1, told, ""))
+        found = [{name: json.loads(text, parse_float=Decimal) for name, text in feature.values.items()} for feature in self.shown("w")]
+        self.assertEqual(found, [
+            {"i": [1, None, 3], "n": [Decimal("1.10"), Decimal("12345678901234567890.5")], "s": ['a"b', None, chr(92), "'"],
+             "f": [Decimal("0.1"), None], "b": [True, None, False]},
+            {"i": [[1, 2], [3, 4]], "n": [[1], [Decimal("2.0")]], "s": [["a"], ["b"]], "f": ["NaN", 1], "b": []},
+            {"i": [1, 2], "s": ["a"], "f": [Decimal("0.5")], "b": [True]},
+        ])
+
     def test_types_go_back_into_the_same_table(self):
         self.ask(
             "CREATE TABLE p (gid serial PRIMARY KEY, n numeric(10,2), whole double precision, b boolean, c char(8), "
