@@ -3,7 +3,7 @@ use Rattle.std.proofs.Common.{◌≡◌, ◌≢◌, ℕ, ◌+◌, false, nat_le,
 use Rattle.std.proofs.lemmas.Grind.{common_steps}
 use Rattle.sf_journal.specs.Records.{line_of, record_of}
 use Rattle.sf_keeping.specs.Desks.{Call, Makes}
-use Rattle.sf_keeping.specs.Desks.Call.{Answers, Appends, Syncs}
+use Rattle.sf_keeping.specs.Desks.Call.{AnswerFails, Answers, Appends, Syncs}
 use Rattle.sf_keeping.specs.Waiting.{Waiting, answering_calls, committing_calls, keeping_calls, nothing_waits, with_answer, with_text}
 
 -- calls behind others
@@ -48,6 +48,20 @@ at_once_calls was text bytes answer none is some =
     ∙ ap (λ calls. calls ++ answering_calls answer) (keeping-some bytes (fed-some bytes (line_of was.sum text) is))
     ∙ ap (λ calls. Appends bytes ∷ Syncs ∷ calls) (answering-some answer some)
 
+-- the record that is kept at once is all that waits then
+pub at_once_records : (was : Waiting) (text bytes : List ℕ) → was ≡ nothing_waits was.sum → bytes ≡ record_of was.sum text → was.records ++ record_of was.sum text ≡ bytes
+at_once_records was text bytes none is = ap (λ w. w.records ++ record_of was.sum text) none ∙ sym is
+
+-- its answer could not be put out
+pub at_once_unanswered : (was : Waiting) (text bytes answer : List ℕ) → was ≡ nothing_waits was.sum → bytes ≡ record_of was.sum text
+    → Appends bytes ∷ Syncs ∷ AnswerFails answer ∷ [] ≡ keeping_calls (was.records ++ record_of was.sum text) ++ AnswerFails (was.answers ++ answer) ∷ []
+at_once_unanswered was text bytes answer none is =
+    sym (
+      ap (λ w. keeping_calls (was.records ++ record_of was.sum text) ++ AnswerFails (w.answers ++ answer) ∷ []) none
+      ∙ ap (λ r. keeping_calls r ++ AnswerFails answer ∷ []) (at_once_records was text bytes none is)
+      ∙ ap (λ calls. calls ++ AnswerFails answer ∷ []) (keeping-some bytes (fed-some bytes (line_of was.sum text) is))
+    )
+
 -- what follows from two facts of an Ok
 pub OnOk-both : {T E P Q R : Type 0} (r : Result T E) → (P → Q → R) → OnOk r P → OnOk r Q → OnOk r R
 OnOk-both (Ok x) f p q = f p q
@@ -73,6 +87,16 @@ some-without-room answers answer room none full empty =
 pub IfOk-map : {T E : Type 0} (r : Result T E) (P Q : T → Type 0) → ((x : T) → P x → Q x) → IfOk r P → IfOk r Q
 IfOk-map (Ok x) P Q f p = f x p
 IfOk-map (Err e) P Q f p = tt
+
+-- what follows of each Err
+pub IfErr-map : {T E : Type 0} (r : Result T E) (P Q : E → Type 0) → ((e : E) → P e → Q e) → IfErr r P → IfErr r Q
+IfErr-map (Ok x) P Q f p = tt
+IfErr-map (Err e) P Q f p = f e p
+
+-- what the one fault has that there is
+pub err-is : {T E : Type 0} (r : Result T E) (fault : E) (P : E → Type 0) → IfErr r (λ e. e ≡ fault) → P fault → IfErr r P
+err-is (Ok x) fault P is p = tt
+err-is (Err e) fault P is p = subst P (sym is) p
 
 -- what a fault has that is passed on
 pub err-passed : {T E : Type 0} (r : Result T E) (fault : E) (P : E → Type 0) → IsErrAnd r (λ e. e ≡ fault) → P fault → IfErr r P

@@ -11,6 +11,8 @@ use Rattle.sf_console.specs.Requests.{Closed, Comes, Ends, Gathering, Request, g
 use Rattle.sf_console.specs.Gatherings.{IsGrouped, IsHeld}
 use Rattle.sf_console.specs.Session.{IsAnswered}
 use Rattle.sf_console.proofs.GroupLaws.{gathered-alone}
+use Rattle.sf_keeping.specs.declared.desk.KeepFault.{KeepFault}
+use Rattle.sf_keeping.specs.declared.desk.KeepFault.TheVariants.{Memory as Wanting}
 use Rattle.sf_keeping.specs.Desks.{Call, Makes}
 use Rattle.sf_keeping.specs.Waiting.{Waiting, nothing_waits, with_text, with_answer, committing_calls, IsBrokenOff}
 use Rattle.sf_keeping.specs.Changes.{changed}
@@ -76,35 +78,35 @@ GoesOnBy-at_once before mid now was between waits old new request text answer st
     (Underway-commit start mid now sum first (asked ++ request ∷ []) (with_answer (with_text between text) answer) new on makes)
 
 -- it broke off there
-pub BreaksWithin-at_once : (before mid now : Option (List Call)) (was between : Waiting) (old new : Machine) (request : Request) (text answer : List ℕ)
+pub BreaksWithin-at_once : (fault : KeepFault) (before mid now : Option (List Call)) (was between : Waiting) (old new : Machine) (request : Request) (text answer : List ℕ)
     → Stays before mid was between → IsRequestOf request text → IsAnswered old (text_reading text) answer new → changed old (text_reading text) ≡ Some new
-    → (calls : List Call) × Makes mid now calls × IsBrokenOff (with_answer (with_text between text) answer) calls
-    → BreaksWithin before now was old (request ∷ []) new
-BreaksWithin-at_once before mid now was between old new request text answer stays is answered changes (calls, makes, broken) start sum first asked u =
+    → (calls : List Call) × Makes mid now calls × IsBrokenOff fault (with_answer (with_text between text) answer) calls
+    → BreaksWithin fault before now was old (request ∷ []) new
+BreaksWithin-at_once fault before mid now was between old new request text answer stays is answered changes (calls, makes, broken) start sum first asked u =
     let waits = with_answer (with_text between text) answer in
     let on = GoesOnBy-changed before mid was between waits old new request text answer stays is answered changes refl start sum first asked u in
-    (request ∷ [], [], refl, Underway-broken start mid now sum first (asked ++ request ∷ []) waits new calls on makes broken)
+    (request ∷ [], [], refl, Underway-broken fault start mid now sum first (asked ++ request ∷ []) waits new calls on makes broken)
 
 -- a session that stays goes on
 pub GoesOnBy-stays : (before mid now : Option (List Call)) (was between waits : Waiting) (old new : Machine) (more : List Request)
     → Stays before mid was between → GoesOnBy mid now between old more waits new → GoesOnBy before now was old more waits new
 GoesOnBy-stays before mid now was between waits old new more stays goes start sum first asked u = goes start sum first asked (stays start sum first asked old u)
 
-pub BreaksWithin-stays : (before mid now : Option (List Call)) (was between : Waiting) (old new : Machine) (more : List Request)
-    → Stays before mid was between → BreaksWithin mid now between old more new → BreaksWithin before now was old more new
-BreaksWithin-stays before mid now was between old new more stays breaks start sum first asked u = breaks start sum first asked (stays start sum first asked old u)
+pub BreaksWithin-stays : (fault : KeepFault) (before mid now : Option (List Call)) (was between : Waiting) (old new : Machine) (more : List Request)
+    → Stays before mid was between → BreaksWithin fault mid now between old more new → BreaksWithin fault before now was old more new
+BreaksWithin-stays fault before mid now was between old new more stays breaks start sum first asked u = breaks start sum first asked (stays start sum first asked old u)
 
--- it broke off with what changed the machine, before it was kept
+-- no memory was found behind what changed the machine, before it was kept
 pub BreaksWithin-changed : (before now : Option (List Call)) (was mid : Waiting) (old new : Machine) (request : Request) (text answer : List ℕ)
     → Stays before now was mid → IsRequestOf request text → IsAnswered old (text_reading text) answer new → changed old (text_reading text) ≡ Some new
-    → BreaksWithin before now was old (request ∷ []) new
+    → BreaksWithin Wanting before now was old (request ∷ []) new
 BreaksWithin-changed before now was mid old new request text answer stays is answered changes start sum first asked u =
     let s = stays start sum first asked old u in (
       request ∷ [],
       [],
       refl,
-      BrokeOff-more start now sum first asked old (request ∷ []) answer (text ∷ []) new
-          (record { calls = s.calls; makes = s.makes; moments = s.moments })
+      BrokeOff-more Wanting start now sum first asked old (request ∷ []) answer (text ∷ []) new
+          (record { calls = s.calls; makes = s.makes; moments = s.moments; told = ap (λ standing. standing.broken) s.standing })
           (Keeps-one old new request answer (text ∷ []) (IsKept-changed old new request text answer is answered changes)),
     )
 
@@ -112,8 +114,8 @@ BreaksWithin-changed before now was mid old new request text answer stays is ans
 pub GoesOnBy-as : (before now : Option (List Call)) (was waits : Waiting) (old new : Machine) (more : List Request) → new ≡ old → GoesOnBy before now was old more waits old → GoesOnBy before now was old more waits new
 GoesOnBy-as before now was waits old new more same goes = subst (λ m. GoesOnBy before now was old more waits m) (sym same) goes
 
-pub BreaksWithin-as : (before now : Option (List Call)) (was : Waiting) (old new : Machine) (more : List Request) → new ≡ old → BreaksWithin before now was old more old → BreaksWithin before now was old more new
-BreaksWithin-as before now was old new more same breaks = subst (λ m. BreaksWithin before now was old more m) (sym same) breaks
+pub BreaksWithin-as : (fault : KeepFault) (before now : Option (List Call)) (was : Waiting) (old new : Machine) (more : List Request) → new ≡ old → BreaksWithin fault before now was old more old → BreaksWithin fault before now was old more new
+BreaksWithin-as fault before now was old new more same breaks = subst (λ m. BreaksWithin fault before now was old more m) (sym same) breaks
 
 -- nothing more is asked
 pub GoesOnBy-none : (calls : Option (List Call)) (was : Waiting) (machine : Machine) → GoesOnBy calls calls was machine [] was machine
@@ -126,17 +128,17 @@ GoesOnBy-trans before mid now was between waits old next new asked more first_on
     subst (λ l. IsUnderway start now sum first l waits new) (append_assoc earlier asked more) (then_on start sum first (earlier ++ asked) (first_on start sum first earlier u))
 
 -- it broke off behind some of these, and more would have been asked
-pub BreaksWithin-first : (before now : Option (List Call)) (was : Waiting) (old new : Machine) (asked more : List Request)
-    → BreaksWithin before now was old asked new → BreaksWithin before now was old (asked ++ more) new
-BreaksWithin-first before now was old new asked more breaks start sum first earlier u =
+pub BreaksWithin-first : (fault : KeepFault) (before now : Option (List Call)) (was : Waiting) (old new : Machine) (asked more : List Request)
+    → BreaksWithin fault before now was old asked new → BreaksWithin fault before now was old (asked ++ more) new
+BreaksWithin-first fault before now was old new asked more breaks start sum first earlier u =
     let b = breaks start sum first earlier u in (b.0, b.1 ++ more, ap (λ l. l ++ more) b.2 ∙ append_assoc b.0 b.1 more, b.3)
 
 -- it went on by some, and broke off within more
-pub BreaksWithin-then : (before mid now : Option (List Call)) (was between : Waiting) (old next new : Machine) (asked more : List Request)
-    → GoesOnBy before mid was old asked between next → BreaksWithin mid now between next more new → BreaksWithin before now was old (asked ++ more) new
-BreaksWithin-then before mid now was between old next new asked more goes breaks start sum first earlier u =
+pub BreaksWithin-then : (fault : KeepFault) (before mid now : Option (List Call)) (was between : Waiting) (old next new : Machine) (asked more : List Request)
+    → GoesOnBy before mid was old asked between next → BreaksWithin fault mid now between next more new → BreaksWithin fault before now was old (asked ++ more) new
+BreaksWithin-then fault before mid now was between old next new asked more goes breaks start sum first earlier u =
     let b = breaks start sum first (earlier ++ asked) (goes start sum first earlier u) in
-    (asked ++ b.0, b.1, ap (λ l. asked ++ l) b.2 ∙ sym (append_assoc asked b.0 b.1), subst (λ l. BrokeOff start now sum first l new) (append_assoc earlier asked b.0) b.3)
+    (asked ++ b.0, b.1, ap (λ l. asked ++ l) b.2 ∙ sym (append_assoc asked b.0 b.1), subst (λ l. BrokeOff fault start now sum first l new) (append_assoc earlier asked b.0) b.3)
 
 -- what is asked, and then what waits is kept
 pub GoesOnBy-kept : (before mid now : Option (List Call)) (was between waits : Waiting) (old new : Machine) (more : List Request)
@@ -144,9 +146,9 @@ pub GoesOnBy-kept : (before mid now : Option (List Call)) (was between waits : W
 GoesOnBy-kept before mid now was between waits old new more goes stays start sum first asked u = stays start sum first (asked ++ more) new (goes start sum first asked u)
 
 -- what is asked, and then what waits could not be kept
-pub BreaksWithin-kept : (before mid now : Option (List Call)) (was between : Waiting) (old new : Machine) (more : List Request)
-    → GoesOnBy before mid was old more between new → Breaks mid now between → BreaksWithin before now was old more new
-BreaksWithin-kept before mid now was between old new more goes breaks start sum first asked u =
+pub BreaksWithin-kept : (fault : KeepFault) (before mid now : Option (List Call)) (was between : Waiting) (old new : Machine) (more : List Request)
+    → GoesOnBy before mid was old more between new → Breaks fault mid now between → BreaksWithin fault before now was old more new
+BreaksWithin-kept fault before mid now was between old new more goes breaks start sum first asked u =
     (more, [], sym (append-nil more), breaks start sum first (asked ++ more) new (goes start sum first asked u))
 
 -- it stays, and nothing waits
@@ -160,10 +162,10 @@ pub GoesOnBy-line : (before now : Option (List Call)) (was waits : Waiting) (old
 GoesOnBy-line before now was waits old new gathering held taken text is goes is_held =
     subst (λ t. GoesOnBy before now was old ((gathered gathering (Comes t)).1 ∷ []) waits new × IsHeld (gathered gathering (Comes t)).0 held) is (goes, is_held)
 
-pub BreaksWithin-line : (before now : Option (List Call)) (was : Waiting) (old new : Machine) (gathering : Gathering) (taken text : Option (List ℕ)) → taken ≡ text
-    → BreaksWithin before now was old ((gathered gathering (Comes taken)).1 ∷ []) new → BreaksWithin before now was old ((gathered gathering (Comes text)).1 ∷ []) new
-BreaksWithin-line before now was old new gathering taken text is breaks =
-    subst (λ t. BreaksWithin before now was old ((gathered gathering (Comes t)).1 ∷ []) new) is breaks
+pub BreaksWithin-line : (fault : KeepFault) (before now : Option (List Call)) (was : Waiting) (old new : Machine) (gathering : Gathering) (taken text : Option (List ℕ)) → taken ≡ text
+    → BreaksWithin fault before now was old ((gathered gathering (Comes taken)).1 ∷ []) new → BreaksWithin fault before now was old ((gathered gathering (Comes text)).1 ∷ []) new
+BreaksWithin-line fault before now was old new gathering taken text is breaks =
+    subst (λ t. BreaksWithin fault before now was old ((gathered gathering (Comes t)).1 ∷ []) new) is breaks
 
 -- a line that is no head, where no group is open, was carried out by itself
 pub GoesOnBy-alone : (before now : Option (List Call)) (was waits : Waiting) (old new : Machine) (gathering : Gathering) (held : GroupLines) (taken text : Option (List ℕ)) → taken ≡ text
@@ -175,12 +177,12 @@ GoesOnBy-alone before now was waits old new gathering held taken text is closed 
     (subst (λ h. GoesOnBy before now was old (h.1 ∷ []) waits new) here goes)
     (subst (λ h. IsHeld h.0 held) here (subst (λ g. IsHeld g held) closed is_held))
 
-pub BreaksWithin-alone : (before now : Option (List Call)) (was : Waiting) (old new : Machine) (gathering : Gathering) (taken text : Option (List ℕ)) → taken ≡ text
-    → gathering ≡ Closed → line_head taken ≡ None → BreaksWithin before now was old (line_request taken ∷ []) new
-    → BreaksWithin before now was old ((gathered gathering (Comes text)).1 ∷ []) new
-BreaksWithin-alone before now was old new gathering taken text is closed none breaks =
-    BreaksWithin-line before now was old new gathering taken text is
-    (subst (λ h. BreaksWithin before now was old (h.1 ∷ []) new) (sym (gathered-alone gathering taken closed none)) breaks)
+pub BreaksWithin-alone : (fault : KeepFault) (before now : Option (List Call)) (was : Waiting) (old new : Machine) (gathering : Gathering) (taken text : Option (List ℕ)) → taken ≡ text
+    → gathering ≡ Closed → line_head taken ≡ None → BreaksWithin fault before now was old (line_request taken ∷ []) new
+    → BreaksWithin fault before now was old ((gathered gathering (Comes text)).1 ∷ []) new
+BreaksWithin-alone fault before now was old new gathering taken text is closed none breaks =
+    BreaksWithin-line fault before now was old new gathering taken text is
+    (subst (λ h. BreaksWithin fault before now was old (h.1 ∷ []) new) (sym (gathered-alone gathering taken closed none)) breaks)
 
 -- ---- the end of the input
 
@@ -193,12 +195,12 @@ GoesOnBy-last_line before now was waits old new gathering held taken [] some is 
 GoesOnBy-last_line before now was waits old new gathering held taken (b ∷ bytes) some is goes is_held =
     GoesOnBy-line before now was waits old new gathering held taken (line_text (record { bytes = b ∷ bytes; ended = false })) is goes is_held
 
-pub BreaksWithin-last_line : (before now : Option (List Call)) (was : Waiting) (old new : Machine) (gathering : Gathering) (taken : Option (List ℕ)) (bytes : List ℕ) → bytes ≢ []
+pub BreaksWithin-last_line : (fault : KeepFault) (before now : Option (List Call)) (was : Waiting) (old new : Machine) (gathering : Gathering) (taken : Option (List ℕ)) (bytes : List ℕ) → bytes ≢ []
     → taken ≡ line_text (record { bytes = bytes; ended = false })
-    → BreaksWithin before now was old ((gathered gathering (Comes taken)).1 ∷ []) new → BreaksWithin before now was old (last_asked gathering bytes) new
-BreaksWithin-last_line before now was old new gathering taken [] some is breaks = absurd (some refl)
-BreaksWithin-last_line before now was old new gathering taken (b ∷ bytes) some is breaks =
-    BreaksWithin-line before now was old new gathering taken (line_text (record { bytes = b ∷ bytes; ended = false })) is breaks
+    → BreaksWithin fault before now was old ((gathered gathering (Comes taken)).1 ∷ []) new → BreaksWithin fault before now was old (last_asked gathering bytes) new
+BreaksWithin-last_line fault before now was old new gathering taken [] some is breaks = absurd (some refl)
+BreaksWithin-last_line fault before now was old new gathering taken (b ∷ bytes) some is breaks =
+    BreaksWithin-line fault before now was old new gathering taken (line_text (record { bytes = b ∷ bytes; ended = false })) is breaks
 
 -- what the end of the input asks behind the last bytes
 abbrev pub end_asked : Gathering → List ℕ → Request
@@ -214,25 +216,25 @@ GoesOnBy-end c0 c1 c2 c3 was between waits kept old new gathering bytes goes end
     (GoesOnBy-trans c0 c1 c2 was between waits old new new (last_asked gathering bytes) (end_asked gathering bytes ∷ []) goes ends) stays)
 
 -- it broke off as that was to be kept
-pub BreaksWithin-end_kept : (c0 c1 c2 c3 : Option (List Call)) (was between waits : Waiting) (old new : Machine) (gathering : Gathering) (bytes : List ℕ)
-    → GoesOnBy c0 c1 was old (last_asked gathering bytes) between new → GoesOnBy c1 c2 between new (end_asked gathering bytes ∷ []) waits new → Breaks c2 c3 waits
-    → BreaksWithin c0 c3 was old (asked_at_end gathering bytes) new
-BreaksWithin-end_kept c0 c1 c2 c3 was between waits old new gathering bytes goes ends breaks =
-    subst (λ l. BreaksWithin c0 c3 was old l new) (sym (asked_at_end-parts gathering bytes))
-    (BreaksWithin-kept c0 c2 c3 was waits old new (last_asked gathering bytes ++ end_asked gathering bytes ∷ [])
+pub BreaksWithin-end_kept : (fault : KeepFault) (c0 c1 c2 c3 : Option (List Call)) (was between waits : Waiting) (old new : Machine) (gathering : Gathering) (bytes : List ℕ)
+    → GoesOnBy c0 c1 was old (last_asked gathering bytes) between new → GoesOnBy c1 c2 between new (end_asked gathering bytes ∷ []) waits new → Breaks fault c2 c3 waits
+    → BreaksWithin fault c0 c3 was old (asked_at_end gathering bytes) new
+BreaksWithin-end_kept fault c0 c1 c2 c3 was between waits old new gathering bytes goes ends breaks =
+    subst (λ l. BreaksWithin fault c0 c3 was old l new) (sym (asked_at_end-parts gathering bytes))
+    (BreaksWithin-kept fault c0 c2 c3 was waits old new (last_asked gathering bytes ++ end_asked gathering bytes ∷ [])
     (GoesOnBy-trans c0 c1 c2 was between waits old new new (last_asked gathering bytes) (end_asked gathering bytes ∷ []) goes ends) breaks)
 
 -- it broke off within the last bytes
-pub BreaksWithin-last : (before now : Option (List Call)) (was : Waiting) (old new : Machine) (gathering : Gathering) (bytes : List ℕ)
-    → BreaksWithin before now was old (last_asked gathering bytes) new → BreaksWithin before now was old (asked_at_end gathering bytes) new
-BreaksWithin-last before now was old new gathering bytes breaks =
-    subst (λ l. BreaksWithin before now was old l new) (sym (asked_at_end-parts gathering bytes))
-    (BreaksWithin-first before now was old new (last_asked gathering bytes) (end_asked gathering bytes ∷ []) breaks)
+pub BreaksWithin-last : (fault : KeepFault) (before now : Option (List Call)) (was : Waiting) (old new : Machine) (gathering : Gathering) (bytes : List ℕ)
+    → BreaksWithin fault before now was old (last_asked gathering bytes) new → BreaksWithin fault before now was old (asked_at_end gathering bytes) new
+BreaksWithin-last fault before now was old new gathering bytes breaks =
+    subst (λ l. BreaksWithin fault before now was old l new) (sym (asked_at_end-parts gathering bytes))
+    (BreaksWithin-first fault before now was old new (last_asked gathering bytes) (end_asked gathering bytes ∷ []) breaks)
 
 -- it broke off within the end
-pub BreaksWithin-end : (before mid now : Option (List Call)) (was between : Waiting) (old new : Machine) (gathering : Gathering) (bytes : List ℕ)
-    → GoesOnBy before mid was old (last_asked gathering bytes) between new → BreaksWithin mid now between new (end_asked gathering bytes ∷ []) new
-    → BreaksWithin before now was old (asked_at_end gathering bytes) new
-BreaksWithin-end before mid now was between old new gathering bytes goes breaks =
-    subst (λ l. BreaksWithin before now was old l new) (sym (asked_at_end-parts gathering bytes))
-    (BreaksWithin-then before mid now was between old new new (last_asked gathering bytes) (end_asked gathering bytes ∷ []) goes breaks)
+pub BreaksWithin-end : (fault : KeepFault) (before mid now : Option (List Call)) (was between : Waiting) (old new : Machine) (gathering : Gathering) (bytes : List ℕ)
+    → GoesOnBy before mid was old (last_asked gathering bytes) between new → BreaksWithin fault mid now between new (end_asked gathering bytes ∷ []) new
+    → BreaksWithin fault before now was old (asked_at_end gathering bytes) new
+BreaksWithin-end fault before mid now was between old new gathering bytes goes breaks =
+    subst (λ l. BreaksWithin fault before now was old l new) (sym (asked_at_end-parts gathering bytes))
+    (BreaksWithin-then fault before mid now was between old new new (last_asked gathering bytes) (end_asked gathering bytes ∷ []) goes breaks)

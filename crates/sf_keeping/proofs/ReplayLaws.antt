@@ -1,5 +1,5 @@
 -- From record to record of a journal that is done again.
-use Rattle.std.proofs.Common.{◌≡◌, ℕ, ◌+◌, ◌-◌, ◌≤◌, Bool, not, true, false, ◌==◌, ◌||◌, ◌⊎◌, inl, inr, List, [], ◌∷◌, ◌++◌, length, take, drop, Some, refl, sym, ap, ◌∙◌, subst, append_assoc, append-nil, arith}
+use Rattle.std.proofs.Common.{◌≡◌, ℕ, ◌+◌, ◌-◌, ◌≤◌, Bool, not, true, false, ◌==◌, ◌||◌, ◌⊎◌, inl, inr, List, [], ◌∷◌, ◌++◌, length, take, drop, None, Some, refl, sym, ap, ◌∙◌, subst, append_assoc, append-nil, arith}
 use Rattle.std.proofs.lemmas.Grind.{common_steps}
 use Rattle.std.proofs.lemmas.List.{length-append}
 use Rattle.std.specs.List.{AllByRecursion, list_any}
@@ -126,11 +126,11 @@ Replays-end first_sum bytes rest old sum new done r unfed same whole cut =
 -- it failed at the text of the record that stands at the rest
 pub FailsAt-text : (first_sum : ℕ) (bytes rest : List ℕ) (old : Machine) (sum : ℕ) (mid : Machine) (end : ℕ) (text : List ℕ) (fault : ReplayFault)
     → ReplaysSo first_sum bytes rest old sum mid → IsFirstFeed rest end → take end rest ≡ line_of sum text
-    → (fault ≡ Memory) ⊎ (fault ≡ NotAccepted (length bytes - length rest)) → FailsAt first_sum bytes old fault
+    → (fault ≡ Memory) ⊎ ((fault ≡ NotAccepted (length bytes - length rest)) × (changed mid (text_reading text) ≡ None)) → FailsAt first_sum bytes old fault
 FailsAt-text first_sum bytes rest old sum mid end text fault r feed is (inl memory) = subst (FailsAt first_sum bytes old) (sym memory) tt
-FailsAt-text first_sum bytes rest old sum mid end text fault r feed is (inr place) =
+FailsAt-text first_sum bytes rest old sum mid end text fault r feed is (inr (place, none)) =
     subst (FailsAt first_sum bytes old) (sym place)
-    (r.texts, text, drop (end + 1) rest, mid, parts_more first_sum bytes rest old sum mid end text r feed is, r.leads, place_of first_sum bytes rest old sum mid r)
+    (r.texts, text, drop (end + 1) rest, mid, parts_more first_sum bytes rest old sum mid end text r feed is, r.leads, place_of first_sum bytes rest old sum mid r, none)
 
 -- the rest is no longer than the whole
 pub rest_fits : (first_sum : ℕ) (bytes rest : List ℕ) (old : Machine) (sum : ℕ) (new : Machine) → ReplaysSo first_sum bytes rest old sum new → length rest ≤ length bytes

@@ -10,9 +10,9 @@ use Rattle.sf_text_lines.specs.Buffers.{Buffered, IsBufferOf, line_buffered, not
 use Rattle.sf_text_lines.proofs.BufferLemmas.{nothing_buffered-of}
 use Rattle.sf_console.specs.Carried.{Head}
 use Rattle.sf_console.specs.Readings.{line_text}
-use Rattle.sf_console.specs.Requests.{Closed, Comes, Ends, Gathering, Open, Request, come, gathered, gathered_on, inside, is_passed_over, left_in, line_head, member_text, nothing_asked, outside, requests_from, requests_in, requests_of, text_asked, with_member}
+use Rattle.sf_console.specs.Requests.{Closed, Comes, Ends, Gathering, Open, Request, come, gathered, gathered_on, inside, is_passed_over, left_in, line_head, member_text, nothing_asked, outside, requests_from, requests_in, requests_of, text_asked, whole_lines_come, whole_requests_of, with_member}
 use Rattle.sf_console.specs.Gatherings.{IsUnfed, events_at_end}
-use Rattle.sf_console.proofs.ReadingLemmas.{come-fed, come-whole, line_text-long, line_text-short, requests_from-append}
+use Rattle.sf_console.proofs.ReadingLemmas.{come-fed, come-whole, line_text-long, line_text-short, requests_from-append, whole_lines_come-append}
 use Rattle.sf_keeping.specs.Saves.{is_save, AskForNone}
 use Rattle.sf_keeping.specs.Underway.{IsLineText, asked_at_end, gathered_by, last_asked, last_left}
 
@@ -39,6 +39,11 @@ requests_of-whole xs ys whole =
     ap (λ events. requests_from Closed (events ++ Ends ∷ [])) (come-whole xs ys whole)
     ∙ ap (requests_from Closed) (append_assoc (come (lines_of xs)) (come (lines_of ys)) (Ends ∷ []))
     ∙ requests_from-append Closed (come (lines_of xs)) (come (lines_of ys) ++ Ends ∷ [])
+
+-- the whole lines of bytes of which the first are whole
+pub whole_requests_of-whole : (xs ys : List ℕ) → IsWhole xs → whole_requests_of (xs ++ ys) ≡ requests_in Closed xs ++ requests_from (left_in Closed xs) (whole_lines_come ys)
+whole_requests_of-whole xs ys whole =
+    ap (requests_from Closed) (whole_lines_come-append xs ys whole) ∙ requests_from-append Closed (come (lines_of xs)) (whole_lines_come ys)
 
 -- the last bytes as an event, and the end behind it
 last_events : (bytes : List ℕ) → HasNoFeed bytes → come (lines_of bytes) ++ Ends ∷ [] ≡ events_at_end bytes

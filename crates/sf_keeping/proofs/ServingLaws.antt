@@ -10,21 +10,23 @@ use Rattle.sf_journal.specs.Records.{records, line_of, sum_with, sum_behind}
 use Rattle.sf_console.specs.History.{Machine}
 use Rattle.sf_console.specs.declared.group_lines.GroupLines.{GroupLines}
 use Rattle.sf_console.specs.declared.group_lines.GroupLines.TheVariants as lines
-use Rattle.sf_console.specs.Requests.{Closed, Ends, Request, come, left_in, requests_from, requests_in, requests_of}
+use Rattle.sf_console.specs.Requests.{Closed, Ends, Request, come, left_in, requests_from, requests_in, requests_of, whole_lines_come, whole_requests_of}
 use Rattle.sf_console.specs.Gatherings.{IsHeld}
 use Rattle.sf_console.proofs.ReadingLemmas.{left_in-whole}
+use Rattle.sf_keeping.specs.declared.desk.KeepFault.{KeepFault}
+use Rattle.sf_keeping.specs.declared.desk.KeepFault.TheVariants.{Journal, Memory, Read, Write}
 use Rattle.sf_keeping.specs.Desks.{Call, Makes, nothing_yet, after_calls}
 use Rattle.sf_keeping.specs.Waiting.{Waiting, nothing_waits}
 use Rattle.sf_keeping.specs.Inputs.{Ahead, with_new_line}
 use Rattle.sf_keeping.specs.Kept.{Keeps as KeepsOf}
 use Rattle.sf_keeping.specs.Saves.{AskForNone}
 use Rattle.sf_keeping.specs.Moments.{AtEachMoment}
-use Rattle.sf_keeping.specs.Underway.{IsUnderway, Stays, Breaks, BreaksWithin, TakesLines, TakesSave, BreaksLines, KeepsOn, Finishes, asked_at_end}
-use Rattle.sf_keeping.specs.Serving.{ServesKept, EndsKept}
+use Rattle.sf_keeping.specs.Underway.{IsUnderway, Stays, BrokeBy, Breaks, BreaksWithin, TakesLines, TakesSave, BreaksLines, KeepsOn, Finishes, asked_at_end}
+use Rattle.sf_keeping.specs.Serving.{ServesKept, EndBy, EndsKept, requests_before}
 use Rattle.sf_keeping.specs.declared.keeping.Stop.{Stop}
 use Rattle.sf_keeping.specs.declared.keeping.Stop.TheVariants.{Save, End}
 use Rattle.sf_keeping.proofs.KeptLaws.{Keeps-append}
-use Rattle.sf_keeping.proofs.RequestLaws.{AskForNone-append, AskForNone-front, requests_from-first, requests_in-whole, requests_of-end, requests_of-whole}
+use Rattle.sf_keeping.proofs.RequestLaws.{AskForNone-append, AskForNone-front, requests_from-first, requests_in-whole, requests_of-end, requests_of-whole, whole_requests_of-whole}
 use Rattle.sf_keeping.proofs.Underways.{Underway-start}
 
 -- nothing was read
@@ -111,11 +113,25 @@ KeepsOn-filled unread left more ahead held start c sum old new input next waits 
       underway = p.underway;
     }
 
+-- what broke off by a fault ends so
+ended-by : (fault : KeepFault) (sum : ℕ) (old : Machine) (asked : List Request) (calls : List Call) (new : Machine) → BrokeBy fault calls → EndBy fault sum old asked calls new
+ended-by Read sum old asked calls new none = absurd none
+ended-by Memory sum old asked calls new by = by
+ended-by Journal sum old asked calls new by = by
+ended-by Write sum old asked calls new by = by
+
+-- and then the last line may be asked as well
+all-before : (fault : KeepFault) (calls : List Call) (bytes : List ℕ) → BrokeBy fault calls → requests_before fault bytes ≡ requests_of bytes
+all-before Read calls bytes none = absurd none
+all-before Memory calls bytes by = refl
+all-before Journal calls bytes by = refl
+all-before Write calls bytes by = refl
+
 -- it ended within what is asked at the end of the input
-pub EndsKept-at : (unread left : Option (List ℕ)) (ahead : List ℕ) (held : GroupLines) (start c1 c2 : Option (List Call)) (sum : ℕ) (old mid new : Machine) (input : Ahead) (was : Waiting)
+pub EndsKept-at : (fault : KeepFault) (unread left : Option (List ℕ)) (ahead : List ℕ) (held : GroupLines) (start c1 c2 : Option (List Call)) (sum : ℕ) (old mid new : Machine) (input : Ahead) (was : Waiting)
     → (p : KeepsOn unread left ahead held start c1 sum old input was mid) → input.rest ≡ [] → AskForNone (asked_at_end (left_in Closed p.finished) p.after)
-    → BreaksWithin c1 c2 was mid (asked_at_end (left_in Closed p.finished) p.after) new → EndsKept unread left ahead start c2 sum old new
-EndsKept-at unread left ahead held start c1 c2 sum old mid new input was p empty none breaks =
+    → BreaksWithin fault c1 c2 was mid (asked_at_end (left_in Closed p.finished) p.after) new → EndsKept fault unread left ahead start c2 sum old new
+EndsKept-at fault unread left ahead held start c1 c2 sum old mid new input was p empty none breaks =
     let asked = requests_in Closed p.finished in
     let found = breaks start sum old asked p.underway in
     record {
@@ -123,12 +139,14 @@ EndsKept-at unread left ahead held start c1 c2 sum old mid new input was p empty
       consumed = p.consumed;
       asked = asked ++ found.0;
       later = found.1;
-      first = ap requests_of (p.parts ∙ ap (λ l. (p.finished ++ p.after) ++ l) empty ∙ append-nil (p.finished ++ p.after)) ∙ requests_of-end p.finished p.after p.whole p.unfed
+      first = all-before fault found.3.calls (ahead ++ p.taken) found.3.told
+          ∙ ap requests_of (p.parts ∙ ap (λ l. (p.finished ++ p.after) ++ l) empty ∙ append-nil (p.finished ++ p.after)) ∙ requests_of-end p.finished p.after p.whole p.unfed
           ∙ ap (λ l. asked ++ l) found.2 ∙ sym (append_assoc asked found.0 found.1);
       ask_for_none = AskForNone-append asked found.0 p.ask_for_none (AskForNone-front found.0 found.1 (subst AskForNone found.2 none));
       calls = found.3.calls;
       makes = found.3.makes;
       moments = found.3.moments;
+      ended = ended-by fault sum old (asked ++ found.0) found.3.calls new found.3.told;
     }
 
 -- what comes behind the lines that were carried out
@@ -136,43 +154,28 @@ abbrev comes_later : List ℕ → List ℕ → List Request
 comes_later finished rest = requests_from (left_in Closed finished) (come (lines_of rest) ++ Ends ∷ [])
 
 -- it ended before a line more
-pub EndsKept-before : (unread left : Option (List ℕ)) (ahead : List ℕ) (held : GroupLines) (start c1 c2 : Option (List Call)) (sum : ℕ) (old new : Machine) (input : Ahead) (was : Waiting)
-    → KeepsOn unread left ahead held start c1 sum old input was new → Breaks c1 c2 was → EndsKept unread left ahead start c2 sum old new
-EndsKept-before unread left ahead held start c1 c2 sum old new input was p breaks =
+pub EndsKept-before : (fault : KeepFault) (unread left : Option (List ℕ)) (ahead : List ℕ) (held : GroupLines) (start c1 c2 : Option (List Call)) (sum : ℕ) (old new : Machine) (input : Ahead) (was : Waiting)
+    → KeepsOn unread left ahead held start c1 sum old input was new → Breaks fault c1 c2 was → EndsKept fault unread left ahead start c2 sum old new
+EndsKept-before fault unread left ahead held start c1 c2 sum old new input was p breaks =
     let b = breaks start sum old (requests_in Closed p.finished) new p.underway in
     record {
       taken = p.taken;
       consumed = p.consumed;
       asked = requests_in Closed p.finished;
       later = comes_later p.finished (p.after ++ input.rest);
-      first = asked_first (ahead ++ p.taken) p.finished p.after input.rest p.parts p.whole;
+      first = all-before fault b.calls (ahead ++ p.taken) b.told ∙ asked_first (ahead ++ p.taken) p.finished p.after input.rest p.parts p.whole;
       ask_for_none = p.ask_for_none;
       calls = b.calls;
       makes = b.makes;
       moments = b.moments;
-    }
-
--- it ended as no more could be read
-pub EndsKept-unread : (unread left more : Option (List ℕ)) (ahead : List ℕ) (held : GroupLines) (start c : Option (List Call)) (sum : ℕ) (old new : Machine) (input : Ahead) (waits : Waiting)
-    → KeepsOn unread left ahead held start c sum old input waits new → Keeps left more → EndsKept unread more ahead start c sum old new
-EndsKept-unread unread left more ahead held start c sum old new input waits p keeps =
-    record {
-      taken = p.taken;
-      consumed = Consumes-kept unread left more p.taken p.consumed keeps;
-      asked = requests_in Closed p.finished;
-      later = comes_later p.finished (p.after ++ input.rest);
-      first = asked_first (ahead ++ p.taken) p.finished p.after input.rest p.parts p.whole;
-      ask_for_none = p.ask_for_none;
-      calls = p.underway.calls;
-      makes = p.underway.makes;
-      moments = p.underway.moments;
+      ended = ended-by fault sum old (requests_in Closed p.finished) b.calls new b.told;
     }
 
 -- it ended within the lines that end in what was read
-pub EndsKept-within : (unread left : Option (List ℕ)) (ahead : List ℕ) (held : GroupLines) (start c1 c2 : Option (List Call)) (sum : ℕ) (old mid new : Machine) (input : Ahead) (was : Waiting)
-    → (p : KeepsOn unread left ahead held start c1 sum old input was mid) → BreaksLines p.after input.rest (left_in Closed p.finished) c1 c2 was mid new
-    → EndsKept unread left ahead start c2 sum old new
-EndsKept-within unread left ahead held start c1 c2 sum old mid new input was p breaks =
+pub EndsKept-within : (fault : KeepFault) (unread left : Option (List ℕ)) (ahead : List ℕ) (held : GroupLines) (start c1 c2 : Option (List Call)) (sum : ℕ) (old mid new : Machine) (input : Ahead) (was : Waiting)
+    → (p : KeepsOn unread left ahead held start c1 sum old input was mid) → BreaksLines fault p.after input.rest (left_in Closed p.finished) c1 c2 was mid new
+    → EndsKept fault unread left ahead start c2 sum old new
+EndsKept-within fault unread left ahead held start c1 c2 sum old mid new input was p breaks =
     let asked = requests_in Closed p.finished in
     let behind = left_in Closed p.finished in
     let b = breaks start sum old asked p.underway in
@@ -183,13 +186,14 @@ EndsKept-within unread left ahead held start c1 c2 sum old mid new input was p b
       consumed = p.consumed;
       asked = asked ++ b.done;
       later = found.0 ++ end.0;
-      first = asked_first (ahead ++ p.taken) p.finished p.after input.rest p.parts p.whole
+      first = all-before fault b.broke.calls (ahead ++ p.taken) b.broke.told ∙ asked_first (ahead ++ p.taken) p.finished p.after input.rest p.parts p.whole
           ∙ ap (λ l. asked ++ l) (end.1 ∙ ap (λ l. l ++ end.0) (ap (requests_in behind) (sym (append-nil (p.after ++ input.rest))) ∙ found.1))
           ∙ regroup asked b.done found.0 end.0;
       ask_for_none = AskForNone-append asked b.done p.ask_for_none b.ask_for_none;
       calls = b.broke.calls;
       makes = b.broke.makes;
       moments = b.broke.moments;
+      ended = ended-by fault sum old (asked ++ b.done) b.broke.calls new b.broke.told;
     }
   where
     regroup : (xs ys zs ws : List Request) → xs ++ ((ys ++ zs) ++ ws) ≡ (xs ++ ys) ++ (zs ++ ws)
@@ -232,6 +236,24 @@ Underway-whole start now sum old asked waits new u none =
       moments = u.moments;
       standing = u.standing;
       behind_all = ap (λ w. w.sum) u.waits ∙ ap (sum_behind (sum_behind sum u.texts)) no_later;
+    }
+
+-- it ended as no more could be read: nothing waits then
+pub EndsKept-unread : (unread left more : Option (List ℕ)) (ahead : List ℕ) (held : GroupLines) (start c : Option (List Call)) (sum : ℕ) (old new : Machine) (input : Ahead) (waits : Waiting)
+    → KeepsOn unread left ahead held start c sum old input waits new → waits ≡ nothing_waits waits.sum → Keeps left more → EndsKept Read unread more ahead start c sum old new
+EndsKept-unread unread left more ahead held start c sum old new input waits p none keeps =
+    let s = Underway-whole start c sum old (requests_in Closed p.finished) waits new p.underway none in
+    record {
+      taken = p.taken;
+      consumed = Consumes-kept unread left more p.taken p.consumed keeps;
+      asked = requests_in Closed p.finished;
+      later = requests_from (left_in Closed p.finished) (whole_lines_come (p.after ++ input.rest));
+      first = ap whole_requests_of (p.parts ∙ append_assoc p.finished p.after input.rest) ∙ whole_requests_of-whole p.finished (p.after ++ input.rest) p.whole;
+      ask_for_none = p.ask_for_none;
+      calls = s.calls;
+      makes = s.makes;
+      moments = s.moments;
+      ended = (s.output, s.texts, s.ran, s.standing);
     }
 
 -- what was asked before a line that asks for a save
@@ -291,10 +313,10 @@ ServesKept-save unread left ahead held start c1 c2 c3 sum old mid new input next
     not_ended h = cc
 
 -- what waited before it could not be kept
-pub ServesKept-save-broken : (unread left : Option (List ℕ)) (ahead : List ℕ) (held : GroupLines) (start c1 c2 c3 : Option (List Call)) (sum : ℕ) (old mid new : Machine) (input next : Ahead) (was waits : Waiting)
+pub ServesKept-save-broken : (fault : KeepFault) (unread left : Option (List ℕ)) (ahead : List ℕ) (held : GroupLines) (start c1 c2 c3 : Option (List Call)) (sum : ℕ) (old mid new : Machine) (input next : Ahead) (was waits : Waiting)
     → (p : KeepsOn unread left ahead held start c1 sum old input was mid) → TakesSave p.after input.rest (left_in Closed p.finished) c1 c2 was mid next waits new
-    → Breaks c2 c3 waits → EndsKept unread left ahead start c3 sum old new
-ServesKept-save-broken unread left ahead held start c1 c2 c3 sum old mid new input next was waits p t breaks =
+    → Breaks fault c2 c3 waits → EndsKept fault unread left ahead start c3 sum old new
+ServesKept-save-broken fault unread left ahead held start c1 c2 c3 sum old mid new input next was waits p t breaks =
     let finished = p.finished ++ t.finished in
     let asked = requests_in Closed finished in
     let b = breaks start sum old asked new (save_whole unread left ahead held start c1 c2 sum old mid new input next was waits p t) in
@@ -304,12 +326,14 @@ ServesKept-save-broken unread left ahead held start c1 c2 c3 sum old mid new inp
       consumed = p.consumed;
       asked = asked;
       later = comes_later finished rest;
-      first = ap requests_of (p.parts ∙ append_assoc p.finished p.after input.rest ∙ ap (λ l. p.finished ++ l) t.parts ∙ regroup p.finished t.finished (t.line ++ 10 ∷ []) next.rest)
+      first = all-before fault b.calls (ahead ++ p.taken) b.told
+          ∙ ap requests_of (p.parts ∙ append_assoc p.finished p.after input.rest ∙ ap (λ l. p.finished ++ l) t.parts ∙ regroup p.finished t.finished (t.line ++ 10 ∷ []) next.rest)
           ∙ requests_of-whole finished rest (IsWhole-append p.finished t.finished p.whole t.whole);
       ask_for_none = save_for_none unread left ahead held start c1 c2 sum old mid new input next was waits p t;
       calls = b.calls;
       makes = b.makes;
       moments = b.moments;
+      ended = ended-by fault sum old asked b.calls new b.told;
     }
   where
     regroup : (xs ys zs ws : List ℕ) → xs ++ ((ys ++ zs) ++ ws) ≡ (xs ++ ys) ++ (zs ++ ws)

@@ -9,6 +9,7 @@ use Rattle.sf_console.specs.declared.group_lines.GroupLines.{GroupLines}
 use Rattle.sf_console.specs.Requests.{Closed, Gathering, Request, left_in, requests_in}
 use Rattle.sf_console.specs.Gatherings.{IsHeld}
 use Rattle.sf_console.proofs.ReadingLemmas.{left_in-fed, left_in-whole}
+use Rattle.sf_keeping.specs.declared.desk.KeepFault.{KeepFault}
 use Rattle.sf_keeping.specs.Desks.{Call}
 use Rattle.sf_keeping.specs.Waiting.{Waiting}
 use Rattle.sf_keeping.specs.Inputs.{Ahead, EndsLine, GoesOn, with_new_line}
@@ -129,12 +130,12 @@ pub ended-buffer : (after : List ℕ) (ahead ended_ahead : Ahead) → IsBufferOf
 ended-buffer after ahead ended_ahead is_buffer e = subst (IsBufferOf (after ++ e.front)) (sym e.begun) (IsBufferOf-extend after e.front ahead.begun is_buffer)
 
 -- it broke off within the next line
-pub BreaksLines-line : (before rest : List ℕ) (gathering : Gathering) (held : GroupLines) (c0 c1 c2 : Option (List Call)) (was waits : Waiting) (old mid new : Machine) (ahead ended_ahead : Ahead)
+pub BreaksLines-line : (fault : KeepFault) (before rest : List ℕ) (gathering : Gathering) (held : GroupLines) (c0 c1 c2 : Option (List Call)) (was waits : Waiting) (old mid new : Machine) (ahead ended_ahead : Ahead)
     → (t : TakesLines before rest gathering held c0 c1 was old ahead waits mid) → (e : EndsLine ahead ended_ahead)
     → IsNoSave (left_in gathering t.finished) (t.after ++ e.front)
-    → BreaksWithin c1 c2 waits mid ((gathered_by (left_in gathering t.finished) (t.after ++ e.front)).1 ∷ []) new
-    → BreaksLines before rest gathering c0 c2 was old new
-BreaksLines-line before rest gathering held c0 c1 c2 was waits old mid new ahead ended_ahead t e none breaks start sum first earlier u =
+    → BreaksWithin fault c1 c2 waits mid ((gathered_by (left_in gathering t.finished) (t.after ++ e.front)).1 ∷ []) new
+    → BreaksLines fault before rest gathering c0 c2 was old new
+BreaksLines-line fault before rest gathering held c0 c1 c2 was waits old mid new ahead ended_ahead t e none breaks start sum first earlier u =
     let line = t.after ++ e.front in
     let behind = left_in gathering t.finished in
     let asked = requests_in gathering t.finished in
@@ -156,7 +157,7 @@ BreaksLines-line before rest gathering held c0 c1 c2 was waits old mid new ahead
                 ∙ regroup asked found.0 found.1 later,
           );
       ask_for_none = AskForNone-append asked found.0 t.ask_for_none (AskForNone-front found.0 found.1 (subst AskForNone found.2 (no-save behind line none)));
-      broke = subst (λ l. BrokeOff start c2 sum first l new) (append_assoc earlier asked found.0) found.3;
+      broke = subst (λ l. BrokeOff fault start c2 sum first l new) (append_assoc earlier asked found.0) found.3;
     }
   where
     regroup : (xs ys zs ws : List Request) → (xs ++ (ys ++ zs)) ++ ws ≡ (xs ++ ys) ++ (zs ++ ws)

@@ -5,12 +5,14 @@ use Rattle.sf_journal.specs.Fronts.{IsFrontOf}
 use Rattle.sf_journal.proofs.FrontLaws.{records-append}
 use Rattle.sf_console.specs.History.{Machine}
 use Rattle.sf_console.specs.Requests.{Request}
+use Rattle.sf_keeping.specs.declared.desk.KeepFault.{KeepFault}
+use Rattle.sf_keeping.specs.declared.desk.KeepFault.TheVariants.{Journal, Memory, Read, Write}
 use Rattle.sf_keeping.specs.Desks.{Call, Makes, Standing, nothing_yet, after_call, after_calls}
-use Rattle.sf_keeping.specs.Desks.Call.{Appends, Fails, Syncs, Answers}
+use Rattle.sf_keeping.specs.Desks.Call.{AnswerFails, Answers, AppendFails, Appends, SyncFails, Syncs}
 use Rattle.sf_keeping.specs.Waiting.{Waiting, nothing_waits, with_text, with_answer, keeping_calls, answering_calls, committing_calls, IsBrokenOff}
 use Rattle.sf_keeping.specs.Kept.{IsKept, Keeps}
 use Rattle.sf_keeping.specs.Moments.{IsCovered, AtEachMoment}
-use Rattle.sf_keeping.specs.Underway.{IsUnderway, BrokeOff, Stays, Breaks, GoesOnBy, BreaksWithin, IsTold}
+use Rattle.sf_keeping.specs.Underway.{IsUnderway, BrokeBy, BrokeOff, Stays, Breaks, GoesOnBy, BreaksWithin, IsTold}
 use Rattle.sf_keeping.proofs.CallLaws.{Makes-trans, Makes-none, answering-some}
 use Rattle.sf_keeping.proofs.KeptLaws.{Keeps-append, Keeps-one}
 use Rattle.sf_keeping.proofs.MomentLaws.{after_calls-append, moments-snoc, moments-more}
@@ -171,16 +173,28 @@ led-answering sum old last asked output answers texts calls (b ∷ bytes) did is
       stands = standing-snoc calls (stands sum texts output) (Answers (b ∷ bytes)) led.stands ∙ out;
     }
 
+-- all that was asked was carried out
+ran_all : (start now : Option (List Call)) (sum : ℕ) (old : Machine) (asked : List Request) (waiting : Waiting) (new : Machine)
+    → (u : IsUnderway start now sum old asked waiting new) → Keeps old asked (u.output ++ u.answers) (u.texts ++ u.later) new
+ran_all start now sum old asked waiting new u =
+    subst (λ l. Keeps old l (u.output ++ u.answers) (u.texts ++ u.later) new) (sym u.parts) (Keeps-append old u.mid new u.done u.since u.output u.answers u.texts u.later u.did u.does)
+
+-- what waited is kept
+kept_first : (start now : Option (List Call)) (sum : ℕ) (old : Machine) (asked : List Request) (waiting : Waiting) (new : Machine)
+    → (u : IsUnderway start now sum old asked waiting new)
+    → Led sum old asked new (u.calls ++ keeping_calls waiting.records) (stands sum (u.texts ++ u.later) u.output)
+kept_first start now sum old asked waiting new u =
+    led-keeping sum old u.mid new u.done u.since u.output u.answers u.texts u.later asked u.calls waiting.records u.parts u.did u.does (ap (λ w. w.records) u.waits)
+    (record { moments = u.moments; stands = u.standing })
+
 -- what waited is kept and put out
 committed : (start now : Option (List Call)) (sum : ℕ) (old : Machine) (asked : List Request) (waiting : Waiting) (new : Machine)
     → (u : IsUnderway start now sum old asked waiting new)
     → Led sum old asked new (u.calls ++ committing_calls waiting) (stands sum (u.texts ++ u.later) (u.output ++ u.answers))
 committed start now sum old asked waiting new u =
-    let begun : Led sum old asked new u.calls (stands sum u.texts u.output) = record { moments = u.moments; stands = u.standing } in
-    let kept = led-keeping sum old u.mid new u.done u.since u.output u.answers u.texts u.later asked u.calls waiting.records u.parts u.did u.does (ap (λ w. w.records) u.waits) begun in
-    let ran = subst (λ l. Keeps old l (u.output ++ u.answers) (u.texts ++ u.later) new) (sym u.parts) (Keeps-append old u.mid new u.done u.since u.output u.answers u.texts u.later u.did u.does) in
     subst (λ c. Led sum old asked new c (stands sum (u.texts ++ u.later) (u.output ++ u.answers))) (append_assoc u.calls (keeping_calls waiting.records) (answering_calls waiting.answers))
-    (led-answering sum old new asked u.output u.answers (u.texts ++ u.later) (u.calls ++ keeping_calls waiting.records) waiting.answers ran (ap (λ w. w.answers) u.waits) kept)
+    (led-answering sum old new asked u.output u.answers (u.texts ++ u.later) (u.calls ++ keeping_calls waiting.records) waiting.answers (ran_all start now sum old asked waiting new u)
+    (ap (λ w. w.answers) u.waits) (kept_first start now sum old asked waiting new u))
 
 pub Underway-commit : (start now next : Option (List Call)) (sum : ℕ) (old : Machine) (asked : List Request) (waiting : Waiting) (new : Machine)
     → IsUnderway start now sum old asked waiting new → Makes now next (committing_calls waiting) → IsUnderway start next sum old asked (nothing_waits waiting.sum) new
@@ -196,7 +210,7 @@ Underway-commit start now next sum old asked waiting new u makes =
       output = u.output ++ u.answers;
       texts = u.texts ++ u.later;
       mid = new;
-      did = subst (λ l. Keeps old l (u.output ++ u.answers) (u.texts ++ u.later) new) (sym u.parts) (Keeps-append old u.mid new u.done u.since u.output u.answers u.texts u.later u.did u.does);
+      did = ran_all start now sum old asked waiting new u;
       answers = [];
       later = [];
       does = (refl, refl, refl);
@@ -205,26 +219,60 @@ Underway-commit start now next sum old asked waiting new u makes =
     }
 
 -- it broke off as what waited was to be kept and put out
-pub Underway-broken : (start now next : Option (List Call)) (sum : ℕ) (old : Machine) (asked : List Request) (waiting : Waiting) (new : Machine) (calls : List Call)
-    → IsUnderway start now sum old asked waiting new → Makes now next calls → IsBrokenOff waiting calls → BrokeOff start next sum old asked new
-Underway-broken start now next sum old asked waiting new calls u makes broken =
+pub Underway-broken : (fault : KeepFault) (start now next : Option (List Call)) (sum : ℕ) (old : Machine) (asked : List Request) (waiting : Waiting) (new : Machine) (calls : List Call)
+    → IsUnderway start now sum old asked waiting new → Makes now next calls → IsBrokenOff fault waiting calls → BrokeOff fault start next sum old asked new
+Underway-broken fault start now next sum old asked waiting new calls u makes broken =
     record {
       calls = u.calls ++ calls;
       makes = Makes-trans start now next u.calls calls u.makes makes;
-      moments = at broken;
+      moments = at fault broken;
+      told = by fault broken;
     }
   where
     of_records : IsFrontOf waiting.records (records (sum_behind sum u.texts) u.later)
     of_records = subst (λ l. IsFrontOf waiting.records l) (ap (λ w. w.records) u.waits) (whole waiting.records)
 
-    at : IsBrokenOff waiting calls → AtEachMoment sum old asked new (u.calls ++ calls)
-    at (inl (inl is)) = subst (λ c. AtEachMoment sum old asked new (u.calls ++ c)) (sym is)
-        (moment sum old new asked u.calls (Fails waiting.records) (stands sum u.texts u.output) u.standing u.moments
-        (covered-between sum old u.mid new u.done u.since u.output u.answers u.texts u.later asked u.output waiting.records true u.parts u.did u.does (whole u.output) of_records))
-    at (inl (inr is)) = subst (λ c. AtEachMoment sum old asked new (u.calls ++ c)) (sym is)
-        (moment sum old new asked u.calls (Appends waiting.records) (stands sum u.texts u.output) u.standing u.moments
-        (covered-between sum old u.mid new u.done u.since u.output u.answers u.texts u.later asked u.output waiting.records false u.parts u.did u.does (whole u.output) of_records))
-    at (inr is) = subst (λ c. AtEachMoment sum old asked new (u.calls ++ c)) (sym is) ((committed start now sum old asked waiting new u).moments)
+    -- where the records could not be appended or synced, and where they were and the answers could not be put out
+    at_append : AtEachMoment sum old asked new (u.calls ++ AppendFails waiting.records ∷ [])
+    at_append = moment sum old new asked u.calls (AppendFails waiting.records) (stands sum u.texts u.output) u.standing u.moments
+        (covered-between sum old u.mid new u.done u.since u.output u.answers u.texts u.later asked u.output waiting.records true u.parts u.did u.does (whole u.output) of_records)
+
+    at_sync : AtEachMoment sum old asked new (u.calls ++ Appends waiting.records ∷ SyncFails ∷ [])
+    at_sync =
+        let waits : Standing = record { kept = records sum u.texts; waiting = waiting.records; answered = u.output; broken = false } in
+        let first = moment sum old new asked u.calls (Appends waiting.records) (stands sum u.texts u.output) u.standing u.moments
+        (covered-between sum old u.mid new u.done u.since u.output u.answers u.texts u.later asked u.output waiting.records false u.parts u.did u.does (whole u.output) of_records) in
+        let second = moment sum old new asked (u.calls ++ Appends waiting.records ∷ []) SyncFails waits (standing-snoc u.calls (stands sum u.texts u.output) (Appends waiting.records) u.standing) first
+        (covered-between sum old u.mid new u.done u.since u.output u.answers u.texts u.later asked u.output waiting.records true u.parts u.did u.does (whole u.output) of_records) in
+        subst (AtEachMoment sum old asked new) (append_assoc u.calls (Appends waiting.records ∷ []) (SyncFails ∷ [])) second
+
+    at_answer : AtEachMoment sum old asked new (u.calls ++ keeping_calls waiting.records ++ AnswerFails waiting.answers ∷ [])
+    at_answer =
+        let kept = kept_first start now sum old asked waiting new u in
+        let all = ran_all start now sum old asked waiting new u in
+        let out : after_call (stands sum (u.texts ++ u.later) u.output) (AnswerFails waiting.answers)
+            ≡ record { kept = records sum (u.texts ++ u.later); waiting = []; answered = u.output ++ u.answers; broken = true } =
+        ap (λ a. record { kept = records sum (u.texts ++ u.later); waiting = []; answered = u.output ++ a; broken = true }) (ap (λ w. w.answers) u.waits) in
+        moment sum old new asked (u.calls ++ keeping_calls waiting.records) (AnswerFails waiting.answers) (stands sum (u.texts ++ u.later) u.output) kept.stands kept.moments
+        (subst (IsCovered sum old asked new) (sym out)
+        (covered-between sum old new new asked [] (u.output ++ u.answers) [] (u.texts ++ u.later) [] asked (u.output ++ u.answers) [] true (sym (append-nil asked)) all (refl, refl, refl) (whole (u.output ++ u.answers)) ([], refl)))
+
+    at : (fault : KeepFault) → IsBrokenOff fault waiting calls → AtEachMoment sum old asked new (u.calls ++ calls)
+    at Journal (inl is) = subst (λ c. AtEachMoment sum old asked new (u.calls ++ c)) (sym is) at_append
+    at Journal (inr is) = subst (λ c. AtEachMoment sum old asked new (u.calls ++ c)) (sym is) at_sync
+    at Write is = subst (λ c. AtEachMoment sum old asked new (u.calls ++ c)) (sym is)
+        (subst (AtEachMoment sum old asked new) (append_assoc u.calls (keeping_calls waiting.records) (AnswerFails waiting.answers ∷ [])) at_answer)
+    at Read none = absurd none
+    at Memory none = absurd none
+
+    by : (fault : KeepFault) → IsBrokenOff fault waiting calls → BrokeBy fault (u.calls ++ calls)
+    by Journal (inl is) = (u.calls, inr (waiting.records, ap (λ c. u.calls ++ c) is))
+    by Journal (inr is) =
+        (u.calls ++ Appends waiting.records ∷ [], inl (ap (λ c. u.calls ++ c) is ∙ sym (append_assoc u.calls (Appends waiting.records ∷ []) (SyncFails ∷ []))))
+    by Write is =
+        (u.calls ++ keeping_calls waiting.records, waiting.answers, ap (λ c. u.calls ++ c) is ∙ sym (append_assoc u.calls (keeping_calls waiting.records) (AnswerFails waiting.answers ∷ [])))
+    by Read none = absurd none
+    by Memory none = absurd none
 
 -- an answer more waits, of a line that changed nothing
 pub Underway-told : (start now : Option (List Call)) (sum : ℕ) (old : Machine) (asked : List Request) (waiting : Waiting) (mid : Machine) (request : Request) (answer : List ℕ)
@@ -242,10 +290,10 @@ Underway-changed start now sum old asked waiting mid request answer text new u k
     (ap (λ r. record { sum = sum_with waiting.sum text; records = waiting.records ++ r; answers = waiting.answers ++ answer }) (sym (append-nil (record_of waiting.sum text))))
 
 -- what broke off did so too with requests more that were carried out
-pub BrokeOff-more : (start now : Option (List Call)) (sum : ℕ) (old : Machine) (asked : List Request) (mid : Machine) (more : List Request) (output : List ℕ) (texts : List (List ℕ)) (new : Machine)
-    → BrokeOff start now sum old asked mid → Keeps mid more output texts new → BrokeOff start now sum old (asked ++ more) new
-BrokeOff-more start now sum old asked mid more output texts new b keeps =
-    record { calls = b.calls; makes = b.makes; moments = moments-more sum old asked mid b.calls more output texts new b.moments keeps }
+pub BrokeOff-more : (fault : KeepFault) (start now : Option (List Call)) (sum : ℕ) (old : Machine) (asked : List Request) (mid : Machine) (more : List Request) (output : List ℕ) (texts : List (List ℕ)) (new : Machine)
+    → BrokeOff fault start now sum old asked mid → Keeps mid more output texts new → BrokeOff fault start now sum old (asked ++ more) new
+BrokeOff-more fault start now sum old asked mid more output texts new b keeps =
+    record { calls = b.calls; makes = b.makes; moments = moments-more sum old asked mid b.calls more output texts new b.moments keeps; told = b.told }
 
 -- what waits was kept
 pub Stays-commit : (before now : Option (List Call)) (was waits : Waiting) → Makes before now (committing_calls was) → waits ≡ nothing_waits was.sum → Stays before now was waits
@@ -253,8 +301,8 @@ Stays-commit before now was waits makes is start sum first asked machine u =
     subst (λ w. IsUnderway start now sum first asked w machine) (sym is) (Underway-commit start before now sum first asked was machine u makes)
 
 -- it broke off there
-pub Breaks-commit : (before now : Option (List Call)) (was : Waiting) → (calls : List Call) × Makes before now calls × IsBrokenOff was calls → Breaks before now was
-Breaks-commit before now was (calls, makes, broken) start sum first asked machine u = Underway-broken start before now sum first asked was machine calls u makes broken
+pub Breaks-commit : (fault : KeepFault) (before now : Option (List Call)) (was : Waiting) → (calls : List Call) × Makes before now calls × IsBrokenOff fault was calls → Breaks fault before now was
+Breaks-commit fault before now was (calls, makes, broken) start sum first asked machine u = Underway-broken fault start before now sum first asked was machine calls u makes broken
 
 -- an answer waits
 pub GoesOnBy-told : (calls : Option (List Call)) (was waits : Waiting) (machine : Machine) (request : Request) (answer : List ℕ)
@@ -280,14 +328,15 @@ GoesOnBy-answered before now after was mid machine request answer sum' stays non
     (Underway-commit start now after sum first (asked ++ request ∷ []) (with_answer mid answer) machine told_u (subst (Makes now after) (sym calls) makes))
 
 -- it broke off before the answer
-pub BreaksWithin-before : (before now : Option (List Call)) (was : Waiting) (old : Machine) (more : List Request) → Breaks before now was → BreaksWithin before now was old more old
-BreaksWithin-before before now was old more breaks start sum first asked u =
-    ([], more, refl, subst (λ l. BrokeOff start now sum first l old) (sym (append-nil asked)) (breaks start sum first asked old u))
+pub BreaksWithin-before : (fault : KeepFault) (before now : Option (List Call)) (was : Waiting) (old : Machine) (more : List Request) → Breaks fault before now was → BreaksWithin fault before now was old more old
+BreaksWithin-before fault before now was old more breaks start sum first asked u =
+    ([], more, refl, subst (λ l. BrokeOff fault start now sum first l old) (sym (append-nil asked)) (breaks start sum first asked old u))
 
 -- it broke off within the answer
 pub BreaksWithin-answered : (before now after : Option (List Call)) (was mid : Waiting) (machine : Machine) (request : Request) (answer : List ℕ) (sum' : ℕ)
-    → Stays before now was mid → mid ≡ nothing_waits sum' → IsTold machine request answer → answer ≢ [] → Makes now after (Answers answer ∷ [])
-    → BreaksWithin before after was machine (request ∷ []) machine
-BreaksWithin-answered before now after was mid machine request answer sum' stays none told some makes start sum first asked u =
-    let on = GoesOnBy-answered before now after was mid machine request answer sum' stays none told some makes start sum first asked u in
-    (request ∷ [], [], refl, record { calls = on.calls; makes = on.makes; moments = on.moments })
+    → Stays before now was mid → mid ≡ nothing_waits sum' → IsTold machine request answer → Makes now after (AnswerFails answer ∷ [])
+    → BreaksWithin Write before after was machine (request ∷ []) machine
+BreaksWithin-answered before now after was mid machine request answer sum' stays none told makes start sum first asked u =
+    let told_u = Underway-told start now sum first asked mid machine request answer (stays start sum first asked machine u) told in
+    let calls : keeping_calls mid.records ++ AnswerFails (mid.answers ++ answer) ∷ [] ≡ AnswerFails answer ∷ [] = ap (λ w. keeping_calls w.records ++ AnswerFails (w.answers ++ answer) ∷ []) none in
+    (request ∷ [], [], refl, Underway-broken Write start now after sum first (asked ++ request ∷ []) (with_answer mid answer) machine (AnswerFails answer ∷ []) told_u makes (sym calls))

@@ -1,10 +1,11 @@
 -- What replaying the edits of a journal gives.
-use Rattle.std.specs.Prelude.{◌≡◌, ℕ, Bool, List, [], ◌∷◌, ◌++◌, length, if◌then◌else◌}
+use Rattle.std.specs.Prelude.{◌≡◌, ℕ, Bool, List, [], ◌∷◌, ◌++◌, length, None, if◌then◌else◌}
 use Rattle.sf_journal.specs.Records.{records, sum_behind}
 use Rattle.sf_journal.specs.Readings.{Ending, Reads}
 use Rattle.sf_journal.specs.Readings.Ending.{Whole, CutShort, Damaged as IsDamaged}
 use Rattle.sf_console.specs.History.{Machine}
-use Rattle.sf_keeping.specs.Changes.{Leads}
+use Rattle.sf_console.specs.Readings.{text_reading}
+use Rattle.sf_keeping.specs.Changes.{Leads, changed}
 use Rattle.sf_keeping.specs.declared.replaying.Replayed.{Replayed}
 use Rattle.sf_keeping.specs.declared.replaying.ReplayFault.{ReplayFault}
 use Rattle.sf_keeping.specs.declared.replaying.ReplayFault.TheVariants.{Memory, Damaged, NotAccepted}
@@ -31,3 +32,4 @@ FailsAt sum bytes old (Damaged place) =
 FailsAt sum bytes old (NotAccepted place) =
     (texts : List (List ℕ)) × (text : List ℕ) × (rest : List ℕ) × (machine : Machine)
     × (bytes ≡ records sum (texts ++ text ∷ []) ++ rest) × Leads old texts machine × (place ≡ length (records sum texts))
+    × (changed machine (text_reading text) ≡ None)

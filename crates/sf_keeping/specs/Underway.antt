@@ -6,7 +6,9 @@ use Rattle.sf_text_lines.specs.Lines.{line_max, text_of, IsWhole, HasNoFeed}
 use Rattle.sf_text_lines.specs.Buffers.{IsBufferOf, nothing_buffered}
 use Rattle.sf_journal.specs.Records.{records, sum_behind}
 use Rattle.sf_console.specs.History.{Machine}
-use Rattle.sf_keeping.specs.Desks.{Call, Makes, nothing_yet, after_calls}
+use Rattle.sf_keeping.specs.declared.desk.KeepFault.{KeepFault}
+use Rattle.sf_keeping.specs.declared.desk.KeepFault.TheVariants.{Memory, Read}
+use Rattle.sf_keeping.specs.Desks.{Call, LastFails, Makes, nothing_yet, after_calls}
 use Rattle.sf_keeping.specs.Waiting.{Waiting, nothing_waits}
 use Rattle.sf_keeping.specs.declared.keeping.Stop.{Stop}
 use Rattle.sf_keeping.specs.declared.keeping.Stop.TheVariants.{Save, End}
@@ -37,11 +39,18 @@ pub record IsUnderway (start now : Option (List Call)) (sum : ℕ) (old : Machin
   pub standing : after_calls nothing_yet calls ≡ record { kept = records sum texts; waiting = []; answered = output; broken = false }
   pub waits : waiting ≡ record { sum = sum_behind (sum_behind sum texts) later; records = records (sum_behind sum texts) later; answers = answers }
 
+-- by this fault the last call failed, or for want of memory none did; no read is among the calls
+abbrev pub BrokeBy : KeepFault → List Call → Type 0
+BrokeBy Read calls = ⊥
+BrokeBy Memory calls = (after_calls nothing_yet calls).broken ≡ false
+BrokeBy fault calls = LastFails fault calls
+
 -- it was carried out, and then the journal or the output broke off
-pub record BrokeOff (start now : Option (List Call)) (sum : ℕ) (old : Machine) (asked : List Request) (new : Machine) : Type 0 where
+pub record BrokeOff (fault : KeepFault) (start now : Option (List Call)) (sum : ℕ) (old : Machine) (asked : List Request) (new : Machine) : Type 0 where
   pub calls : List Call
   pub makes : Makes start now calls
   pub moments : AtEachMoment sum old asked new calls
+  pub told : BrokeBy fault calls
 
 -- a session goes on: what is asked is the same, and other calls were made
 abbrev pub Stays : Option (List Call) → Option (List Call) → Waiting → Waiting → Type 0
@@ -50,10 +59,10 @@ Stays before now was waits =
     → IsUnderway start before sum first asked was machine → IsUnderway start now sum first asked waits machine
 
 -- it broke off with nothing more asked
-abbrev pub Breaks : Option (List Call) → Option (List Call) → Waiting → Type 0
-Breaks before now was =
+abbrev pub Breaks : KeepFault → Option (List Call) → Option (List Call) → Waiting → Type 0
+Breaks fault before now was =
     (start : Option (List Call)) (sum : ℕ) (first : Machine) (asked : List Request) (machine : Machine)
-    → IsUnderway start before sum first asked was machine → BrokeOff start now sum first asked machine
+    → IsUnderway start before sum first asked was machine → BrokeOff fault start now sum first asked machine
 
 -- a session goes on by more that is asked
 abbrev pub GoesOnBy : Option (List Call) → Option (List Call) → Waiting → Machine → List Request → Waiting → Machine → Type 0
@@ -62,11 +71,11 @@ GoesOnBy before now was old more waits new =
     → IsUnderway start before sum first asked was old → IsUnderway start now sum first (asked ++ more) waits new
 
 -- it broke off behind some of this
-abbrev pub BreaksWithin : Option (List Call) → Option (List Call) → Waiting → Machine → List Request → Machine → Type 0
-BreaksWithin before now was old more new =
+abbrev pub BreaksWithin : KeepFault → Option (List Call) → Option (List Call) → Waiting → Machine → List Request → Machine → Type 0
+BreaksWithin fault before now was old more new =
     (start : Option (List Call)) (sum : ℕ) (first : Machine) (asked : List Request)
     → IsUnderway start before sum first asked was old
-    → (done : List Request) × (left : List Request) × (more ≡ done ++ left) × BrokeOff start now sum first (asked ++ done) new
+    → (done : List Request) × (left : List Request) × (more ≡ done ++ left) × BrokeOff fault start now sum first (asked ++ done) new
 
 -- an answer that changed nothing is given to what is asked
 abbrev pub IsTold : Machine → Request → List ℕ → Type 0
@@ -123,17 +132,17 @@ pub record TakesSave (before rest : List ℕ) (gathering : Gathering) (now_calls
   pub goes_on : GoesOnBy now_calls then_calls was old (requests_in gathering finished) waits new
 
 -- the journal or the output broke off behind some of what is asked at the front of the bytes
-pub record BrokeOffIn (bytes : List ℕ) (gathering : Gathering) (start now : Option (List Call)) (sum : ℕ) (first : Machine) (asked : List Request) (new : Machine) : Type 0 where
+pub record BrokeOffIn (fault : KeepFault) (bytes : List ℕ) (gathering : Gathering) (start now : Option (List Call)) (sum : ℕ) (first : Machine) (asked : List Request) (new : Machine) : Type 0 where
   pub done : List Request
   pub parts : (more : List ℕ) → (others : List Request) × (requests_in gathering (bytes ++ more) ≡ done ++ others)
   pub ask_for_none : AskForNone done
-  pub broke : BrokeOff start now sum first (asked ++ done) new
+  pub broke : BrokeOff fault start now sum first (asked ++ done) new
 
 -- so it did within what was read
-abbrev pub BreaksLines : List ℕ → List ℕ → Gathering → Option (List Call) → Option (List Call) → Waiting → Machine → Machine → Type 0
-BreaksLines before rest gathering now_calls then_calls was old new =
+abbrev pub BreaksLines : KeepFault → List ℕ → List ℕ → Gathering → Option (List Call) → Option (List Call) → Waiting → Machine → Machine → Type 0
+BreaksLines fault before rest gathering now_calls then_calls was old new =
     (start : Option (List Call)) (sum : ℕ) (first : Machine) (asked : List Request)
-    → IsUnderway start now_calls sum first asked was old → BrokeOffIn (before ++ rest) gathering start then_calls sum first asked new
+    → IsUnderway start now_calls sum first asked was old → BrokeOffIn fault (before ++ rest) gathering start then_calls sum first asked new
 
 -- So much was read; its whole lines were carried out, none of which asks for a save.
 pub record KeepsOn (unread left : Option (List ℕ)) (ahead : List ℕ) (held : GroupLines) (start now : Option (List Call)) (sum : ℕ) (old : Machine) (input : Ahead) (waits : Waiting) (new : Machine) : Type 0 where

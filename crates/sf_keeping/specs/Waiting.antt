@@ -3,7 +3,9 @@
 use Rattle.std.specs.Prelude.{◌≡◌, ◌⊎◌, ℕ, List, [], ◌∷◌, ◌++◌}
 use Rattle.sf_journal.specs.Records.{record_of, sum_with}
 use Rattle.sf_keeping.specs.Desks.{Call}
-use Rattle.sf_keeping.specs.Desks.Call.{Appends, Fails, Syncs, Answers}
+use Rattle.sf_keeping.specs.Desks.Call.{AnswerFails, Answers, AppendFails, Appends, SyncFails, Syncs}
+use Rattle.sf_keeping.specs.declared.desk.KeepFault.{KeepFault}
+use Rattle.sf_keeping.specs.declared.desk.KeepFault.TheVariants.{Journal, Write}
 
 -- the sum behind the records so far, the records that are not in the journal yet, and the answers that were not put out
 pub record Waiting : Type 0 where
@@ -39,8 +41,10 @@ committing_calls waiting = keeping_calls waiting.records ++ answering_calls wait
 
 -- it broke off at the journal: the records could not be appended, or not be synced
 abbrev pub IsBrokenKeeping : List ℕ → List Call → Type 0
-IsBrokenKeeping records calls = (calls ≡ Fails records ∷ []) ⊎ (calls ≡ Appends records ∷ [])
+IsBrokenKeeping records calls = (calls ≡ AppendFails records ∷ []) ⊎ (calls ≡ Appends records ∷ SyncFails ∷ [])
 
--- it broke off, there or within the answers
-abbrev pub IsBrokenOff : Waiting → List Call → Type 0
-IsBrokenOff waiting calls = IsBrokenKeeping waiting.records calls ⊎ (calls ≡ committing_calls waiting)
+-- it broke off by this fault: there, or at the answers
+abbrev pub IsBrokenOff : KeepFault → Waiting → List Call → Type 0
+IsBrokenOff Journal waiting calls = IsBrokenKeeping waiting.records calls
+IsBrokenOff Write waiting calls = calls ≡ keeping_calls waiting.records ++ AnswerFails waiting.answers ∷ []
+IsBrokenOff other waiting calls = ⊥

@@ -1,11 +1,11 @@
 //! A text carried out, and whether it is one to be kept.
-ghost use Rattle.std.specs.Prelude.{List, Ok, Result};
+ghost use Rattle.std.specs.Prelude.{◌≡◌, ◌≢◌, IsTrue, List, Ok, Result, false};
 ghost use Rattle.sf_console.specs.Carried.{GroupRefusal as GroupRefusalOf, Member, OrNoMemory};
 ghost use Rattle.sf_keeping.specs.Outcomes.{Becomes, BecomesGrouped, IsOutcome};
 
 use sf_console::{
-    Answer, Command, Editor, Group, GroupRefusal, Reply, carry_out_group, execute, is_blank_text,
-    parse, parse_group, refused, refused_by_rules, refused_step,
+    Answer, Command, Editor, Group, GroupRefusal, Reply, StepRefusal, carry_out_group, execute,
+    is_blank_text, parse, parse_group, refused, refused_by_rules, refused_step,
 };
 use sf_refusals::Refusal;
 use std::alloc::Global;
@@ -54,10 +54,20 @@ fn carry_out_members(
     match group {
         Ok(group) => match carry_out_group(alloc, editor, asker, group) {
             Ok(answer) => Outcome::Grouped(answer),
+            Err(refusal) if wants_memory(&refusal) => Outcome::Told(Err(Refusal::Memory)),
             Err(refusal) => Outcome::Told(refused_by_rules(alloc, editor.rules(), refusal)),
         },
+        Err(GroupRefusal::Memory) => Outcome::Told(Err(Refusal::Memory)),
         Err(refusal) => Outcome::Told(refused(refusal)),
     }
+}
+
+/// Whether a step found no memory. A journal is told so that has its text, in the place of a text that is not accepted.
+fn wants_memory(refusal: &StepRefusal) -> bool
+    ensures is { IsTrue result → refusal.now ≡ StepRefusal.Memory }
+    ensures none { result ≡ false → refusal.now ≢ StepRefusal.Memory }
+{
+    matches!(refusal, StepRefusal::Memory)
 }
 
 /// Carries out a command of the editor of that number.
@@ -67,16 +77,19 @@ fn carry_out_command(alloc: Global, editor: &mut Editor, asker: u8, command: Com
     match command {
         Command::Edit(edit) => match editor.edit_as(alloc, asker, edit) {
             Ok(answer) => Outcome::Changed(answer),
+            Err(refusal) if wants_memory(&refusal) => Outcome::Told(Err(Refusal::Memory)),
             Err(refusal) => Outcome::Told(refused_by_rules(alloc, editor.rules(), refusal)),
         },
         Command::AddRule(rule) => match editor.add_rule_as(alloc, asker, rule) {
             Ok(()) => Outcome::Changed(Answer::Done),
+            Err((_, refusal)) if wants_memory(&refusal) => Outcome::Told(Err(Refusal::Memory)),
             Err((rule, refusal)) => {
                 Outcome::Told(refused_step(alloc, rule.name.as_str(), refusal))
             }
         },
         Command::DropRule(name) => match editor.drop_rule_as(asker, name.as_str()) {
             Ok(()) => Outcome::Changed(Answer::Done),
+            Err(refusal) if wants_memory(&refusal) => Outcome::Told(Err(Refusal::Memory)),
             Err(refusal) => Outcome::Told(refused_step(alloc, name.as_str(), refusal)),
         },
         Command::Undo => match editor.undo_as(alloc, asker) {

@@ -1,7 +1,7 @@
 //! Where edits are kept and answers go.
 ghost use Rattle.std.specs.Prelude.{◌≡◌, List, [], ◌∷◌, Option, None, OnOk, OnErr};
 ghost use Rattle.sf_keeping.specs.Desks.{Call, Makes};
-ghost use Rattle.sf_keeping.specs.Desks.Call.{Appends, Fails, Syncs, Answers};
+ghost use Rattle.sf_keeping.specs.Desks.Call.{AnswerFails, Answers, AppendFails, Appends, SyncFails, Syncs};
 ghost use Rattle.sf_keeping.specs.declared.desk.KeepFault.TheVariants.{Journal, Memory, Read, Write};
 
 use sf_streams::{ReadFault, WriteFault};
@@ -72,7 +72,7 @@ pub trait Desk {
     /// Where that fails; a front of the bytes may stand there then.
     fn append(&mut self, bytes: &[u8]) -> Result<(), JournalFault>
         ensures ok { OnOk result (Makes (calls self.old) (calls self.new) (Appends bytes.now ∷ [])) }
-        ensures failed { OnErr result (Makes (calls self.old) (calls self.new) (Fails bytes.now ∷ [])) };
+        ensures failed { OnErr result (Makes (calls self.old) (calls self.new) (AppendFails bytes.now ∷ [])) };
 
     /// Returns once all that was put behind the journal is on the disk.
     ///
@@ -81,7 +81,7 @@ pub trait Desk {
     /// Where that is not known.
     fn sync(&mut self) -> Result<(), JournalFault>
         ensures ok { OnOk result (Makes (calls self.old) (calls self.new) (Syncs ∷ [])) }
-        ensures failed { OnErr result (Makes (calls self.old) (calls self.new) []) };
+        ensures failed { OnErr result (Makes (calls self.old) (calls self.new) (SyncFails ∷ [])) };
 
     /// Puts all of these bytes out, and flushes the output.
     ///
@@ -89,5 +89,6 @@ pub trait Desk {
     ///
     /// Where that fails; a front of the bytes may be out then.
     fn answer(&mut self, bytes: &[u8]) -> Result<(), WriteFault>
-        ensures { Makes (calls self.old) (calls self.new) (Answers bytes.now ∷ []) };
+        ensures ok { OnOk result (Makes (calls self.old) (calls self.new) (Answers bytes.now ∷ [])) }
+        ensures failed { OnErr result (Makes (calls self.old) (calls self.new) (AnswerFails bytes.now ∷ [])) };
 }

@@ -1,5 +1,5 @@
 //! The lines of a reader, answered once they are kept.
-ghost use Rattle.std.specs.Prelude.{◌≡◌, ◌≤◌, ◌<◌, ◌+◌, ◌∷◌, ℕ, List, [], true, false, length, option_copied, IfOk, OnOk, OnErr};
+ghost use Rattle.std.specs.Prelude.{◌≡◌, ◌≤◌, ◌<◌, ◌+◌, ◌∷◌, ℕ, List, [], true, false, length, option_copied, IfErr, IfOk, OnOk};
 ghost use Rattle.sf_text_lines.specs.Lines.{HasNoFeed, line_max, text_of};
 ghost use Rattle.sf_text_lines.specs.Buffers.{IsBufferOf};
 ghost use Rattle.sf_console.specs.History.{Machine};
@@ -56,7 +56,7 @@ fn make_room<D: Desk>(pending: &mut Pending, desk: &mut D, text: usize) -> Resul
     ensures records { OnOk result (length pending.new.records + 4194322 ≤ 8388608) }
     ensures answers { OnOk result (length pending.new.answers + (text + 48) ≤ 8388608) }
     ensures ok { OnOk result (Stays (D.calls desk.old) (D.calls desk.new) pending.old pending.new) }
-    ensures broken { OnErr result (Breaks (D.calls desk.old) (D.calls desk.new) pending.old) }
+    ensures broken { IfErr result (λ fault. Breaks fault (D.calls desk.old) (D.calls desk.new) pending.old) }
 {
     if pending.has_room_for_a_record() && pending.has_room_for(text + ACCEPTED_MAX) {
         return Ok(());
@@ -68,8 +68,8 @@ fn make_room<D: Desk>(pending: &mut Pending, desk: &mut D, text: usize) -> Resul
 fn tell<D: Desk>(pending: &mut Pending, desk: &mut D, answer: &[u8]) -> Result<(), KeepFault>
     ensures ok { OnOk result ((machine : Machine) (request : Request) → IsTold machine request answer.now →
         GoesOnBy (D.calls desk.old) (D.calls desk.new) pending.old machine (request ∷ []) pending.new machine) }
-    ensures broken { OnErr result ((machine : Machine) (request : Request) → IsTold machine request answer.now →
-        BreaksWithin (D.calls desk.old) (D.calls desk.new) pending.old machine (request ∷ []) machine) }
+    ensures broken { IfErr result (λ fault. (machine : Machine) (request : Request) → IsTold machine request answer.now →
+        BreaksWithin fault (D.calls desk.old) (D.calls desk.new) pending.old machine (request ∷ []) machine) }
 {
     if pending.has_room_for(answer.len()) {
         pending.put(answer);
@@ -82,8 +82,8 @@ fn tell<D: Desk>(pending: &mut Pending, desk: &mut D, answer: &[u8]) -> Result<(
 fn tell_behind<D: Desk>(pending: &mut Pending, desk: &mut D, answer: &[u8]) -> Result<(), KeepFault>
     ensures ok { OnOk result ((machine : Machine) (request : Request) → IsTold machine request answer.now →
         GoesOnBy (D.calls desk.old) (D.calls desk.new) pending.old machine (request ∷ []) pending.new machine) }
-    ensures broken { OnErr result ((machine : Machine) (request : Request) → IsTold machine request answer.now →
-        BreaksWithin (D.calls desk.old) (D.calls desk.new) pending.old machine (request ∷ []) machine) }
+    ensures broken { IfErr result (λ fault. (machine : Machine) (request : Request) → IsTold machine request answer.now →
+        BreaksWithin fault (D.calls desk.old) (D.calls desk.new) pending.old machine (request ∷ []) machine) }
 {
     pending.commit(desk)?;
     if pending.has_room_for(answer.len()) {
@@ -102,8 +102,8 @@ fn tell_reply<D: Desk>(
 ) -> Result<(), KeepFault>
     ensures ok { OnOk result ((machine : Machine) (request : Request) → IsTold machine request (reply_text reply) →
         GoesOnBy (D.calls desk.old) (D.calls desk.new) pending.old machine (request ∷ []) pending.new machine) }
-    ensures broken { OnErr result ((machine : Machine) (request : Request) → IsTold machine request (reply_text reply) →
-        BreaksWithin (D.calls desk.old) (D.calls desk.new) pending.old machine (request ∷ []) machine) }
+    ensures broken { IfErr result (λ fault. (machine : Machine) (request : Request) → IsTold machine request (reply_text reply) →
+        BreaksWithin fault (D.calls desk.old) (D.calls desk.new) pending.old machine (request ∷ []) machine) }
 {
     match reply {
         Ok(Reply::Nothing) => tell(pending, desk, &[]),
@@ -136,8 +136,8 @@ fn keep_short<D: Desk>(
     requires { length text.now ≤ line_max }
     ensures ok { OnOk result ((request : Request) → IsRequestOf request text.now →
         GoesOnBy (D.calls desk.old) (D.calls desk.new) pending.old editor.old (request ∷ []) pending.new editor.new) }
-    ensures broken { OnErr result ((request : Request) → IsRequestOf request text.now →
-        BreaksWithin (D.calls desk.old) (D.calls desk.new) pending.old editor.old (request ∷ []) editor.new) }
+    ensures broken { IfErr result (λ fault. (request : Request) → IsRequestOf request text.now →
+        BreaksWithin fault (D.calls desk.old) (D.calls desk.new) pending.old editor.old (request ∷ []) editor.new) }
 {
     make_room(pending, desk, text.len())?;
     match carry_out(alloc, editor, text) {
@@ -155,6 +155,7 @@ fn keep_answered(pending: &mut Pending, text: &[u8], answer: &[u8]) -> Result<()
     requires records { length pending.old.records + 4194322 ≤ 8388608 }
     requires answers { length pending.old.answers + (length text.now + 48) ≤ 8388608 }
     ensures ok { OnOk result (pending.new ≡ with_answer (with_text pending.old text.now) answer.now) }
+    ensures wanting { IfErr result (λ fault. fault ≡ KeepFault.Memory) }
 {
     // Of an edit no answer is longer, and of a group each identifier is shorter than its member: this never comes.
     if answer.len() > text.len() + ACCEPTED_MAX {
@@ -175,8 +176,8 @@ fn keep_text<D: Desk>(
 ) -> Result<(), KeepFault>
     ensures ok { OnOk result ((request : Request) → IsRequestOf request text.now → (line_max < length text.now → IsGrouped request.reading) →
         GoesOnBy (D.calls desk.old) (D.calls desk.new) pending.old editor.old (request ∷ []) pending.new editor.new) }
-    ensures broken { OnErr result ((request : Request) → IsRequestOf request text.now → (line_max < length text.now → IsGrouped request.reading) →
-        BreaksWithin (D.calls desk.old) (D.calls desk.new) pending.old editor.old (request ∷ []) editor.new) }
+    ensures broken { IfErr result (λ fault. (request : Request) → IsRequestOf request text.now → (line_max < length text.now → IsGrouped request.reading) →
+        BreaksWithin fault (D.calls desk.old) (D.calls desk.new) pending.old editor.old (request ∷ []) editor.new) }
 {
     if text.len() > LINE_MAX {
         keep_long(alloc, editor, pending, desk, text)
@@ -196,8 +197,8 @@ fn keep_long<D: Desk>(
 ) -> Result<(), KeepFault>
     ensures ok { OnOk result ((request : Request) → IsRequestOf request text.now → IsGrouped request.reading →
         GoesOnBy (D.calls desk.old) (D.calls desk.new) pending.old editor.old (request ∷ []) pending.new editor.new) }
-    ensures broken { OnErr result ((request : Request) → IsRequestOf request text.now → IsGrouped request.reading →
-        BreaksWithin (D.calls desk.old) (D.calls desk.new) pending.old editor.old (request ∷ []) editor.new) }
+    ensures broken { IfErr result (λ fault. (request : Request) → IsRequestOf request text.now → IsGrouped request.reading →
+        BreaksWithin fault (D.calls desk.old) (D.calls desk.new) pending.old editor.old (request ∷ []) editor.new) }
 {
     pending.commit(desk)?;
     // The record is made first: where no memory is found for it, nothing was changed yet.
@@ -227,8 +228,8 @@ fn keep_asked<D: Desk>(
 ) -> Result<(), KeepFault>
     ensures ok { OnOk result ((request : Request) → Asks (option_copied line.entry) request asks → IsLineText (option_copied line.entry) →
         GoesOnBy (D.calls desk.old) (D.calls desk.new) pending.old editor.old (request ∷ []) pending.new editor.new) }
-    ensures broken { OnErr result ((request : Request) → Asks (option_copied line.entry) request asks → IsLineText (option_copied line.entry) →
-        BreaksWithin (D.calls desk.old) (D.calls desk.new) pending.old editor.old (request ∷ []) editor.new) }
+    ensures broken { IfErr result (λ fault. (request : Request) → Asks (option_copied line.entry) request asks → IsLineText (option_copied line.entry) →
+        BreaksWithin fault (D.calls desk.old) (D.calls desk.new) pending.old editor.old (request ∷ []) editor.new) }
 {
     match asks {
         LineAsks::Nothing => tell_reply(pending, desk, Ok(Reply::Nothing)),
@@ -248,8 +249,8 @@ fn keep_alone<D: Desk>(
 ) -> Result<(), KeepFault>
     ensures ok { OnOk result (IsLineText (option_copied line.entry) →
         GoesOnBy (D.calls desk.old) (D.calls desk.new) pending.old editor.old (line_request (option_copied line.entry) ∷ []) pending.new editor.new) }
-    ensures broken { OnErr result (IsLineText (option_copied line.entry) →
-        BreaksWithin (D.calls desk.old) (D.calls desk.new) pending.old editor.old (line_request (option_copied line.entry) ∷ []) editor.new) }
+    ensures broken { IfErr result (λ fault. IsLineText (option_copied line.entry) →
+        BreaksWithin fault (D.calls desk.old) (D.calls desk.new) pending.old editor.old (line_request (option_copied line.entry) ∷ []) editor.new) }
 {
     match line {
         Some(text) => keep_text(alloc, editor, pending, desk, text),
@@ -269,8 +270,8 @@ fn keep_line<D: Desk>(
     ensures ok { OnOk result ((bytes : List ℕ) (gathering : Gathering) → IsBufferOf bytes line.now → HasNoFeed bytes → IsHeld gathering group.old →
         GoesOnBy (D.calls desk.old) (D.calls desk.new) pending.old editor.old ((gathered_by gathering bytes).1 ∷ []) pending.new editor.new
         × IsHeld (gathered_by gathering bytes).0 group.new) }
-    ensures broken { OnErr result ((bytes : List ℕ) (gathering : Gathering) → IsBufferOf bytes line.now → HasNoFeed bytes → IsHeld gathering group.old →
-        BreaksWithin (D.calls desk.old) (D.calls desk.new) pending.old editor.old ((gathered_by gathering bytes).1 ∷ []) editor.new) }
+    ensures broken { IfErr result (λ fault. (bytes : List ℕ) (gathering : Gathering) → IsBufferOf bytes line.now → HasNoFeed bytes → IsHeld gathering group.old →
+        BreaksWithin fault (D.calls desk.old) (D.calls desk.new) pending.old editor.old ((gathered_by gathering bytes).1 ∷ []) editor.new) }
 {
     let line = whole_line(line);
     // Most lines are: nothing else need be done for them.
@@ -295,8 +296,8 @@ fn take_lines<D: Desk>(
     ensures all { IfOk result (λ saves. saves ≡ false → input.new.rest ≡ []) }
     ensures save { IfOk result (λ saves. saves ≡ true → (before : List ℕ) (gathering : Gathering) → IsBufferOf before input.old.begun → HasNoFeed before → IsHeld gathering group.old →
         TakesSave before input.old.rest gathering (D.calls desk.old) (D.calls desk.new) pending.old editor.old input.new pending.new editor.new) }
-    ensures broken { OnErr result ((before : List ℕ) (gathering : Gathering) → IsBufferOf before input.old.begun → HasNoFeed before → IsHeld gathering group.old →
-        BreaksLines before input.old.rest gathering (D.calls desk.old) (D.calls desk.new) pending.old editor.old editor.new) }
+    ensures broken { IfErr result (λ fault. (before : List ℕ) (gathering : Gathering) → IsBufferOf before input.old.begun → HasNoFeed before → IsHeld gathering group.old →
+        BreaksLines fault before input.old.rest gathering (D.calls desk.old) (D.calls desk.new) pending.old editor.old editor.new) }
 {
     while input.end_line() {
         // Inside of a group the line is a member's, whatever it says.
@@ -332,8 +333,8 @@ fn keep_last<D: Desk>(
     ensures ok { OnOk result ((bytes : List ℕ) (gathering : Gathering) → IsBufferOf bytes line.now → HasNoFeed bytes → IsHeld gathering group.old →
         GoesOnBy (D.calls desk.old) (D.calls desk.new) pending.old editor.old (last_asked gathering bytes) pending.new editor.new
         × IsHeld (last_left gathering bytes) group.new) }
-    ensures broken { OnErr result ((bytes : List ℕ) (gathering : Gathering) → IsBufferOf bytes line.now → HasNoFeed bytes → IsHeld gathering group.old →
-        BreaksWithin (D.calls desk.old) (D.calls desk.new) pending.old editor.old (last_asked gathering bytes) editor.new) }
+    ensures broken { IfErr result (λ fault. (bytes : List ℕ) (gathering : Gathering) → IsBufferOf bytes line.now → HasNoFeed bytes → IsHeld gathering group.old →
+        BreaksWithin fault (D.calls desk.old) (D.calls desk.new) pending.old editor.old (last_asked gathering bytes) editor.new) }
 {
     if line.is_empty() {
         return Ok(());
@@ -355,8 +356,8 @@ fn finish<D: Desk>(
 ) -> Result<Stop, KeepFault>
     ensures ok { IfOk result (λ stop. (bytes : List ℕ) (gathering : Gathering) → IsBufferOf bytes line.now → HasNoFeed bytes → IsHeld gathering group.old → pending.old ≡ nothing_waits pending.old.sum →
         Finishes stop bytes gathering (D.calls desk.old) (D.calls desk.new) pending.old editor.old pending.new editor.new) }
-    ensures broken { OnErr result ((bytes : List ℕ) (gathering : Gathering) → IsBufferOf bytes line.now → HasNoFeed bytes → IsHeld gathering group.old →
-        AskForNone (asked_at_end gathering bytes) × BreaksWithin (D.calls desk.old) (D.calls desk.new) pending.old editor.old (asked_at_end gathering bytes) editor.new) }
+    ensures broken { IfErr result (λ fault. (bytes : List ℕ) (gathering : Gathering) → IsBufferOf bytes line.now → HasNoFeed bytes → IsHeld gathering group.old →
+        AskForNone (asked_at_end gathering bytes) × BreaksWithin fault (D.calls desk.old) (D.calls desk.new) pending.old editor.old (asked_at_end gathering bytes) editor.new) }
 {
     if group.is_closed() && is_last_save(line) {
         return Ok(Stop::Save);
@@ -388,7 +389,7 @@ pub fn serve_kept<R: Read, D: Desk>(
         (D.calls desk.old) (D.calls desk.new) sum pending.new.sum editor.old editor.new) }
 
     // What was before the fault.
-    ensures fault { OnErr result (EndsKept (R.remaining reader.old) (R.remaining reader.new) input.old.rest
+    ensures fault { IfErr result (λ fault. EndsKept fault (R.remaining reader.old) (R.remaining reader.new) input.old.rest
         (D.calls desk.old) (D.calls desk.new) sum editor.old editor.new) }
 {
     pending.begin(sum);

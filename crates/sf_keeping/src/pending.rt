@@ -1,5 +1,5 @@
 //! Records on their way to the journal, and answers that wait for them.
-ghost use Rattle.std.specs.Prelude.{◌≡◌, ◌≤◌, ◌+◌, [], List, nat_le, length, IfOk, OnOk, OnErr};
+ghost use Rattle.std.specs.Prelude.{◌≡◌, ◌≤◌, ◌+◌, [], List, nat_le, length, IfErr, IfOk, OnOk, OnErr};
 ghost use Rattle.sf_journal.specs.Records.{record_of, sum_with};
 ghost use Rattle.sf_keeping.specs.Desks.{Call, Makes};
 ghost use Rattle.sf_keeping.specs.Waiting.{nothing_waits, with_text, with_answer, committing_calls, keeping_calls, IsBrokenKeeping, IsBrokenOff};
@@ -120,9 +120,9 @@ impl Pending {
         ensures ok { OnOk result (self.old ≡ nothing_waits self.old.sum → bytes.now ≡ record_of self.old.sum text.now →
             Makes (D.calls desk.old) (D.calls desk.new) (committing_calls (with_answer (with_text self.old text.now) answer.now))) }
         ensures sum { OnOk result (self.old ≡ nothing_waits self.old.sum → self.new ≡ nothing_waits (sum_with self.old.sum text.now)) }
-        ensures broken { OnErr result (self.old ≡ nothing_waits self.old.sum → bytes.now ≡ record_of self.old.sum text.now →
+        ensures broken { IfErr result (λ fault. self.old ≡ nothing_waits self.old.sum → bytes.now ≡ record_of self.old.sum text.now →
             (calls : List Call) × Makes (D.calls desk.old) (D.calls desk.new) calls
-            × IsBrokenOff (with_answer (with_text self.old text.now) answer.now) calls) }
+            × IsBrokenOff fault (with_answer (with_text self.old text.now) answer.now) calls) }
     {
         desk.append(bytes)?;
         desk.sync()?;
@@ -159,8 +159,8 @@ impl Pending {
     pub(crate) fn commit<D: Desk>(&mut self, desk: &mut D) -> Result<(), KeepFault>
         ensures ok { OnOk result (Makes (D.calls desk.old) (D.calls desk.new) (committing_calls self.old)) }
         ensures emptied { OnOk result (self.new ≡ nothing_waits self.old.sum) }
-        ensures broken { OnErr result ((calls : List Call) × Makes (D.calls desk.old) (D.calls desk.new) calls
-            × IsBrokenOff self.old calls) }
+        ensures broken { IfErr result (λ fault. (calls : List Call) × Makes (D.calls desk.old) (D.calls desk.new) calls
+            × IsBrokenOff fault self.old calls) }
     {
         self.keep_all(desk)?;
         if self.answers.is_empty() {

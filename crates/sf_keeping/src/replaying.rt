@@ -1,11 +1,11 @@
 //! The edits of a journal, replayed.
-ghost use Rattle.std.specs.Prelude.{◌≡◌, ◌⊎◌, Some, IfOk, IfErr, OnOk};
+ghost use Rattle.std.specs.Prelude.{◌≡◌, ◌⊎◌, Err, None, Some, IfOk, IfErr, OnOk};
 ghost use Rattle.sf_console.specs.Readings.{text_reading};
 ghost use Rattle.sf_keeping.specs.Changes.{changed};
 ghost use Rattle.sf_keeping.specs.Replays.{FailsAt, IsReplayed};
 
 use super::carrying::{Outcome, carry_out};
-use sf_console::Editor;
+use sf_console::{Editor, Reply};
 use sf_journal::Sum;
 use sf_refusals::Refusal;
 use sf_text_lines::line_feed;
@@ -40,12 +40,23 @@ fn replay_text(
     place: usize,
 ) -> Result<(), ReplayFault>
     ensures ok { OnOk result (changed editor.old (text_reading text.now) ≡ Some editor.new) }
-    ensures fault { IfErr result (λ fault. (fault ≡ ReplayFault.Memory) ⊎ (fault ≡ ReplayFault.NotAccepted place)) }
+    ensures fault { IfErr result (λ fault. (fault ≡ ReplayFault.Memory)
+        ⊎ ((fault ≡ ReplayFault.NotAccepted place) × (changed editor.old (text_reading text.now) ≡ None))) }
 {
     match carry_out(alloc, editor, text) {
         Outcome::Changed(_) | Outcome::Grouped(_) => Ok(()),
-        Outcome::Told(Err(Refusal::Memory)) => Err(ReplayFault::Memory),
-        Outcome::Told(_) => Err(ReplayFault::NotAccepted(place)),
+        Outcome::Told(told) => Err(refused_by(told, place)),
+    }
+}
+
+/// Why a record is refused that is answered so, and stands at that place.
+fn refused_by(told: Result<Reply, Refusal>, place: usize) -> ReplayFault
+    ensures memory { told ≡ Err Refusal.Memory → result ≡ ReplayFault.Memory }
+    ensures either { (result ≡ ReplayFault.Memory) ⊎ (result ≡ ReplayFault.NotAccepted place) }
+{
+    match told {
+        Err(Refusal::Memory) => ReplayFault::Memory,
+        _ => ReplayFault::NotAccepted(place),
     }
 }
 

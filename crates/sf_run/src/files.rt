@@ -4,7 +4,7 @@
 ghost use Rattle.std.specs.Prelude.{ℕ, List, Option, IfErr, IfOk, OnOk, option_map};
 ghost use Rattle.sf_saving.specs.Canonical.{canonical_ruled};
 ghost use Rattle.sf_console.specs.History.{ruled_now};
-ghost use Rattle.sf_run.specs.Files.{AreSaving, Does, EndsBy, FileCall, IsSaved, IsServed, IsUnsaved, loading_calls};
+ghost use Rattle.sf_run.specs.Files.{AreSaving, Does, EndsBy, FileCall, IsSaved, IsServed, IsUnsaved};
 
 use super::running::{RunFault, Served, run, run_from};
 use sf_saving::SaveFault;
@@ -38,9 +38,9 @@ pub enum FilesFault {
 
 /// What a run asks of its files.
 pub trait RunFiles {
-    ghost use Rattle.std.specs.Prelude.{[], ◌∷◌, List, Option, None, IfOk};
+    ghost use Rattle.std.specs.Prelude.{[], ◌∷◌, List, Option, None, IfOk, OnErr, OnOk};
     ghost use Rattle.sf_run.specs.Files.{Does, FileCall, IsNew};
-    ghost use Rattle.sf_run.specs.Files.FileCall.{Begins, Finishes, GivesUp, Opens};
+    ghost use Rattle.sf_run.specs.Files.FileCall.{BeginFails, Begins, FinishFails, Finishes, GivesUp, OpenFails, Opens};
 
     /// The calls that were made, where they are known.
     ghost calls: { Self → Option (List FileCall) } = { λ _. None };
@@ -53,16 +53,19 @@ pub trait RunFiles {
 
     /// Opens a file to be read.
     fn open(&mut self, path: &str) -> Result<Self::Source, OpenFault>
-        ensures { Does (calls self.old) (calls self.new) (Opens path.now ∷ []) };
+        ensures opened { IfOk result (λ file. Does (calls self.old) (calls self.new) (Opens path.now (Self.Source.remaining file) ∷ [])) }
+        ensures failed { OnErr result (Does (calls self.old) (calls self.new) (OpenFails path.now ∷ [])) };
 
     /// Begins an empty file that is to take the place of what a path names.
     fn begin(&mut self, path: &str) -> Result<Self::Target, BeginFault>
-        ensures called { Does (calls self.old) (calls self.new) (Begins path.now ∷ []) }
+        ensures begun { OnOk result (Does (calls self.old) (calls self.new) (Begins path.now ∷ [])) }
+        ensures failed { OnErr result (Does (calls self.old) (calls self.new) (BeginFails path.now ∷ [])) }
         ensures empty { IfOk result (λ target. IsNew (Self.Target.contents target)) };
 
     /// Has the file take its place.
     fn finish(&mut self, target: Self::Target) -> Result<(), SaveFault>
-        ensures { Does (calls self.old) (calls self.new) (Finishes (Self.Target.contents target) ∷ []) };
+        ensures finished { OnOk result (Does (calls self.old) (calls self.new) (Finishes (Self.Target.contents target) ∷ [])) }
+        ensures failed { OnErr result (Does (calls self.old) (calls self.new) (FinishFails (Self.Target.contents target) ∷ [])) };
 
     /// Gives the file up: what the path names stays.
     fn give_up(&mut self, target: Self::Target)
@@ -102,10 +105,9 @@ fn served_from<F: RunFiles, R: Read, W: Write>(
     input: &mut R,
     output: &mut W,
 ) -> Result<Served, FilesFault>
-    ensures ok { IfOk result (λ served.
-        Does (F.calls files.old) (F.calls files.new) (loading_calls (option_map (λ path. path.now) load.entry))
-        × IsServed (option_map (λ path. path.now) load.entry)
-        (R.remaining input.old) (R.remaining input.new) (W.contents output.old) (W.contents output.new) served) }
+    ensures ok { IfOk result (λ served. (loading : List FileCall) × IsServed (option_map (λ path. path.now) load.entry) loading
+        (R.remaining input.old) (R.remaining input.new) (W.contents output.old) (W.contents output.new) served
+        × Does (F.calls files.old) (F.calls files.new) loading) }
     ensures fault { IfErr result (λ fault. (save : Option (List ℕ)) → EndsBy fault (option_map (λ path. path.now) load.entry) save
         (F.calls files.old) (F.calls files.new)
         (R.remaining input.old) (R.remaining input.new) (W.contents output.old) (W.contents output.new)) }
