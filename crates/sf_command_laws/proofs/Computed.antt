@@ -1,5 +1,5 @@
 -- Commands of lines, computed from the definitions alone.
-use Rattle.std.proofs.Common.{◌≡◌, pos, negsuc, Ok, Err, None, Some, [], ◌∷◌, codes, refl}
+use Rattle.std.proofs.Common.{◌≡◌, pos, negsuc, Ok, Err, None, Some, true, [], ◌∷◌, codes, refl}
 use Rattle.sf_refusals.specs.declared.refusal.Refusal.TheVariants.{Syntax, OffGrid, OutOfRange, BadCommand, BadPattern}
 use Rattle.sf_geometry.specs.declared.geometry.Geometry.TheVariants as geometries
 use Rattle.sf_geometry.specs.declared.kind.Kind.TheVariants as kinds
@@ -41,7 +41,9 @@ geometry_replaced = refl
 value_set : (command_of (codes "set wells 7 depth -0012 ") ≡ Ok (0, Edit (edits.SetValue (codes "wells") 7 (codes "depth") (values.Int (negsuc 11)))))
     × (command_of (codes "set wells 7 depth +9223372036854775807") ≡ Ok (0, Edit (edits.SetValue (codes "wells") 7 (codes "depth") (values.Int (pos 9223372036854775807)))))
     × (command_of (codes "set wells 7 depth -9223372036854775808") ≡ Ok (0, Edit (edits.SetValue (codes "wells") 7 (codes "depth") (values.Int (negsuc 9223372036854775807)))))
-value_set = (refl, refl, refl)
+    × (command_of (codes "set wells 7 depth 1.0") ≡ Ok (0, Edit (edits.SetValue (codes "wells") 7 (codes "depth") (values.Int (pos 1)))))
+    × (command_of (codes "set wells 7 depth true") ≡ Ok (0, Edit (edits.SetValue (codes "wells") 7 (codes "depth") (values.Bool true))))
+value_set = (refl, refl, refl, refl, refl)
 
 text_set : (command_of (codes "set wells 7 label 'it''s  old' ") ≡ Ok (0, Edit (edits.SetValue (codes "wells") 7 (codes "label") (values.Text (codes "it's  old")))))
     × (command_of (codes "set wells 7 label ''") ≡ Ok (0, Edit (edits.SetValue (codes "wells") 7 (codes "label") (values.Text []))))
@@ -52,7 +54,7 @@ text_set = (refl, refl, refl, refl)
 -- what spells no number
 no_numbers : (command_of (codes "set wells 7 depth") ≡ Err BadCommand) × (command_of (codes "set wells 7 depth 1 2") ≡ Err BadCommand)
     × (command_of (codes "set wells 7 depth -") ≡ Err BadCommand) × (command_of (codes "set wells 7 depth 9223372036854775808") ≡ Err BadCommand)
-    × (command_of (codes "set wells 7 depth 1.0") ≡ Err BadCommand) × (command_of (codes "set wells x depth 1") ≡ Err BadCommand)
+    × (command_of (codes "set wells 7 depth 1.") ≡ Err BadCommand) × (command_of (codes "set wells x depth 1") ≡ Err BadCommand)
 no_numbers = (refl, refl, refl, refl, refl, refl)
 
 -- what is no text in quotes
