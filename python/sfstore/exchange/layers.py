@@ -127,3 +127,5 @@ class Source(NamedTuple):
     """What an export has left in a GeoPackage, or nothing."""
     plain_tables: Sequence[str] = ()
     """Tables without geometries that are no layers of it."""
+    is_whole: bool = True
+    """Whether ``files`` are all that it is read from. A file of any format may lead to others."""

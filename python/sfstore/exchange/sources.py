@@ -71,7 +71,7 @@ def check_unchanged(sources: Sequence[Source]) -> None:
 
 def mode_for(sources: Sequence[Source], group: int) -> int:
     """The most that a new file of a group may let others do, which has all that the sources have."""
-    return reduce(and_, (mode_of(source.files, group) for source in sources), 0o777)
+    return reduce(and_, (mode_of(source.files, group) if source.is_whole else 0o700 for source in sources), 0o777)
 
 
 def _opened(name: str, any_format: bool) -> Source:
@@ -85,7 +85,8 @@ def _opened(name: str, any_format: bool) -> Source:
         raise ogr.ExchangeError(f"{ogr.printable(name):.200} is GeoJSON, and no file that begins as one: name its file alone")
     metadata = data.GetMetadataItem(wayback.ITEM) if data.GetDriver().ShortName == "GPKG" else ""
     layers: list[Layer] = [OgrLayer(data, data.GetLayer(at)) for at in range(data.GetLayerCount())]
-    return Source(name, layers, files, metadata or "", _plain_tables(data, layers))
+    is_whole = data.GetDriver().ShortName in ogr.DRIVERS
+    return Source(name, layers, files, metadata or "", _plain_tables(data, layers), is_whole)
 
 
 def _reason(name: str, error: RuntimeError) -> str:

@@ -3,6 +3,7 @@
 from __future__ import annotations
 
 import os
+import re
 import stat
 from collections.abc import Mapping
 from typing import NamedTuple, Optional
@@ -12,6 +13,9 @@ __all__ = ["Stamp", "Stamps", "changed", "mode_of", "stamps_of"]
 # What stands beside the file that is named, and is read with it. A `-shm` is written by readers too.
 _BESIDE = {".shp": (".shx", ".dbf", ".prj", ".cpg", ".qix", ".sbn"), ".gpkg": ("-wal", "-journal")}
 _OF_A_FOLDER = (".shp", ".gpkg", ".geojson", ".json", ".geojsonl", ".geojsons", ".fgb")
+
+# What stands before the path of an archive.
+_VIRTUAL = re.compile(r"/vsi[a-z0-9]+(_streaming)?/", re.ASCII)
 
 
 class Stamp(NamedTuple):
@@ -39,8 +43,11 @@ def changed(before: Stamps) -> list[str]:
 
 
 def mode_of(files: Stamps, group: int) -> int:
-    """The most that all of some files let others do, where a new file is of a group. Its owner may do all."""
-    mode = 0o777
+    """The most that all of some files let others do, where a new file is of a group. Its owner may do all.
+
+    Where no file is known, as of a database, others may do nothing.
+    """
+    mode = 0o777 if any(files.values()) else 0
     for path, stamp in files.items():
         if stamp is None:
             continue
@@ -80,12 +87,26 @@ def _set(path: str) -> list[str]:
 
 
 def _archive(source: str) -> list[str]:
-    """The archive that a source is in."""
-    if not source.startswith("/vsi"):
+    """The archive that a source is in, also one in another one; none where it can't be told."""
+    rest = source
+    while found := _VIRTUAL.match(rest):
+        rest = _braced(rest[found.end() :])
+    if rest == source:
         return []
-    parts = source.split("/")
-    paths = ("/".join(["", *parts[begin:end]]) for begin in (2, 3) for end in range(len(parts), begin, -1))
-    return [path for path in paths if _is_file(path)][:1]
+    # The names of what is in the archive follow. OGR takes the path from the root with one slash before it or with two.
+    parts = rest.split("/")
+    paths = ["/".join(parts[:end]) for end in range(len(parts), 0, -1)]
+    return [path for each in paths if each for path in (each, "/" + each) if _is_file(path)][:1]
+
+
+def _braced(text: str) -> str:
+    """What stands in braces at the beginning of a text, or the text."""
+    depth = 0
+    for at, letter in enumerate(text if text.startswith("{") else ""):
+        depth += {"{": 1, "}": -1}.get(letter, 0)
+        if depth == 0:
+            return text[1:at]
+    return text
 
 
 def _is_file(path: str) -> bool:

@@ -6,6 +6,7 @@ import os
 import shutil
 import sqlite3
 import unittest
+import zipfile
 from unittest import mock
 
 from support import PROGRAM
@@ -65,6 +66,37 @@ class Rights(SourceCase):
         (folder / "a.gpkg").chmod(0o640)
         self.assertEqual(self.brought(folder)[0], 0)
         self.assertEqual(self.mode(self.store), 0o640)
+
+    def test_one_of_an_archive_as_the_archive_by_any_path_to_it(self):
+        self.points(POINTS)
+        archive, outer = self.folder / "a.zip", self.folder / "outer.zip"
+        with zipfile.ZipFile(archive, "w") as made:
+            made.write(self.source, "inner.gpkg")
+        with zipfile.ZipFile(outer, "w") as made:
+            made.write(archive, "a.zip")
+        self.addCleanup(os.chdir, os.getcwd())
+        os.chdir(self.folder)
+        inner = ("/inner.gpkg", "")
+        paths = [f"/vsizip/{begin}{tail}" for begin in ("a.zip", archive, f"{{{archive}}}", "{a.zip}") for tail in inner]
+        paths += ["/vsizip/{/vsizip/outer.zip/a.zip}/inner.gpkg", f"/vsizip/{{/vsizip/{{{outer}}}/a.zip}}/inner.gpkg"]
+        for mode in (0o600, 0o640):
+            archive.chmod(mode)
+            outer.chmod(mode)
+            for path in paths:
+                with self.subTest(path):
+                    self.remove_store()
+                    # OGR warns of some of these paths.
+                    self.assertIn(self.brought(path)[0], (0, 1))
+                    self.assertEqual((self.mode(self.store), self.mode(f"{self.store}.json")), (mode, mode))
+
+    def test_one_of_files_that_can_not_be_told_is_closed(self):
+        self.points(POINTS)
+        self.source.chmod(0o600)
+        leading = self.folder / "leading.vrt"
+        leading.write_text(f'<OGRVRTDataSource><OGRVRTLayer name="wells"><SrcDataSource>{self.source}</SrcDataSource></OGRVRTLayer></OGRVRTDataSource>')
+        leading.chmod(0o644)
+        self.brought(leading, "--any-format")
+        self.assertEqual((self.mode(self.store), self.mode(f"{self.store}.json")), (0o600, 0o600))
 
     def test_one_in_the_place_of_another_has_its_rights(self):
         self.points(POINTS)
