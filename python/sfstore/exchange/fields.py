@@ -21,6 +21,7 @@ from sfstore.exchange.jsontext import text_of
 from sfstore.exchange.layers import Fault, Feature, Left, SourceColumns
 from sfstore.exchange.moments import day_of, moment_of, text_of_day, text_of_moment, text_of_time
 from sfstore.exchange.names import Names, kept_name
+from sfstore.exchange.shapefiles import odd_numbers
 from sfstore.exchange.stored import MAKERS, Made, whole_of
 from sfstore.language import TEXT_MAX
 from sfstore.results import Value
@@ -292,11 +293,13 @@ class Fields(SourceColumns):
         return set(confused)
 
     def find_odd(self) -> None:
-        """Asks a GeoPackage or a database for the values that OGR would change."""
+        """Asks a GeoPackage, a database or the table of a Shapefile for the values that OGR would change."""
         if self._driver == "GPKG":
             self._find_odd_of_geopackage()
         elif self._driver == "PostgreSQL":
             self._find_odd_of_postgresql()
+        elif self._driver == "ESRI Shapefile":
+            self._find_odd_of_shapefile()
 
     def forget_odd(self) -> None:
         """Lets go of what `find_odd` has found."""
@@ -310,6 +313,11 @@ class Fields(SourceColumns):
             condition = f"{name} IS NOT NULL AND NOT ({_FITTING[field.source_type].format(name)})"
             shown = f"substr(quote({name}), 1, 60)"
             self._note_odd(field, condition, shown)
+
+    def _find_odd_of_shapefile(self) -> None:
+        numbers = {each.place: each.source_type != REAL for each in self._fields if each.source_type in (INTEGER, INTEGER_64, REAL)}
+        for record, place, text in odd_numbers(self._source, self._layer.GetName(), numbers):
+            self._odd[record, place] = repr(text), None
 
     def _find_odd_of_postgresql(self) -> None:
         types = self._postgresql_types()

@@ -12,6 +12,7 @@ from sfstore.exchange import jsontext, ogr, wayback
 from sfstore.exchange.fields import Fields
 from sfstore.exchange.jsonlayer import JsonLayer
 from sfstore.exchange.layers import Feature, Layer, Lost, Source
+from sfstore.exchange.shapefiles import index_fault
 from sfstore.exchange.srids import strangers
 from sfstore.exchange.stamps import changed, mode_of, stamps_of
 from sfstore.sidecar import Crs
@@ -179,6 +180,9 @@ class OgrLayer(Layer):
             yield Lost("geometries that name no reference system are taken as of the layer's", f"{self._unnamed} of them")
         if self.format in _JSON:
             yield Lost("it is read by OGR, which may change numbers and drops names that stand twice", "name the file alone")
+        unnamed = index_fault(self._data, self.name) if self.format == _SHAPEFILE else ""
+        if unnamed:
+            yield Lost("its .shx does not name all of its .shp, and no more", unnamed)
         if self.format == _SHAPEFILE and not _has_values(self._data, self.name):
             yield Lost("it has no values", "its .dbf is missing")
         told = self._layer.GetMetadata(_SHAPEFILE_METADATA) if self.format == _SHAPEFILE else {}

@@ -4,6 +4,7 @@ from __future__ import annotations
 
 import contextlib
 import json
+import shutil
 import sqlite3
 import unittest
 from decimal import Decimal
@@ -108,6 +109,59 @@ class Metadata(ExchangeCase):
         self.with_metadata({"grid": GRID[1:], "layers": [last]})
         self.assertEqual(bring_in(self.source, self.store)[0], 0)
         self.assertEqual(len(self.shown("w")), 1)
+
+
+class Shapefiles(ExchangeCase):
+    """Shapefiles whose bytes were changed."""
+
+    def made(self):
+        folder = self.folder / "maps"
+        shutil.rmtree(folder, ignore_errors=True)
+        folder.mkdir()
+        self.source = folder / "w.shp"
+        source = Source(self.source, "ESRI Shapefile")
+        columns = [("n", ogr.OFTInteger64), ("r", ogr.OFTReal), ("t", ogr.OFTString)]
+        source.layer("w", {k: (POINT, {"n": k, "r": k + 0.5, "t": "x"}) for k in range(4)}, columns=columns).close()
+
+    def put(self, record, column, text):
+        """Writes a text into a column of a record."""
+        path = self.source.with_suffix(".dbf")
+        table = bytearray(path.read_bytes())
+        begin, size = int.from_bytes(table[8:10], "little"), int.from_bytes(table[10:12], "little")
+        widths = [table[at + 16] for at in range(32, begin - 1, 32)]
+        at = begin + record * size + 1 + sum(widths[:column])
+        table[at : at + widths[column]] = text.rjust(widths[column]).encode()
+        path.write_bytes(table)
+
+    def brought_in(self, source=None):
+        words = [source or self.source, self.store, *GRID, "--overwrite"]
+        status, out, err = bring_in(*words)
+        self.assertEqual(err, "")
+        return status, out, [feature.values for feature in self.shown("w")]
+
+    def test_texts_among_numbers_are_told(self):
+        self.made()
+        self.assertEqual(self.brought_in()[0], 0)
+        odd = [(0, 0, "abc"), (1, 0, "12.7"), (2, 0, "1e05"), (3, 0, "1-5"), (0, 1, "12,75"), (1, 1, "12abc"), (2, 1, "1.5E+2"), (3, 1, "")]
+        for record, column, text in odd:
+            self.put(record, column, text)
+        zipped = shutil.make_archive(str(self.folder / "a"), "zip", self.source.parent)
+        for source in (self.source, self.source.parent, f"/vsizip/{zipped}/w.shp", f"/vsizip/{zipped}"):
+            status, out, values = self.brought_in(source)
+            self.assertEqual((status, values), (1, [{"t": "x"}, {"t": "x"}, {"r": 150, "t": "x"}, {"t": "x"}]), source)
+            self.assertIn("4 a value that is none of the column's type Integer64: 0 (the value 'abc' of column n is left out), 1 (the value '12.7' of", out)
+            self.assertIn("2 a value that is none of the column's type Real: 0 (the value '12,75' of column r is left out), 1 (the value '12abc' of", out)
+
+    def test_an_index_unlike_the_shapes_is_told(self):
+        self.made()
+        index = self.source.with_suffix(".shx")
+        whole = bytearray(index.read_bytes())
+        whole[24:28] = ((100 + 2 * 8) // 2).to_bytes(4, "big")
+        for content in (whole, whole[:116]):
+            index.write_bytes(content)
+            status, out, values = self.brought_in()
+            self.assertEqual((status, len(values)), (1, 2))
+            self.assertIn("its .shx does not name all of its .shp, and no more: 156 of 212 bytes\n", out)
 
 
 class Stored(ExchangeCase):
