@@ -77,6 +77,8 @@ def mode_for(sources: Sequence[Source], group: int) -> int:
 
 def _opened(name: str, any_format: bool) -> Source:
     """A source. `RuntimeError` where OGR opens none, `ogr.ExchangeError` where it is JSON and no GeoJSON."""
+    if "/vsistdin" in name:
+        raise ogr.ExchangeError(f"{ogr.printable(name)} can be read once alone, and a source is read twice: name a file")
     files = stamps_of(name)
     if jsontext.is_json(name) and not (any_format and ogr.format_of(name) not in (*_JSON, "")):
         return Source(name, [JsonLayer(name)], files)

@@ -48,6 +48,12 @@ class Formats(ExchangeCase):
         self.assertEqual(bring_in(*words, "--any-format")[0], 0)
         self.assertIn(b"password123", self.store.read_bytes())
 
+    def test_what_can_be_read_once_alone_is_refused(self):
+        for name in ("/vsistdin/", "/vsigzip//vsistdin/"):
+            status, _, err = bring_in(name, self.store, *GRID)
+            self.assertEqual((status, self.store.exists()), (3, False))
+            self.assertIn(f"{name} can be read once alone, and a source is read twice: name a file\n", err)
+
     def test_files_of_a_folder_that_do_not_open_are_told(self):
         folder = self.folder / "maps"
         folder.mkdir()
