@@ -12,13 +12,13 @@ from typing import Any, NamedTuple
 
 from sfstore.exchange import ogr
 
-__all__ = ["Odd", "index_fault", "odd_numbers"]
+__all__ = ["Odd", "deleted_records", "index_fault", "odd_numbers"]
 
 # How much of a table is read at a time.
 _CHUNK = 1 << 20
 # The sizes of the headers of a table, of one of its columns, and of shapes and their index.
 _TABLE, _COLUMN, _SHAPES = 32, 32, 100
-_END_OF_COLUMNS = 0x0D
+_END_OF_COLUMNS, _DELETED = 0x0D, b"*"
 # Blanks and zeros fill a place, and asterisks say that there is no value.
 _WHOLE = re.compile(rb"[ \0]*(?:[+-]?[0-9]+(?:\.0*)?[ \0]*)?|\*.*", re.DOTALL)
 _REAL = re.compile(rb"[ \0]*(?:[+-]?(?:[0-9]+\.?[0-9]*|\.[0-9]+)(?:[eE][+-]?[0-9]+)?[ \0]*)?|\*.*", re.DOTALL)
@@ -46,6 +46,17 @@ def odd_numbers(source: Any, name: str, columns: Mapping[int, bool]) -> Iterator
             for column, place, form in wanted:
                 if not form.fullmatch(record[place]):
                     yield Odd(at, column, record[place].decode("latin-1").strip(" \0"))
+
+
+def deleted_records(source: Any, name: str) -> int:
+    """How many records of a Shapefile's table are marked as deleted, whose features OGR passes over."""
+    path = _beside(source, name, ".dbf")
+    if not path:
+        return 0
+    with _File(path) as file:
+        head = file.read(_TABLE)
+        file.read(max(int.from_bytes(head[8:10], "little") - _TABLE, 0))
+        return sum(record.startswith(_DELETED) for record in _records(file, int.from_bytes(head[10:12], "little")))
 
 
 def index_fault(source: Any, name: str) -> str:

@@ -12,7 +12,7 @@ from sfstore.exchange import jsontext, ogr, wayback
 from sfstore.exchange.fields import Fields
 from sfstore.exchange.jsonlayer import JsonLayer
 from sfstore.exchange.layers import Feature, Layer, Lost, Source
-from sfstore.exchange.shapefiles import index_fault
+from sfstore.exchange.shapefiles import deleted_records, index_fault
 from sfstore.exchange.srids import strangers
 from sfstore.exchange.stamps import changed, mode_of, stamps_of
 from sfstore.sidecar import Crs
@@ -176,7 +176,10 @@ class OgrLayer(Layer):
 
     def lost(self, read: int) -> Iterator[Lost]:
         count = self._layer.GetFeatureCount(0) if self.format in _COUNTED else -1
-        if count > read:
+        deleted = deleted_records(self._data, self.name) if self.format == _SHAPEFILE and count > read else 0
+        if deleted:
+            yield Lost("records of its .dbf that are marked as deleted are left out", f"{deleted} of {count}")
+        if count > read + deleted:
             yield Lost("it is cut off", f"{read} of the {count} features that the file counts")
         if self._unnamed:
             yield Lost("geometries that name no reference system are taken as of the layer's", f"{self._unnamed} of them")

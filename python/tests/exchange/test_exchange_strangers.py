@@ -158,6 +158,18 @@ class Shapefiles(ExchangeCase):
             self.assertIn("4 a value that is none of the column's type Integer64: 0 (the value 'abc' of column n is left out), 1 (the value '12.7' of", out)
             self.assertIn("2 a value that is none of the column's type Real: 0 (the value '12,75' of column r is left out), 1 (the value '12abc' of", out)
 
+    def test_a_record_that_is_marked_as_deleted_is_told_as_one(self):
+        self.made()
+        path = self.source.with_suffix(".dbf")
+        table = bytearray(path.read_bytes())
+        begin, size = int.from_bytes(table[8:10], "little"), int.from_bytes(table[10:12], "little")
+        table[begin + size] = ord("*")
+        path.write_bytes(table)
+        status, out, values = self.brought_in()
+        self.assertEqual((status, [row["n"] for row in values]), (1, [0, 2, 3]))
+        self.assertIn("records of its .dbf that are marked as deleted are left out: 1 of 4\n", out)
+        self.assertNotIn("cut off", out)
+
     def test_an_index_unlike_the_shapes_is_told(self):
         self.made()
         index = self.source.with_suffix(".shx")
