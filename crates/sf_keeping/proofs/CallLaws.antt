@@ -1,10 +1,10 @@
 -- Calls, one after another.
-use Rattle.std.proofs.Common.{◌≡◌, ◌≢◌, ℕ, ◌+◌, false, nat_le, length, arith, List, [], ◌∷◌, ◌++◌, Option, None, Some, Result, Ok, Err, OnOk, OnErr, IfOk, IfErr, IsErrAnd, subst, refl, sym, ap, ◌∙◌, append_assoc, append-nil}
+use Rattle.std.proofs.Common.{◌≡◌, ◌≢◌, ℕ, ◌+◌, false, nat_le, length, arith, List, [], ◌∷◌, ◌++◌, Option, None, Some, Result, Ok, Err, OnOk, IfOk, IfErr, IsErrAnd, subst, refl, sym, ap, ◌∙◌, append_assoc, append-nil}
 use Rattle.std.proofs.lemmas.Grind.{common_steps}
 use Rattle.sf_journal.specs.Records.{line_of, record_of}
 use Rattle.sf_keeping.specs.Desks.{Call, Makes}
 use Rattle.sf_keeping.specs.Desks.Call.{AnswerFails, Answers, Appends, Syncs}
-use Rattle.sf_keeping.specs.Waiting.{Waiting, answering_calls, committing_calls, keeping_calls, nothing_waits, with_answer, with_text}
+use Rattle.sf_keeping.specs.Waiting.{Waiting, answering_calls, keeping_calls, nothing_waits}
 
 -- calls behind others
 pub Makes-trans : (first mid last : Option (List Call)) (calls more : List Call) → Makes first mid calls → Makes mid last more → Makes first last (calls ++ more)
@@ -39,15 +39,6 @@ fed-some bytes (b ∷ line) is none = absurd (no (sym none ∙ is))
     no : ◌≡◌ {A = List ℕ} [] (b ∷ line ++ 10 ∷ []) → ⊥
     no h = cc
 
--- a record is kept and an answer put out at once, where nothing waits
-pub at_once_calls : (was : Waiting) (text bytes answer : List ℕ) → was ≡ nothing_waits was.sum → bytes ≡ record_of was.sum text → answer ≢ []
-    → committing_calls (with_answer (with_text was text) answer) ≡ Appends bytes ∷ Syncs ∷ Answers answer ∷ []
-at_once_calls was text bytes answer none is some =
-    ap (λ w. committing_calls (with_answer (with_text w text) answer)) none
-    ∙ ap (λ r. keeping_calls r ++ answering_calls answer) (sym is)
-    ∙ ap (λ calls. calls ++ answering_calls answer) (keeping-some bytes (fed-some bytes (line_of was.sum text) is))
-    ∙ ap (λ calls. Appends bytes ∷ Syncs ∷ calls) (answering-some answer some)
-
 -- the record that is kept at once is all that waits then
 pub at_once_records : (was : Waiting) (text bytes : List ℕ) → was ≡ nothing_waits was.sum → bytes ≡ record_of was.sum text → was.records ++ record_of was.sum text ≡ bytes
 at_once_records was text bytes none is = ap (λ w. w.records ++ record_of was.sum text) none ∙ sym is
@@ -57,20 +48,15 @@ pub at_once_unanswered : (was : Waiting) (text bytes answer : List ℕ) → was 
     → Appends bytes ∷ Syncs ∷ AnswerFails answer ∷ [] ≡ keeping_calls (was.records ++ record_of was.sum text) ++ AnswerFails (was.answers ++ answer) ∷ []
 at_once_unanswered was text bytes answer none is =
     sym (
-      ap (λ w. keeping_calls (was.records ++ record_of was.sum text) ++ AnswerFails (w.answers ++ answer) ∷ []) none
-      ∙ ap (λ r. keeping_calls r ++ AnswerFails answer ∷ []) (at_once_records was text bytes none is)
-      ∙ ap (λ calls. calls ++ AnswerFails answer ∷ []) (keeping-some bytes (fed-some bytes (line_of was.sum text) is))
+    ap (λ w. keeping_calls (was.records ++ record_of was.sum text) ++ AnswerFails (w.answers ++ answer) ∷ []) none
+    ∙ ap (λ r. keeping_calls r ++ AnswerFails answer ∷ []) (at_once_records was text bytes none is)
+    ∙ ap (λ calls. calls ++ AnswerFails answer ∷ []) (keeping-some bytes (fed-some bytes (line_of was.sum text) is))
     )
 
 -- what follows from two facts of an Ok
 pub OnOk-both : {T E P Q R : Type 0} (r : Result T E) → (P → Q → R) → OnOk r P → OnOk r Q → OnOk r R
 OnOk-both (Ok x) f p q = f p q
 OnOk-both (Err e) f p q = tt
-
--- what follows from a fact of an Err
-pub OnErr-map : {T E P Q : Type 0} (r : Result T E) → (P → Q) → OnErr r P → OnErr r Q
-OnErr-map (Ok x) f p = tt
-OnErr-map (Err e) f p = f p
 
 -- what has no room where nothing else is, is not empty
 pub some-without-room : (answers answer : List ℕ) (room : ℕ) → answers ≡ [] → nat_le (length answers + length answer) room ≡ false → answer ≢ []

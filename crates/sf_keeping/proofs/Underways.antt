@@ -251,7 +251,7 @@ Underway-broken fault start now next sum old asked waiting new calls u makes bro
         let kept = kept_first start now sum old asked waiting new u in
         let all = ran_all start now sum old asked waiting new u in
         let out : after_call (stands sum (u.texts ++ u.later) u.output) (AnswerFails waiting.answers)
-            ≡ record { kept = records sum (u.texts ++ u.later); waiting = []; answered = u.output ++ u.answers; broken = true } =
+        ≡ record { kept = records sum (u.texts ++ u.later); waiting = []; answered = u.output ++ u.answers; broken = true } =
         ap (λ a. record { kept = records sum (u.texts ++ u.later); waiting = []; answered = u.output ++ a; broken = true }) (ap (λ w. w.answers) u.waits) in
         moment sum old new asked (u.calls ++ keeping_calls waiting.records) (AnswerFails waiting.answers) (stands sum (u.texts ++ u.later) u.output) kept.stands kept.moments
         (subst (IsCovered sum old asked new) (sym out)

@@ -1,6 +1,5 @@
-use Rattle.std.proofs.Common.{◌≡◌, rules, sym, ap, ◌∙◌, subst}
+use Rattle.std.proofs.Common.{rules, sym, subst}
 use Rattle.std.proofs.KnownBytes.{Consumes-nil, Keeps-refl}
-use Rattle.sf_streams.proofs.SendingLaws.{OnErr-from}
 use Rattle.sf_text_lines.specs.Buffers.{IsBufferOf}
 use Rattle.sf_console.specs.declared.group_lines.GroupLines.TheVariants as lines
 use Rattle.sf_console.specs.Requests.{Closed, left_in}

@@ -1,4 +1,4 @@
-use Rattle.std.proofs.Common.{◌≡◌, ◌∷◌, [], inr, ap, sym}
+use Rattle.std.proofs.Common.{◌∷◌, [], inr, ap, sym}
 use Rattle.sf_keeping.specs.Desks.{Makes}
 use Rattle.sf_keeping.specs.Desks.Call.{AnswerFails, Appends, SyncFails, Syncs}
 use Rattle.sf_keeping.specs.declared.desk.KeepFault.TheVariants.{Journal, Write}
