@@ -245,8 +245,10 @@ class Runs(unittest.TestCase):
         """A shell has it ignored there."""
         with tempfile.TemporaryDirectory() as name:
             lines = "import signal, sys, unittest\nclass Case(unittest.TestCase):\n def test_it(self): self.assertRaises(KeyboardInterrupt, signal.raise_signal, signal.SIGINT)\n"
-            (Path(name) / "test_interrupted.py").write_text(lines, encoding="utf-8")
-            begun = f"import sys; sys.path.insert(0, {str(TOP / 'tests')!r}); import run, pathlib; run.FOLDERS = (pathlib.Path({name!r}),); sys.argv = ['run.py', '--apart', 'test_interrupted']; sys.exit(run.main())"
+            folder = Path(name) / "tests"
+            folder.mkdir()
+            (folder / "test_interrupted.py").write_text(lines, encoding="utf-8")
+            begun = f"import sys; sys.path.insert(0, {str(TOP / 'tests')!r}); import run, pathlib; run.ROOTS = (pathlib.Path({name!r}),); sys.argv = ['run.py', '--apart', 'test_interrupted']; sys.exit(run.main())"
             words = ["sh", "-c", 'trap "" INT; exec "$@"', "", sys.executable, "-c", begun]
             ended = subprocess.run(words, capture_output=True, text=True)
             self.assertEqual(ended.returncode, 0, ended.stdout + ended.stderr)

@@ -734,7 +734,7 @@ class RealSample(ExchangeCase):
 
 POSTGIS = """
 import sys
-sys.path[:0] = [{folder!r}, {tests!r}]
+sys.path[:0] = [{folder!r}, {tests!r}, {here!r}]
 import test_exchange
 from test_exchange import *
 from osgeo import ogr
@@ -767,7 +767,7 @@ class PostGis(ExchangeCase):
         self.assertEqual(bring_in(self.source, self.store, *GRID)[0], 0)
         again = self.folder / "again.sfs"
         script = self.folder / "script.py"
-        names = {"folder": str(FOLDER), "tests": str(FOLDER / "tests")}
+        names = {"folder": str(FOLDER), "tests": str(FOLDER / "tests"), "here": str(Path(__file__).resolve().parent)}
         script.write_text(POSTGIS.format(path=str(self.store), again=str(again), **names))
         shell = f"psql -qc 'create extension postgis' postgres && {sys.executable} {script}"
         ended = subprocess.run(

@@ -923,7 +923,7 @@ class Failures(JournalCase):
 
 CHILD = """
 import itertools, os, sys
-sys.path[:0] = [{folder!r}, {tests!r}]
+sys.path[:0] = [{folder!r}, {tests!r}, {here!r}]
 from test_journal import moves, journaled
 from sfstore import Refused
 store = journaled({path!r})
@@ -965,7 +965,7 @@ class Child:
 
     def __init__(self, path, seed, begin=0):
         code = CHILD.format(
-            folder=str(FOLDER), tests=str(FOLDER / "tests"), path=str(path), seed=seed, begin=begin
+            folder=str(FOLDER), tests=str(FOLDER / "tests"), here=os.path.dirname(os.path.realpath(__file__)), path=str(path), seed=seed, begin=begin
         )
         self.process = subprocess.Popen(
             [sys.executable, "-c", code], stdout=subprocess.PIPE, stderr=subprocess.DEVNULL

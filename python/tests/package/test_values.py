@@ -1,6 +1,6 @@
 """Tests of the types of values: over the real program, against Python's own decimals and calendar, and in files.
 
-From the folder `python/tests`: python3 -m unittest test_values.py
+`./test test_values` runs them.
 """
 
 from __future__ import annotations
