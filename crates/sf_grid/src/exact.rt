@@ -10,7 +10,7 @@ use crate::GridPoint;
 use std::cmp::Ordering;
 
 /// How far `a` is above `b`.
-pub(crate) fn difference(a: i32, b: i32) -> i64
+pub fn difference(a: i32, b: i32) -> i64
     requires first_on_grid { IsCoordinate a }
     requires second_on_grid { IsCoordinate b }
     ensures value { result ≡ a -ℤ b }
@@ -20,7 +20,7 @@ pub(crate) fn difference(a: i32, b: i32) -> i64
 }
 
 /// The product of two coordinates.
-pub(crate) fn coordinate_product(a: i32, b: i32) -> i64
+pub fn coordinate_product(a: i32, b: i32) -> i64
     requires first_on_grid { IsCoordinate a }
     requires second_on_grid { IsCoordinate b }
     ensures value { result ≡ a *ℤ b }
@@ -30,7 +30,7 @@ pub(crate) fn coordinate_product(a: i32, b: i32) -> i64
 }
 
 /// The product of two differences of coordinates.
-pub(crate) fn product(a: i64, b: i64) -> i64
+pub fn product(a: i64, b: i64) -> i64
     requires first_small { unsigned_abs a ≤ difference_bound }
     requires second_small { unsigned_abs b ≤ difference_bound }
     ensures value { result ≡ a *ℤ b }
@@ -50,7 +50,7 @@ pub(crate) fn wide_product(a: i64, b: i64) -> i128
 }
 
 /// The cross product of `b - a` with `c - a`: positive where `c` is to the left.
-pub(crate) fn cross(a: GridPoint, b: GridPoint, c: GridPoint) -> i64
+pub fn cross(a: GridPoint, b: GridPoint, c: GridPoint) -> i64
     ensures value { result ≡ cross_of a b (grid_point c) }
     ensures bound { unsigned_abs result ≤ cross_bound }
     ensures on_grid { IsOnGrid a × IsOnGrid b × IsOnGrid c }
