@@ -138,6 +138,8 @@ check a POLYGON ((0 0, 4 4, 4 0, 0 4, 0 0))
 hex a 2
 box a 4
 simple a 4
+area a 4 2
+length a 2 4 2
 relate a 4 LINESTRING (-5 5, 15 5)
 match a T*F**F*** POLYGON ((0 0, 9 0, 9 9, 0 9, 0 0))
 query a intersects POLYGON ((4 4, 7 4, 7 7, 4 4))

@@ -81,6 +81,8 @@ FORMS = {
     b"hex": re.compile(rb"[0-9a-f]{42,}"),
     b"box": re.compile(rb"-?[0-9]+( -?[0-9]+){3}"),
     b"simple": re.compile(rb"true|false"),
+    b"area": ROWS,
+    b"length": ROWS,
     b"relate": re.compile(rb"[F012]{9}"),
 }
 # Where a geometry is wrong, behind a refusal of `check`.
@@ -128,6 +130,8 @@ LINES = [
     b"hex a 1",
     b"box a 1",
     b"simple a 2",
+    b"area a 2 1 1",
+    b"length a 1",
     b"relate a 1 POLYGON ((5 5, 95 5, 95 8, 5 8, 5 5))",
     b"match a T*F**F*** POLYGON ((-9 -9, 99 -9, 99 99, -9 99, -9 -9))",
     b"query a intersects LINESTRING (0 0, 9 9)",

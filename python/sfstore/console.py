@@ -22,7 +22,7 @@ from collections.abc import Callable, Iterator
 from pathlib import Path
 from typing import Protocol
 
-from sfstore import files
+from sfstore import files, sidecar
 from sfstore.commandline import add_version, recovered_words, unsaved_question
 from sfstore.commands import candidates, help_text, near_words
 from sfstore.exchange import exporting, importing
@@ -31,6 +31,7 @@ from sfstore.groups import size_of, text_of
 from sfstore.journal import JournalError
 from sfstore.language import MEMBERS, words_of_line
 from sfstore.lines import geometry_refused
+from sfstore.mapunits import MapUnits
 from sfstore.refusals import words_of
 from sfstore.store import ProgramEnded, Refused, Store
 from sfstore.storefile import fault_words
@@ -134,28 +135,36 @@ class _Pending:
         self._editor = head.partition("together")[0]
         self._size = size
         self._members: list[str] = []
+        self.typed: list[str] = []
+        """The members as they were typed."""
 
     @property
     def prompt(self) -> str:
         """Which member comes next."""
         return f"{len(self._members) + 1} of {self._size}> "
 
-    def take(self, line: str) -> str:
-        """Takes a member. The text of the group, when it has them all; else nothing."""
+    def take(self, line: str, typed: str) -> str:
+        """Takes a member, as the program takes it and as it was typed. The text of the group, when it has them all; else nothing."""
         self._members.append(line)
+        self.typed.append(typed)
         return self._editor + text_of(self._members) if len(self._members) == self._size else ""
 
 
 class Console:
     """A session at a terminal."""
 
-    def __init__(self, path: str, program: str, make_terminal: Callable[[Complete], _Terminal]):
+    def __init__(
+        self, path: str, program: str, make_terminal: Callable[[Complete], _Terminal], in_steps: bool = False
+    ) -> None:
         self._path = path
         self._program = program
+        self._in_steps = in_steps
+        self._units: MapUnits | None = None
         self._store = self._opened()
         self._terminal = make_terminal(self._complete)
         self._is_over = False
         self._group: _Pending | None = None
+        self._members: list[str] = []
         self._own: dict[str, Callable[[list[str]], None]] = {
             "help": self._help,
             "save": self._save,
@@ -211,14 +220,14 @@ class Console:
         elif size is not None:
             self._group = _Pending(line, size)
         else:
-            self._ask_program(line)
+            self._answer(self._line_of(line))
 
     def _take_member(self, group: _Pending, line: str) -> None:
-        """Keeps a member, and sends the group when it has them all."""
-        text = group.take(line)
+        """Keeps a member, and sends the group when it has them all. One that can't be read is not kept."""
+        text = group.take(self._line_of(line), line)
         if text:
-            self._group = None
-            self._ask_program(text)
+            self._group, self._members = None, group.typed
+            self._answer(text)
         elif line.startswith("@") or words_of_line(line)[0] not in MEMBERS:
             print("That is no edit of a feature, and the group will be refused. Ctrl-C leaves it.")
 
@@ -247,7 +256,22 @@ class Console:
             print(recovered_words(edits))
         if torn:
             print(f"An edit that was not written to its end, nor answered, is dropped ({torn} bytes).")
+        self._find_units()
         return store
+
+    def _find_units(self) -> None:
+        """The map units of the store, where it has a grid; what coordinates are is told."""
+        self._units = None
+        if self._in_steps or not os.path.lexists(sidecar.path_of(self._path)):
+            return
+        try:
+            found = sidecar.read(self._path)
+            self._units = MapUnits(*found.grid)
+        except (sidecar.SidecarError, OSError, ValueError) as error:
+            print(f"Coordinates are steps of the grid: {error}")
+            return
+        system = f" ({found.crs})" if found.crs else ""
+        print(f"Coordinates are those of the map{system}, whole steps of {self._units.step}. With --steps they are counted in steps.")
 
     def _open_anew(self, reason: str) -> None:
         """Goes on from file and journal, where a session was ended by something."""
@@ -256,13 +280,20 @@ class Console:
         print("The store is opened again, with every edit that was answered.")
         self._store = self._opened()
 
-    def _ask_program(self, line: str) -> None:
+    def _line_of(self, line: str) -> str:
+        """A line that was typed, as the program takes it. `ValueError` where a coordinate is no place of the grid."""
+        return self._units.line(line) if self._units else line
+
+    def _answer(self, line: str) -> None:
+        """Has the program carry out a line, and shows its answer."""
         answer = self._store.run(line)
+        rows = [answer] if isinstance(answer, str) else answer
+        shown = [self._units.row(line, row) for row in rows] if self._units else rows
         if isinstance(answer, str):
-            print(answer)
+            print(shown[0])
         else:
-            count = f"{len(answer)} row{'' if len(answer) == 1 else 's'}"
-            self._show(_printable("\n".join([*answer, count])))
+            count = f"{len(shown)} row{'' if len(shown) == 1 else 's'}"
+            self._show(_printable("\n".join([*shown, count])))
 
     def _show(self, text: str) -> None:
         """Writes a text, by a pager where it is longer than the terminal is high."""
@@ -276,7 +307,8 @@ class Console:
         words = words_of(refused.number)
         print(f"Refused ({refused.number} {refused.name}): {words.reason}.")
         if refused.member:
-            shown = refused.line if len(refused.line) <= 200 else refused.line[:200] + ".."
+            member = self._members[refused.member - 1] if refused.member <= len(self._members) else refused.line
+            shown = member if len(member) <= 200 else member[:200] + ".."
             print(f"  It is member {refused.member}, and nothing of the group was done: {shown}")
         place = self._place(refused)
         if place:
@@ -289,7 +321,10 @@ class Console:
         shape = geometry_refused(refused, refused.line, self._store) if 10 <= refused.number <= 17 else None
         if shape is None:
             return ""
-        return str(fault_at(shape, refused) or fault_of(shape, self._program) or "")
+        fault = fault_at(shape, refused) or fault_of(shape, self._program)
+        if fault is None:
+            return ""
+        return fault.words.format(*map(self._units.point_text, fault.points)) if self._units else str(fault)
 
     def _complete(self, line: str) -> list[str]:
         return candidates(line, self._layer_names, self._column_names, in_group=self._group is not None)
@@ -396,6 +431,7 @@ def main(words: list[str] | None = None) -> int:
     )
     parser.add_argument("file", help="the store's file")
     parser.add_argument("--program", default="sfstore", help="the program sfstore")
+    parser.add_argument("--steps", action="store_true", help="count in steps of the grid, and not in the units of the map")
     add_version(parser)
     asked = parser.parse_args(words)
     if not (sys.stdin.isatty() and sys.stdout.isatty()):
@@ -406,7 +442,7 @@ def main(words: list[str] | None = None) -> int:
         )
         return 2
     try:
-        Console(asked.file, asked.program, _terminal).run()
+        Console(asked.file, asked.program, _terminal, asked.steps).run()
     except ProgramEnded as ended:
         reason = fault_words(asked.file, ended.last_line) if ended.status == 3 else str(ended)
         print(f"sfstore-console: {asked.file} does not load: {reason}", file=sys.stderr)

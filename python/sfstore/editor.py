@@ -3,6 +3,7 @@
 from __future__ import annotations
 
 from collections.abc import Callable, Iterable, Iterator
+from decimal import Decimal
 from typing import cast
 
 from sfstore import edits, spelling, values
@@ -433,6 +434,34 @@ class Editor:
         """
         return self._line(f"simple {spelling.name(layer)} {spelling.identifier(feature_id)}") == "true"
 
+    def area(self, layer: str, *feature_ids: int) -> list[Decimal]:
+        """The areas of features, one to 1,000 of them, in squared grid steps: exact, in the order asked.
+
+        Of polygons it is that of the shells less that of the holes, a whole number or one with
+        .5; of points and lines it is 0. If an identifier is of no feature, this is refused as
+        21 NoFeature.
+
+        >>> with Store() as store:
+        ...     store.add_layer("parcels")
+        ...     store.area("parcels", store.add("parcels", "POLYGON ((0 0, 5 0, 0 7, 0 0))"))
+        [Decimal('17.5')]
+        """
+        return self._measures("area", layer, feature_ids)
+
+    def length(self, layer: str, *feature_ids: int) -> list[Decimal]:
+        """The lengths of features, one to 1,000 of them, in grid steps, in the order asked.
+
+        Of lines it is their length, of polygons that of all their rings, of points 0. A length
+        has three places and is rounded down: the length itself is less than 0.001016 above it.
+        If an identifier is of no feature, this is refused as 21 NoFeature.
+
+        >>> with Store() as store:
+        ...     store.add_layer("roads")
+        ...     store.length("roads", store.add("roads", "LINESTRING (0 0, 3 4, 4 5)"))
+        [Decimal('6.414')]
+        """
+        return self._measures("length", layer, feature_ids)
+
     def relate(self, layer: str, feature_id: int, wkt: str) -> str:
         """The DE-9IM matrix of the geometry of a feature with the given one, nine characters.
 
@@ -598,6 +627,11 @@ class Editor:
     def _line(self, line: str) -> str:
         """The answer of a command that has one line."""
         return cast(str, self.run(line))
+
+    def _measures(self, measure: str, layer: str, feature_ids: tuple[int, ...]) -> list[Decimal]:
+        """What is measured of features."""
+        rows = self._rows(f"{measure} {spelling.name(layer)} {spelling.identifiers(feature_ids)}")
+        return [Decimal(row.partition(" ")[2]) for row in rows]
 
     def _rows(self, line: str) -> list[str]:
         """The rows that answer a command."""

@@ -69,7 +69,7 @@ IDENTIFIER_MAX = 4_294_967_295
 """The greatest identifier, place, part, ring or index."""
 
 IDENTIFIERS_MAX = 1_000
-"""How many identifiers `get` takes at once."""
+"""How many identifiers `get`, `area` and `length` take at once."""
 
 INT_MIN, INT_MAX = -(2**63), 2**63 - 1
 """From where to where the values of a column of whole numbers go, and the mantissa of a decimal."""
@@ -198,6 +198,8 @@ COMMANDS = [
     Command("hex LAYER ID", "gives a geometry as well-known binary", "hex wells 1"),
     Command("box LAYER ID", "gives the corners of the least box of a feature", "box roads 1"),
     Command("simple LAYER ID", "says whether a geometry passes no point twice", "simple roads 1"),
+    Command("area LAYER ID", "gives areas of features in squared grid steps, of one or up to 1,000", "area parcels 1"),
+    Command("length LAYER ID", "gives lengths in grid steps; of areas that of their rings", "length roads 1"),
     Command(
         "relate LAYER ID WKT",
         "gives the DE-9IM matrix of a feature with a geometry",

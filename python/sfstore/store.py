@@ -20,11 +20,13 @@ from __future__ import annotations
 import os
 from collections.abc import Callable
 from types import TracebackType
-from typing import Literal, overload
+from typing import TYPE_CHECKING, Literal, overload
 
+from sfstore import sidecar
 from sfstore.editor import Editor
 from sfstore.group import Added, Group, Which
 from sfstore.journaled import Journaled
+from sfstore.mapunits import MapUnits, NoPlace
 from sfstore.program import checked_path, started
 from sfstore.results import (
     Answer,
@@ -44,7 +46,11 @@ from sfstore.results import (
     Value,
 )
 from sfstore.rows import row_values
+from sfstore.sidecar import Sidecar, SidecarError
 from sfstore.spelling import editor as editor_number
+
+if TYPE_CHECKING:
+    from geopandas import GeoDataFrame
 
 __all__ = [
     "Added",
@@ -56,6 +62,8 @@ __all__ = [
     "Group",
     "Kind",
     "Layer",
+    "MapUnits",
+    "NoPlace",
     "Place",
     "Predicate",
     "ProgramEnded",
@@ -63,6 +71,7 @@ __all__ = [
     "Refused",
     "Rule",
     "RuleForm",
+    "SidecarError",
     "Store",
     "Value",
     "Which",
@@ -127,6 +136,7 @@ class Store(Editor):
         program: PathName | None = None,
         journal: bool = False,
     ) -> None:
+        self._file = os.fsdecode(path) if journal and path is not None else None if load is None else os.fsdecode(load)
         if not journal:
             if path is not None and program is not None:
                 raise TypeError("the program is named twice")
@@ -250,6 +260,36 @@ class Store(Editor):
         if not isinstance(self._program, Journaled):
             raise RuntimeError("the store has no journal: it is saved when it is closed")
         return self._program
+
+    @property
+    def grid(self) -> MapUnits | None:
+        """The coordinates of the map that the store was imported from, or None where its file has no grid beside it.
+
+        `MapUnits.steps` makes a text in steps of one in map units, and `MapUnits.places` the other way round. Both are
+        exact. `SidecarError` where what stands beside the file is no grid, or that of another file.
+
+        >>> with Store() as store:
+        ...     print(store.grid)
+        None
+        """
+        found = self._sidecar()
+        return MapUnits(*found.grid) if found else None
+
+    def to_geodataframe(self, layer: str) -> GeoDataFrame:
+        """The features of a layer as a ``geopandas.GeoDataFrame``, by their identifiers, with the columns of the layer.
+
+        The geometries are in map units, with the reference system of the map, where the store has a `grid`; else in steps.
+        It needs ``python3-geopandas``.
+        """
+        from sfstore.frames import frame_of
+
+        return frame_of(self.columns(layer), self.show(layer), self._sidecar())
+
+    def _sidecar(self) -> Sidecar | None:
+        """What stands beside the store's file, where something does."""
+        if self._file is None or not os.path.lexists(sidecar.path_of(self._file)):
+            return None
+        return sidecar.read(self._file)
 
     def editor(self, number: int) -> Editor:
         """The editor of a number from 1 to 255.

@@ -164,6 +164,8 @@ get p 1 2: 21
 delete q 2: 18
 delete p 2: 21
 simple q 2: 18
+area q 2: 18
+length p 1 2: 21
 rule add 1 never q TTT q: 32
 rule add 1 never q equals q: 20
 rule add a never q equals q: 18

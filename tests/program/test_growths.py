@@ -34,6 +34,8 @@ check
 hex
 box
 simple
+area
+length
 relate
 match
 query

@@ -43,6 +43,7 @@ Features by a value: numbers, texts, any value; each is found as it is then
 Pairs of features of two layers
 Several edits as one step (26)
 Rules: an edit that breaks one is refused until it is dropped
+Areas and lengths
 """.splitlines()
 PAIRS = "Matrices of all pairs of twenty geometries, by bench/matrices.py"
 GEOMETRIES = 20

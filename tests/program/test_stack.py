@@ -65,7 +65,7 @@ SESSION = [
     *(f"add a {geometry}" for geometry in GEOMETRIES),
     "set a 2 depth 12",
     "set a 3 label 'it''s old'",
-    *(f"{question} a {number}" for number in range(1, 7) for question in ("hex", "box", "simple")),
+    *(f"{question} a {number}" for number in range(1, 7) for question in ("hex", "box", "simple", "area", "length")),
     "get a 1 2 3 4 5 6 1",
     f"get a {' '.join(['6'] * 1000)}",
     "find a depth 12",

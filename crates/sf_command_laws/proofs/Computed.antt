@@ -11,7 +11,8 @@ use Rattle.sf_features.specs.declared.column_type.ColumnType.TheVariants as type
 use Rattle.sf_query.specs.declared.ask.Ask.TheVariants.{Matching, Named}
 use Rattle.sf_rules.specs.declared.rule.Form.TheVariants.{Never, Each}
 use Rattle.sf_steps.specs.declared.edit.Edit.TheVariants as edits
-use Rattle.sf_commands.specs.declared.command.Command.TheVariants.{Edit, AddRule, DropRule, Undo, Redo, Layers, Columns, Rules, Show, Get, Find, Hex, Simple, Extent, JoinMatching, JoinNamed}
+use Rattle.sf_measure.specs.declared.measure.Measure.TheVariants.{Area, Length}
+use Rattle.sf_commands.specs.declared.command.Command.TheVariants.{Edit, AddRule, DropRule, Undo, Redo, Layers, Columns, Rules, Show, Get, Find, Hex, Simple, Extent, Measured, JoinMatching, JoinNamed}
 use Rattle.sf_commands.specs.Commands.{command_of}
 
 layer_added : command_of (codes "layer add wells multipolygon") ≡ Ok (0, Edit (edits.AddLayer (codes "wells") (Only kinds.MultiPolygon)))
@@ -86,6 +87,10 @@ features_asked = (refl, refl)
 
 features_not_asked : (command_of (codes "get") ≡ Err BadCommand) × (command_of (codes "get wells") ≡ Err BadCommand) × (command_of (codes "get wells 1 x") ≡ Err BadCommand) × (command_of (codes "get wells 4294967296") ≡ Err BadCommand)
 features_not_asked = (refl, refl, refl, refl)
+
+measures_asked : (command_of (codes "area wells 7") ≡ Ok (0, Measured Area (codes "wells") (7 ∷ []))) × (command_of (codes "@3 length wells 3 1  0003 ") ≡ Ok (3, Measured Length (codes "wells") (3 ∷ 1 ∷ 3 ∷ [])))
+    × (command_of (codes "area wells") ≡ Err BadCommand) × (command_of (codes "length wells x") ≡ Err BadCommand)
+measures_asked = (refl, refl, refl, refl)
 
 values_sought : (command_of (codes "find wells depth -12 ") ≡ Ok (0, Find (codes "wells") (codes "depth") (Some (values.Int (negsuc 11)))))
     × (command_of (codes "find wells label 'it''s old'") ≡ Ok (0, Find (codes "wells") (codes "label") (Some (values.Text (codes "it's old"))))) × (command_of (codes "find wells label ") ≡ Ok (0, Find (codes "wells") (codes "label") None))

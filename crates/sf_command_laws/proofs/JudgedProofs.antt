@@ -16,6 +16,7 @@ use Rattle.sf_valid_rules.specs.Faults.{refusal_of as refusal_of_fault}
 use Rattle.sf_valid_rules.specs.Validity.{IsFirstFault, IsVerdict}
 use Rattle.sf_valid_rules.specs.Verdicts.{first_fault}
 use Rattle.sf_valid_rules.proofs.FirstLaws.{first_fault-over_plane}
+use Rattle.sf_measure.specs.declared.measure.Measure.TheVariants.{Area, Length}
 use Rattle.sf_known.specs.declared.predicate.Predicate.{Predicate}
 use Rattle.sf_known.specs.Patterns.{pattern_of}
 use Rattle.sf_text_lines.specs.Lines.{line_max}
@@ -33,7 +34,7 @@ use Rattle.sf_rules.specs.declared.rule.Form.{Form}
 use Rattle.sf_rules.specs.declared.rule.Form.TheVariants.{Never, Each}
 use Rattle.sf_steps.specs.declared.edit.Edit.TheVariants as edits
 use Rattle.sf_commands.specs.declared.command.Command.{Command}
-use Rattle.sf_commands.specs.declared.command.Command.TheVariants.{Edit, Undo, Redo, Layers, Columns, Rules, Show, Hex, Simple, Extent, Relate, Match, Query}
+use Rattle.sf_commands.specs.declared.command.Command.TheVariants.{Edit, Undo, Redo, Layers, Columns, Rules, Show, Get, Hex, Simple, Extent, Measured, Relate, Match, Query}
 use Rattle.sf_words.specs.declared.naming.Naming.TheVariants.{ById}
 use Rattle.sf_words.specs.declared.verb.Verb.{Verb}
 use Rattle.sf_words.specs.declared.verb.Verb.TheVariants as verbs
@@ -46,7 +47,7 @@ use Rattle.sf_words.specs.Verbs.{action_of, verb_of}
 use Rattle.sf_words.specs.Naming.{given, id_of, vertex_place}
 use Rattle.sf_words.specs.Editors.{addressed, behind_at, by_digits, by_first_word, editor_of}
 use Rattle.sf_values.specs.Kinds.{column_type_of, layer_kind_of, predicate_of}
-use Rattle.sf_commands.specs.Commands.{add_arguments, add_column, check_arguments, add_layer, add_rule, addhex_arguments, addressed_command, after_two_words, alone, ask_by, ask_of, by_editor, by_verb, by_words, bytes_command, column_arguments, column_command, delete_arguments, drop_column, drop_layer, drop_rule, faultless, feature_arguments, feature_command, feature_named, find_arguments, form_of, get_arguments, join_arguments, join_by, beside_of, hex_command, ids_of, insert_vertex, layer_arguments, layer_command, made, match_arguments, move_layer, move_vertex, of_layer, of_text, query_arguments, relate_arguments, remove_vertex, rename_layer, replace_arguments, rule_arguments, rule_asked, rule_command, second_of, set_arguments, sought_of, unset_arguments, valid_of, vertex_arguments, vertex_command, with_geometry, with_id}
+use Rattle.sf_commands.specs.Commands.{add_arguments, add_column, check_arguments, add_layer, add_rule, addhex_arguments, addressed_command, after_two_words, alone, ask_by, ask_of, by_editor, by_verb, by_words, bytes_command, column_arguments, column_command, delete_arguments, drop_column, drop_layer, drop_rule, faultless, feature_arguments, feature_command, feature_named, features_arguments, features_command, find_arguments, form_of, join_arguments, join_by, beside_of, hex_command, ids_of, insert_vertex, layer_arguments, layer_command, made, match_arguments, move_layer, move_vertex, of_layer, of_text, query_arguments, relate_arguments, remove_vertex, rename_layer, replace_arguments, rule_arguments, rule_asked, rule_command, second_of, set_arguments, sought_of, unset_arguments, valid_of, vertex_arguments, vertex_command, with_geometry, with_id}
 use Rattle.sf_command_laws.specs.Laws.{GivenGeometriesAreJudgedOverThePlane, HasFaultyGiven, HasJudgedGiven, HasValidGiven, SpellsValid, given_text}
 
 -- what is said of what was made of a text behind the verb
@@ -320,9 +321,13 @@ unset_judged : (t : List ℕ) (arguments : List (List ℕ)) → Judged t (unset_
 unset_judged t (layer ∷ id ∷ column ∷ []) = given_judged t (id_of id) _ (λ id. tt)
 unset_judged t arguments = bad t
 
-get_judged : (t : List ℕ) (arguments : List (List ℕ)) → Judged t (get_arguments arguments)
-get_judged t [] = bad t
-get_judged t (layer ∷ ids) = given_judged t (ids_of ids) _ (λ ids. tt)
+features_judged : (t : List ℕ) (command : List ℕ → List ℕ → Command) (arguments : List (List ℕ)) → ((layer ids : List ℕ) → HasValidGiven t (command layer ids)) → Judged t (features_arguments command arguments)
+features_judged t command [] judged = bad t
+features_judged t command (layer ∷ ids) judged = by (ids_of ids)
+  where
+    by : (found : Option (List ℕ)) → Judged t (features_command command (given found (λ ids. Ok (layer, ids))))
+    by None = bad t
+    by (Some ids) = judged layer ids
 
 sought_other : (value : List (List ℕ)) (text : List ℕ) → IfErr (sought_of value text) IsOther
 sought_other [] text = tt
@@ -437,12 +442,14 @@ by_verb_judged (Some verbs.Layers) rest = alone_judged (behind rest) Layers (wor
 by_verb_judged (Some verbs.Columns) rest = of_layer_judged (behind rest) Columns (words rest) (λ layer. tt)
 by_verb_judged (Some verbs.Rules) rest = alone_judged (behind rest) Rules (words rest) tt
 by_verb_judged (Some verbs.Show) rest = of_layer_judged (behind rest) Show (words rest) (λ layer. tt)
-by_verb_judged (Some verbs.Get) rest = get_judged (behind rest) (words rest)
+by_verb_judged (Some verbs.Get) rest = features_judged (behind rest) Get (words rest) (λ layer ids. tt)
 by_verb_judged (Some verbs.Find) rest = find_judged (behind rest) (words rest) (behind rest)
 by_verb_judged (Some verbs.Check) rest = check_judged (behind rest) (words rest) (skip_blanks (skip_word rest))
 by_verb_judged (Some verbs.Hex) rest = feature_judged (behind rest) Hex (words rest) (λ layer id. tt)
 by_verb_judged (Some verbs.Box) rest = feature_judged (behind rest) Extent (words rest) (λ layer id. tt)
 by_verb_judged (Some verbs.Simple) rest = feature_judged (behind rest) Simple (words rest) (λ layer id. tt)
+by_verb_judged (Some verbs.Area) rest = features_judged (behind rest) (Measured Area) (words rest) (λ layer ids. tt)
+by_verb_judged (Some verbs.Length) rest = features_judged (behind rest) (Measured Length) (words rest) (λ layer ids. tt)
 by_verb_judged (Some verbs.Relate) rest = relate_judged (behind rest) (words rest)
 by_verb_judged (Some verbs.Match) rest = match_judged (behind rest) (words rest)
 by_verb_judged (Some verbs.Query) rest = query_judged (behind rest) (words rest)

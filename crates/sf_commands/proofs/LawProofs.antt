@@ -10,6 +10,7 @@ use Rattle.sf_grid.specs.Plane.{Coordinates, IsOnGrid}
 use Rattle.sf_geometry.specs.declared.geometry.Geometry.{Geometry}
 use Rattle.sf_geometry.specs.Parts.{LiesOnGrid, points_of}
 use Rattle.sf_geometry.specs.Size.{IsSized}
+use Rattle.sf_measure.specs.declared.measure.Measure.TheVariants.{Area, Length}
 use Rattle.sf_known.specs.declared.predicate.Predicate.{Predicate}
 use Rattle.sf_known.specs.Patterns.{pattern_of}
 use Rattle.sf_text_lines.specs.Lines.{line_max}
@@ -27,7 +28,7 @@ use Rattle.sf_steps.specs.Laws.{BringsGridPoints}
 use Rattle.sf_groups.specs.declared.member.Member.{Member}
 use Rattle.sf_groups.specs.Members.{may_follow}
 use Rattle.sf_commands.specs.declared.command.Command.{Command}
-use Rattle.sf_commands.specs.declared.command.Command.TheVariants.{Edit, Undo, Redo, Layers, Columns, Rules, Show, Hex, Simple, Extent, Relate, Match, Query}
+use Rattle.sf_commands.specs.declared.command.Command.TheVariants.{Edit, Undo, Redo, Layers, Columns, Rules, Show, Get, Hex, Simple, Extent, Measured, Relate, Match, Query}
 use Rattle.sf_commands.specs.declared.group_text.GroupRefusal.{GroupRefusal}
 use Rattle.sf_words.specs.declared.naming.Naming.{Naming}
 use Rattle.sf_words.specs.declared.naming.Naming.TheVariants.{ById, OrLast}
@@ -42,7 +43,7 @@ use Rattle.sf_words.specs.Verbs.{action_of, verb_of}
 use Rattle.sf_words.specs.Naming.{given, id_named, id_of, vertex_place}
 use Rattle.sf_words.specs.Editors.{addressed}
 use Rattle.sf_values.specs.Kinds.{column_type_of, layer_kind_of, predicate_of}
-use Rattle.sf_commands.specs.Commands.{add_arguments, add_column, check_arguments, add_layer, add_rule, addhex_arguments, addressed_command, after_two_words, alone, ask_of, by_editor, by_verb, by_words, bytes_command, column_arguments, column_command, command_of, delete_arguments, drop_column, drop_layer, drop_rule, feature_arguments, feature_command, feature_named, find_arguments, form_of, get_arguments, join_arguments, join_by, beside_of, hex_command, ids_of, insert_vertex, layer_arguments, layer_command, made, match_arguments, move_layer, move_vertex, of_layer, of_text, query_arguments, relate_arguments, remove_vertex, rename_layer, replace_arguments, rule_arguments, rule_asked, rule_command, second_of, set_arguments, sought_of, unset_arguments, valid_of, vertex_arguments, vertex_command, with_geometry}
+use Rattle.sf_commands.specs.Commands.{add_arguments, add_column, check_arguments, add_layer, add_rule, addhex_arguments, addressed_command, after_two_words, alone, ask_of, by_editor, by_verb, by_words, bytes_command, column_arguments, column_command, command_of, delete_arguments, drop_column, drop_layer, drop_rule, feature_arguments, feature_command, feature_named, features_arguments, features_command, find_arguments, form_of, join_arguments, join_by, beside_of, hex_command, ids_of, insert_vertex, layer_arguments, layer_command, made, match_arguments, move_layer, move_vertex, of_layer, of_text, query_arguments, relate_arguments, remove_vertex, rename_layer, replace_arguments, rule_arguments, rule_asked, rule_command, second_of, set_arguments, sought_of, unset_arguments, valid_of, vertex_arguments, vertex_command, with_geometry}
 use Rattle.sf_commands.specs.Members.{member_by, member_by_verb, member_by_words, member_of, second_is_last, third_is_last}
 use Rattle.sf_words.specs.Parts.{parts_of}
 use Rattle.sf_commands.specs.GroupTexts.{and_behind, members_behind, members_in, placed}
@@ -204,9 +205,13 @@ unset_brings : (naming : Naming) (arguments : List (List ℕ)) → Brings (unset
 unset_brings naming (layer ∷ id ∷ column ∷ []) = given_brings (id_named naming id) _ (λ id. tt)
 unset_brings naming arguments = tt
 
-get_brings : (arguments : List (List ℕ)) → Brings (get_arguments arguments)
-get_brings [] = tt
-get_brings (layer ∷ ids) = given_brings (ids_of ids) _ (λ ids. tt)
+features_brings : (command : List ℕ → List ℕ → Command) (arguments : List (List ℕ)) → ((layer ids : List ℕ) → BringsOnGrid (command layer ids)) → Brings (features_arguments command arguments)
+features_brings command [] brings = tt
+features_brings command (layer ∷ ids) brings = by (ids_of ids)
+  where
+    by : (found : Option (List ℕ)) → Brings (features_command command (given found (λ ids. Ok (layer, ids))))
+    by None = tt
+    by (Some ids) = brings layer ids
 
 find_brings : (arguments : List (List ℕ)) (text : List ℕ) → Brings (find_arguments arguments text)
 find_brings [] text = tt
@@ -297,12 +302,14 @@ by_verb_brings (Some verbs.Layers) rest = alone_brings Layers (words rest) tt
 by_verb_brings (Some verbs.Columns) rest = of_layer_brings Columns (words rest) (λ layer. tt)
 by_verb_brings (Some verbs.Rules) rest = alone_brings Rules (words rest) tt
 by_verb_brings (Some verbs.Show) rest = of_layer_brings Show (words rest) (λ layer. tt)
-by_verb_brings (Some verbs.Get) rest = get_brings (words rest)
+by_verb_brings (Some verbs.Get) rest = features_brings Get (words rest) (λ layer ids. tt)
 by_verb_brings (Some verbs.Find) rest = find_brings (words rest) (skip_blanks (skip_word (skip_word rest)))
 by_verb_brings (Some verbs.Check) rest = check_brings (words rest) (skip_blanks (skip_word rest))
 by_verb_brings (Some verbs.Hex) rest = feature_brings Hex (words rest) (λ layer id. tt)
 by_verb_brings (Some verbs.Box) rest = feature_brings Extent (words rest) (λ layer id. tt)
 by_verb_brings (Some verbs.Simple) rest = feature_brings Simple (words rest) (λ layer id. tt)
+by_verb_brings (Some verbs.Area) rest = features_brings (Measured Area) (words rest) (λ layer ids. tt)
+by_verb_brings (Some verbs.Length) rest = features_brings (Measured Length) (words rest) (λ layer ids. tt)
 by_verb_brings (Some verbs.Relate) rest = relate_brings (words rest) (skip_blanks (skip_word (skip_word rest)))
 by_verb_brings (Some verbs.Match) rest = match_brings (words rest) (skip_blanks (skip_word (skip_word rest)))
 by_verb_brings (Some verbs.Query) rest = query_brings (words rest) (skip_blanks (skip_word (skip_word rest)))

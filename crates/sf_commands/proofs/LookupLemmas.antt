@@ -1,16 +1,14 @@
--- What `get` and `find` make of the words after them.
+-- What `get`, `area`, `length` and `find` make of the words after them.
 use Rattle.std.proofs.Common.{◌≡◌, ◌≢◌, ◌∙◌, ◌⊎◌, ℕ, suc, ◌+◌, ◌<◌, ◌≤◌, Bool, true, false, ◌&&◌, is_some, nat_lt, nat_le, inl, inr, List, [], ◌∷◌, ◌++◌, length, Option, None, Some, option_map, option_and_then, ok_or, Result, Ok, Err, if◌then◌else◌, refl, sym, ap, subst, arith, append_assoc, append-nil}
 use Rattle.std.proofs.lemmas.Grind.{common_steps}
 use Rattle.std.specs.Result.{IsErrAnd}
 use Rattle.sf_refusals.specs.declared.refusal.Refusal.{Refusal}
 use Rattle.sf_refusals.specs.declared.refusal.Refusal.TheVariants.{Memory, BadCommand}
-use Rattle.sf_commands.specs.declared.command.Command.{Command}
-use Rattle.sf_commands.specs.declared.command.Command.TheVariants.{Get}
 use Rattle.sf_features.specs.declared.attr_value.AttrValue.{AttrValue}
 use Rattle.sf_values.specs.Values.{value_of}
 use Rattle.sf_words.specs.Naming.{given, id_of}
 use Rattle.sf_words.specs.Words.{trimmed_end}
-use Rattle.sf_commands.specs.Commands.{each, get_arguments, ids_max, ids_of, sought_of, OrMemory}
+use Rattle.sf_commands.specs.Commands.{each, features_named, ids_max, ids_of, sought_of, OrMemory}
 use Rattle.sf_commands.proofs.AddLemmas.{OrMemory-memory, OrMemory-refused}
 
 -- ---- identifiers
@@ -113,11 +111,11 @@ OrMemory-given : {X T : Type 0} (o : Option X) (make : X → Result T Refusal) (
 OrMemory-given o make Memory r or is = OrMemory-memory (given o make) r is
 OrMemory-given o make refusal r or is = OrMemory-refused (given o make) r refusal (given-refused o make refusal or) is
 
--- `get` of a layer, and of words behind it that are no identifiers
-pub get-refused : (all ids : List (List ℕ)) (layer : List ℕ) (refusal : Refusal) (r : Result Command Refusal) → all ≡ layer ∷ ids
-    → OrMemory (ok_or (ids_of ids) BadCommand) (Err refusal) → IsErrAnd r (λ e. e ≡ refusal) → OrMemory (get_arguments all) r
-get-refused all ids layer refusal r is or refused =
-    subst (λ w. OrMemory (get_arguments w) r) (sym is) (OrMemory-given (ids_of ids) (λ ids. Ok (Get layer ids)) refusal r or refused)
+-- a layer, and words behind it that are no identifiers
+pub named-refused : (all ids : List (List ℕ)) (layer : List ℕ) (refusal : Refusal) (r : Result (List ℕ × List ℕ) Refusal) → all ≡ layer ∷ ids
+    → OrMemory (ok_or (ids_of ids) BadCommand) (Err refusal) → IsErrAnd r (λ e. e ≡ refusal) → OrMemory (features_named all) r
+named-refused all ids layer refusal r is or refused =
+    subst (λ w. OrMemory (features_named w) r) (sym is) (OrMemory-given (ids_of ids) (λ ids. Ok (layer, ids)) refusal r or refused)
 
 -- ---- a value that is sought
 

@@ -10,6 +10,7 @@ use Rattle.sf_geometry.specs.declared.geometry.Geometry.{Geometry}
 use Rattle.sf_valid_rules.specs.declared.fault.Fault.{Fault}
 use Rattle.sf_valid_rules.specs.Faults.{refusal_of as refusal_of_fault}
 use Rattle.sf_valid_rules.specs.Verdicts.{first_fault}
+use Rattle.sf_measure.specs.declared.measure.Measure.TheVariants.{Area, Length}
 use Rattle.sf_known.specs.declared.predicate.Predicate.{Predicate}
 use Rattle.sf_known.specs.declared.letter.Letter.{Letter}
 use Rattle.sf_known.specs.Patterns.{pattern_of}
@@ -31,7 +32,7 @@ use Rattle.sf_words.specs.declared.verb.Verb.TheVariants as verbs
 use Rattle.sf_words.specs.declared.verb.Action.{Action}
 use Rattle.sf_words.specs.declared.verb.Action.TheVariants as actions
 use Rattle.sf_commands.specs.declared.command.Command.{Command}
-use Rattle.sf_commands.specs.declared.command.Command.TheVariants.{Edit, AddRule, DropRule, Undo, Redo, Layers, Columns, Rules, Show, Get, Find, Check, Hex, Simple, Extent, Relate, Match, Query, JoinMatching, JoinNamed}
+use Rattle.sf_commands.specs.declared.command.Command.TheVariants.{Edit, AddRule, DropRule, Undo, Redo, Layers, Columns, Rules, Show, Get, Find, Check, Hex, Simple, Extent, Measured, Relate, Match, Query, JoinMatching, JoinNamed}
 use Rattle.sf_words.specs.declared.naming.Naming.{Naming}
 use Rattle.sf_words.specs.declared.naming.Naming.TheVariants.{ById}
 use Rattle.sf_words.specs.Words.{words, skip_blanks, skip_word, trimmed_end}
@@ -47,7 +48,7 @@ abbrev pub each : {X Y : Type 0} → (X → Option Y) → List X → Option (Lis
 each make [] = Some []
 each make (x ∷ xs) = option_and_then (λ y. option_map (λ ys. y ∷ ys) (each make xs)) (make x)
 
--- how many identifiers `get` takes at most
+-- how many identifiers `get`, `area` and `length` take at most
 abbrev pub ids_max : ℕ
 ids_max = 1000
 
@@ -228,10 +229,19 @@ abbrev pub unset_arguments : Naming → List (List ℕ) → Result Command Refus
 unset_arguments naming (layer ∷ id ∷ column ∷ []) = given (id_named naming id) (λ id. Ok (Edit (edits.ClearValue layer id column)))
 unset_arguments naming arguments = Err BadCommand
 
--- the command of the words after `get`: a layer and identifiers
-abbrev pub get_arguments : List (List ℕ) → Result Command Refusal
-get_arguments [] = Err BadCommand
-get_arguments (layer ∷ ids) = given (ids_of ids) (λ ids. Ok (Get layer ids))
+-- the features that words name: a layer, and identifiers
+abbrev pub features_named : List (List ℕ) → Result (List ℕ × List ℕ) Refusal
+features_named [] = Err BadCommand
+features_named (layer ∷ ids) = given (ids_of ids) (λ ids. Ok (layer, ids))
+
+-- a command about the features that were named
+abbrev pub features_command : (List ℕ → List ℕ → Command) → Result (List ℕ × List ℕ) Refusal → Result Command Refusal
+features_command command (Ok features) = Ok (command features.0 features.1)
+features_command command (Err refusal) = Err refusal
+
+-- the command of the words after `get`, `area` or `length`: a layer and identifiers
+abbrev pub features_arguments : (List ℕ → List ℕ → Command) → List (List ℕ) → Result Command Refusal
+features_arguments command arguments = features_command command (features_named arguments)
 
 -- the value that is sought, where there are words for one; it is the text
 abbrev pub sought_of : List (List ℕ) → List ℕ → Result (Option AttrValue) Refusal
@@ -368,12 +378,14 @@ by_verb (Some verbs.Layers) rest = alone Layers (words rest)
 by_verb (Some verbs.Columns) rest = of_layer Columns (words rest)
 by_verb (Some verbs.Rules) rest = alone Rules (words rest)
 by_verb (Some verbs.Show) rest = of_layer Show (words rest)
-by_verb (Some verbs.Get) rest = get_arguments (words rest)
+by_verb (Some verbs.Get) rest = features_arguments Get (words rest)
 by_verb (Some verbs.Find) rest = find_arguments (words rest) (skip_blanks (skip_word (skip_word rest)))
 by_verb (Some verbs.Check) rest = check_arguments (words rest) (skip_blanks (skip_word rest))
 by_verb (Some verbs.Hex) rest = feature_arguments Hex (words rest)
 by_verb (Some verbs.Box) rest = feature_arguments Extent (words rest)
 by_verb (Some verbs.Simple) rest = feature_arguments Simple (words rest)
+by_verb (Some verbs.Area) rest = features_arguments (Measured Area) (words rest)
+by_verb (Some verbs.Length) rest = features_arguments (Measured Length) (words rest)
 by_verb (Some verbs.Relate) rest = relate_arguments (words rest) (skip_blanks (skip_word (skip_word rest)))
 by_verb (Some verbs.Match) rest = match_arguments (words rest) (skip_blanks (skip_word (skip_word rest)))
 by_verb (Some verbs.Query) rest = query_arguments (words rest) (skip_blanks (skip_word (skip_word rest)))

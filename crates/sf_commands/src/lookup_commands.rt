@@ -1,27 +1,53 @@
-//! Commands that look features up: by their identifiers, and by a value.
+//! Commands that look features up: by their identifiers, what is measured of these, and by a value.
 ghost use Rattle.std.specs.Prelude.{◌≡◌, ok_or};
 ghost use Rattle.sf_refusals.specs.declared.refusal.Refusal.TheVariants.{BadCommand};
-ghost use Rattle.sf_commands.specs.Commands.{find_arguments as find_command_of, get_arguments as get_command_of, ids_of as ids_spelled, sought_of as sought_spelled, OrMemory};
+ghost use Rattle.sf_commands.specs.Commands.{features_arguments, features_named, find_arguments as find_command_of, ids_of as ids_spelled, sought_of as sought_spelled, OrMemory};
+ghost use Rattle.sf_commands.specs.declared.command.Command.TheVariants.{Get, Measured};
+ghost use Rattle.sf_measure.specs.declared.measure.Measure.TheVariants.{Area, Length};
 ghost use Rattle.sf_words.specs.Words.{words as words_of, skip_blanks, skip_word};
 
 use super::command::Command;
-use sf_features::AttrValue;
+use sf_features::{AttrValue, Text};
+use sf_measure::Measure;
 use sf_refusals::Refusal;
 use sf_values::{text_of, value_of};
 use sf_words::{Identifiers, Words, id_of, trimmed_end};
 use std::alloc::Global;
 
-/// How many identifiers `get` takes at most.
+/// How many identifiers `get`, `area` and `length` take at most.
 const IDS_MAX: usize = 1000;
 
 /// The command of the words after `get`.
-pub(crate) fn get_arguments(alloc: Global, mut words: Words<'_>) -> Result<Command, Refusal>
-    ensures { OrMemory (get_command_of (words_of words.entry)) result }
+pub(crate) fn get_arguments(alloc: Global, words: Words<'_>) -> Result<Command, Refusal>
+    ensures { OrMemory (features_arguments Get (words_of words.entry)) result }
+{
+    let (layer, ids) = features_of(alloc, words)?;
+    Ok(Command::Get(layer, ids))
+}
+
+/// The command of the words after `area`.
+pub(crate) fn area_arguments(alloc: Global, words: Words<'_>) -> Result<Command, Refusal>
+    ensures { OrMemory (features_arguments (Measured Area) (words_of words.entry)) result }
+{
+    let (layer, ids) = features_of(alloc, words)?;
+    Ok(Command::Measured(Measure::Area, layer, ids))
+}
+
+/// The command of the words after `length`.
+pub(crate) fn length_arguments(alloc: Global, words: Words<'_>) -> Result<Command, Refusal>
+    ensures { OrMemory (features_arguments (Measured Length) (words_of words.entry)) result }
+{
+    let (layer, ids) = features_of(alloc, words)?;
+    Ok(Command::Measured(Measure::Length, layer, ids))
+}
+
+/// The layer and the identifiers that are all words of a line.
+fn features_of(alloc: Global, mut words: Words<'_>) -> Result<(Text, Identifiers), Refusal>
+    ensures { OrMemory (features_named (words_of words.entry)) result }
 {
     let layer = words.next()?;
     let ids = ids_of(alloc, words)?;
-    let layer = text_of(alloc, layer)?;
-    Ok(Command::Get(layer, ids))
+    Ok((text_of(alloc, layer)?, ids))
 }
 
 /// The identifiers that all words of a line spell, one to 1,000 of them.

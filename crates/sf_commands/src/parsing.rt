@@ -13,7 +13,7 @@ use super::feature_commands::{
 };
 use super::join_commands::join_arguments;
 use super::layer_commands::{layer_arguments, layers_arguments};
-use super::lookup_commands::{find_arguments, get_arguments};
+use super::lookup_commands::{area_arguments, find_arguments, get_arguments, length_arguments};
 use super::query_commands::{match_arguments, query_arguments, relate_arguments};
 use super::rule_commands::{rule_arguments, rules_arguments};
 use super::vertex_commands::vertex_arguments;
@@ -76,6 +76,8 @@ fn arguments_of(alloc: Global, verb: Option<Verb>, words: Words<'_>) -> Result<C
         Some(Verb::Hex) => hex_arguments(alloc, words),
         Some(Verb::Box) => box_arguments(alloc, words),
         Some(Verb::Simple) => simple_arguments(alloc, words),
+        Some(Verb::Area) => area_arguments(alloc, words),
+        Some(Verb::Length) => length_arguments(alloc, words),
         Some(Verb::Relate) => relate_arguments(alloc, words),
         Some(Verb::Match) => match_arguments(alloc, words),
         Some(Verb::Query) => query_arguments(alloc, words),

@@ -6,7 +6,7 @@ ghost use Rattle.sf_text_lines.specs.Lines.{HasNoFeed};
 ghost use Rattle.sf_text_lines.specs.Buffers.{IsBufferOf};
 ghost use Rattle.sf_commands.specs.Commands.{command_of, takes_memory};
 ghost use Rattle.sf_commands.specs.GroupTexts.{group_of};
-ghost use Rattle.sf_console.specs.Answers.{reply_text, refusal_line, rows, rows_of, layer_row, column_rows as column_rows_of, feature_rows as feature_rows_of, found, found_by, got, told, hex_text, simple_text, box_text, related_text, found_rows};
+ghost use Rattle.sf_console.specs.Answers.{reply_text, refusal_line, rows, rows_of, layer_row, column_rows as column_rows_of, feature_rows as feature_rows_of, found, found_by, got, told, hex_text, measured as measured_of, simple_text, box_text, related_text, found_rows};
 ghost use Rattle.sf_history.specs.History.{Machine};
 ghost use Rattle.sf_console.specs.Readings.{Asked, line_text, reading_of, text_reading};
 ghost use Rattle.sf_console.specs.Requests.{Ends, Gathering, Request, gathered};
@@ -19,11 +19,12 @@ use super::group_lines::{GroupLines, LineAsks};
 use super::grouping::{answer_cut, answer_group};
 use super::joining::joined;
 use super::reply::{Reply, hex_line};
-use super::rows::{column_rows, feature_rows, id_rows, layer_rows, rows_under};
+use super::rows::{column_rows, feature_rows, id_rows, layer_rows, measured_rows, rows_under};
 use super::rules::{add_rule, drop_rule, refused_by_rules, rules};
 use sf_commands::{Command, Identifiers, is_blank_text, parse, parse_group};
 use sf_history::Editor;
 use sf_layers::{AttrValue, Store, Text};
+use sf_measure::Measure;
 use sf_query::{Ask, query, relate_one};
 use sf_refusals::Refusal;
 use sf_steps::{Answer, Edit};
@@ -215,6 +216,9 @@ pub fn execute(
         Command::Hex(layer, id) => hex(alloc, editor.store(), &layer, id),
         Command::Simple(layer, id) => simple(alloc, editor.store(), &layer, id),
         Command::Extent(layer, id) => extent(editor.store(), &layer, id),
+        Command::Measured(measure, layer, ids) => {
+            measured(alloc, editor.store(), measure, &layer, &ids)
+        }
         Command::Relate(layer, id, given) => relate(alloc, editor.store(), &layer, id, &given),
         Command::Match(layer, pattern, given) => {
             let ask = Ask::Matching(pattern);
@@ -279,6 +283,20 @@ fn get(alloc: Global, store: &Store, name: &Text, ids: &Identifiers) -> Result<R
 {
     let layer = store.layer(name.as_str()).ok_or(Refusal::NoLayer)?;
     Ok(Reply::Lines(rows_under(alloc, layer, ids.as_slice())?))
+}
+
+/// The areas or the lengths of the features under these identifiers in the layer of that name, in their order.
+fn measured(
+    alloc: Global,
+    store: &Store,
+    measure: Measure,
+    name: &Text,
+    ids: &Identifiers,
+) -> Result<Reply, Refusal>
+    ensures { (reply_text result ≡ measured_of measure (layer_of store.now name.now) ids.now) ⊎ (reply_text result ≡ refusal_line Refusal.Memory) }
+{
+    let layer = store.layer(name.as_str()).ok_or(Refusal::NoLayer)?;
+    Ok(Reply::Lines(measured_rows(alloc, measure, layer, ids.as_slice())?))
 }
 
 /// The identifiers of the features with a value in the column of that name: this one, where one is given.

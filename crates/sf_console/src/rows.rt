@@ -1,10 +1,12 @@
 //! Answers of rows: their number, and a line for each.
-ghost use Rattle.std.specs.Prelude.{◌≡◌, ◌++◌, ◌⊎◌, decimal, flat_map, map, string_bytes, None, IfOk, IsSomeAnd, MatchResult, OnOk};
+ghost use Rattle.std.specs.Prelude.{◌≡◌, ◌++◌, ◌⊎◌, codes, decimal, flat_map, map, string_bytes, None, IfOk, IsSomeAnd, MatchResult, OnOk};
 ghost use Rattle.sf_commands.specs.Commands.{each};
-ghost use Rattle.sf_console.specs.Answers.{column_rows as column_rows_of, column_type_word as column_type_word_of, feature_row, feature_rows as feature_rows_of, layer_kind_word as layer_kind_word_of, layer_row, line, pair_row, row_under, rows, shown_value};
+ghost use Rattle.sf_measure.specs.Texts.{measure_text};
+ghost use Rattle.sf_console.specs.Answers.{column_rows as column_rows_of, column_type_word as column_type_word_of, feature_row, feature_rows as feature_rows_of, layer_kind_word as layer_kind_word_of, layer_row, line, measured_row, pair_row, row_under, rows, shown_value};
 
 use sf_geometry::Kind;
 use sf_layers::{Column, ColumnType, Feature, Layer, LayerKind, Store};
+use sf_measure::{Measure, push_measure};
 use sf_refusals::Refusal;
 use std::alloc::{AllocError, Global};
 
@@ -116,6 +118,43 @@ fn push_feature(
     write!(text, "{id} ")?;
     sf_wkt::append(alloc, text, feature.valid().geometry())?;
     push_values(text, layer, feature)?;
+    text.push('\n')
+}
+
+/// A row for each of these identifiers, in their order: a measure of the feature under it. Refused as `rows_under` is.
+pub(crate) fn measured_rows(
+    alloc: Global,
+    measure: Measure,
+    layer: &Layer,
+    ids: &[u32],
+) -> Result<String, Refusal>
+    ensures { MatchResult result
+        (λ text. IsSomeAnd (each (measured_row measure layer.now) ids.now) (λ texts. string_bytes text ≡ rows texts))
+        (λ refusal. (refusal ≡ Refusal.Memory) ⊎ ((refusal ≡ Refusal.NoFeature) × (each (measured_row measure layer.now) ids.now ≡ None))) }
+{
+    let mut text = String::new(alloc);
+    writeln!(text, "rows {}", ids.len())?;
+    for id in ids {
+        let Some(feature) = layer.feature(*id) else {
+            return Err(Refusal::NoFeature);
+        };
+        push_measured(&mut text, measure, *id, feature)?;
+    }
+    Ok(text)
+}
+
+/// The row of a measure of a feature, with its line feed.
+fn push_measured(
+    text: &mut String,
+    measure: Measure,
+    id: u32,
+    feature: &Feature,
+) -> Result<(), AllocError>
+    ensures { OnOk result (string_bytes text.new
+        ≡ string_bytes text.old ++ line (decimal id ++ (codes " " ++ measure_text measure feature.now.geometry))) }
+{
+    write!(text, "{id} ")?;
+    push_measure(text, measure, feature.valid().geometry())?;
     text.push('\n')
 }
 

@@ -25,7 +25,8 @@ Commands, one on a line; `man sfstore` and docs/use/CONSOLE.md have their answer
   layer add|drop|rename|move   column add|drop   layers   columns
   add   addhex   delete   replace   vertex insert|move|remove   set   unset
   rule add|drop   rules   undo   redo   save
-  show   get   find   check   hex   box   simple   relate   match   query   join
+  show   get   find   check   hex   box   simple   area   length
+  relate   match   query   join
 
 A line may begin with the editor who gives it, from @1 to @255: @2 undo.";
 

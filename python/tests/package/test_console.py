@@ -21,7 +21,7 @@ from unittest import mock
 
 from support import FOLDER, PROGRAM, TestCase
 
-from sfstore import Store, commands, console
+from sfstore import Store, commands, console, files, sidecar
 from sfstore.lines import geometry_of
 
 HAS_TOOLKIT = find_spec("prompt_toolkit") is not None
@@ -170,6 +170,71 @@ class Pasted(TestCase):
             os.unlink(path)
             os.symlink(self.folder / "other", path)
             self.assertIsNone(console._history_path())
+
+
+class InMapUnits(TestCase):
+    """What is carried out of a text over a store with a grid beside it, in this process."""
+
+    def setUp(self):
+        super().setUp()
+        self.path = self.folder / "town.sfs"
+        with Store(self.path, journal=True, program=PROGRAM) as store:
+            store.run_all(["layer add w any", "add w POINT (4500 1500)", "add w POLYGON ((0 0, 1000 0, 0 1000, 0 0))"])
+        grid = sidecar.Sidecar(("500000", "5600000", "0.01"), sidecar.Crs("EPSG", "25832", ""), [])
+        sidecar.write(str(self.path), grid, [files.digest(str(self.path))])
+
+    def said(self, *lines, in_steps=False):
+        with mock.patch("builtins.print") as printed:
+            console.Console(str(self.path), PROGRAM, lambda _: Typed([*lines, "quit", "n"]), in_steps).run()
+        return "\n".join(str(call.args[0]) for call in printed.call_args_list)
+
+    def test_answers(self):
+        said = self.said("show w", "box w 2", "area w 2", "length w 2")
+        for words in (
+            "Coordinates are those of the map (EPSG:25832), whole steps of 0.01. With --steps they are counted in steps.",
+            "1 POINT (500045.00 5600015.00)",
+            "500000.00 5600000.00 500010.00 5600010.00",
+            "2 50\n1 row",
+            "2 34.14213\n1 row",
+        ):
+            self.assertIn(words, said)
+
+    def test_in_steps(self):
+        said = self.said("show w", in_steps=True)
+        self.assertIn("1 POINT (4500 1500)", said)
+        self.assertNotIn("Coordinates", said)
+
+    def test_edits_and_groups(self):
+        said = self.said(
+            "add w POINT (500000.01 5600000)",
+            "add w POINT (500000.005 5600000)",
+            "together 2",
+            # A member that can't be read is none: the group waits for another one.
+            "add w POINT (-99999999 5600000)",
+            "add w POINT (500000.07 5600000)",
+            "vertex move w last 0 0 0 500000.08 5600000",
+            "show w",
+        )
+        self.assertIn("x 500000.005 lies between two places of the grid, 500000.00 and 500000.01: take one of them", said)
+        self.assertIn("x -99999999 lies outside of the grid, which goes from -10237418.24 to 11237418.23", said)
+        self.assertIn("3 POINT (500000.01 5600000.00)\n4 POINT (500000.08 5600000.00)\n4 rows", said)
+        with Store(self.path, journal=True, program=PROGRAM) as store:
+            self.assertEqual([feature.wkt for feature in store.get("w", 3, 4)], ["POINT (1 0)", "POINT (8 0)"])
+
+    def test_a_refusal_names_its_place_on_the_map(self):
+        said = self.said("add w POLYGON ((500000 5600000, 500010 5600010, 500010 5600000, 500000 5600010, 500000 5600000))")
+        self.assertIn("Refused (13 RingNotSimple)", said)
+        self.assertIn("(500005.00 5600005.00)", said)
+        said = self.said("together 1", "add w LINESTRING (500000 5600000)")
+        self.assertIn("It is member 1, and nothing of the group was done: add w LINESTRING (500000 5600000)", said)
+        self.assertIn("has the point (500000.00 5600000.00) alone", said)
+
+    def test_a_grid_of_another_file(self):
+        with Store(load=self.path, save=self.path, program=PROGRAM) as store:
+            store.delete("w", 1)
+        said = self.said("show w")
+        self.assertIn("Coordinates are steps of the grid: ", said)
+        self.assertIn("POLYGON ((0 0, 1000 0, 0 1000, 0 0))", said)
 
 
 class ConsoleCase(TestCase):
@@ -464,7 +529,7 @@ class Sessions(ConsoleCase):
         terminal.line(f"import {town} --nothing", "unrecognized arguments")
         terminal.line(f"import --suggest {town}", "--grid")
         terminal.line(f"import {town} {grid}", "wells: 1 features read, 1 taken")
-        terminal.line("add wells POINT (0 0)", "ok 4")
+        terminal.line("add wells POINT (500000.01 5600000)", "ok 4")
         terminal.line(f"import {town} {grid}", "This store has layers")
         terminal.line(f"import {town} --add", "1 step is in the journal of ")
         terminal.line("show wells", "5")

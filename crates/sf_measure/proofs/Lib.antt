@@ -1,0 +1,3 @@
+pub mod AreaLaws
+pub mod RootLaws
+pub mod SumLaws

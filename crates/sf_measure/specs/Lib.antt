@@ -1,0 +1,4 @@
+pub mod Areas
+pub mod Lengths
+pub mod Texts
+pub mod Laws

@@ -1,0 +1,31 @@
+"""Layers as data frames of geopandas."""
+
+from __future__ import annotations
+
+from collections.abc import Sequence
+
+import geopandas
+from shapely import wkt
+
+from sfstore.mapunits import MapUnits
+from sfstore.results import Column, Feature
+from sfstore.sidecar import Sidecar
+
+__all__ = ["frame_of"]
+
+
+def frame_of(columns: Sequence[Column], features: Sequence[Feature], beside: Sidecar | None) -> geopandas.GeoDataFrame:
+    """Features as a frame, by their identifiers; in map units where a side-car says what these are."""
+    units = MapUnits(*beside.grid) if beside else None
+    data = {column.name: [feature.values.get(column.name) for feature in features] for column in columns}
+    shapes = [wkt.loads(units.places(feature.wkt) if units else feature.wkt) for feature in features]
+    index = [feature.id for feature in features]
+    return geopandas.GeoDataFrame(data, index=index, geometry=shapes, crs=_system(beside))
+
+
+def _system(beside: Sidecar | None) -> str | None:
+    """The reference system as geopandas takes it, where one is known."""
+    crs = beside.crs if beside else None
+    if crs is None:
+        return None
+    return f"{crs.authority}:{crs.code}" if crs.authority else crs.wkt
