@@ -8,7 +8,7 @@ from base64 import b64encode
 from collections.abc import Callable, Sequence
 from typing import Any, TypeVar
 
-from sfstore import spelling
+from sfstore import sidecar, spelling
 from sfstore.broken import Broken, broken_by
 from sfstore.commands import Command, help_text, near_words
 from sfstore.faults import fault_at, fault_of
@@ -16,6 +16,7 @@ from sfstore.geometry import Shape, read_wkb, write_wkt
 from sfstore.groups import text_of
 from sfstore.language import GRID_MAX, GRID_MIN, QUESTIONS, parted
 from sfstore.lines import geometry_refused
+from sfstore.mapunits import MapUnits
 from sfstore.refusals import words_of
 from sfstore.store import Answer, Refused, Store, Value
 from sfstore.values import spelled
@@ -76,6 +77,7 @@ class Calls:
     def __init__(self, path: str, keeper: Keeper, program: str, seconds: float) -> None:
         self.events = Events()
         self._title = os.path.basename(path)
+        self._grid, self._units = _grid_of(path)
         self._keeper = keeper
         self._program = program
         self._editors = Editors(path)
@@ -128,7 +130,7 @@ class Calls:
 
         version, to_undo, to_redo = self._keeper.steps()
         steps = {"undo": self._step(to_undo), "redo": self._step(to_redo)}
-        return {"title": self._title, "version": version, **steps, **self._looks.ask(editor, question)}
+        return {"title": self._title, "grid": self._grid, "version": version, **steps, **self._looks.ask(editor, question)}
 
     def _window(self, editor: int, body: Body) -> Body:
         """What a box has of the layers that are named."""
@@ -173,7 +175,8 @@ class Calls:
                 {**column._asdict(), "value": _shown(values[name]) if (name := column.name) in values else None}
                 for column in store.columns(layer)
             ]
-            return {"wkt": write_wkt(shape), **_shape(shape), "values": told, "version": self._looks.version}
+            measures = self._measures(store, layer, feature)
+            return {"wkt": write_wkt(shape), **_shape(shape), **measures, "values": told, "version": self._looks.version}
 
         try:
             told = {"layer": layer, "id": feature, **self._looks.ask(editor, look)}
@@ -181,6 +184,13 @@ class Calls:
             told = {"refused": self._refusal(refused, f"hex {layer} {feature}")}
         change = self._keeper.last_change(Target(layer, feature))
         return {**told, "by": change and self._editors.name_of(change.editor)}
+
+    def _measures(self, store: Store, layer: str, feature: int) -> Body:
+        """The area and the length of a feature as texts, in map units where there is a grid; nothing of what it has not."""
+        [area], [length] = store.area(layer, feature), store.length(layer, feature)
+        units = self._units
+        told = {"area": units.area(area) if units else area, "length": units.length(length) if units else length}
+        return {name: format(number, "f") for name, number in told.items() if number}
 
     def _line(self, editor: int, body: Body) -> Body:
         """Carries out a line of the console, or a group as one, as the editor who has logged in."""
@@ -299,7 +309,10 @@ class Calls:
         if not 10 <= refused.number <= 17:
             return None
         fault = fault_at(shape, refused) or fault_of(shape, self._program)
-        return fault and {"words": str(fault), "points": [[float(x), float(y)] for x, y in fault.points]}
+        if fault is None:
+            return None
+        words = fault.words.format(*map(self._units.point_text, fault.points)) if self._units else str(fault)
+        return {"words": words, "points": [[float(x), float(y)] for x, y in fault.points]}
 
     def _tell_edits(self, edits: Sequence[Edit]) -> None:
         """Tells all pages of an edit, or of a batch of them."""
@@ -408,6 +421,20 @@ def _told_tile(tile: Tile, picture: Picture, seen: int) -> Body:
     if picture.version == seen:
         return told
     return {**told, "png": b64encode(png(picture.cells)).decode() if picture.packed else None}
+
+
+def _grid_of(path: str) -> tuple[Body | None, MapUnits | None]:
+    """The grid of the map that a store was imported from, as pages have it, and its units; none where none is known."""
+    try:
+        found = sidecar.read(path) if os.path.lexists(sidecar.path_of(path)) else None
+        units = MapUnits(*found.grid) if found else None
+    except (sidecar.SidecarError, OSError, ValueError):
+        # Coordinates are steps then, as those of a store that was never imported.
+        return None, None
+    if found is None:
+        return None, None
+    x, y, step = found.grid
+    return {"x": x, "y": y, "step": step, "crs": str(found.crs) if found.crs else None}, units
 
 
 def _names(body: Body) -> set[str]:

@@ -12,7 +12,7 @@ import browser
 from support import FOLDER, PROGRAM, TestCase
 from web_support import TOWN, WebCase
 
-from sfstore import Store
+from sfstore import Store, files, sidecar
 
 DAY = TOWN.parent / "day.txt"
 
@@ -544,6 +544,66 @@ class Editing(PageCase):
         page.until(lambda: page.drawn("parcels") == 200)
         order = page.script("return [...document.querySelectorAll('#world > g')].map(g => g.firstChild.id)")
         self.assertEqual(order, ["parcels-1", "streets-1", "wells-1"])
+
+
+class Places(PageCase):
+    """Where on the map one is: coordinates, a place to go to, the scale, and what is measured."""
+
+    def bring_grid(self):
+        grid = sidecar.Sidecar(("500000", "5600000", "0.1"), sidecar.Crs("EPSG", "25832", ""), [])
+        sidecar.write(str(self.path), grid, [files.digest(str(self.path))])
+
+    def test_in_steps(self):
+        page = self.open()
+        self.assertEqual(page.text("#system"), "grid steps")
+        self.assertRegex(page.text("#pointer"), "^-?[0-9]+ -?[0-9]+$")
+        self.go(page, "450 150")
+        self.assertEqual(page.text("#pointer"), "450 150")
+        page.choose((450, 150), "wells 1, a POINT")
+        self.assertEqual(page.text("#measures"), "")
+
+    def go(self, page, text):
+        field = page.one("#goto-text")
+        field.clear()
+        field.send_keys(text, page.keys.ENTER)
+
+    def test_on_the_map(self):
+        self.bring_grid()
+        page = self.open()
+        self.assertEqual(page.text("#system"), "EPSG:25832")
+        self.go(page, "500045.0, 5600015")
+        self.assertEqual(page.text("#pointer"), "500045.0 5600015.0")
+        for wrong, said in (("500045", "Two numbers are a place: x and y."), ("7 5600000000", "7 5600000000 lies outside of the grid.")):
+            self.go(page, wrong)
+            page.until(lambda: page.text("#status") == said)
+            self.assertEqual(page.text("#pointer"), "500045.0 5600015.0")
+        # As long as the bar says, in pixels.
+        length, width = float(page.text("#bar").replace(",", "")), page.one("#bar").size["width"]
+        [scale] = page.script("return [document.querySelector('#world').getCTM().a]")
+        self.assertAlmostEqual(width, length / 0.1 * scale, delta=2)
+        self.assertTrue(30 < width < 150, width)
+
+    def test_what_is_measured(self):
+        self.bring_grid()
+        page = self.open()
+        page.use("#fit")
+        page.choose((450, 150), "wells 1, a POINT")
+        page.choose((400, 100), "parcels 3, a POLYGON")
+        self.assertEqual(page.text("#measures"), "Area 540, Length 96")
+        page.tool("measure")
+        page.click((360, 0))
+        page.click((540, 0))
+        page.until(lambda: page.text("#status") == "Length 18")
+        page.click((540, 300))
+        page.until(lambda: page.text("#status") == "Length 48, area inside 270")
+        page.press(page.keys.ENTER)
+        self.assertEqual(page.text("#status"), "Length 48, area inside 270")
+
+    def test_a_refusal_names_its_place_on_the_map(self):
+        self.bring_grid()
+        page = self.open()
+        page.type("add parcels POLYGON ((0 -1000, 300 -700, 300 -1000, 0 -700, 0 -1000))")
+        page.until(lambda: "(500015.0 5599915.0)" in page.text("#refusal .place"))
 
 
 class Large(PageCase):

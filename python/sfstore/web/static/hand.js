@@ -7,8 +7,8 @@ import { onGrid, rectangle, wktOf } from "./geometry.js";
 const REACH_PIXELS = 8;
 const SNAP_PIXELS = 10;
 
-const CODES = { point: 1, line: 2, polygon: 3, "ask-polygon": 3 };
-const LEAST_POINTS = { point: 1, line: 2, polygon: 3, "ask-polygon": 3 };
+const CODES = { point: 1, line: 2, polygon: 3, "ask-polygon": 3, measure: 2 };
+const LEAST_POINTS = { point: 1, line: 2, polygon: 3, "ask-polygon": 3, measure: 2 };
 
 export class Hand {
   constructor(app) {
@@ -115,6 +115,7 @@ export class Hand {
   #sketch(next) {
     const points = next ? [...this.points, next] : this.points;
     if (!points.length) return this.app.overlay.show("sketch", null);
+    if (this.tool === "measure") this.app.tell(this.app.place.measured(points));
     const isClosed = CODES[this.tool] === 3 && points.length > 2;
     this.app.overlay.show("sketch", isClosed ? ring(points) : { code: 2, members: [[points.flat()]] });
   }
@@ -124,6 +125,7 @@ export class Hand {
     if (this.points.length < (LEAST_POINTS[this.tool] ?? Infinity)) return;
     const points = this.points;
     this.giveUp();
+    if (this.tool === "measure") return this.app.tell(this.app.place.measured(points));
     if (this.tool === "ask-polygon") {
       this.app.asking.askAbout(wktOf("polygon", points), ring(points));
       return;

@@ -8,6 +8,7 @@ import { Login } from "./login.js";
 import { FeatureMap } from "./map.js";
 import { Overlay } from "./overlay.js";
 import { Overview } from "./overview.js";
+import { Place } from "./place.js";
 import { Selection } from "./selection.js";
 import { call, CallFailed, listen } from "./server.js";
 import { followPointers, View } from "./view.js";
@@ -34,6 +35,7 @@ class App {
     this.login = new Login();
     this.steps = { undo: null, redo: null };
     this.view = new View(svg, () => this.#follow());
+    this.place = new Place(this);
     this.overlay = new Overlay(byId("overlay"), this.view);
     this.map = new FeatureMap(byId("world"), new Overview(byId("overview"), this.view), this.view, (words) => this.#shown(words));
     this.selection = new Selection(this);
@@ -77,6 +79,7 @@ class App {
     const found = await call("map", { extent });
     byId("title").textContent = document.title = found.title;
     this.map.setLayers(found.layers);
+    this.place.setGrid(found.grid);
     const listed = JSON.stringify(found.layers.map(({ name, kind }) => [name, kind]));
     // The same lists stay, so that nobody is disturbed who chooses from one.
     if (listed !== this.listed) {
@@ -239,6 +242,7 @@ class App {
   #follow() {
     this.map?.follow();
     this.overlay?.place();
+    this.place?.follow();
   }
 
   #mapKey(event) {

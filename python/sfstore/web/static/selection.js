@@ -108,6 +108,7 @@ export class Selection {
     byId("chosen").hidden = !feature;
     byId("chosen-title").textContent = feature ? `${nameOf(feature)}, a ${KINDS[feature.code]}` : "Nothing selected";
     if (!feature) return;
+    byId("measures").textContent = [feature.area && `Area ${feature.area}`, feature.length && `Length ${feature.length}`].filter(Boolean).join(", ");
     if (!isSame(before, feature)) byId("wkt").value = feature.wkt;
     const shown = JSON.stringify([feature.layer, feature.id, feature.values.map(({ name, type }) => [name, type])]);
     // The same fields stay, so that nobody is disturbed who types in one of them.

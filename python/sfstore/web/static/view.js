@@ -43,6 +43,11 @@ export class View {
     return [this.x - wide, this.y - high, this.x + wide, this.y + high];
   }
 
+  /** Shows a place in the middle. */
+  center(x, y) {
+    this.#look(x, y, this.scale);
+  }
+
   pan(left, top) {
     this.#look(this.x - left / this.scale, this.y + top / this.scale, this.scale);
   }

@@ -1,0 +1,61 @@
+// Coordinates of the map: each step of the grid stands for one decimal number. Without a grid steps are shown as they are.
+
+const DECIMAL = /^([+-]?)([0-9]*)(?:\.([0-9]*))?(?:[eE]([+-]?[0-9]{1,3}))?$/;
+
+/** A decimal as a whole number and how many of its digits stand behind the point. */
+function decimal(text) {
+  const [, sign, whole, fraction = "", power = "0"] = DECIMAL.exec(text);
+  const digits = fraction.length - Number(power);
+  const number = BigInt(`${whole}${fraction}` || "0") * (digits < 0 ? 10n ** BigInt(-digits) : 1n);
+  return { number: sign === "-" ? -number : number, digits: Math.max(digits, 0) };
+}
+
+/** A whole number of which some digits stand behind the point. */
+function withPoint(number, digits) {
+  const text = String(number < 0n ? -number : number).padStart(digits + 1, "0");
+  const at = text.length - digits;
+  return `${number < 0n ? "-" : ""}${text.slice(0, at)}${digits ? `.${text.slice(at)}` : ""}`;
+}
+
+/** The coordinates of a map: x and y of the origin and the step of its grid, as decimals. */
+export class Units {
+  constructor(grid) {
+    const parts = (grid ? [grid.x, grid.y, grid.step] : ["0", "0", "1"]).map(decimal);
+    this.digits = Math.max(...parts.map(({ digits }) => digits));
+    const whole = parts.map(({ number, digits }) => number * 10n ** BigInt(this.digits - digits));
+    this.origin = whole.slice(0, 2);
+    this.step = whole[2];
+    /** How long a step is, nearly. */
+    this.size = Number(this.step) / 10 ** this.digits;
+    this.system = grid?.crs ?? "";
+    this.isMap = Boolean(grid);
+  }
+
+  /** The coordinates of a point of the grid, exact. */
+  point([x, y]) {
+    return [x, y].map((step, axis) => withPoint(this.origin[axis] + BigInt(step) * this.step, this.digits)).join(" ");
+  }
+
+  /** The place of two coordinates as they are typed, in steps, which need not be whole. Nothing where they are none. */
+  place(text) {
+    const words = text.trim().split(/[\s,;]+/);
+    if (words.length !== 2 || !words.every((word) => DECIMAL.test(word) && /[0-9]/.test(word))) return null;
+    return words.map((word, axis) => {
+      const { number, digits } = decimal(word);
+      const [most, least] = [Math.max(digits, this.digits), Math.min(digits, this.digits)];
+      const scale = 10n ** BigInt(most - least);
+      const [ours, theirs] = digits < this.digits ? [1n, scale] : [scale, 1n];
+      return Number(number * theirs - this.origin[axis] * ours) / Number(this.step * ours);
+    });
+  }
+
+  /** A length that was measured in steps, with a digit more than a step has. */
+  length(steps) {
+    return (steps * this.size).toLocaleString("en", { maximumFractionDigits: this.digits + 1 });
+  }
+
+  /** An area that was measured in squared steps. */
+  area(squaredSteps) {
+    return (squaredSteps * this.size * this.size).toLocaleString("en", { maximumFractionDigits: this.digits + 1 });
+  }
+}
