@@ -19,6 +19,7 @@ SCRIPTS = [
     "bench/plants.py",
     "bench/unproved.py",
     "build-programs",
+    "package/control.py",
     "package/manual.py",
     "package/plugin.py",
     "tests/api.py",
