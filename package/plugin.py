@@ -6,6 +6,8 @@ import shutil
 import zipfile
 from pathlib import Path
 
+import control
+
 TOP = Path(__file__).resolve().parent.parent
 PLUGIN = TOP / "qgis" / "sfstore_qgis"
 FILES = sorted([*PLUGIN.glob("*.py"), PLUGIN / "metadata.txt"])
@@ -45,11 +47,11 @@ def zipped(version: str) -> Path:
 
 def lay_out(root: Path, version: str) -> None:
     """Puts the files of the Debian package below a folder."""
-    for folder in (PLACE, DOCUMENTS, Path("DEBIAN")):
+    for folder in (PLACE, DOCUMENTS):
         (root / folder).mkdir(parents=True)
     for file in FILES:
         shutil.copyfile(file, root / PLACE / file.name)
     shutil.copyfile(TOP / "package" / "copyright", root / DOCUMENTS / "copyright")
     for file in (*(root / PLACE).iterdir(), root / DOCUMENTS / "copyright"):
         file.chmod(0o644)
-    (root / "DEBIAN" / "control").write_text(CONTROL.format(version=version))
+    control.write(root, CONTROL.format(version=version))

@@ -53,6 +53,7 @@ LONG = {
     },
 }
 COUNTED = re.compile(r"^(\d+) passed, (\d+) failed", re.MULTILINE)
+SKIPPED = re.compile("^skipped: ", re.MULTILINE)
 
 
 def paths() -> list[Path]:
@@ -122,12 +123,18 @@ def of_programs() -> str:
     return ", over the proved programs" if made.proved else ", over programs that are NOT PROVED"
 
 
-def run_apart(name: str) -> tuple[int, int]:
-    """Runs a file of tests in a process of its own, prints what it said, and gives how many passed and failed."""
+def tallied(said: str) -> tuple[int, int, int]:
+    """How many tests of a file passed, failed and were skipped, as a run of it alone has said."""
+    found = COUNTED.findall(said)
+    passed, failed = map(int, found[-1]) if found else (0, 1)
+    return passed, failed, len(SKIPPED.findall(said))
+
+
+def run_apart(name: str) -> tuple[int, int, int]:
+    """Runs a file of tests in a process of its own, prints what it said, and gives how many passed, failed and were skipped."""
     ended = subprocess.run([sys.executable, __file__, "--apart", name], stdout=subprocess.PIPE, stderr=subprocess.STDOUT, text=True, check=False)
-    found = COUNTED.findall(ended.stdout)
     print(f"== {name}\n{ended.stdout}", end="", flush=True)
-    return (int(found[-1][0]), int(found[-1][1])) if found else (0, 1)
+    return tallied(ended.stdout)
 
 
 def counted(file: Path) -> tuple[int, int]:
@@ -140,11 +147,12 @@ def quick() -> int:
     chosen = sorted(set(files()) - set().union(*LONG.values()))
     with ThreadPoolExecutor(min(4, os.cpu_count() or 1)) as pool:
         counts = list(pool.map(run_apart, chosen))
-    failed = sum(bad for _, bad in counts)
-    for name, (_, bad) in zip(chosen, counts):
+    for name, (_, bad, _) in zip(chosen, counts):
         if bad:
             print(f"failed: {name}: {bad}")
-    print(f"{sum(good for good, _ in counts)} passed, {failed} failed, without the gate and {len(files()) - len(chosen)} long files{of_programs()}")
+    passed, failed, skipped = map(sum, zip(*counts))
+    left_out = f"{skipped} skipped for what is missing" if skipped else "none skipped"
+    print(f"{passed} passed, {failed} failed, {left_out}, without the gate and {len(files()) - len(chosen)} long files{of_programs()}")
     return int(failed != 0)
 
 

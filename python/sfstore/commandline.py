@@ -12,8 +12,9 @@ from typing import Any
 __all__ = ["add_version", "counted", "recovered_words", "unsaved_question", "version_lines"]
 
 _MODULE = Path(__file__).resolve().parent
-# The lines of BUILT, which the package has among its documents, that say what it was made of.
-_TOLD = ("commit: ", "toolchain: ")
+# The lines of BUILT, which the package has among its documents, that say what it is and what it was made of.
+_NAME = "sfstore "
+_TOLD = ("NOT PROVED: ", "commit: ", "toolchain: ")
 
 
 def counted(count: int, one: str, several: str) -> str:
@@ -57,14 +58,15 @@ class _Version(argparse.Action):
 
 
 def version_lines(module: Path = _MODULE) -> list[str]:
-    """The version of the module, and below it commit and toolchain as far as they are known.
+    """The version of the module, and below it commit and toolchain as far as they are known; of programs that were
+    not proved, that too.
 
     Of a package its file BUILT says them, and of a checkout git.
     """
     built = module.parents[3] / "share" / "doc" / "sfstore" / "BUILT" if len(module.parents) > 3 else module
     if module.parent.name == "dist-packages" and built.is_file():
-        first, *lines = built.read_text(encoding="utf-8").splitlines()
-        return [first, *(line for line in lines if line.startswith(_TOLD))]
+        lines = built.read_text(encoding="utf-8").splitlines()
+        return [*(line for line in lines if line.startswith(_NAME)), *(line for line in lines if line.startswith(_TOLD))]
     checkout = module.parents[1]
     number = checkout / "package" / "VERSION"
     if number.is_file() and (checkout / "python" / "sfstore") == module:

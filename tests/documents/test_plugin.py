@@ -78,6 +78,9 @@ class Plugin(unittest.TestCase):
         subprocess.run(["dpkg-deb", "--extract", package, there], check=True)
         self.assertTrue((there / plugin.PLACE / "metadata.txt").is_file())
         self.assertTrue((there / plugin.DOCUMENTS / "copyright").is_file())
+        subprocess.run(["dpkg-deb", "--control", package, there], check=True)
+        self.assertTrue(os.access(there / "prerm", os.X_OK))
+        self.assertIn("py3clean -p qgis-plugin-sfstore\n", (there / "prerm").read_text())
 
     @unittest.skipUnless(has_qgis(), "no QGIS (apt-get install qgis python3-qgis)")
     def test_qgis_finds_what_is_in_the_zip(self):

@@ -192,6 +192,18 @@ class Package(unittest.TestCase):
         self.assertRegex(self.field("Depends"), r"\bpython3\b")
         self.assertRegex(self.field("Recommends"), "python3-gdal")
 
+    def test_what_python_compiled_goes_with_the_package(self):
+        with tempfile.TemporaryDirectory() as folder:
+            subprocess.run(["dpkg-deb", "--control", self.package, folder], check=True)
+            script = Path(folder) / "prerm"
+            self.assertTrue(os.access(script, os.X_OK))
+            self.assertIn("py3clean -p sfstore\n", script.read_text())
+
+    def test_the_version_says_whether_it_is_proved(self):
+        first, *further = self.command("sfstore-console", "--version").stdout.splitlines()
+        self.assertEqual(first, f"sfstore-console {VERSION}")
+        self.assertEqual(any(line.startswith("NOT PROVED: ") for line in further), not MADE.proved)
+
     def test_the_same_program_makes_the_same_package(self):
         first = self.package.read_bytes()
         self.assertEqual(built().read_bytes(), first)

@@ -267,6 +267,17 @@ class Runs(unittest.TestCase):
         self.assertEqual(status, 1)
         self.assertRegex(said.splitlines()[-1], r"^\d+ passed, [1-9]\d* failed, over other programs")
 
+    def test_what_was_skipped_is_in_the_last_line_of_a_quick_run(self) -> None:
+        whole = "..\nOK (skipped=1)\nskipped: test_a (test_x.Case.test_a): no GDAL\n2 passed, 1 failed, over other programs (SFMAP)\n"
+        self.assertEqual(run.tallied(whole), (2, 1, 1))
+        self.assertEqual(run.tallied("Traceback\n"), (0, 1, 0))
+        files = len(run.files()) - sum(map(len, run.LONG.values()))
+        for skipped, said in ((3, f"{3 * files} skipped for what is missing"), (0, "none skipped")):
+            printed = io.StringIO()
+            with mock.patch.object(run, "run_apart", return_value=(2, 0, skipped)), contextlib.redirect_stdout(printed):
+                self.assertEqual(run.quick(), 0)
+            self.assertTrue(printed.getvalue().startswith(f"{2 * files} passed, 0 failed, {said}, without the gate"), printed.getvalue())
+
     def test_what_others_tried_is_counted(self) -> None:
         with tempfile.TemporaryDirectory() as name:
             file = Path(name) / "turns.txt"

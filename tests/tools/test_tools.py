@@ -19,6 +19,7 @@ SCRIPTS = [
     "bench/plants.py",
     "bench/unproved.py",
     "build-programs",
+    "package/control.py",
     "package/manual.py",
     "package/plugin.py",
     "tests/api.py",
@@ -90,6 +91,16 @@ class Tools(unittest.TestCase):
     def test_mistakes_of_the_shell(self) -> None:
         status, text = said("shellcheck", "test", "start", ".ci/run")
         self.assertEqual(status, 0, text)
+
+    def test_what_pages_call_by_its_name_can_be_run(self) -> None:
+        """A file that names its interpreter in its first line is run as a command, and no other one is."""
+        beside = {"out", "build", ".git", "__pycache__"}
+        for at, folders, names in os.walk(TOP):
+            folders[:] = [name for name in folders if name not in beside]
+            for path in (Path(at) / name for name in names):
+                if path.is_file():
+                    with path.open("rb") as file:
+                        self.assertEqual(os.access(path, os.X_OK), file.read(2) == b"#!", path)
 
 
 class Page(unittest.TestCase):

@@ -62,9 +62,12 @@ class Versions(TestCase):
         module.mkdir(parents=True)
         built = self.folder / "share" / "doc" / "sfstore" / "BUILT"
         built.parent.mkdir(parents=True)
-        built.write_text("sfstore 7.8.9\ncommit: abc with changes\ngate: 41 passed\ntoolchain: kit-1\nsha256 of sfstore: 5\n")
-        lines = ["sfstore 7.8.9", "commit: abc with changes", "toolchain: kit-1"]
-        self.assertEqual(commandline.version_lines(module), lines)
+        said = "sfstore 7.8.9\ncommit: abc with changes\ngate: 41 passed\ntoolchain: kit-1\nsha256 of sfstore: 5\n"
+        version, *further = ["sfstore 7.8.9", "commit: abc with changes", "toolchain: kit-1"]
+        warning = "NOT PROVED: the programs of this package were built without a proof, to try it."
+        for before in ([], [warning]):
+            built.write_text("".join(f"{line}\n" for line in before) + said)
+            self.assertEqual(commandline.version_lines(module), [version, *before, *further])
 
     def test_where_nothing_says_it(self):
         [line] = commandline.version_lines(Path("/nix/sfstore"))
