@@ -12,7 +12,7 @@ from sfstore.exchange import jsontext, ogr, wayback
 from sfstore.exchange.fields import Fields
 from sfstore.exchange.jsonlayer import JsonLayer
 from sfstore.exchange.layers import Feature, Layer, Lost, Source
-from sfstore.exchange.shapefiles import deleted_records, index_fault
+from sfstore.exchange.shapefiles import beside, deleted_records, index_fault
 from sfstore.exchange.srids import strangers
 from sfstore.exchange.stamps import changed, mode_of, stamps_of
 from sfstore.sidecar import Crs
@@ -139,9 +139,12 @@ class OgrLayer(Layer):
         self.has_geometries = layer.GetLayerDefn().GetGeomFieldCount() > 0
         self._name_place = _name_place(layer)
         self._unnamed = 0
+        self._crs, self._crs_fault = ogr.read_crs(layer)
+        if self._crs is None and not self._crs_fault and self.format == _SHAPEFILE and beside(data, self.name, ".prj"):
+            self._crs_fault = "its .prj has none"
 
     def crs(self) -> Crs | None:
-        return ogr.crs_of(self._layer)
+        return self._crs
 
     def count(self) -> int:
         return int(self._layer.GetFeatureCount())
@@ -181,6 +184,8 @@ class OgrLayer(Layer):
             yield Lost("records of its .dbf that are marked as deleted are left out", f"{deleted} of {count}")
         if count > read + deleted:
             yield Lost("it is cut off", f"{read} of the {count} features that the file counts")
+        if self._crs_fault:
+            yield Lost("its reference system can't be read, and is left out", self._crs_fault)
         if self._unnamed:
             yield Lost("geometries that name no reference system are taken as of the layer's", f"{self._unnamed} of them")
         if self.format in _JSON:
@@ -188,7 +193,7 @@ class OgrLayer(Layer):
         unnamed = index_fault(self._data, self.name) if self.format == _SHAPEFILE else ""
         if unnamed:
             yield Lost("its .shx does not name all of its .shp, and no more", unnamed)
-        if self.format == _SHAPEFILE and not _has_values(self._data, self.name):
+        if self.format == _SHAPEFILE and not beside(self._data, self.name, ".dbf"):
             yield Lost("it has no values", "its .dbf is missing")
         told = self._layer.GetMetadata(_SHAPEFILE_METADATA) if self.format == _SHAPEFILE else {}
         if told.get("CPG_VALUE") and not told.get("SOURCE_ENCODING"):
@@ -208,14 +213,3 @@ def _name_place(layer: Any) -> int | None:
     if "name" in names:
         return names.index("name")
     return next((place for place, name in enumerate(names) if "name" in name), None)
-
-
-def _has_values(source: Any, name: str) -> bool:
-    """Whether a Shapefile has the file of its values. One in a folder of files is found by the layer's name."""
-    path: str = source.GetDescription()
-    folder = path if os.path.isdir(path) else os.path.dirname(path) or "."
-    try:
-        return f"{name}.dbf".casefold() in (found.casefold() for found in os.listdir(folder))
-    except OSError:
-        # In an archive OGR finds it by itself.
-        return True
