@@ -14,7 +14,7 @@ from collections.abc import Callable, Mapping
 from decimal import Decimal
 from typing import Any, NamedTuple
 
-from sfstore.exchange import ogr
+from sfstore.exchange import flatgeobuf, ogr
 from sfstore.exchange.asking import asked, quoted, table_of, tells_apart
 from sfstore.exchange.columns import DATE, DATE_TIME, INTEGER, INTEGER_64, REAL, STRING
 from sfstore.exchange.jsontext import text_of
@@ -135,9 +135,14 @@ class Fields(SourceColumns):
         as_text: bool,
         names: Mapping[str, str],
         wanted: Mapping[str, str] | None = None,
+        file: str = "",
     ) -> None:
-        """``names`` are those of the store by those of the source, and ``wanted`` the types that a store's layer has."""
+        """``names`` are those of the store by those of the source, and ``wanted`` the types that a store's layer has.
+
+        ``file`` is that of a FlatGeobuf, which has one layer.
+        """
         super().__init__()
+        self._file = file
         self._source = source
         self._layer = layer
         self._as_text = as_text
@@ -284,13 +289,15 @@ class Fields(SourceColumns):
         return set(confused)
 
     def find_odd(self) -> None:
-        """Asks a GeoPackage, a database or the table of a Shapefile for the values that OGR would change."""
+        """Asks the source itself for the values that OGR would change."""
         if self._driver == "GPKG":
             self._find_odd_of_geopackage()
         elif self._driver == "PostgreSQL":
             self._find_odd_of_postgresql()
         elif self._driver == "ESRI Shapefile":
             self._find_odd_of_shapefile()
+        elif self._file:
+            self._find_odd_of_flatgeobuf()
 
     def forget_odd(self) -> None:
         """Lets go of what `find_odd` has found."""
@@ -309,6 +316,12 @@ class Fields(SourceColumns):
         types = {field.place: field.source_type for field in self._fields}
         for record, place, text, number in odd_values(self._source, self._layer.GetName(), types):
             self._odd[record, place] = repr(text), number
+
+    def _find_odd_of_flatgeobuf(self) -> None:
+        taken = {field.place for field in self._fields}
+        for feature, place, shown, value in flatgeobuf.odd_values(self._file):
+            if place in taken:
+                self._odd[feature, place] = shown, value
 
     def _find_odd_of_postgresql(self) -> None:
         types = self._postgresql_types()

@@ -187,6 +187,8 @@ def _opened(wishes: Wishes, report: Report) -> list[Source]:
     opened = open_source(wishes.source, wishes.any_format)
     for name, reason in opened.left_out:
         report.problem(name, None, "does not open", reason)
+    if not any(source.layers or source.plain_tables for source in opened.sources):
+        raise ogr.ExchangeError(f"{ogr.printable(_shown_source(wishes))} has no layers: a file may be cut off")
     for source in opened.sources:
         # Whoever names layers has not asked for these.
         for table in source.plain_tables if not wishes.layers else ():

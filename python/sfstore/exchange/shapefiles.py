@@ -15,6 +15,7 @@ from typing import Any, NamedTuple
 from sfstore.exchange import ogr
 from sfstore.exchange.columns import DATE, INTEGER, INTEGER_64, REAL
 from sfstore.exchange.moments import day_of
+from sfstore.exchange.vsi import VsiFile
 
 __all__ = ["Odd", "beside", "deleted_records", "index_fault", "odd_values"]
 
@@ -51,7 +52,7 @@ def odd_values(source: Any, name: str, columns: Mapping[int, str]) -> Iterator[O
     forms = {column: _FORMS[kind] for column, kind in columns.items() if kind in _FORMS}
     if not path or not forms:
         return
-    with _File(path) as file:
+    with VsiFile(path) as file:
         head = file.read(_TABLE)
         begin, size = int.from_bytes(head[8:10], "little"), int.from_bytes(head[10:12], "little")
         places = list(_places(file.read(max(begin - _TABLE, 0))))
@@ -83,7 +84,7 @@ def deleted_records(source: Any, name: str) -> int:
     path = beside(source, name, ".dbf")
     if not path:
         return 0
-    with _File(path) as file:
+    with VsiFile(path) as file:
         head = file.read(_TABLE)
         file.read(max(int.from_bytes(head[8:10], "little") - _TABLE, 0))
         return sum(record.startswith(_DELETED) for record in _records(file, int.from_bytes(head[10:12], "little")))
@@ -96,7 +97,7 @@ def index_fault(source: Any, name: str) -> str:
         return ""
     module, _, _ = ogr.gdal()
     size = int(module.VSIStatL(shapes).size)
-    with _File(index) as file:
+    with VsiFile(index) as file:
         head = file.read(_SHAPES)
         # OGR reads as much as the header says.
         entries = file.read(max(int.from_bytes(head[24:28], "big") * 2 - _SHAPES, 0))
@@ -138,29 +139,10 @@ def _places(columns: bytes) -> Iterator[slice]:
         begin += columns[at + 16]
 
 
-def _records(file: _File, size: int) -> Iterator[bytes]:
+def _records(file: VsiFile, size: int) -> Iterator[bytes]:
     rest = b""
     while size and (more := file.read(_CHUNK)):
         rest += more
         whole = len(rest) // size * size
         yield from (rest[at : at + size] for at in range(0, whole, size))
         rest = rest[whole:]
-
-
-class _File:
-    """A file that GDAL finds, also one of an archive."""
-
-    def __init__(self, path: str) -> None:
-        self._module, _, _ = ogr.gdal()
-        self._file = self._module.VSIFOpenL(path, "rb")
-        if self._file is None:
-            raise ogr.ExchangeError(f"{ogr.printable(path)} can't be read")
-
-    def read(self, size: int) -> bytes:
-        return bytes(self._module.VSIFReadL(1, size, self._file) or b"")
-
-    def __enter__(self) -> _File:
-        return self
-
-    def __exit__(self, *what: object) -> None:
-        self._module.VSIFCloseL(self._file)

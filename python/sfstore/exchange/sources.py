@@ -19,9 +19,9 @@ from sfstore.sidecar import Crs
 
 __all__ = ["Opened", "check_unchanged", "mode_for", "open_source"]
 
-_SHAPEFILE = "ESRI Shapefile"
+_SHAPEFILE, _FLATGEOBUF = "ESRI Shapefile", "FlatGeobuf"
 # The formats whose files say how many features they have, so that one that was cut is seen.
-_COUNTED = (_SHAPEFILE, "FlatGeobuf")
+_COUNTED = (_SHAPEFILE, _FLATGEOBUF)
 # Tables and views of a database in which no column has a geometry. OGR names those of the schema public without it.
 _PLAIN_TABLES = """
     SELECT CASE nspname WHEN 'public' THEN relname::text ELSE nspname || '.' || relname END AS name
@@ -87,7 +87,7 @@ def _opened(name: str, any_format: bool) -> Source:
         # OGR reads it otherwise: it changes numbers, and drops names that stand twice, without a word.
         raise ogr.ExchangeError(f"{ogr.printable(name):.200} is GeoJSON, and no file that begins as one: name its file alone")
     metadata = data.GetMetadataItem(wayback.ITEM) if data.GetDriver().ShortName == "GPKG" else ""
-    layers: list[Layer] = [OgrLayer(data, data.GetLayer(at)) for at in range(data.GetLayerCount())]
+    layers: list[Layer] = [OgrLayer(data, at) for at in range(data.GetLayerCount())]
     is_whole = data.GetDriver().ShortName in ogr.DRIVERS
     return Source(name, layers, files, metadata or "", _plain_tables(data, layers), is_whole)
 
@@ -129,14 +129,18 @@ def _plain_tables(data: Any, layers: Sequence[Layer]) -> list[str]:
 class OgrLayer(Layer):
     """A layer that OGR reads."""
 
-    def __init__(self, data: Any, layer: Any) -> None:
+    def __init__(self, data: Any, at: int) -> None:
+        """``at`` is its place among the layers of a source of OGR."""
         self._data = data
-        self._layer = layer
+        self._layer = layer = data.GetLayer(at)
         self.name = layer.GetName()
         self.format = data.GetDriver().ShortName
         self.identifier_column = layer.GetFIDColumn()
         self.geometry_column = layer.GetGeometryColumn()
         self.has_geometries = layer.GetLayerDefn().GetGeomFieldCount() > 0
+        # Of a folder each layer is a file.
+        files = data.GetFileList() or []
+        self._file = str(files[at]) if self.format == _FLATGEOBUF and at < len(files) else ""
         self._name_place = _name_place(layer)
         self._unnamed = 0
         self._crs, self._crs_fault = ogr.read_crs(layer)
@@ -175,7 +179,7 @@ class OgrLayer(Layer):
         return name
 
     def columns(self, as_text: bool, names: Mapping[str, str], wanted: Mapping[str, str]) -> Fields:
-        return Fields(self._data, self._layer, as_text, names, wanted)
+        return Fields(self._data, self._layer, as_text, names, wanted, self._file)
 
     def lost(self, read: int) -> Iterator[Lost]:
         count = self._layer.GetFeatureCount(0) if self.format in _COUNTED else -1

@@ -1,4 +1,4 @@
-"""Tests of what an import owes a Shapefile's table and its reference system, also in an archive, and of many columns."""
+"""Tests of what an import owes a Shapefile's table and reference system, a FlatGeobuf of others, and many columns."""
 
 from __future__ import annotations
 
@@ -9,7 +9,7 @@ import zipfile
 from decimal import Decimal
 
 from support import PROGRAM
-from test_exchange import HAS_GDAL, ExchangeCase, bring_in, give_back
+from test_exchange import HAS_GDAL, ExchangeCase, Source, bring_in, give_back
 
 from sfstore import Store
 
@@ -155,6 +155,71 @@ class ReferenceSystems(TableCase):
         self.assertEqual((status, err), (0, ""), out)
         self.assertIn("Näherung", crs["wkt"])
         self.assertEqual(give_back(self.store, self.target)[0], 0)
+
+
+class FlatGeobufs(TableCase):
+    """Of other programs: OGR writes no whole numbers without a sign, and moments in its own form."""
+
+    NUMBERS = (2**53 + 1, -1, 2**62 + 3, 5)
+    MOMENTS = (
+        *("2020-01-31T10:00:00.123456Z", "2020-01-31T10:00:00.1230000Z", "31.1.2020", "2020-01-31 10:00:00Z"),
+        *("2020-01-31T10:00:00.1234567Z", "2020-01-31", "2020-01-31T10:00:00.5Z"),
+    )
+
+    def file(self, path, options=()):
+        """A file of numbers and moments, which OGR has written as numbers with a sign and as texts."""
+        source = Source(path, "FlatGeobuf")
+        rows = [{"n": number} for number in self.NUMBERS] + [{"at": text} for text in self.MOMENTS]
+        columns = [("n", ogr.OFTInteger64), ("at", ogr.OFTString)]
+        features = {at: (f"POINT ({at} {at})", row) for at, row in enumerate(rows)}
+        source.layer("w", features, columns=columns, crs=None, options=options)
+        source.close()
+        data = bytearray(path.read_bytes())
+        for before, behind in (("000708000000", "000808000000"), ("00000b08000000", "00000d08000000")):
+            at = data.rindex(bytes.fromhex(before))
+            data[at : at + len(before) // 2] = bytes.fromhex(behind)
+        path.write_bytes(data)
+        return path
+
+    def check_told(self, out, *features):
+        parts, none, number = features
+        self.assertIn(f"2 a moment with parts of a millisecond: {parts} (the value of column at is left out)", out)
+        self.assertIn(f"1 a value that is none of the column's type DateTime: {none} (the value '31.1.2020' of column at", out)
+        self.assertIn(f"1 a number of more than 64 bits: {number} (the value of column n is left out)", out)
+
+    def test_numbers_and_moments_are_as_they_stand_there_or_told(self):
+        source = self.file(self.folder / "w.fgb", ["SPATIAL_INDEX=NO"])
+        status, out, _ = self.brought(source)
+        self.assertEqual(status, 1)
+        self.check_told(out, 4, 6, 1)
+        self.assertEqual([f.get("n") for f in self.values()[:4]], [2**53 + 1, None, 2**62 + 3, 5])
+        moments = [str(f.get("at", "")).removeprefix("2020-01-31 ") for f in self.values()[4:]]
+        self.assertEqual(moments, ["", "10:00:00.123000+00:00", "", "10:00:00+00:00", "", "00:00:00+00:00", "10:00:00.500000+00:00"])
+
+    def test_behind_an_index_in_an_archive_and_in_a_folder(self):
+        maps = self.folder / "maps"
+        maps.mkdir()
+        self.file(maps / "w.fgb")
+        with zipfile.ZipFile(self.folder / "a.zip", "w") as made:
+            made.write(maps / "w.fgb", "w.fgb")
+        for source in (maps, f"/vsizip/{self.folder / 'a.zip'}/w.fgb"):
+            with self.subTest(str(source)):
+                self.assertEqual(self.brought(source)[0], 1)
+                numbers = {feature.values["n"] for feature in self.shown("w") if "n" in feature.values}
+                self.assertEqual(numbers, {2**53 + 1, 2**62 + 3, 5})
+
+    def test_as_texts_they_are_the_very_ones(self):
+        status, out, _ = self.brought(self.file(self.folder / "w.fgb", ["SPATIAL_INDEX=NO"]), "--as-text")
+        self.assertEqual(status, 1, out)
+        self.assertEqual([f["n"] for f in self.values()[:4]], [str(2**53 + 1), str(2**64 - 1), str(2**62 + 3), "5.0"])
+        texts = [f.get("at") for f in self.values()[4:]]
+        self.assertEqual((texts[0], texts[2], texts[4]), (self.MOMENTS[0], None, self.MOMENTS[4]))
+
+    def test_a_file_that_is_cut_anywhere_ends_in_a_sentence(self):
+        data = self.file(self.folder / "w.fgb").read_bytes()
+        for size in range(0, len(data), 97):
+            (self.folder / "cut.fgb").write_bytes(data[:size])
+            self.assertIn(self.brought(self.folder / "cut.fgb")[0], (1, 3), size)
 
 
 class ManyColumns(TableCase):
