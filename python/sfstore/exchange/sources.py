@@ -11,7 +11,7 @@ from typing import Any, NamedTuple
 from sfstore.exchange import jsontext, ogr, wayback
 from sfstore.exchange.fields import Fields
 from sfstore.exchange.jsonlayer import JsonLayer
-from sfstore.exchange.layers import Feature, Layer, Lost, Source
+from sfstore.exchange.layers import STRANGER, Feature, Layer, Lost, Source
 from sfstore.exchange.shapefiles import beside, deleted_records, index_fault
 from sfstore.exchange.srids import strangers
 from sfstore.exchange.stamps import changed, mode_of, stamps_of
@@ -160,7 +160,7 @@ class OgrLayer(Layer):
             identifier = feature.GetFID()
             if identifier in found.others:
                 detail = f"its SRID is {found.others[identifier]}"
-                yield Feature(identifier, None, feature, detail, "a geometry of another reference system than the layer's")
+                yield Feature(identifier, None, feature, detail, STRANGER)
                 continue
             yield Feature(identifier, None if fault else feature.GetGeometryRef(), feature, fault)
 
