@@ -9,6 +9,7 @@ from operator import and_
 from typing import Any, NamedTuple
 
 from sfstore.exchange import jsontext, ogr, wayback
+from sfstore.exchange.archives import check_size, is_zip
 from sfstore.exchange.fields import Fields
 from sfstore.exchange.jsonlayer import JsonLayer
 from sfstore.exchange.layers import STRANGER, Feature, Layer, Lost, Source
@@ -80,6 +81,7 @@ def _opened(name: str, any_format: bool) -> Source:
     if "/vsistdin" in name:
         raise ogr.ExchangeError(f"{ogr.printable(name)} can be read once alone, and a source is read twice: name a file")
     files = stamps_of(name)
+    check_size(name)
     if jsontext.is_json(name) and not (any_format and ogr.format_of(name) not in (*_JSON, "")):
         return Source(name, [JsonLayer(name)], files)
     data = ogr.open_data(name, None if any_format else list(ogr.DRIVERS))
@@ -96,6 +98,8 @@ def _reason(name: str, error: RuntimeError) -> str:
     """Why a source does not open, with the formats that are read, where it is a file."""
     if not os.path.isfile(name):
         return str(error)
+    if is_zip(name):
+        return f"{error} (an archive is named with /vsizip/ before it)"
     return f"{error} (it may be of another format than {', '.join(ogr.DRIVERS)}: --any-format reads it)"
 
 
