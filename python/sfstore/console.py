@@ -40,6 +40,8 @@ __all__ = ["Console", "main"]
 
 Complete = Callable[[str], "list[str]"]
 
+_PICTURE = ".svg"
+
 
 class _Terminal(Protocol):
     """Where lines are asked for."""
@@ -364,16 +366,23 @@ class Console:
 
     def _picture(self, words: list[str]) -> None:
         """Draws the store as it is, and opens the picture where there is a browser."""
-        target = words[0] if words else self._path + ".svg"
+        target = words[0] if words else self._path + _PICTURE
+        store = os.path.realpath(self._path)
+        if not target.lower().endswith(_PICTURE) or os.path.realpath(target) in (store, *sidecar.beside(store)):
+            # Nothing else is replaced by one: somebody may name the store that is to be drawn.
+            print(f"A picture goes to a file of its own, whose name ends in {_PICTURE}: nothing is drawn.")
+            return
         program = shutil.which("sfmap")
         if program is None:
             print("This needs the program sfmap, and it is not on the PATH.")
             return
-        with tempfile.TemporaryDirectory() as folder, files.whole_file(target) as beside:
+        # It lets others see no more than the store does, or where it was not saved yet its journal.
+        like = store if os.path.exists(store) else store + ".journal"
+        with tempfile.TemporaryDirectory() as folder, files.whole_file(target, like) as beside:
             copy = os.path.join(folder, "copy.sfs")
             self._store.copy(copy)
-            with open(copy, "rb") as store, open(beside, "wb") as svg:
-                ended = subprocess.run([program], stdin=store, stdout=svg)  # nosec B603: a list of words, none of a stranger.
+            with open(copy, "rb") as drawn, open(beside, "wb") as svg:
+                ended = subprocess.run([program], stdin=drawn, stdout=svg)  # nosec B603: a list of words, none of a stranger.
             if ended.returncode:
                 raise RuntimeError(f"sfmap ended with status {ended.returncode}: no picture is drawn")
         print(f"{target} is drawn.")

@@ -10,6 +10,7 @@ import re
 from typing import Literal, NamedTuple, Optional
 
 __all__ = [
+    "COLUMNS_MAX",
     "COLUMN_TYPES",
     "COMMANDS",
     "EDITOR_MAX",
@@ -22,6 +23,7 @@ __all__ = [
     "INT_MAX",
     "INT_MIN",
     "KINDS",
+    "LAYERS_MAX",
     "LINE_MAX",
     "MEMBERS",
     "NAME",
@@ -76,6 +78,12 @@ INT_MIN, INT_MAX = -(2**63), 2**63 - 1
 
 PLACES_MAX = 18
 """How many digits a decimal has behind the point at most."""
+
+LAYERS_MAX = 65_535
+"""How many layers a store has at most."""
+
+COLUMNS_MAX = 65_534
+"""How many columns a layer ever gets."""
 
 TEXT_MAX = 65_535
 """How many bytes of UTF-8 a text of a column has at most."""

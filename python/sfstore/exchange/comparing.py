@@ -144,8 +144,9 @@ class _LayerCheck:
         shape = read_wkb(feature.geometry)
         if geometry is None or not self._is_same_shape(bytes(geometry.ExportToIsoWkb(_LEAST_FIRST)), shape):
             raise self._other(f"feature {feature.id} has another geometry")
+        values = values_of(feature)
         for number, place in self._fields.items():
-            value = values_of(feature).get(number)
+            value = values.get(number)
             sort = self._part.sorts[number]
             if not self._is_same_value(value, sort, there, place):
                 known = there.GetFieldAsString(place) if there.IsFieldSetAndNotNull(place) else "none"

@@ -14,14 +14,14 @@ from collections.abc import Callable, Mapping
 from decimal import Decimal
 from typing import Any, NamedTuple
 
-from sfstore.exchange import ogr
+from sfstore.exchange import flatgeobuf, ogr
 from sfstore.exchange.asking import asked, quoted, table_of, tells_apart
 from sfstore.exchange.columns import DATE, DATE_TIME, INTEGER, INTEGER_64, REAL, STRING
 from sfstore.exchange.jsontext import text_of
 from sfstore.exchange.layers import Fault, Feature, Left, SourceColumns
 from sfstore.exchange.moments import day_of, moment_of, text_of_day, text_of_moment, text_of_time
 from sfstore.exchange.names import Names, kept_name
-from sfstore.exchange.shapefiles import odd_numbers
+from sfstore.exchange.shapefiles import odd_values
 from sfstore.exchange.stored import MAKERS, Made, whole_of
 from sfstore.language import TEXT_MAX
 from sfstore.results import Value
@@ -68,8 +68,6 @@ _NO_DOUBLE = (
     "CASE WHEN {0} IS NULL OR {0}::text IN ('NaN', 'Infinity', '-Infinity') OR {0} = 0 THEN false "
     "WHEN abs({0}) BETWEEN 1e-300 AND 1e300 THEN {0}::float8::text::numeric <> {0} ELSE true END"
 )
-# Below it each whole number is a double.
-_FIRST_GAP = 2.0**53
 # A time that OGR would change: one with parts of a millisecond, and the end of a day, which it drops.
 _ODD_TIME = "({0}::text LIKE '%.____%' OR {0}::text LIKE '24:%')"
 # Days of which OGR drops those before the year 1.
@@ -137,9 +135,14 @@ class Fields(SourceColumns):
         as_text: bool,
         names: Mapping[str, str],
         wanted: Mapping[str, str] | None = None,
+        file: str = "",
     ) -> None:
-        """``names`` are those of the store by those of the source, and ``wanted`` the types that a store's layer has."""
+        """``names`` are those of the store by those of the source, and ``wanted`` the types that a store's layer has.
+
+        ``file`` is that of a FlatGeobuf, which has one layer.
+        """
         super().__init__()
+        self._file = file
         self._source = source
         self._layer = layer
         self._as_text = as_text
@@ -174,14 +177,7 @@ class Fields(SourceColumns):
                 faults.append(Fault(fault, f"the value of column {field.name} is left out"))
                 continue
             values[field.number] = value
-            if isinstance(value, float) and self._is_doubtful(value):
-                detail = f"{int(value)} in column {field.name}"
-                faults.append(Fault("a whole number whose last digits OGR may have changed", detail))
         return values, faults
-
-    def _is_doubtful(self, number: float) -> bool:
-        """Whether the source may have another whole number, of which OGR has made the nearest double."""
-        return self._driver == "ESRI Shapefile" and abs(number) >= _FIRST_GAP and number.is_integer()
 
     def _fault(self, field: _Field, value: Any) -> str:
         """Why the store can't have a value, or nothing. Where its column becomes one of texts, those are the measure."""
@@ -293,13 +289,15 @@ class Fields(SourceColumns):
         return set(confused)
 
     def find_odd(self) -> None:
-        """Asks a GeoPackage, a database or the table of a Shapefile for the values that OGR would change."""
+        """Asks the source itself for the values that OGR would change."""
         if self._driver == "GPKG":
             self._find_odd_of_geopackage()
         elif self._driver == "PostgreSQL":
             self._find_odd_of_postgresql()
         elif self._driver == "ESRI Shapefile":
             self._find_odd_of_shapefile()
+        elif self._file:
+            self._find_odd_of_flatgeobuf()
 
     def forget_odd(self) -> None:
         """Lets go of what `find_odd` has found."""
@@ -315,9 +313,15 @@ class Fields(SourceColumns):
             self._note_odd(field, condition, shown)
 
     def _find_odd_of_shapefile(self) -> None:
-        numbers = {each.place: each.source_type != REAL for each in self._fields if each.source_type in (INTEGER, INTEGER_64, REAL)}
-        for record, place, text in odd_numbers(self._source, self._layer.GetName(), numbers):
-            self._odd[record, place] = repr(text), None
+        types = {field.place: field.source_type for field in self._fields}
+        for record, place, text, number in odd_values(self._source, self._layer.GetName(), types):
+            self._odd[record, place] = repr(text), number
+
+    def _find_odd_of_flatgeobuf(self) -> None:
+        taken = {field.place for field in self._fields}
+        for feature, place, shown, value in flatgeobuf.odd_values(self._file):
+            if place in taken:
+                self._odd[feature, place] = shown, value
 
     def _find_odd_of_postgresql(self) -> None:
         types = self._postgresql_types()

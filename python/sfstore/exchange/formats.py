@@ -8,19 +8,22 @@ from dataclasses import dataclass
 from typing import NamedTuple
 
 from sfstore.exchange.columns import DATE, DATE_TIME, REAL, STRING, Sort, Survey, origin_of, sort_of, surveyed
+from sfstore.exchange.names import FreeNames
 from sfstore.exchange.ogr import printable
 from sfstore.language import COLUMN_TYPES
 from sfstore.results import Rule
 from sfstore.sidecar import ColumnOrigin, LayerOrigin, Sidecar
 from sfstore.storefile import DATE as FILE_DATE
-from sfstore.storefile import DATETIME, FileColumn, FileLayer
+from sfstore.storefile import BOOL, DATETIME, FileLayer
 
-__all__ = ["FORMATS", "RULES_MAX", "Format", "Part", "column_origin", "format_of", "parts_of", "rules_kept"]
+__all__ = ["FORMATS", "RULES_MAX", "Format", "Part", "format_of", "parts_of", "rules_kept"]
 
 RULES_MAX = 1_000
 """How many rules a map has at most: each costs its import a `join`, whoever has written it."""
 
 _NO_ORIGIN = LayerOrigin("", "", "", "", [])
+# The most bytes that a file's name has before its ending.
+_FILE_NAME = 200
 
 
 class Part(NamedTuple):
@@ -79,6 +82,7 @@ class Format:
     keeps_digits: bool = False
     """Whether it has numbers with more digits than a double."""
     keeps_identifiers: bool = True
+    has_booleans: bool = True
     largest_real: float = math.inf
     """Reals are below it, or their column goes out as texts."""
 
@@ -96,7 +100,8 @@ def parts_of(
     not keep.
     """
     origins, told = _origins(layers, found)
-    names: set[str] = set()
+    # That of a layer is that of a file too, where the format has one for each.
+    names = FreeNames(True, _FILE_NAME) if _has_files(written) else FreeNames(written.is_folded, written.longest)
     parts, losses = [], []
     for layer in layers:
         if not wanted or layer.name in wanted:
@@ -118,7 +123,7 @@ def _origins(layers: list[FileLayer], found: Sidecar) -> tuple[dict[str, LayerOr
             shown = printable(origins[layer.name].source_name)
             told.append(f"{layer.name} is not the layer that came from {shown}: it is a new one")
             del origins[layer.name]
-    if any(name not in {layer.name for layer in layers} for name in origins) or told:
+    if origins.keys() - {layer.name for layer in layers} or told:
         for layer in layers:
             if layer.name not in origins:
                 told.append(
@@ -134,7 +139,7 @@ def _is_younger(layer: FileLayer, origin: LayerOrigin) -> bool:
 
 
 def _part(
-    layer: FileLayer, origin: LayerOrigin, names: set[str], written: Format
+    layer: FileLayer, origin: LayerOrigin, names: FreeNames, written: Format
 ) -> tuple[Part, list[str]]:
     """A layer with its names in a format, and those that the format can't keep, in words."""
     told = []
@@ -142,11 +147,12 @@ def _part(
     name = _layer_name(wanted, names, written)
     if name != wanted:
         told.append(f"the name {printable(wanted)} of a layer: it is {printable(name)} there")
-    columns, lost = _column_names(layer, origin, written)
+    known = {column.name: column for column in reversed(origin.columns)}
+    columns, lost = _column_names(layer, known, written)
     told += lost
     own, lost = _own_names(origin, set(columns.values()), written)
     told += lost
-    origins = _column_origins(layer, origin)
+    origins = _column_origins(layer, known)
     survey = surveyed(layer, origins)
     sorts = {
         column.number: sort_of(
@@ -159,15 +165,16 @@ def _part(
     return Part(layer, origin, name, columns, identifier_column, geometry_column, survey, sorts), told
 
 
-def _column_names(layer: FileLayer, origin: LayerOrigin, written: Format) -> tuple[dict[int, str], list[str]]:
+def _column_names(
+    layer: FileLayer, known: dict[str, ColumnOrigin], written: Format
+) -> tuple[dict[int, str], list[str]]:
     """The names of columns by their numbers, and those that the format can't keep, in words."""
     told = []
-    taken: set[str] = set(written.reserved_columns)
+    names = FreeNames(written.is_folded, written.longest, written.reserved_columns)
     columns = {}
     for column in layer.columns:
-        known = column_origin(origin, column)
-        wanted = known.source_name if known else column.name
-        columns[column.number] = _free(wanted, taken, written.is_folded, written.longest)
+        wanted = known[column.name].source_name if column.name in known else column.name
+        columns[column.number] = names.new(wanted)
         if columns[column.number] != wanted:
             told.append(
                 f"the name {printable(wanted)} of a column of {layer.name}: "
@@ -181,19 +188,19 @@ def _own_names(origin: LayerOrigin, columns: set[str], written: Format) -> tuple
     if written.own_columns is None:
         return ["", ""], []
     told, own = [], []
-    taken = {name.casefold() for name in columns}
+    names = FreeNames(True, written.longest, columns)
     for known, usual in zip((origin.identifier_column, origin.geometry_column), written.own_columns):
         wanted = known or usual
-        own.append(_free(wanted, taken, True, written.longest))
+        own.append(names.new(wanted))
         if own[-1] != wanted:
             told.append(f"the name {printable(wanted)} of a column that OGR makes: it is {own[-1]} there")
     return own, told
 
 
-def _column_origins(layer: FileLayer, origin: LayerOrigin) -> dict[int, ColumnOrigin]:
+def _column_origins(layer: FileLayer, known: dict[str, ColumnOrigin]) -> dict[int, ColumnOrigin]:
     """What the columns were in the source, by their numbers."""
-    found = ((column.number, origin_of(column, column_origin(origin, column))) for column in layer.columns)
-    return {number: known for number, known in found if known}
+    found = ((column.number, origin_of(column, known.get(column.name))) for column in layer.columns)
+    return {number: origin for number, origin in found if origin}
 
 
 def _types_lost(
@@ -205,6 +212,8 @@ def _types_lost(
         known = origins.get(column.number)
         texts = survey.texts.get(column.number)
         sort = sorts[column.number]
+        if column.type == BOOL and not written.has_booleans:
+            told.append(f"the type bool of column {column.name} of {layer.name}: it has numbers there")
         if texts is not None and texts.other_form is not None and sort.type != STRING:
             shown = printable(texts.other_form[:40])
             if not sort.is_exact:
@@ -223,42 +232,20 @@ def _types_lost(
     return told
 
 
-def column_origin(origin: LayerOrigin, column: FileColumn) -> ColumnOrigin | None:
-    """What a column was in the source."""
-    for known in origin.columns:
-        if known.name == column.name:
-            return known
-    return None
+def _has_files(written: Format) -> bool:
+    """Whether a format has a file for each layer."""
+    return bool(written.endings) and not written.has_layers
 
 
-def _layer_name(wanted: str, taken: set[str], written: Format) -> str:
+def _layer_name(wanted: str, names: FreeNames, written: Format) -> str:
     """The name of a layer, which is that of a file too where the format has one for each layer."""
     name = wanted
-    if written.endings and not written.has_layers:
+    if _has_files(written):
         name = "".join("_" if letter in "/\0" else letter for letter in name)
-        name = "_" + name[1:] if name.startswith(".") else name
-        return _free(name, taken, True, 200)
+        return names.new("_" + name[1:] if name.startswith(".") else name)
     if name.casefold().startswith(written.reserved_layers or ("\0",)):
         name = f"x_{name}"
-    return _free(name, taken, written.is_folded, written.longest)
-
-
-def _free(wanted: str, taken: set[str], is_folded: bool, longest: int) -> str:
-    """A name like the wanted one, and other than those that are taken; it is taken then."""
-    number, tail = 1, ""
-    while True:
-        name = _cut(wanted, longest - len(tail) if longest else 0) + tail
-        key = name.casefold() if is_folded else name
-        if name and key not in taken:
-            taken.add(key)
-            return name
-        number += 1
-        tail = f"_{number}"
-
-
-def _cut(name: str, longest: int) -> str:
-    """The most letters that have no more bytes than are given, where any number is."""
-    return name.encode("utf-8", "replace")[: longest or None].decode("utf-8", "ignore")
+    return names.new(name)
 
 
 def _counters(parts: list[Part]) -> list[str]:
@@ -385,6 +372,7 @@ FORMATS = {
         longest=10,
         kept_types=frozenset((REAL, DATE)),
         keeps_identifiers=False,
+        has_booleans=False,
         # A number has room for 24 characters, 15 of which are decimals.
         largest_real=1e15,
     ),

@@ -30,7 +30,7 @@ from sfstore.exchange.sources import check_unchanged, open_source
 from sfstore.exchange.stamps import stamps_of
 from sfstore.exchange.suggesting import suggestion
 from sfstore.exchange.telling import Brought, BroughtFeature, Telling
-from sfstore.language import COLUMN_TYPES
+from sfstore.language import COLUMN_TYPES, LAYERS_MAX
 from sfstore.refusals import words_of
 from sfstore.results import Column, Refused
 from sfstore.sidecar import Crs, Sidecar
@@ -132,7 +132,7 @@ def _chosen_layers(
     if wanted:
         # Files of a folder may have layers of one name, and all of them are meant.
         return [layer for name in dict.fromkeys(wanted) for layer in layers if layer.name == name]
-    order = {layer.name: place for place, layer in enumerate(left.layers)}
+    order = {name: place for place, name in enumerate(left.layers)}
     return sorted(layers, key=lambda layer: order.get(layer.name, len(order)))
 
 
@@ -187,6 +187,8 @@ def _opened(wishes: Wishes, report: Report) -> list[Source]:
     opened = open_source(wishes.source, wishes.any_format)
     for name, reason in opened.left_out:
         report.problem(name, None, "does not open", reason)
+    if not any(source.layers or source.plain_tables for source in opened.sources):
+        raise ogr.ExchangeError(f"{ogr.printable(_shown_source(wishes))} has no layers: a file may be cut off")
     for source in opened.sources:
         # Whoever names layers has not asked for these.
         for table in source.plain_tables if not wishes.layers else ():
@@ -210,10 +212,12 @@ def _read_layers(
     report: Report,
 ) -> tuple[list[FileLayer], list[LayerImport]]:
     """The layers as the store is to have them, and what has read them."""
+    if len(layers) > LAYERS_MAX:
+        raise ogr.ExchangeError(f"the source has {len(layers):,} layers, and a store at most {LAYERS_MAX:,}")
     names = Names()
     contents, readings = [], []
     for (_, layer), shown in zip(layers, _shown_names(layers)):
-        told = left.layer(layer.name)
+        told = left.layers.get(layer.name)
         name = names.new(told.store_name if told else layer.name)
         if name != layer.name:
             report.note(shown, f"the layer has the name {name}")
@@ -312,7 +316,7 @@ def _read_into(
     names = Names()
     contents, readings = [], []
     for (_, layer), shown in zip(layers, _shown_names(layers)):
-        told = left.layer(layer.name) or origins.get(layer.name)
+        told = left.layers.get(layer.name) or origins.get(layer.name)
         name = names.new(told.store_name if told else layer.name)
         if name not in kinds:
             detail = f"{name}: its {layer.count()} features are left out"

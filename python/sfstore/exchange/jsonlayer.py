@@ -19,7 +19,7 @@ from sfstore.exchange.columns import INTEGER, INTEGER_64, REAL, STRING
 from sfstore.exchange.fields import text_fault
 from sfstore.exchange.jsongeometry import KINDS, binary
 from sfstore.exchange.jsontext import Repeated, members, object_of, text_of
-from sfstore.exchange.layers import Fault, Feature, Layer, Lost, SourceColumns
+from sfstore.exchange.layers import STRANGER, Fault, Feature, Layer, Lost, SourceColumns
 from sfstore.exchange.names import Names, kept_name
 from sfstore.exchange.stored import MAKERS, decimal_of
 from sfstore.language import IDENTIFIER_MAX, INT_MAX, INT_MIN
@@ -38,6 +38,8 @@ _SHOWN = 8
 # Names of reference systems that OGR looks up in its own tables. Others could be those of files, or of the network.
 _CRS_NAME = re.compile(r"(urn:|https?://(www\.)?opengis\.net/def/crs/)[A-Za-z0-9:/._-]+|[A-Z]+:[A-Za-z0-9]+")
 _EPSG_CODE = re.compile("[1-9][0-9]{0,8}", re.ASCII)
+# In both longitude comes first in a GeoJSON.
+_DEGREES = {"EPSG:4326", "OGC:CRS84"}
 # The column of identifiers that the store can't have.
 _IDENTIFIER = "id"
 # In which order the kinds of values are told.
@@ -55,6 +57,8 @@ class _Properties(NamedTuple):
     known: dict[str, Any]
     further: list[str]
     """Members that are none of GeoJSON."""
+    system: Mapping[str, Any] = {}
+    """The member ``crs`` that it has of its own, or its geometry; as some programs write it."""
     fault: str = ""
 
 
@@ -108,6 +112,8 @@ class _Survey:
     """The codes of the kinds of geometries."""
     further: Counter[str] = field(default_factory=Counter)
     """How many features have members that are none of GeoJSON, by the members."""
+    systems: dict[str, Mapping[str, Any]] = field(default_factory=dict)
+    """The members ``crs`` of features, or that they have none, by their texts."""
     elements: int = 0
     faults: list[str] = field(default_factory=list)
     """Why some elements are no features."""
@@ -119,6 +125,7 @@ class _Survey:
             return
         self.count += 1
         self.further.update(feature.further)
+        self.systems.setdefault(_text_of_system(feature.system), feature.system)
         if feature.identifier is not None:
             self.identifier.add(feature.identifier)
             if type(feature.identifier) is int and 0 <= feature.identifier < IDENTIFIER_MAX:
@@ -137,6 +144,13 @@ class _Survey:
         return len(self.identifiers) == self.count
 
     @property
+    def system(self) -> Mapping[str, Any]:
+        """The member ``crs`` of the collection, or else the one that all features have."""
+        if "crs" in self.head:
+            return {"crs": self.head["crs"]}
+        return next(iter(self.systems.values())) if len(self.systems) == 1 else {}
+
+    @property
     def has_column_of_identifiers(self) -> bool:
         return not self.keeps_identifiers and bool(self.identifier.kinds)
 
@@ -152,9 +166,14 @@ class JsonLayer(Layer):
         name = self._survey.head.get("name")
         self.name = name if isinstance(name, str) and name else os.path.splitext(os.path.basename(path))[0]
         self._names = _columns_of_names(self._survey.columns)
+        self._crs = _crs(self._survey.system)
+        own = _text_of_system(self._survey.system)
+        # What has none has that of the collection.
+        systems = {text: system for text, system in self._survey.systems.items() if system and text != own}
+        self._strangers = {text for text, system in systems.items() if not _is_same(_crs(system), self._crs)}
 
     def crs(self) -> Crs | None:
-        return _crs(self._survey.head)
+        return self._crs
 
     def count(self) -> int:
         return self._survey.count
@@ -165,6 +184,10 @@ class JsonLayer(Layer):
             # One that is none was written since the survey, and the source is refused at the end.
             is_kept = self._survey.keeps_identifiers and type(found.identifier) is int
             identifier = found.identifier if is_kept else at
+            system = _text_of_system(found.system)
+            if system in self._strangers:
+                yield Feature(identifier, None, found, f"its crs is {system:.100}", STRANGER)
+                continue
             geometry, fault = None, ""
             try:
                 if found.geometry is not None:
@@ -198,10 +221,11 @@ class JsonLayer(Layer):
         further = [name for name in head if name not in _OF_A_COLLECTION]
         if further:
             yield Lost("members of the file beside its features are left out", ", ".join(further))
-        if "crs" in head and head["crs"] is None:
+        system = self._survey.system
+        if system and system["crs"] is None:
             yield Lost("it says that its reference system is unknown", "crs: null")
-        elif "crs" in head and not _is_known(head["crs"]):
-            yield Lost("a reference system that is unknown is left out", f"{text_of(head['crs']):.100}")
+        elif system and not _is_known(system["crs"]):
+            yield Lost("a reference system that is unknown is left out", f"{_text_of_system(system):.100}")
 
 
 def _surveyed(path: str) -> _Survey:
@@ -263,17 +287,21 @@ def _parted(feature: Any) -> _Properties:
     """The parts of a feature, or why it is none."""
     fault = _fault_of(feature)
     if fault:
-        return _Properties(None, None, {}, [], fault)
-    further = [name for name in feature if name not in _OF_A_FEATURE]
+        return _Properties(None, None, {}, [], fault=fault)
+    further = [name for name in feature if name not in _OF_A_FEATURE and name != "crs"]
     known = feature.get("properties")
     if "properties" not in feature:
         # Some programs write them so, and OGR reads them.
         known, further = {name: feature[name] for name in further}, []
     geometry = feature.get("geometry")
+    system: dict[str, Any] = {}
+    for each in (feature, geometry):
+        if isinstance(each, dict) and "crs" in each:
+            system = {"crs": each["crs"]}
     for each in _geometries(geometry):
         own = _OF_SEVERAL if each.get("type") == KINDS[-1] else _OF_A_GEOMETRY
-        further += [f"geometry.{name}" for name in each if name not in own]
-    return _Properties(feature.get("id"), geometry, known or {}, list(dict.fromkeys(further)))
+        further += [f"geometry.{name}" for name in each if name not in own and (name != "crs" or each is not geometry)]
+    return _Properties(feature.get("id"), geometry, known or {}, list(dict.fromkeys(further)), system)
 
 
 def _geometries(geometry: Any) -> Iterator[dict[str, Any]]:
@@ -328,6 +356,21 @@ def _is_known(member: Any) -> bool:
         return bool(name) and bool(ogr.crs_named(name))
     except ogr.ExchangeError:
         return False
+
+
+def _text_of_system(system: Mapping[str, Any]) -> str:
+    """A member ``crs`` as JSON; nothing where there is none."""
+    try:
+        return text_of(system["crs"]) if system else ""
+    except RecursionError:
+        return "nested too deeply"
+
+
+def _is_same(crs: Crs | None, other: Crs | None) -> bool:
+    """Whether two reference systems are one that is known: longitude and latitude have two codes."""
+    if crs is None or other is None:
+        return False
+    return crs == other or {f"{crs}", f"{other}"} == _DEGREES
 
 
 def _crs(head: Mapping[str, Any]) -> Crs | None:

@@ -13,7 +13,11 @@ from sfstore.exchange.stamps import Stamps
 from sfstore.sidecar import ColumnOrigin, Crs
 from sfstore.storefile import FileColumn, FileFeature
 
-__all__ = ["Fault", "Feature", "Layer", "Left", "Lost", "SourceColumns", "Source"]
+__all__ = ["STRANGER", "Fault", "Feature", "Layer", "Left", "Lost", "SourceColumns", "Source"]
+
+
+STRANGER = "a geometry of another reference system than the layer's"
+"""Why a feature is not taken."""
 
 
 class Feature(NamedTuple):

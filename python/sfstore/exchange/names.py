@@ -8,7 +8,7 @@ from collections.abc import Iterable
 
 from sfstore.language import NAME
 
-__all__ = ["Names", "kept_name"]
+__all__ = ["FreeNames", "Names", "kept_name"]
 
 _LENGTH = 32
 
@@ -35,6 +35,51 @@ class Names:
         self._next[plain] = number
         self._taken.add(found)
         return found
+
+
+class FreeNames:
+    """The names that are given of one kind in a format of maps, each other than those before."""
+
+    def __init__(self, is_folded: bool, longest: int = 0, taken: Iterable[str] = ()) -> None:
+        """``longest`` is the most bytes that a name has, 0 where that has no end.
+
+        Where it is folded names are told apart without regard to case.
+        """
+        self._is_folded = is_folded
+        self._longest = longest
+        self._taken = set(map(self._key, taken))
+        # As `Names` has it: of names that begin alike.
+        self._next: dict[str, int] = {}
+
+    def new(self, wanted: str) -> str:
+        """A name like the wanted one, and other than those that are taken; it is taken then.
+
+        >>> names = FreeNames(is_folded=True, longest=10)
+        >>> names.new("population_1990"), names.new("Population_2000")
+        ('population', 'Populati_2')
+        """
+        front = self._key(_cut(wanted, self._longest))
+        number = self._next.get(front, 1)
+        while True:
+            name = self._numbered(wanted, number)
+            number += 1
+            if name and self._key(name) not in self._taken:
+                break
+        self._next[front] = number
+        self._taken.add(self._key(name))
+        return name
+
+    def _numbered(self, wanted: str, number: int) -> str:
+        tail = "" if number == 1 else f"_{number}"
+        return _cut(wanted, self._longest - len(tail) if self._longest else 0) + tail
+
+    def _key(self, name: str) -> str:
+        return name.casefold() if self._is_folded else name
+
+
+def _cut(name: str, longest: int) -> str:
+    """The most letters that have no more bytes than are given, where any number is."""
+    return name.encode("utf-8", "replace")[: longest or None].decode("utf-8", "ignore")
 
 
 def _plain(name: str) -> str:

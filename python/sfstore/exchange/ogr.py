@@ -23,6 +23,7 @@ __all__ = [
     "open_data",
     "printable",
     "progress",
+    "read_crs",
     "spatial_reference",
     "warned",
 ]
@@ -147,13 +148,22 @@ def _next_features(layer: Any) -> list[tuple[Any, str]]:
         while len(found) < _BATCH:
             module.ErrorReset()
             feature = layer.GetNextFeature()
-            is_wrong = module.GetLastErrorType() >= _FAILURE
-            fault = (module.GetLastErrorMsg() or "no reason is told") if is_wrong else ""
+            fault = _fault(module)
             if feature is not None or fault:
                 found.append((feature, fault))
             if feature is None:
                 break
     return found
+
+
+def _fault(module: Any) -> str:
+    """Why the last call has failed, or nothing. What it has warned of is told: of several warnings the last one."""
+    level, text = module.GetLastErrorType(), module.GetLastErrorMsg()
+    if level >= _FAILURE:
+        return text or "no reason is told"
+    if level == _WARNING:
+        _tell_warning(level, 0, text)
+    return ""
 
 
 @contextlib.contextmanager
@@ -170,8 +180,8 @@ def _without_exceptions() -> Iterator[None]:
                 with contextlib.suppress(RuntimeError):
                     each.DontUseExceptions()
                     taken_off.append(each)
-        # With the exceptions goes what hears warnings.
-        module.PushErrorHandler(_tell_warning)
+        # A function of Python can't hear of a warning that has bytes of a stranger's file, which are no UTF-8.
+        module.PushErrorHandler("CPLQuietErrorHandler")
         try:
             yield
         finally:
@@ -210,9 +220,17 @@ def driver(name: str) -> Any:
 
 
 def crs_of(layer: Any) -> Crs | None:
-    """The reference system of a layer."""
-    reference = layer.GetSpatialRef()
-    return None if reference is None else _crs(reference)
+    """The reference system of a layer; none where it can't be read."""
+    return read_crs(layer)[0]
+
+
+def read_crs(layer: Any) -> tuple[Crs | None, str]:
+    """The reference system of a layer, and why it can't be read, or nothing. OGR says that once alone."""
+    try:
+        reference = layer.GetSpatialRef()
+        return (None if reference is None else _crs(reference)), ""
+    except RuntimeError as error:
+        return None, str(error) or "no reason is told"
 
 
 def crs_named(name: str) -> Crs:
@@ -227,10 +245,13 @@ def crs_named(name: str) -> Crs:
 
 
 def _crs(reference: Any) -> Crs:
+    """`RuntimeError` where PROJ has read a part of it, and can't write that."""
     authority, code = reference.GetAuthorityName(None), reference.GetAuthorityCode(None)
     if not (authority and code):
         authority = code = ""
-    return Crs(authority, code, reference.ExportToWkt(["FORMAT=WKT2_2019"]))
+    wkt = reference.ExportToWkt(["FORMAT=WKT2_2019"])
+    # Letters of a name that are no UTF-8 come as bytes, and such files are of one byte a letter.
+    return Crs(authority, code, wkt if isinstance(wkt, str) else bytes(wkt).decode("latin-1"))
 
 
 def spatial_reference(crs: Crs | None) -> Any:

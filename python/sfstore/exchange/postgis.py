@@ -425,8 +425,8 @@ class _LayerExport:
         features = self._part.layer.features
         with ogr.progress(self._part.name, len(features)) as show:
             for feature in features:
-                fields = [str(feature.id), self._geometry(feature)]
-                fields += [_field(values_of(feature).get(column.number), column.sort) for column in self._columns]
+                fields, values = [str(feature.id), self._geometry(feature)], values_of(feature)
+                fields += [_field(values.get(column.number), column.sort) for column in self._columns]
                 rows.append("\t".join(fields) + "\n")
                 if len(rows) == _BATCH:
                     yield "".join(rows).encode("utf-8")
@@ -482,8 +482,9 @@ class _LayerExport:
             raise self._other(f"has no feature {feature.id}")
         if row[1] != self._geometry(feature):
             raise self._other(f"has another geometry of feature {feature.id}")
+        values = values_of(feature)
         for column, text in zip(self._columns, row[2:]):
-            value = values_of(feature).get(column.number)
+            value = values.get(column.number)
             if isinstance(value, str) and column.name in self._padded:
                 value = value.rstrip(" ")
             if not _is_same(value, text, column.sort):

@@ -14,7 +14,7 @@ from sfstore.exchange.reports import Report
 from sfstore.exchange.wayback import LeftLayer
 from sfstore.faults import fault_at
 from sfstore.geometry import KINDS, NotTaken, Shape, read_wkb, write_wkb, write_wkt
-from sfstore.language import IDENTIFIER_MAX, POINTS_MAX
+from sfstore.language import COLUMNS_MAX, IDENTIFIER_MAX, POINTS_MAX
 from sfstore.refusals import words_of
 from sfstore.sidecar import ColumnOrigin, LayerOrigin
 from sfstore.store import Kind, Refused, Store
@@ -110,6 +110,9 @@ class LayerImport:
             for batch in self._batches():
                 self._judge(scratch, batch)
         self._columns, self._features, self._origins = self._fields.finished(self._features)
+        if len(self._columns) > COLUMNS_MAX:
+            shown = f"{ogr.printable(self._source_name)} has {len(self._columns):,} columns"
+            raise ogr.ExchangeError(f"{shown}, and a layer of the store at most {COLUMNS_MAX:,}")
         for note in self._fields.notes:
             self._note(note)
         self._make_multi()

@@ -86,12 +86,14 @@ class Report:
         """A few lines for each layer: counts, reasons with the first identifiers, and notes."""
         told = (problem.layer for problem in self.problems)
         names = [*self.read, *told, *(layer for layer, _ in self.notes)]
+        reasons, notes = self._reasons(), self._notes()
         lines = []
         for layer in dict.fromkeys(names):
             counts = f"{self.read[layer]} features read, {self.taken[layer]} taken"
             lines.append(f"{ogr.printable(layer)}: {counts}")
-            lines += self._reasons(layer)
-            lines += [f"  {ogr.printable(text)}" for name, text in self.notes if name == layer]
+            found = reasons.get(layer, {})
+            shown = [*(_counted(reason, problems) for reason, problems in found.items()), *notes.get(layer, [])]
+            lines += [f"  {ogr.printable(text)}" for text in shown]
         return "".join(line + "\n" for line in lines)
 
     def text(self) -> str:
@@ -130,12 +132,18 @@ class Report:
         except RuntimeError as error:
             raise ogr.ExchangeError(f"{path} can't be written: {error}") from None
 
-    def _reasons(self, layer: str) -> list[str]:
-        found: dict[str, list[Problem]] = {}
+    def _reasons(self) -> dict[str, dict[str, list[Problem]]]:
+        """All problems and changes by their layers, and of each layer by their reasons."""
+        found: dict[str, dict[str, list[Problem]]] = {}
         for problem in (*self.problems, *self.changes):
-            if problem.layer == layer:
-                found.setdefault(problem.reason, []).append(problem)
-        return [f"  {ogr.printable(_counted(reason, problems))}" for reason, problems in found.items()]
+            found.setdefault(problem.layer, {}).setdefault(problem.reason, []).append(problem)
+        return found
+
+    def _notes(self) -> dict[str, list[str]]:
+        found: dict[str, list[str]] = {}
+        for layer, text in self.notes:
+            found.setdefault(layer, []).append(text)
+        return found
 
     def _write_features(self, path: str, name: str, crs: Crs | None) -> None:
         shown = [problem for problem in self.problems if problem.geometry and problem.identifier is not None]

@@ -1,6 +1,7 @@
-"""What OGR does not say of a Shapefile: texts in its columns of numbers, and shapes that its index does not name.
+"""What OGR does not say of a Shapefile: values that are none of their column's type, and shapes that its index does not name.
 
-OGR makes a number of the beginning of any text, and 0 of one that begins with none.
+OGR makes a number of the beginning of any text, and 0 of one that begins with none; of a text a day in the same way; and
+of each number with a fraction the nearest double.
 """
 
 from __future__ import annotations
@@ -8,11 +9,15 @@ from __future__ import annotations
 import os
 import re
 from collections.abc import Iterator, Mapping
+from decimal import Decimal
 from typing import Any, NamedTuple
 
 from sfstore.exchange import ogr
+from sfstore.exchange.columns import DATE, INTEGER, INTEGER_64, REAL
+from sfstore.exchange.moments import day_of
+from sfstore.exchange.vsi import VsiFile
 
-__all__ = ["Odd", "deleted_records", "index_fault", "odd_numbers"]
+__all__ = ["Odd", "beside", "deleted_records", "index_fault", "odd_values"]
 
 # How much of a table is read at a time.
 _CHUNK = 1 << 20
@@ -22,38 +27,64 @@ _END_OF_COLUMNS, _DELETED = 0x0D, b"*"
 # Blanks and zeros fill a place, and asterisks say that there is no value.
 _WHOLE = re.compile(rb"[ \0]*(?:[+-]?[0-9]+(?:\.0*)?[ \0]*)?|\*.*", re.DOTALL)
 _REAL = re.compile(rb"[ \0]*(?:[+-]?(?:[0-9]+\.?[0-9]*|\.[0-9]+)(?:[eE][+-]?[0-9]+)?[ \0]*)?|\*.*", re.DOTALL)
+_DAY = re.compile(rb"[ \0]*|[0-9]{8}[ \0]*")
+_FORMS = {INTEGER: _WHOLE, INTEGER_64: _WHOLE, REAL: _REAL, DATE: _DAY}
+_NO_DAY = "00000000"
+# So many digits each double has.
+_DIGITS = 15
+# A whole archive of one Shapefile, or of several, that OGR opens by its name.
+_ARCHIVES = (".shz", ".shp.zip")
 
 
 class Odd(NamedTuple):
-    """A text in a column of numbers."""
+    """A value that OGR would change."""
 
     record: int
     column: int
     text: str
+    number: str | None = None
+    """The text of a number that has other digits than its double; none where it is no value of the column's type."""
 
 
-def odd_numbers(source: Any, name: str, columns: Mapping[int, bool]) -> Iterator[Odd]:
-    """The texts that are no numbers, in those columns of a Shapefile, by their places. Each says whether its numbers are whole."""
-    path = _beside(source, name, ".dbf")
-    if not path or not columns:
+def odd_values(source: Any, name: str, columns: Mapping[int, str]) -> Iterator[Odd]:
+    """The values that OGR would change, of those columns of a Shapefile, which have their types by their places."""
+    path = beside(source, name, ".dbf")
+    forms = {column: _FORMS[kind] for column, kind in columns.items() if kind in _FORMS}
+    if not path or not forms:
         return
-    with _File(path) as file:
+    with VsiFile(path) as file:
         head = file.read(_TABLE)
         begin, size = int.from_bytes(head[8:10], "little"), int.from_bytes(head[10:12], "little")
         places = list(_places(file.read(max(begin - _TABLE, 0))))
-        wanted = [(column, places[column], _WHOLE if is_whole else _REAL) for column, is_whole in columns.items() if column < len(places)]
+        wanted = [(column, places[column], form) for column, form in forms.items() if column < len(places)]
         for at, record in enumerate(_records(file, size)):
             for column, place, form in wanted:
-                if not form.fullmatch(record[place]):
-                    yield Odd(at, column, record[place].decode("latin-1").strip(" \0"))
+                text = record[place].decode("latin-1").strip(" \0")
+                if not form.fullmatch(record[place]) or (form is _DAY and not _is_day(text)):
+                    yield Odd(at, column, text)
+                elif form is _REAL and not _is_double(text):
+                    yield Odd(at, column, text, text.lstrip("+"))
+
+
+def _is_day(digits: str) -> bool:
+    """Whether eight digits are a day, or say that there is none."""
+    return digits in ("", _NO_DAY) or day_of(f"{digits[:4]}-{digits[4:6]}-{digits[6:]}") is not None
+
+
+def _is_double(text: str) -> bool:
+    """Whether a number is its double, or was written as one: with as many places as its column has."""
+    if len(text) <= _DIGITS or not text.lstrip("+-").replace(".", "", 1).isdigit():
+        return True
+    number = Decimal(text)
+    return number == Decimal(f"{float(text):.{len(text.partition('.')[2])}f}")
 
 
 def deleted_records(source: Any, name: str) -> int:
     """How many records of a Shapefile's table are marked as deleted, whose features OGR passes over."""
-    path = _beside(source, name, ".dbf")
+    path = beside(source, name, ".dbf")
     if not path:
         return 0
-    with _File(path) as file:
+    with VsiFile(path) as file:
         head = file.read(_TABLE)
         file.read(max(int.from_bytes(head[8:10], "little") - _TABLE, 0))
         return sum(record.startswith(_DELETED) for record in _records(file, int.from_bytes(head[10:12], "little")))
@@ -61,12 +92,12 @@ def deleted_records(source: Any, name: str) -> int:
 
 def index_fault(source: Any, name: str) -> str:
     """How much of a Shapefile its index does not name, in words, or nothing."""
-    shapes, index = (_beside(source, name, ending) for ending in (".shp", ".shx"))
+    shapes, index = (beside(source, name, ending) for ending in (".shp", ".shx"))
     if not shapes or not index:
         return ""
     module, _, _ = ogr.gdal()
     size = int(module.VSIStatL(shapes).size)
-    with _File(index) as file:
+    with VsiFile(index) as file:
         head = file.read(_SHAPES)
         # OGR reads as much as the header says.
         entries = file.read(max(int.from_bytes(head[24:28], "big") * 2 - _SHAPES, 0))
@@ -75,15 +106,27 @@ def index_fault(source: Any, name: str) -> str:
     return "" if named == size else f"{named:,} of {size:,} bytes"
 
 
-def _beside(source: Any, name: str, ending: str) -> str:
+def beside(source: Any, name: str, ending: str) -> str:
     """The file of a layer that has an ending, in small or large letters; nothing where there is none."""
+    module, _, _ = ogr.gdal()
+    folder, wanted = _folder(source), f"{name}{ending}"
+    found = module.ReadDir(folder)
+    if found is None:
+        # Where no names can be asked for, as in the network.
+        path = os.path.join(folder, wanted)
+        return path if module.VSIStatL(path) is not None else ""
+    there = next((each for each in found if each.casefold() == wanted.casefold()), "")
+    return os.path.join(folder, there) if there else ""
+
+
+def _folder(source: Any) -> str:
+    """The folder that the files of a source are in, which may be one of an archive."""
     module, _, _ = ogr.gdal()
     path: str = source.GetDescription()
     known = module.VSIStatL(path)
-    folder = path if known is not None and known.IsDirectory() else os.path.dirname(path) or "."
-    wanted = f"{name}{ending}".casefold()
-    found = next((each for each in module.ReadDir(folder) or [] if each.casefold() == wanted), "")
-    return os.path.join(folder, found) if found else ""
+    if known is not None and known.IsDirectory():
+        return path
+    return f"/vsizip/{{{path}}}" if path.lower().endswith(_ARCHIVES) else os.path.dirname(path) or "."
 
 
 def _places(columns: bytes) -> Iterator[slice]:
@@ -96,29 +139,10 @@ def _places(columns: bytes) -> Iterator[slice]:
         begin += columns[at + 16]
 
 
-def _records(file: _File, size: int) -> Iterator[bytes]:
+def _records(file: VsiFile, size: int) -> Iterator[bytes]:
     rest = b""
     while size and (more := file.read(_CHUNK)):
         rest += more
         whole = len(rest) // size * size
         yield from (rest[at : at + size] for at in range(0, whole, size))
         rest = rest[whole:]
-
-
-class _File:
-    """A file that GDAL finds, also one of an archive."""
-
-    def __init__(self, path: str) -> None:
-        self._module, _, _ = ogr.gdal()
-        self._file = self._module.VSIFOpenL(path, "rb")
-        if self._file is None:
-            raise ogr.ExchangeError(f"{ogr.printable(path)} can't be read")
-
-    def read(self, size: int) -> bytes:
-        return bytes(self._module.VSIFReadL(1, size, self._file) or b"")
-
-    def __enter__(self) -> _File:
-        return self
-
-    def __exit__(self, *what: object) -> None:
-        self._module.VSIFCloseL(self._file)

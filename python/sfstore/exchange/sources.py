@@ -9,19 +9,20 @@ from operator import and_
 from typing import Any, NamedTuple
 
 from sfstore.exchange import jsontext, ogr, wayback
+from sfstore.exchange.archives import check_size, is_zip
 from sfstore.exchange.fields import Fields
 from sfstore.exchange.jsonlayer import JsonLayer
-from sfstore.exchange.layers import Feature, Layer, Lost, Source
-from sfstore.exchange.shapefiles import deleted_records, index_fault
+from sfstore.exchange.layers import STRANGER, Feature, Layer, Lost, Source
+from sfstore.exchange.shapefiles import beside, deleted_records, index_fault
 from sfstore.exchange.srids import strangers
 from sfstore.exchange.stamps import changed, mode_of, stamps_of
 from sfstore.sidecar import Crs
 
 __all__ = ["Opened", "check_unchanged", "mode_for", "open_source"]
 
-_SHAPEFILE = "ESRI Shapefile"
+_SHAPEFILE, _FLATGEOBUF = "ESRI Shapefile", "FlatGeobuf"
 # The formats whose files say how many features they have, so that one that was cut is seen.
-_COUNTED = (_SHAPEFILE, "FlatGeobuf")
+_COUNTED = (_SHAPEFILE, _FLATGEOBUF)
 # Tables and views of a database in which no column has a geometry. OGR names those of the schema public without it.
 _PLAIN_TABLES = """
     SELECT CASE nspname WHEN 'public' THEN relname::text ELSE nspname || '.' || relname END AS name
@@ -80,6 +81,7 @@ def _opened(name: str, any_format: bool) -> Source:
     if "/vsistdin" in name:
         raise ogr.ExchangeError(f"{ogr.printable(name)} can be read once alone, and a source is read twice: name a file")
     files = stamps_of(name)
+    check_size(name)
     if jsontext.is_json(name) and not (any_format and ogr.format_of(name) not in (*_JSON, "")):
         return Source(name, [JsonLayer(name)], files)
     data = ogr.open_data(name, None if any_format else list(ogr.DRIVERS))
@@ -87,7 +89,7 @@ def _opened(name: str, any_format: bool) -> Source:
         # OGR reads it otherwise: it changes numbers, and drops names that stand twice, without a word.
         raise ogr.ExchangeError(f"{ogr.printable(name):.200} is GeoJSON, and no file that begins as one: name its file alone")
     metadata = data.GetMetadataItem(wayback.ITEM) if data.GetDriver().ShortName == "GPKG" else ""
-    layers: list[Layer] = [OgrLayer(data, data.GetLayer(at)) for at in range(data.GetLayerCount())]
+    layers: list[Layer] = [OgrLayer(data, at) for at in range(data.GetLayerCount())]
     is_whole = data.GetDriver().ShortName in ogr.DRIVERS
     return Source(name, layers, files, metadata or "", _plain_tables(data, layers), is_whole)
 
@@ -96,6 +98,8 @@ def _reason(name: str, error: RuntimeError) -> str:
     """Why a source does not open, with the formats that are read, where it is a file."""
     if not os.path.isfile(name):
         return str(error)
+    if is_zip(name):
+        return f"{error} (an archive is named with /vsizip/ before it)"
     return f"{error} (it may be of another format than {', '.join(ogr.DRIVERS)}: --any-format reads it)"
 
 
@@ -129,19 +133,26 @@ def _plain_tables(data: Any, layers: Sequence[Layer]) -> list[str]:
 class OgrLayer(Layer):
     """A layer that OGR reads."""
 
-    def __init__(self, data: Any, layer: Any) -> None:
+    def __init__(self, data: Any, at: int) -> None:
+        """``at`` is its place among the layers of a source of OGR."""
         self._data = data
-        self._layer = layer
+        self._layer = layer = data.GetLayer(at)
         self.name = layer.GetName()
         self.format = data.GetDriver().ShortName
         self.identifier_column = layer.GetFIDColumn()
         self.geometry_column = layer.GetGeometryColumn()
         self.has_geometries = layer.GetLayerDefn().GetGeomFieldCount() > 0
+        # Of a folder each layer is a file.
+        files = data.GetFileList() or []
+        self._file = str(files[at]) if self.format == _FLATGEOBUF and at < len(files) else ""
         self._name_place = _name_place(layer)
         self._unnamed = 0
+        self._crs, self._crs_fault = ogr.read_crs(layer)
+        if self._crs is None and not self._crs_fault and self.format == _SHAPEFILE and beside(data, self.name, ".prj"):
+            self._crs_fault = "its .prj has none"
 
     def crs(self) -> Crs | None:
-        return ogr.crs_of(self._layer)
+        return self._crs
 
     def count(self) -> int:
         return int(self._layer.GetFeatureCount())
@@ -153,7 +164,7 @@ class OgrLayer(Layer):
             identifier = feature.GetFID()
             if identifier in found.others:
                 detail = f"its SRID is {found.others[identifier]}"
-                yield Feature(identifier, None, feature, detail, "a geometry of another reference system than the layer's")
+                yield Feature(identifier, None, feature, detail, STRANGER)
                 continue
             yield Feature(identifier, None if fault else feature.GetGeometryRef(), feature, fault)
 
@@ -172,7 +183,7 @@ class OgrLayer(Layer):
         return name
 
     def columns(self, as_text: bool, names: Mapping[str, str], wanted: Mapping[str, str]) -> Fields:
-        return Fields(self._data, self._layer, as_text, names, wanted)
+        return Fields(self._data, self._layer, as_text, names, wanted, self._file)
 
     def lost(self, read: int) -> Iterator[Lost]:
         count = self._layer.GetFeatureCount(0) if self.format in _COUNTED else -1
@@ -181,6 +192,8 @@ class OgrLayer(Layer):
             yield Lost("records of its .dbf that are marked as deleted are left out", f"{deleted} of {count}")
         if count > read + deleted:
             yield Lost("it is cut off", f"{read} of the {count} features that the file counts")
+        if self._crs_fault:
+            yield Lost("its reference system can't be read, and is left out", self._crs_fault)
         if self._unnamed:
             yield Lost("geometries that name no reference system are taken as of the layer's", f"{self._unnamed} of them")
         if self.format in _JSON:
@@ -188,7 +201,7 @@ class OgrLayer(Layer):
         unnamed = index_fault(self._data, self.name) if self.format == _SHAPEFILE else ""
         if unnamed:
             yield Lost("its .shx does not name all of its .shp, and no more", unnamed)
-        if self.format == _SHAPEFILE and not _has_values(self._data, self.name):
+        if self.format == _SHAPEFILE and not beside(self._data, self.name, ".dbf"):
             yield Lost("it has no values", "its .dbf is missing")
         told = self._layer.GetMetadata(_SHAPEFILE_METADATA) if self.format == _SHAPEFILE else {}
         if told.get("CPG_VALUE") and not told.get("SOURCE_ENCODING"):
@@ -208,14 +221,3 @@ def _name_place(layer: Any) -> int | None:
     if "name" in names:
         return names.index("name")
     return next((place for place, name in enumerate(names) if "name" in name), None)
-
-
-def _has_values(source: Any, name: str) -> bool:
-    """Whether a Shapefile has the file of its values. One in a folder of files is found by the layer's name."""
-    path: str = source.GetDescription()
-    folder = path if os.path.isdir(path) else os.path.dirname(path) or "."
-    try:
-        return f"{name}.dbf".casefold() in (found.casefold() for found in os.listdir(folder))
-    except OSError:
-        # In an archive OGR finds it by itself.
-        return True

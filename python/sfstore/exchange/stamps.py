@@ -8,7 +8,7 @@ import stat
 from collections.abc import Mapping
 from typing import NamedTuple, Optional
 
-__all__ = ["Stamp", "Stamps", "changed", "mode_of", "stamps_of"]
+__all__ = ["Stamp", "Stamps", "archive_of", "changed", "mode_of", "stamps_of"]
 
 # What stands beside the file that is named, and is read with it. A `-shm` is written by readers too.
 _BESIDE = {".shp": (".shx", ".dbf", ".prj", ".cpg", ".qix", ".sbn"), ".gpkg": ("-wal", "-journal")}
@@ -74,7 +74,8 @@ def _files(source: str) -> list[str]:
         return [path for each in sorted(found) for path in _set(each)]
     if os.path.isfile(source):
         return _set(source)
-    return _archive(source)
+    archive = archive_of(source)
+    return [archive] if archive else []
 
 
 def _set(path: str) -> list[str]:
@@ -86,17 +87,17 @@ def _set(path: str) -> list[str]:
     return [path, *(path + tail for tail in tails)]
 
 
-def _archive(source: str) -> list[str]:
-    """The archive that a source is in, also one in another one; none where it can't be told."""
+def archive_of(source: str) -> str:
+    """The archive that a source is in, also one in another one; nothing where it is in none, or that is not known."""
     rest = source
     while found := _VIRTUAL.match(rest):
         rest = _braced(rest[found.end() :])
     if rest == source:
-        return []
+        return ""
     # The names of what is in the archive follow. OGR takes the path from the root with one slash before it or with two.
     parts = rest.split("/")
     paths = ["/".join(parts[:end]) for end in range(len(parts), 0, -1)]
-    return [path for each in paths if each for path in (each, "/" + each) if _is_file(path)][:1]
+    return next((path for each in paths if each for path in (each, "/" + each) if _is_file(path)), "")
 
 
 def _braced(text: str) -> str:

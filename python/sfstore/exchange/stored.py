@@ -4,6 +4,7 @@ from __future__ import annotations
 
 import datetime
 import math
+import re
 from collections.abc import Callable, Mapping
 from decimal import Decimal
 from typing import Any, NamedTuple, Optional, cast
@@ -15,6 +16,11 @@ from sfstore.results import Value
 from sfstore.storefile import BOOL, DATE, DATETIME, DECIMAL
 
 __all__ = ["MAKERS", "Made", "decimal_of", "whole_of"]
+
+
+_IN_PARTS = "a moment with parts of a millisecond"
+# More parts of a second than Python has.
+_FINE = re.compile(r":[0-9]{2}\.[0-9]{7}", re.ASCII)
 
 
 class Made(NamedTuple):
@@ -62,10 +68,12 @@ def moment_in(text: str) -> Made:
     Made(value=datetime.datetime(2020, 1, 31, 9, 0, 0, 500000, tzinfo=datetime.timezone.utc), fault='', change='of another zone: kept in UTC')
     """
     moment = moment_of(text)
+    if moment is None and _FINE.search(text):
+        return Made(None, _IN_PARTS)
     if moment is None:
         return Made(None, "no moment from the year 1 to 9999")
     if not moment.is_in_milliseconds:
-        return Made(None, "a moment with parts of a millisecond")
+        return Made(None, _IN_PARTS)
     try:
         at = moment.at.replace(tzinfo=datetime.timezone.utc) - datetime.timedelta(minutes=moment.offset or 0)
     except OverflowError:

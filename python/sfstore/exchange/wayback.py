@@ -52,15 +52,9 @@ class WayBack:
     """What is left in a file."""
 
     grid: Grid | None = None
-    layers: list[LeftLayer] = field(default_factory=list)
+    layers: dict[str, LeftLayer] = field(default_factory=dict)
+    """By their names in the file, in drawing order."""
     rules: list[Rule] = field(default_factory=list)
-
-    def layer(self, name: str) -> LeftLayer | None:
-        """What is left of the layer of a name in the file."""
-        for layer in self.layers:
-            if layer.name == name:
-                return layer
-        return None
 
 
 def left(parts: Iterable[Part], grid: tuple[str, str, str], rules: Sequence[Rule]) -> str:
@@ -94,7 +88,7 @@ def read(text: str) -> WayBack:
     try:
         content = json.loads(text)
         grid = content.get("grid")
-        layers = [_layer(item) for item in content["layers"]]
+        layers = {layer.name: layer for layer in map(_layer, content["layers"])}
         # Files of former versions have no rules.
         return WayBack(None if grid is None else _grid(grid), layers, _rules(content.get("rules", [])))
     except (AttributeError, KeyError, TypeError, RecursionError) as error:

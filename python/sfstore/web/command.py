@@ -31,6 +31,8 @@ _TYPED = (
     "somebody in as NAME. Ctrl-C ends it."
 )
 
+# How many times as long as a question an edit may take: it can't be asked again in other words.
+_EDIT_TIMES = 6
 # How long `--while-used` waits for the first one who comes, and for another one behind the last.
 _FIRST_SECONDS = 60.0
 _UNUSED_SECONDS = 10.0
@@ -41,7 +43,7 @@ def main(words: list[str] | None = None) -> int:
     """Carries out the command, and gives its status."""
     asked = _parser().parse_args(words)
     try:
-        keeper = Keeper(asked.file, asked.program)
+        keeper = Keeper(asked.file, asked.program, _EDIT_TIMES * asked.seconds)
     except ProgramEnded as ended:
         reason = fault_words(asked.file, ended.last_line) if ended.status == 3 else str(ended)
         return _failed(f"{asked.file} does not load: {reason}")
@@ -72,7 +74,7 @@ def _parser() -> argparse.ArgumentParser:
         "--link", action="append", default=[], metavar="NAME", help="print a link for a person of this name; repeated"
     )
     parser.add_argument("--no-browser", action="store_true", help="only print the address")
-    parser.add_argument("--seconds", type=_seconds, default=10.0, help="how long a question may take (10)")
+    parser.add_argument("--seconds", type=_seconds, default=10.0, help="how long a question may take (10); an edit six times as long")
     parser.add_argument(
         "--while-used", action="store_true", help="end once the last page and the last program have left"
     )

@@ -3,6 +3,7 @@
 from __future__ import annotations
 
 import os
+import threading
 import warnings
 from collections.abc import Callable, Sequence
 from concurrent.futures import ThreadPoolExecutor
@@ -19,6 +20,9 @@ from sfstore.web.steps import Step, Steps
 __all__ = ["Asked", "ChangedMeanwhile", "Edit", "Keeper", "Snapshot", "Unavailable"]
 
 _T = TypeVar("_T")
+
+# How long an edit may take, and a line of a batch more. One that is stopped kept everybody's edits waiting.
+_EDIT_SECONDS, _LINE_SECONDS = 60.0, 0.005
 
 
 class Unavailable(Exception):
@@ -95,7 +99,9 @@ class Keeper:
     `anew` where the store had to be opened again.
     """
 
-    def __init__(self, path: str, program: str) -> None:
+    def __init__(self, path: str, program: str, seconds: float = _EDIT_SECONDS) -> None:
+        """``seconds`` is how long an edit may take."""
+        self._seconds = seconds
         self.follow: list[Callable[[Sequence[Edit]], object]] = []
         self.anew: list[Callable[[], object]] = []
         self._path = path
@@ -119,14 +125,15 @@ class Keeper:
         `ChangedMeanwhile` where another page has changed its feature since: nothing comes between
         this look and the edit.
         """
-        return self._do(lambda store: self._carry_out(store, asked))
+        return self._do(lambda store: self._limited(store, 1, lambda: self._carry_out(store, asked)))
 
     def carry_out_all(self, batch: Batch) -> Done:
         """Carries out lines as a whole: all of them, or none. They are one step for undo and redo.
 
         `LineRefused` where one of them is refused, and `ChangedMeanwhile` as for a line.
         """
-        return self._do(lambda store: self._carry_out_all(store, batch))
+        count = len(batch.lines)
+        return self._do(lambda store: self._limited(store, count, lambda: self._carry_out_all(store, batch)))
 
     def last_change(self, target: Target) -> Change | None:
         """The last change of a feature. It may be asked by any thread."""
@@ -134,7 +141,7 @@ class Keeper:
 
     def ask(self, question: Callable[[Editor], _T]) -> _T:
         """The answer of a question that takes no time to speak of."""
-        return self._do(question)
+        return self._do(lambda store: self._limited(store, 1, lambda: question(store)))
 
     def save(self) -> None:
         """Saves the store; the history begins anew."""
@@ -177,10 +184,43 @@ class Keeper:
             raise
         except (JournalError, ProgramEnded, RuntimeError, OSError) as error:
             if self._store is not None and not self._is_open(self._store):
-                self._close()
-                for told in self.anew:
-                    told()
+                self._drop()
             raise Unavailable(f"{error}. Every edit that was answered is in the journal.") from error
+
+    def _limited(self, store: Store, lines: int, job: Callable[[], _T]) -> _T:
+        """Does a job of so many lines. Where it takes too long, its program is ended, and the store opened anew next time.
+
+        `Unavailable` says so: what was asked for is in the journal, or nothing of it.
+        """
+        stopped = threading.Event()
+
+        def stop() -> None:
+            stopped.set()
+            store.stop()
+
+        seconds = self._seconds + lines * _LINE_SECONDS
+        timer = threading.Timer(seconds, stop)
+        timer.start()
+        try:
+            return job()
+        except (JournalError, ProgramEnded) as error:
+            if not stopped.is_set():
+                raise
+            raise Unavailable(
+                f"That took more than {seconds:.0f} seconds and was stopped. Look whether it was carried out: "
+                "every edit that was answered is in the journal."
+            ) from error
+        finally:
+            timer.cancel()
+            timer.join()
+            if stopped.is_set():
+                self._drop()
+
+    def _drop(self) -> None:
+        """Ends the program. The store is opened anew by the next job."""
+        self._close()
+        for told in self.anew:
+            told()
 
     def _is_open(self, store: Store) -> bool:
         try:

@@ -313,6 +313,38 @@ class Files(GeoJsonCase):
             out = self.brought(collection(feature(), more=f'"crs": {member},'), status=1)
             self.assertIn(f"a reference system that is unknown is left out: {member}\n", out)
 
+    def test_one_that_each_feature_names_is_the_layers(self):
+        named = '"crs": {"type": "name", "properties": {"name": "EPSG:25832"}}'
+        point = f'{{"type": "Point", "coordinates": [1, 2], {named}}}'
+        # The third is what PostGIS makes of rows.
+        for text in (point, feature(more=f"{named},"), collection(feature(geometry=point), feature(geometry=point)),
+                     collection(feature(more=f"{named},"), feature(geometry=point)), feature(geometry=point) + "\n" + feature(geometry=point)):
+            out = self.brought(text)
+            self.assertNotIn("reference system", out)
+            found = json.loads((self.folder / f"{self.store.name}.json").read_text())["crs"]
+            self.assertEqual((found["authority"], found["code"]), ("EPSG", "25832"))
+
+    def test_features_of_another_one_are_left_out_and_told(self):
+        def named(name):
+            return f'"crs": {{"type": "name", "properties": {{"name": "{name}"}}}},'
+
+        own, same, other = named("urn:ogc:def:crs:EPSG::25832"), named("EPSG:25832"), named("EPSG:2056")
+        features = [feature(f'{{"a": {at}}}', more=more) for at, more in enumerate(("", same, other, '"crs": null,'))]
+        out = self.brought(collection(*features, more=own), status=1)
+        self.assertIn("2 a geometry of another reference system than the layer's: 2 (its crs is {", out)
+        self.assertIn("EPSG:2056", out)
+        self.assertEqual(self.values(), [{"a": 0}, {"a": 1}])
+        # Where the collection names none, it is degrees.
+        degrees = feature('{"a": 9}', more=named("EPSG:4326"))
+        out = self.brought(collection(feature('{"a": 8}'), features[1], degrees), status=1)
+        self.assertIn("1 a geometry of another reference system than the layer's: 1 (its crs is {", out)
+        self.assertEqual(self.values(), [{"a": 8}, {"a": 9}])
+
+    def test_one_that_is_nested_deeply_is_told(self):
+        deep = '"crs": ' + "[" * 800 + "]" * 800 + ","
+        self.assertIn("a reference system that is unknown is left out: ", self.brought(collection(feature(), more=deep), status=1))
+        self.brought(collection(feature(more=deep), feature()), status=1)
+
     def test_degrees_are_taken_for_no_reference_system_that_is_unknown(self):
         def said(member):
             out = self.brought(collection(feature(), more=f'"crs": {member},'), status=1)

@@ -2,9 +2,11 @@
 
 from __future__ import annotations
 
+import gzip
 import os
 import shutil
 import sqlite3
+import tarfile
 import unittest
 import zipfile
 from unittest import mock
@@ -13,6 +15,7 @@ from support import PROGRAM
 from test_exchange import ExchangeCase, bring_in, give_back
 
 from sfstore import Store
+from sfstore.exchange import archives
 from sfstore.exchange.jsonlayer import JsonLayer
 from sfstore.exchange.reading import LayerImport
 
@@ -104,6 +107,66 @@ class Rights(SourceCase):
         self.store.chmod(0o600)
         self.assertEqual(self.brought(self.source, "--overwrite")[0], 0)
         self.assertEqual(self.mode(self.store), 0o600)
+
+
+class Archives(SourceCase):
+    """Archives of a limit that is small: 1,000 bytes, and 10 times their own size."""
+
+    def setUp(self):
+        super().setUp()
+        for name, value in (("LEAST", 1_000), ("TIMES", 10)):
+            patch = mock.patch.object(archives, name, value)
+            patch.start()
+            self.addCleanup(patch.stop)
+
+    def zipped(self, name, path, inner):
+        target = self.folder / name
+        with zipfile.ZipFile(target, "w", zipfile.ZIP_DEFLATED) as made:
+            made.write(path, inner)
+        return target
+
+    def check_refused(self, source, archive):
+        status, out, err = self.brought(source)
+        most = max(1_000, 10 * os.path.getsize(archive))
+        why = f"unpacks to more than {most:,} bytes, which is over 10 times its own size: unpack it first, if it is meant to"
+        self.assertEqual((status, out, err), (3, "", f"sfstore-import: {archive} {why}\n"))
+        self.assertFalse(self.store.exists())
+
+    def test_one_that_unpacks_to_far_more_than_it_has_is_refused(self):
+        large = self.folder / "large.geojson"
+        large.write_text(" " * 200_000 + '{"type": "FeatureCollection", "features": []}')
+        archive = self.zipped("a.zip", large, "w.geojson")
+        outer = self.zipped("outer.zip", archive, "a.zip")
+        packed = self.folder / "w.geojson.gz"
+        packed.write_bytes(gzip.compress(large.read_bytes()))
+        tar = self.folder / "a.tar.gz"
+        with tarfile.open(tar, "w:gz") as made:
+            made.add(large, "w.geojson")
+        for source, named in (
+            *((f"/vsizip/{archive}", archive), (f"/vsizip/{archive}/w.geojson", archive), (f"/vsigzip/{packed}", packed)),
+            *((f"/vsitar/{tar}", tar), (f"/vsitar/{tar}/w.geojson", tar)),
+            (f"/vsizip/{{/vsizip/{outer}/a.zip}}/w.geojson", outer),
+        ):
+            with self.subTest(source):
+                self.check_refused(source, named)
+
+    def test_so_is_one_that_ogr_opens_by_its_name_or_a_part_of_a_set(self):
+        target = self.shapefile()
+        table = self.folder / "wells.dbf"
+        table.write_bytes(table.read_bytes() + b"\0" * 200_000)
+        archive = self.folder / "a.shz"
+        with zipfile.ZipFile(archive, "w", zipfile.ZIP_DEFLATED) as made:
+            for path in self.folder.glob("wells.*"):
+                made.write(path, path.name)
+        shutil.copy(archive, self.folder / "a.zip")
+        self.check_refused(archive, archive)
+        self.check_refused(f"/vsizip/{self.folder / 'a.zip'}/{target.name}", self.folder / "a.zip")
+
+    def test_others_are_read(self):
+        self.points(POINTS)
+        archive = self.zipped("a.zip", self.source, "wells.gpkg")
+        with mock.patch.object(archives, "TIMES", 1_000):
+            self.assertEqual(self.brought(f"/vsizip/{archive}/wells.gpkg")[0], 0)
 
 
 class Names(SourceCase):

@@ -501,6 +501,34 @@ class Sessions(ConsoleCase):
         self.assertFalse((self.folder / "none.svg").exists())
         terminal.line("layers", "w point")
 
+    def test_a_picture_takes_the_place_of_no_other_file(self):
+        sfmap = self.folder / "sfmap"
+        sfmap.write_text("#!/bin/sh\necho '<svg/>'\n")
+        sfmap.chmod(0o700)
+        self.environment["PATH"] = f"{self.folder}{os.pathsep}{self.environment['PATH']}"
+        notes = self.folder / "notes.txt"
+        notes.write_text("mine")
+        terminal = self.console()
+        terminal.line("layer add w point", "ok")
+        terminal.line("save", "is saved")
+        kept = self.path.read_bytes()
+        for name in (self.path, f"{self.path}.journal", f"{self.folder}/../{self.folder.name}/{self.path.name}", notes):
+            terminal.line(f"picture {name}", "nothing is drawn")
+        self.assertEqual((self.path.read_bytes(), notes.read_text()), (kept, "mine"))
+        terminal.line("layers", "w point")
+
+    def test_a_picture_lets_others_see_no_more_than_the_store(self):
+        sfmap = self.folder / "sfmap"
+        sfmap.write_text("#!/bin/sh\necho '<svg/>'\n")
+        sfmap.chmod(0o700)
+        self.environment["PATH"] = f"{self.folder}{os.pathsep}{self.environment['PATH']}"
+        terminal = self.console()
+        terminal.line("layer add w point", "ok")
+        terminal.line("save", "is saved")
+        self.path.chmod(0o600)
+        terminal.line("picture", "is drawn")
+        self.assertEqual(os.stat(f"{self.path}.svg").st_mode & 0o777, 0o600)
+
     def test_a_browser_is_asked_where_there_is_a_display(self):
         for name, text in (("sfmap", "echo '<svg/>'"), ("browser", f"echo $1 > {self.folder}/asked")):
             script = self.folder / name

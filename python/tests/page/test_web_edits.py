@@ -256,6 +256,27 @@ class Waiting(WebCase):
         self.assertEqual(ann.answer("set w 1 n 6"), "ok")
         self.assertEqual(answers, [])
 
+    def test_edits_of_others_wait_for_an_edit_no_longer_than_it_may_take(self):
+        self.make(b"layer add w point\ncolumn add w n int\nadd w POINT (1 1)\n")
+        program = SLOW.format(python=sys.executable, program=PROGRAM).replace('b"simple"', 'b"@1 rule"')
+        serving = self.serve("--seconds=0.5", program=self.script(program))
+        ann, ben = serving.log_in("Ann"), serving.log_in("Ben")
+        self.assertEqual(ann.answer("set w 1 n 5"), "ok")
+        found = []
+        asking = threading.Thread(target=lambda: found.append(ann.posted("rule add r never w equals w")))
+        asking.start()
+        time.sleep(0.5)
+        began = time.monotonic()
+        # It may be told that the store was opened anew, and is looked at again then.
+        while (answer := ben.posted("set w 1 n 6", ben.version()))[0] != 200 and time.monotonic() - began < 30:
+            time.sleep(0.1)
+        asking.join()
+        self.assertEqual((answer[0], found[0][0]), (200, 503))
+        self.assertIn("That took more than 3 seconds and was stopped.", found[0][1]["error"])
+        self.assertEqual(ben.line("rules")["rows"], [])
+        self.assertEqual(ann.feature("w", 1)["values"][0]["value"], "6")
+        self.assertEqual((ben.answer("undo"), ann.answer("undo")), ("ok", "ok"))
+
     def test_a_question_waits_for_one_of_each_other_person(self):
         ann, ben = self.slow("--seconds=3")
         answers = self.ask(ben, 12)
