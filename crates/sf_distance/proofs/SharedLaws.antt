@@ -1,4 +1,4 @@
--- Edges that share a point are 0 apart.
+-- Sets that share a point are 0 apart, as edges do.
 use Rattle.std.proofs.Common.{refl, ℤ, pos, ◌-ℤ◌, ◌*ℤ◌, ◌≤ℤ◌, arith, [], ◌∷◌}
 use Rattle.std.proofs.lemmas.Int.{ints}
 use Rattle.sf_grid.specs.Fraction.{whole}
@@ -16,8 +16,8 @@ use Rattle.sf_distance.proofs.PointLaws.{mean_of_start, same_self}
 zero_least : (z : ℤ) (d : ℤ) → pos 0 ≤ℤ z → (pos 0 *ℤ d) ≤ℤ (z *ℤ pos 1)
 zero_least z d h = omega (arith, ints)
 
-pub least_of_shared : (e f : Edge) (q : Point) → IsPoint q → IsOnEdge e q → IsOnEdge f q → IsLeastSquare (IsOnEdge e) (IsOnEdge f) (whole (pos 0))
-least_of_shared e f q o h k =
+pub least_of_shared : (First Second : Point → Type 0) (q : Point) → IsPoint q → First q → Second q → IsLeastSquare First Second (whole (pos 0))
+least_of_shared First Second q o h k =
     record {
       is_number = record { positive = omega arith };
       reached =
@@ -38,10 +38,10 @@ least_of_shared e f q o h k =
     }
 
 pub least_at : (e f : Edge) (q : Point) → IsSharing e f (At q) → IsLeastSquare (IsOnEdge e) (IsOnEdge f) (whole (pos 0))
-least_at e f q h = let both = (h.1 q h.0).1 (same_self q) in least_of_shared e f q h.0 both.0 both.1
+least_at e f q h = let both = (h.1 q h.0).1 (same_self q) in least_of_shared (IsOnEdge e) (IsOnEdge f) q h.0 both.0 both.1
 
 pub least_along : (e f : Edge) (a b : Coordinates) → IsSharing e f (Along a b) → IsLeastSquare (IsOnEdge e) (IsOnEdge f) (whole (pos 0))
 least_along e f a b h =
     let point : IsPoint (grid_point a) = record { positive = omega arith } in
     let both = (h.1 (grid_point a) point).1 (on_edge-mean (edge_between a b) (grid_point a) (pos 1) (pos 0) (mean_of_start (edge_between a b))) in
-    least_of_shared e f (grid_point a) point both.0 both.1
+    least_of_shared (IsOnEdge e) (IsOnEdge f) (grid_point a) point both.0 both.1

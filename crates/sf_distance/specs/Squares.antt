@@ -30,3 +30,13 @@ pub record IsLeastSquare (First Second : Point → Type 0) (square : Fraction) :
   pub is_number : IsFraction square
   pub reached : IsReached First Second square
   pub least : (p q : Point) → IsPoint p → IsPoint q → First p → Second q → IsTrue (fraction_le square (square_between p q))
+
+-- two points, one of each set, are no farther apart than the root of the bound
+pub record IsWithin (First Second : Point → Type 0) (bound : Fraction) : Type 0 where
+  pub first : Point
+  pub second : Point
+  pub first_is_point : IsPoint first
+  pub second_is_point : IsPoint second
+  pub in_first : First first
+  pub in_second : Second second
+  pub near : IsTrue (fraction_le (square_between first second) bound)
