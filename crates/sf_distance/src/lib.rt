@@ -1,0 +1,10 @@
+//! Exact squares of distances between points and edges of the grid, as fractions, and laws of distances over all points
+//! of the plane.
+#![tactic(auto)]
+
+pub mod edges;
+pub mod laws;
+pub mod root;
+mod square;
+
+pub use square::Square;
