@@ -38,6 +38,7 @@ HEADLINE: list[tuple[str, list[str]]] = [
     ("sf_query/src/laws.rt", []),
     ("sf_relate/src/laws.rt", ["matrices_are_over_the_plane"]),
     ("sf_valid_rules/src/laws.rt", []),
+    ("sf_measure/src/laws.rt", []),
     ("sf_keeping/src/keeping.rt", ["serve_kept"]),
     ("sf_keeping/src/replaying.rt", ["replay"]),
     ("sf_keeping/src/laws.rt", []),
@@ -63,6 +64,7 @@ SUBJECTS: list[tuple[str, list[str]]] = [
     ("The plane", ["sf_grid", "sf_plane"]),
     ("Geometries", ["sf_geometry"]),
     ("Validity and simplicity", ["sf_valid_rules", "sf_validity", "sf_faults"]),
+    ("Areas and lengths", ["sf_measure"]),
     ("Matrices and predicates", ["sf_known", "sf_relate", "sf_query", "sf_joins"]),
     (
         "Features, layers, edits and their inverses",

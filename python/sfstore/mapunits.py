@@ -18,6 +18,9 @@ from sfstore.language import GRID_MAX, GRID_MIN, words_of_line
 
 __all__ = ["MapUnits", "NoPlace"]
 
+# The text of a coordinate made of another one, by its axis and as it is written.
+_Change = Callable[[int, str], str]
+
 # The geometry of a line begins behind so many words, and a vertex is the last two of so many.
 _WORDS_BEFORE_GEOMETRY = {"add": 2, "check": 2, "replace": 3, "relate": 3, "match": 3, "query": 3}
 _WORDS_OF_VERTEX = 9
@@ -105,7 +108,7 @@ class MapUnits:
 
         What is no number, and what stands behind x and y, is left as it is: the store says what is wrong with it.
         """
-        return _numbers_changed(wkt, lambda axis, text: str(self._axes[axis].step_of(text)))
+        return _numbers_changed(wkt, self._step_text)
 
     def places(self, wkt: str) -> str:
         """A well-known text in steps, as the store gives it, in map units: exact, with the digits of a step."""
@@ -140,7 +143,15 @@ class MapUnits:
         >>> MapUnits("500000", "5600000", "0.01").line("@7 vertex move parcels 3 0 0 1 500045.5 5600015")
         '@7 vertex move parcels 3 0 0 1 4550 1500'
         """
-        return "\r".join(map(self._member, lines_of(line)))
+        return "\r".join(_coordinates_changed(each, self._step_text) for each in lines_of(line))
+
+    def shown_line(self, line: str) -> str:
+        """A line of steps, as it would be written in map units: what `line` makes steps of again.
+
+        >>> MapUnits("500000", "5600000", "0.01").shown_line("add wells POINT (4550 1500)")
+        'add wells POINT (500045.50 5600015.00)'
+        """
+        return "\r".join(_coordinates_changed(each, self._place_text) for each in lines_of(line))
 
     def row(self, line: str, row: str) -> str:
         """A row of the answer to a line, in map units."""
@@ -148,18 +159,15 @@ class MapUnits:
         shown = _ROWS.get(words[0]) if words else None
         return shown(self, row) if shown else row
 
-    def _member(self, line: str) -> str:
-        words = words_of_line(line)
-        if not words:
-            return line
-        if words[0] == "vertex" and len(words) == _WORDS_OF_VERTEX:
-            at = _end_of_words(line, _WORDS_OF_VERTEX - 2)
-            return line[:at] + _numbers_changed(line[at:], lambda axis, text: str(self._axes[axis].step_of(text)))
-        count = _WORDS_BEFORE_GEOMETRY.get(words[0])
-        if count is None or len(words) <= count:
-            return line
-        at = _end_of_words(line, count)
-        return line[:at] + self.steps(line[at:])
+    def _step_text(self, axis: int, text: str) -> str:
+        return str(self._axes[axis].step_of(text))
+
+    def _place_text(self, axis: int, text: str) -> str:
+        """The coordinate of a step; what is none of the grid is left as it is written."""
+        number = Decimal(text)
+        if number.adjusted() > _EXPONENT_MAX or number != number.to_integral_value():
+            return text
+        return self._axes[axis].place_of(int(number))
 
     def _shape_row(self, row: str) -> str:
         return _SHAPE_OF_ROW.sub(lambda found: found[1] + self.places(found[2]), row, count=1)
@@ -227,7 +235,20 @@ def _end_of_words(line: str, count: int) -> int:
     return at
 
 
-def _numbers_changed(text: str, change: Callable[[int, str], str]) -> str:
+def _coordinates_changed(line: str, change: _Change) -> str:
+    """A line with its coordinates changed: those of a geometry, or of a vertex."""
+    words = words_of_line(line)
+    if not words:
+        return line
+    if words[0] == "vertex" and len(words) == _WORDS_OF_VERTEX:
+        count = _WORDS_OF_VERTEX - 2
+    else:
+        count = _WORDS_BEFORE_GEOMETRY.get(words[0], len(words))
+    at = _end_of_words(line, count)
+    return line[:at] + _numbers_changed(line[at:], change)
+
+
+def _numbers_changed(text: str, change: _Change) -> str:
     """A text with the first two numbers of each point changed: those behind a bracket, a comma, or the text's beginning."""
     axis, pieces, at = 0, [], 0
     for found in _WKT_TOKEN.finditer(text):

@@ -16,7 +16,7 @@ from sfstore.geometry import Shape, read_wkb, write_wkt
 from sfstore.groups import text_of
 from sfstore.language import GRID_MAX, GRID_MIN, QUESTIONS, parted
 from sfstore.lines import geometry_refused
-from sfstore.mapunits import MapUnits
+from sfstore.mapunits import MapUnits, NoPlace
 from sfstore.refusals import words_of
 from sfstore.store import Answer, Refused, Store, Value
 from sfstore.values import spelled
@@ -56,6 +56,9 @@ _ROWS_MAX = ELEMENTS_MAX
 _LETTERS_MAX = 4_000_000
 
 _PAGE_LETTERS_MAX = 64
+
+# How much of a line others are told.
+_LINE_SHOWN = 1_000
 
 
 class BadCall(Exception):
@@ -176,7 +179,9 @@ class Calls:
                 for column in store.columns(layer)
             ]
             measures = self._measures(store, layer, feature)
-            return {"wkt": write_wkt(shape), **_shape(shape), **measures, "values": told, "version": self._looks.version}
+            text = write_wkt(shape)
+            wkt = self._units.places(text) if self._units and _is_in_units(body) else text
+            return {"wkt": wkt, **_shape(shape), **measures, "values": told, "version": self._looks.version}
 
         try:
             told = {"layer": layer, "id": feature, **self._looks.ask(editor, look)}
@@ -194,7 +199,12 @@ class Calls:
 
     def _line(self, editor: int, body: Body) -> Body:
         """Carries out a line of the console, or a group as one, as the editor who has logged in."""
-        line, page = _text(body, "line"), _page(body)
+        given, page = _text(body, "line"), _page(body)
+        units = self._units if _is_in_units(body) else None
+        try:
+            line = units.line(given) if units else given
+        except NoPlace as fault:
+            raise BadCall(str(fault)) from None
         words = parted(line)
         if not words:
             return {"text": ""}
@@ -207,7 +217,8 @@ class Calls:
             if words == ["save"]:
                 return self._save(editor)
             if words[0] in QUESTIONS:
-                return _answered(self._questions.ask(editor, lambda store: store.run(line)))
+                answer = self._questions.ask(editor, lambda store: store.run(line))
+                return _answered(_in_units(units, line, answer) if units else answer)
             return self._edit(Asked(editor, page, line, seen))
         except Refused as refused:
             return {"refused": self._refusal(refused, line if refused.member is None else refused.line)}
@@ -275,7 +286,7 @@ class Calls:
         if target in change.targets and target.column is None:
             did = "deleted" if change.line.startswith("delete") else "changed"
             return f"{who} {did} {feature} meanwhile: look again."
-        return f"{who} changed {feature} meanwhile, by `{change.line}`: look again."
+        return f"{who} changed {feature} meanwhile, by `{self._shown_line(change.line)}`: look again."
 
     def _save(self, editor: int) -> Body:
         self._keeper.save()
@@ -317,7 +328,7 @@ class Calls:
     def _tell_edits(self, edits: Sequence[Edit]) -> None:
         """Tells all pages of an edit, or of a batch of them."""
         last = edits[-1]
-        line, did = last.line[:1_000], last.step.line
+        line, did = last.line[:_LINE_SHOWN], last.step.line
         members = last.step.members
         if members and line.strip() not in ("undo", "redo"):
             line, did = f"together {len(members)}", members[0].line
@@ -332,6 +343,8 @@ class Calls:
                 "editor": self._editors.name_of(last.editor),
                 "line": line,
                 "step": did,
+                "shown": self._shown_line(line),
+                "shown_step": self._shown_line(did),
                 "undo": self._step(last.to_undo),
                 "redo": self._step(last.to_redo),
                 "changed": merged(changes),
@@ -341,7 +354,17 @@ class Calls:
     def _step(self, step: Step | None) -> Body | None:
         if step is None:
             return None
-        return {"number": step.editor, "editor": self._editors.name_of(step.editor), "line": step.line}
+        return {
+            "number": step.editor,
+            "editor": self._editors.name_of(step.editor),
+            "line": step.line,
+            "shown": self._shown_line(step.line),
+        }
+
+    def _shown_line(self, line: str) -> str:
+        """A line as pages show it: in map units where there is a grid. One that is long is cut between two points."""
+        front = line if len(line) <= _LINE_SHOWN else line[:_LINE_SHOWN].rpartition(",")[0] + ", .."
+        return self._units.shown_line(front) if self._units else front
 
 
 def _shown(value: Value) -> str:
@@ -359,6 +382,18 @@ def _broken(broken: Broken) -> Body:
 
 def _shape(shape: Shape) -> Body:
     return {"code": shape.code, "members": [[list(line) for line in member] for member in shape.members]}
+
+
+def _is_in_units(body: Body) -> bool:
+    """Whether who calls has coordinates in the units of the map, as pages do; programs count in steps."""
+    return body.get("units") == "map"
+
+
+def _in_units(units: MapUnits, line: str, answer: Answer) -> Answer:
+    """An answer in map units, of as many rows as can be sent."""
+    if isinstance(answer, str):
+        return units.row(line, answer)
+    return [*(units.row(line, row) for row in answer[:_ROWS_MAX]), *answer[_ROWS_MAX:]]
 
 
 def _answered(answer: Answer) -> Body:

@@ -90,6 +90,19 @@ class Lines(unittest.TestCase):
         }.items():
             self.assertEqual(CENTIMETRES.line(line), wanted)
 
+    def test_lines_of_steps_are_shown_and_read_again(self) -> None:
+        for line, shown in {
+            "add wells POINT (4500 -1)": "add wells POINT (500045.00 5599999.99)",
+            "@7 replace  w 7 LINESTRING(0 0,1.0 2e1)": "@7 replace  w 7 LINESTRING(500000.00 5600000.00,500000.01 5600000.20)",
+            "vertex insert w last 0 0 2 1 2": "vertex insert w last 0 0 2 500000.01 5600000.02",
+            "together 2\radd w POINT (0 0)\rset w last a 5": "together 2\radd w POINT (500000.00 5600000.00)\rset w last a 5",
+        }.items():
+            self.assertEqual(CENTIMETRES.shown_line(line), shown)
+            again = CENTIMETRES.shown_line(CENTIMETRES.line(shown))
+            self.assertEqual(again, shown)
+        for line in ("", "undo", "set w 1 a 'POINT (1 1)'", "add w POINT (1.5 x)", "add w POINT (1e999 y)"):
+            self.assertEqual(CENTIMETRES.shown_line(line), line)
+
     def test_lines_without(self) -> None:
         others = ["", "add", "add w", "vertex move w 1 0 0", "vertex remove w 500000 0 0 2", "set w 1 a 'POINT (500000 5600000)'", "addhex w 0101"]
         given = {"add", "check", "replace", "relate", "match", "query"}

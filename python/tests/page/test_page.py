@@ -559,7 +559,7 @@ class Places(PageCase):
         self.assertRegex(page.text("#pointer"), "^-?[0-9]+ -?[0-9]+$")
         self.go(page, "450 150")
         self.assertEqual(page.text("#pointer"), "450 150")
-        page.choose((450, 150), "wells 1, a POINT")
+        page.choose((450, 150), "wells 1, a point")
         self.assertEqual(page.text("#measures"), "")
 
     def go(self, page, text):
@@ -587,8 +587,8 @@ class Places(PageCase):
         self.bring_grid()
         page = self.open()
         page.use("#fit")
-        page.choose((450, 150), "wells 1, a POINT")
-        page.choose((400, 100), "parcels 3, a POLYGON")
+        page.choose((450, 150), "wells 1, a point")
+        page.choose((400, 100), "parcels 3, a polygon")
         self.assertEqual(page.text("#measures"), "Area 540, Length 96")
         page.tool("measure")
         page.click((360, 0))
@@ -599,10 +599,30 @@ class Places(PageCase):
         page.press(page.keys.ENTER)
         self.assertEqual(page.text("#status"), "Length 48, area inside 270")
 
+    def test_lines_and_texts_are_those_of_the_map(self):
+        self.bring_grid()
+        page = self.open()
+        page.choose((450, 150), "wells 1, a point")
+        self.assertEqual(page.one("#wkt").get_property("value"), "POINT (500045.0 5600015.0)")
+        page.type("get wells 1")
+        page.logged("get wells 1", "rows 1\n1 POINT (500045.0 5600015.0) depth=12 label='the old one'")
+        page.type("add wells POINT (500001.05 5600001)")
+        self.assertIn("lies between two places of the grid, 500001.0 and 500001.1", page.log()[-1][1])
+        page.type("add wells POINT (500001 5600001)", "ok 5")
+        page.pick("#target", "wells")
+        page.tool("point")
+        page.click((20, 10))
+        page.until(lambda: re.fullmatch(r"add wells POINT \(50000[0-9.]+ 56000[0-9.]+\)", page.last()))
+        self.assertEqual(page.one("#undo").get_property("title"), page.last())
+        # Others are told so too, and the store counts in steps.
+        other = self.page(self.serving, "Ben")
+        other.type("get wells 5")
+        other.logged("get wells 5", "rows 1\n5 POINT (500001.0 5600001.0)")
+
     def test_a_refusal_names_its_place_on_the_map(self):
         self.bring_grid()
         page = self.open()
-        page.type("add parcels POLYGON ((0 -1000, 300 -700, 300 -1000, 0 -700, 0 -1000))")
+        page.type("add parcels POLYGON ((500000 5599900, 500030 5599930, 500030 5599900, 500000 5599930, 500000 5599900))")
         page.until(lambda: "(500015.0 5599915.0)" in page.text("#refusal .place"))
 
 

@@ -121,8 +121,8 @@ function isInside(ring, x, y) {
 }
 
 /** The well-known text of points that were drawn as a point, a line or a polygon. */
-export function wktOf(tool, points, isMulti) {
-  const text = (list) => "(" + list.map(([x, y]) => `${x} ${y}`).join(", ") + ")";
+export function wktOf(tool, points, units, isMulti) {
+  const text = (list) => "(" + list.map((point) => units.point(point)).join(", ") + ")";
   const around = (inner) => (isMulti ? `(${inner})` : inner);
   const word = isMulti ? "MULTI" : "";
   if (tool === "point") return `${word}POINT ${around(text(points))}`;

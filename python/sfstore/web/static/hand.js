@@ -66,12 +66,12 @@ export class Hand {
       move: (event, place) => overlay.show("sketch", ring(corners(place))),
       end: (event, place) => {
         overlay.show("sketch", null);
-        asking.askAbout(wktOf("polygon", corners(place)), ring(corners(place)));
+        asking.askAbout(wktOf("polygon", corners(place), this.app.place.units), ring(corners(place)));
       },
       cancel: () => overlay.show("sketch", null),
       tap: (event, place) => {
         const point = onGrid(...view.toPlane(...place));
-        asking.askAbout(wktOf("point", [point]), { code: 1, members: [[point]] });
+        asking.askAbout(wktOf("point", [point], this.app.place.units), { code: 1, members: [[point]] });
       },
     };
   }
@@ -127,12 +127,12 @@ export class Hand {
     this.giveUp();
     if (this.tool === "measure") return this.app.tell(this.app.place.measured(points));
     if (this.tool === "ask-polygon") {
-      this.app.asking.askAbout(wktOf("polygon", points), ring(points));
+      this.app.asking.askAbout(wktOf("polygon", points, this.app.place.units), ring(points));
       return;
     }
     const layer = this.app.map.layer(byId("target").value);
     if (!layer) return this.app.tell("There is no layer to draw in: type `layer add NAME KIND` at the console.");
-    this.app.draw(layer.name, wktOf(this.tool, points, layer.kind.startsWith("multi")));
+    this.app.draw(layer.name, wktOf(this.tool, points, this.app.place.units, layer.kind.startsWith("multi")));
   }
 
   takeBack() {

@@ -101,7 +101,7 @@ class App {
     const [shown] = line.split("\r");
     let answer;
     try {
-      answer = await call("line", { line, page: this.page, seen });
+      answer = await call("line", { line, page: this.page, seen, units: "map" });
     } catch (fault) {
       if (fault.status === 409) this.miss(shown, fault.message);
       else if (fault instanceof CallFailed) this.log.add(shown, fault.message, "refused");
@@ -145,8 +145,8 @@ class App {
     this.#tellSteps(event);
     if (event.saved) this.log.add("save", "The history begins anew.", "", event.saved);
     else if (event.number !== this.editor || event.page !== this.page) {
-      const moved = event.line === event.step ? "ok" : event.step;
-      this.log.add(event.line, moved, "other", event.editor);
+      const moved = event.line === event.step ? "ok" : event.shown_step;
+      this.log.add(event.shown, moved, "other", event.editor);
       await this.#redraw(event.line, event.changed);
     }
     this.version = Math.max(this.version, event.version ?? 0);
@@ -179,7 +179,7 @@ class App {
     this.steps = { undo, redo };
     for (const [name, step] of [["undo", undo], ["redo", redo]]) {
       const whose = step && (step.number === this.editor ? "" : ` (${step.editor}'s)`);
-      byId(name).title = step ? `${step.line.slice(0, 80)}${whose}` : `There is nothing to ${name}`;
+      byId(name).title = step ? `${step.shown.slice(0, 80)}${whose}` : `There is nothing to ${name}`;
     }
   }
 
@@ -187,7 +187,7 @@ class App {
     const { place, whose, member, broken } = refused;
     const which = member ? `, line ${member} of the group` : "";
     this.#showWords(`Refused (${refused.number} ${refused.name})${which}: ${refused.reason}.`, {
-      reason: whose ? `The next step is ${whose.editor}'s: ${whose.line}` : broken ? brokenWords(broken) : "",
+      reason: whose ? `The next step is ${whose.editor}'s: ${whose.shown}` : broken ? brokenWords(broken) : "",
       place: place ? `${place.words}.` : "",
       help: refused.help,
     });

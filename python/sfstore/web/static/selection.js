@@ -55,7 +55,7 @@ export class Selection {
   /** Selects a feature, or nothing. */
   async choose(place) {
     this.wanted = place;
-    const found = place && (await call("feature", place));
+    const found = place && (await call("feature", { ...place, units: "map" }));
     if (this.wanted !== place) return;
     const before = this.feature;
     this.feature = found && !found.refused ? found : null;
@@ -88,7 +88,7 @@ export class Selection {
     const now = this.feature;
     const words = missed({ ...before, by }, now ? "changed" : "deleted");
     if (now?.wkt !== before.wkt) {
-      if (this.held) this.app.miss(vertexLine(this.held, before), words);
+      if (this.held) this.app.miss(vertexLine(this.held, before, this.app.place.units), words);
       this.giveUp();
       const isTyped = ![before.wkt, this.sentText].includes(typedText());
       if (isTyped) this.app.miss(`replace ${nameOf(before)} ${typedText()}`, words);
@@ -174,7 +174,7 @@ export class Selection {
       class: isNew ? "handle middle" : "handle",
       tabindex: isNew ? -1 : 0,
       role: "button",
-      "aria-label": `${words} at ${vertex.x} ${vertex.y}`,
+      "aria-label": `${words} at ${this.app.place.units.point([vertex.x, vertex.y])}`,
     });
     handle.append(drawn("circle", { class: "reach", r: REACH_RADIUS }), drawn("circle", { class: "dot", r: isNew ? MIDDLE_RADIUS : VERTEX_RADIUS }));
     handle.vertex = { ...vertex, isNew };
@@ -223,7 +223,7 @@ export class Selection {
   /** Moves a vertex where it was tried last, or inserts it there. */
   async keep(handle) {
     if (!handle.tried) return;
-    const line = vertexLine(handle, handle.feature);
+    const line = vertexLine(handle, handle.feature, this.app.place.units);
     this.giveUp();
     await this.#edit(() => line, handle.feature, { needsShape: true });
   }
@@ -270,8 +270,8 @@ const typedText = () => byId("wkt").value.replaceAll("\n", " ");
 const missed = (feature, did = "changed") => `${feature.by ?? "Somebody"} ${did} ${nameOf(feature)} meanwhile: look again.`;
 
 /** The line that moves or inserts a vertex where its handle was tried. */
-function vertexLine({ vertex, tried }, feature) {
-  return `vertex ${vertex.isNew ? "insert" : "move"} ${nameOf(feature)} ${numbers(vertex)} ${tried.join(" ")}`;
+function vertexLine({ vertex, tried }, feature, units) {
+  return `vertex ${vertex.isNew ? "insert" : "move"} ${nameOf(feature)} ${numbers(vertex)} ${units.point(tried)}`;
 }
 
 /** The line that sets a value that was typed, or clears it. */
