@@ -1,0 +1,5 @@
+pub mod LeavingLaws
+pub mod SegmentLaws
+pub mod NearLaws
+pub mod ListedLaws
+pub mod ContactLaws

@@ -1,0 +1,5 @@
+pub mod Leaving
+pub mod Segments
+pub mod Sets
+pub mod Near
+pub mod Laws

@@ -1,0 +1,9 @@
+//! The distance of valid geometries, exact over all points of the plane, and whether they are within a distance.
+#![tactic(auto)]
+
+mod contact;
+pub mod laws;
+mod nearness;
+mod segments;
+
+pub use nearness::{is_within, square_between};
