@@ -88,6 +88,9 @@ def give_back(wishes: Wishes, say: Say) -> None:
     losses += wanted.losses(parts) + _blurred(parts, Grid(*found.grid))
     if wishes.format == "GeoJSON" and crs_member(found.crs) is None:
         losses.append("the reference system, which has no code: programs take degrees" if found.crs else NO_CRS)
+    code = ogr.given_code(found.crs) if found.crs and not found.crs.code and wanted.gives_codes else None
+    if code is not None:
+        losses.append(f"that the reference system has no code: by its name it is {':'.join(code)} there")
     if wishes.rules is None:
         losses += [f"the rule {rule.line}" for rule in rules if rule not in kept]
     for loss in losses:
