@@ -291,7 +291,7 @@ def main(words: list[str] | None = None) -> int:
         parser.error("--same-map takes the grid of the side-car: leave out --grid")
     store = os.path.realpath(asked.file)
     own = {store, *sidecar.beside(store)}
-    written = set(map(os.path.realpath, _names(asked.target, name)))
+    written = {os.path.realpath(path) for path in _names(asked.target, name)}
     if own & written:
         parser.error("the target is the store's own file")
     if asked.rules and os.path.realpath(asked.rules) in own | written:
