@@ -106,8 +106,12 @@ class _LayerCheck:
         if self._format == _SHAPEFILE or (self._format == "GeoJSON" and geojson.crs_member(self._crs) is None):
             return
         found = ogr.crs_of(self._layer)
-        if _code(found) != _code(self._crs):
+        if _code(found) not in (_code(self._crs), self._given_code()):
             raise self._other(f"it has the reference system {found or 'none'} in place of {self._crs or 'none'}")
+
+    def _given_code(self) -> tuple[str, str] | None:
+        """The code that OGR gives a reference system without one."""
+        return ogr.given_code(self._crs) if self._crs is not None and not self._crs.code else _code(self._crs)
 
     def _check_columns(self) -> None:
         definition = self._layer.GetLayerDefn()

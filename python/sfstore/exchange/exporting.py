@@ -88,6 +88,9 @@ def give_back(wishes: Wishes, say: Say) -> None:
     losses += wanted.losses(parts) + _blurred(parts, Grid(*found.grid))
     if wishes.format == "GeoJSON" and crs_member(found.crs) is None:
         losses.append("the reference system, which has no code: programs take degrees" if found.crs else NO_CRS)
+    code = ogr.given_code(found.crs) if found.crs and not found.crs.code and wanted.gives_codes else None
+    if code is not None:
+        losses.append(f"that the reference system has no code: by its name it is {':'.join(code)} there")
     if wishes.rules is None:
         losses += [f"the rule {rule.line}" for rule in rules if rule not in kept]
     for loss in losses:
@@ -151,14 +154,18 @@ def _write_file(wishes: Wishes, parts: list[Part], found: Sidecar, rules: list[R
     wanted = FORMATS[wishes.format]
     names = [name]
     if len(wanted.endings) > 1:
-        # OGR names the files of a set after the stem, with endings in small letters.
-        stem = os.path.splitext(name)[0]
-        names = [stem + ending for ending in wanted.endings]
+        names = _names(name, wishes.format)[1:]
     place = Place(folder, names, None, wishes.overwrite, _mode(wishes))
     _check_strangers(place, wishes.format)
     with placed(place, say) as new:
         write_data(os.path.join(new, place.leading), wishes.format, parts, found, rules)
         _check_strangers(place, wishes.format)
+
+
+def _names(target: str, name: str) -> list[str]:
+    """A target, and the files of the set that it would lead: OGR names them after the stem, in small letters."""
+    stem = os.path.splitext(target)[0]
+    return [target, *(stem + ending for ending in FORMATS[name].endings)]
 
 
 def _check_strangers(place: Place, name: str) -> None:
@@ -283,10 +290,11 @@ def main(words: list[str] | None = None) -> int:
     if asked.same_map and asked.grid:
         parser.error("--same-map takes the grid of the side-car: leave out --grid")
     store = os.path.realpath(asked.file)
-    own = (store, *sidecar.beside(store))
-    if os.path.realpath(asked.target) in own:
+    own = {store, *sidecar.beside(store)}
+    written = {os.path.realpath(path) for path in _names(asked.target, name)}
+    if own & written:
         parser.error("the target is the store's own file")
-    if asked.rules and os.path.realpath(asked.rules) in (*own, os.path.realpath(asked.target)):
+    if asked.rules and os.path.realpath(asked.rules) in own | written:
         parser.error("store, map and rules are different files")
     try:
         grid = Grid(*asked.grid) if asked.grid else None

@@ -83,6 +83,8 @@ class Format:
     """Whether it has numbers with more digits than a double."""
     keeps_identifiers: bool = True
     has_booleans: bool = True
+    gives_codes: bool = False
+    """Whether OGR writes a code of a reference system that has none, by its name."""
     largest_real: float = math.inf
     """Reals are below it, or their column goes out as texts."""
 
@@ -338,6 +340,7 @@ FORMATS = {
         own_columns=("fid", "geom"),
         rules_max=RULES_MAX,
         kept_types=frozenset((REAL, DATE, DATE_TIME)),
+        gives_codes=True,
     ),
     "PostgreSQL": Format(
         (),
@@ -359,6 +362,7 @@ FORMATS = {
         _flatgeobuf_losses,
         kept_types=frozenset((REAL, DATE_TIME)),
         keeps_identifiers=False,
+        gives_codes=True,
     ),
     "ESRI Shapefile": Format(
         (".shp", ".shx", ".dbf", ".prj", ".cpg"),

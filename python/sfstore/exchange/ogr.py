@@ -18,6 +18,7 @@ __all__ = [
     "features",
     "format_of",
     "gdal",
+    "given_code",
     "hearing",
     "members",
     "open_data",
@@ -132,6 +133,9 @@ def features(layer: Any) -> Iterator[tuple[Any, str]]:
 
     `ExchangeError` where the source breaks off.
     """
+    with _without_exceptions():
+        # What it says of that is of no feature, and is known by `read_crs`.
+        layer.GetSpatialRef()
     layer.ResetReading()
     while batch := _next_features(layer):
         for feature, fault in batch:
@@ -226,11 +230,27 @@ def crs_of(layer: Any) -> Crs | None:
 
 def read_crs(layer: Any) -> tuple[Crs | None, str]:
     """The reference system of a layer, and why it can't be read, or nothing. OGR says that once alone."""
-    try:
+    module, _, _ = gdal()
+    with _without_exceptions():
+        module.ErrorReset()
+        # OGR may say that it has failed in something else, as in the search for a code.
         reference = layer.GetSpatialRef()
-        return (None if reference is None else _crs(reference)), ""
-    except RuntimeError as error:
-        return None, str(error) or "no reason is told"
+        found = None if reference is None else _crs(reference)
+        fault = _fault(module)
+    if found is not None and found.wkt:
+        return found, ""
+    return None, fault or ("" if found is None else "PROJ can't write it")
+
+
+def given_code(crs: Crs) -> tuple[str, str] | None:
+    """The code that OGR gives a reference system without one where it writes it, by its name; none where it gives none."""
+    reference = spatial_reference(crs)
+    try:
+        reference.AutoIdentifyEPSG()
+    except RuntimeError:
+        return None
+    authority, code = reference.GetAuthorityName(None), reference.GetAuthorityCode(None)
+    return (authority, code) if authority and code else None
 
 
 def crs_named(name: str) -> Crs:
@@ -245,7 +265,7 @@ def crs_named(name: str) -> Crs:
 
 
 def _crs(reference: Any) -> Crs:
-    """`RuntimeError` where PROJ has read a part of it, and can't write that."""
+    """A reference system, whose words are empty where PROJ can't write them."""
     authority, code = reference.GetAuthorityName(None), reference.GetAuthorityCode(None)
     if not (authority and code):
         authority = code = ""

@@ -143,8 +143,8 @@ class OgrLayer(Layer):
         self.geometry_column = layer.GetGeometryColumn()
         self.has_geometries = layer.GetLayerDefn().GetGeomFieldCount() > 0
         # Of a folder each layer is a file.
-        files = data.GetFileList() or []
-        self._file = str(files[at]) if self.format == _FLATGEOBUF and at < len(files) else ""
+        files = data.GetFileList() or [] if self.format == _FLATGEOBUF else []
+        self._file = str(files[at]) if at < len(files) else ""
         self._name_place = _name_place(layer)
         self._unnamed = 0
         self._crs, self._crs_fault = ogr.read_crs(layer)

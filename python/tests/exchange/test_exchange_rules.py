@@ -100,6 +100,19 @@ class OutAndIn(RuledCase):
         self.assertEqual(bring_in(self.target, again)[0], 0)
         self.assertEqual(self.rules(again), [APART])
 
+    def test_rules_take_the_place_of_no_file_of_the_map(self):
+        self.made()
+        for name in ("back.shp", "back.shx", "back.dbf", "back.prj", "back.cpg"):
+            words = ["--layer", "wells", "--overwrite", "--rules", self.folder / name]
+            status, _, err = give_back(self.store, self.folder / "back.shp", *words)
+            self.assertEqual(status, 2)
+            self.assertIn("store, map and rules are different files", err)
+        named = self.folder / "own.dbf"
+        self.store.rename(named)
+        status, _, err = give_back(named, self.folder / "own.shp", "--layer", "wells", "--overwrite")
+        self.assertEqual(status, 2)
+        self.assertIn("the target is the store's own file", err)
+
     def test_a_layer_that_is_left_in_the_map_takes_its_rules_with_it(self):
         self.made()
         give_back(self.store, self.target, *GRID)

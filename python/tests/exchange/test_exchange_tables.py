@@ -14,7 +14,7 @@ from test_exchange import HAS_GDAL, ExchangeCase, Source, bring_in, give_back
 from sfstore import Store
 
 if HAS_GDAL:
-    from osgeo import ogr
+    from osgeo import ogr, osr
 
 GRID = ["--grid", "0", "0", "1"]
 
@@ -64,6 +64,11 @@ class TableCase(ExchangeCase):
 
 
 class Tables(TableCase):
+    def test_an_index_of_shapes_that_can_not_be_read_is_no_matter(self):
+        self.shapefile([], [{}])
+        (self.folder / "w.sbn").write_bytes(b"\0\0\x27\x0a\xff\xff\xfe\x70" + b"\xff" * 200)
+        self.assertEqual(self.brought(self.source)[0], 0)
+
     def test_texts_among_numbers_and_deleted_records_of_an_archive_are_told(self):
         self.shapefile([("n", ogr.OFTInteger, 9, 0)], [{"n": at} for at in (11, 22, 33)])
         self.changed(b"       22", b"   22 m2 ")
@@ -155,6 +160,45 @@ class ReferenceSystems(TableCase):
         self.assertEqual((status, err), (0, ""), out)
         self.assertIn("Näherung", crs["wkt"])
         self.assertEqual(give_back(self.store, self.target)[0], 0)
+
+
+    UNNAMED = (
+        'PROJCS["WGS_1984_UTM_Zone_18N",GEOGCS["GCS_WGS_1984",DATUM["D_unknown",SPHEROID["WGS84",6378137,298.257223563]],'
+        'PRIMEM["Greenwich",0],UNIT["Degree",0.017453292519943295]],PROJECTION["Transverse_Mercator"],'
+        'PARAMETER["latitude_of_origin",0],PARAMETER["central_meridian",-75],PARAMETER["scale_factor",0.9996],'
+        'PARAMETER["false_easting",500000],PARAMETER["false_northing",0],UNIT["Meter",1]]'
+    )
+
+    def test_one_that_ogr_gives_a_code_goes_out_and_that_is_said(self):
+        status, out, _, crs = self.brought_with(self.UNNAMED.encode())
+        self.assertEqual((status, crs["code"]), (0, ""), out)
+        words = "does not keep that the reference system has no code: by its name it is EPSG:32618 there\n"
+        for name in ("back.gpkg", "back.fgb"):
+            status, _, err = give_back(self.store, self.folder / name)
+            self.assertEqual(status, 0, err)
+            self.assertIn(words, err)
+        for name in ("back.shp", "back.geojson"):
+            status, _, err = give_back(self.store, self.folder / name)
+            self.assertEqual((status, "EPSG:32618" in err), (0, False), err)
+
+    def test_one_of_which_ogr_searches_a_code_in_vain_costs_no_feature(self):
+        reference = osr.SpatialReference()
+        reference.ImportFromProj4("+proj=utm +zone=18 +ellps=clrk66 +nadgrids=@conus,@alaska")
+        source = Source(self.source)
+        layer = source.data.CreateLayer("w", reference, ogr.wkbPoint)
+        for at in range(3):
+            feature = ogr.Feature(layer.GetLayerDefn())
+            feature.SetGeometry(ogr.CreateGeometryFromWkt(f"POINT ({at} {at})"))
+            layer.CreateFeature(feature)
+        del feature, layer
+        source.close()
+        self.assertEqual(self.brought(self.source)[0], 0)
+        status, _, err = give_back(self.store, self.folder / "back.shp")
+        self.assertEqual(status, 0, err)
+        status, out, err = self.brought(self.folder / "back.shp")
+        self.assertEqual((status, err), (0, ""), out)
+        self.assertIn("back: 3 features read, 3 taken\n", out)
+        self.assertIn("NTv2", json.loads((self.folder / "town.sfs.json").read_text())["crs"]["wkt"])
 
 
 class FlatGeobufs(TableCase):
