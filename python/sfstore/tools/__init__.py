@@ -1,0 +1,9 @@
+"""Tools of those who draw maps: each makes a group of edits, and the program with its rules judges it.
+
+So no tool can break a map: where the program refuses the group, nothing has changed.
+"""
+
+from sfstore.tools.merging import merge
+from sfstore.tools.splitting import split
+
+__all__ = ["merge", "split"]

@@ -1,0 +1,134 @@
+"""Tests of areas parted by a line: over the real program, which judges each, in a coverage under a rule."""
+
+from __future__ import annotations
+
+import random
+
+import parcels_model as coverage
+from support import PROGRAM, TestCase
+
+from sfstore import Refused, Store
+from sfstore.tools import merge, split
+
+SPLITS = 300
+
+
+class Areas(TestCase):
+    """Single splits, worked out by hand."""
+
+    def setUp(self) -> None:
+        super().setUp()
+        self.store = Store(program=PROGRAM)
+        self.addCleanup(self.store.close, save=False)
+        self.store.add_layer("p")
+        self.store.add_column("p", "owner", "text")
+
+    def parts(self, area: str, line: str) -> list[str]:
+        """The texts of the parts, the largest first."""
+        feature = self.store.add("p", area)
+        self.store.set("p", feature, "owner", "Ann")
+        ids = split(self.store, "p", feature, line)
+        self.assertEqual(ids[0], feature)
+        found = self.store.get("p", *ids)
+        self.assertEqual([part.values for part in found], [{"owner": "Ann"}] * len(ids))
+        self.store.undo()
+        self.assertEqual([part.wkt for part in self.store.get("p", feature)], [area])
+        return [part.wkt for part in found]
+
+    def test_from_border_to_border(self) -> None:
+        found = self.parts("POLYGON ((0 0, 10 0, 10 10, 0 10, 0 0))", "LINESTRING (4 -5, 4 15)")
+        self.assertEqual(list(map(coverage.doubled, found)), [120, 80])
+
+    def test_from_corner_to_corner(self) -> None:
+        found = self.parts("POLYGON ((0 0, 10 0, 10 10, 0 10, 0 0))", "LINESTRING (0 0, 10 10)")
+        self.assertEqual(list(map(coverage.doubled, found)), [100, 100])
+
+    def test_a_line_with_corners_and_loose_ends(self) -> None:
+        found = self.parts("POLYGON ((0 0, 20 0, 20 20, 0 20, 0 0))", "LINESTRING (5 -5, 5 5, 15 5, 15 25, 10 25, 10 12)")
+        # It comes in again and ends inside: nothing is parted there.
+        self.assertEqual(sum(map(coverage.doubled, found)), 800)
+        self.assertEqual(len(found), 2)
+
+    def test_through_a_hole(self) -> None:
+        area = "POLYGON ((0 0, 20 0, 20 20, 0 20, 0 0), (8 8, 8 12, 12 12, 12 8, 8 8))"
+        found = self.parts(area, "LINESTRING (10 -1, 10 21)")
+        self.assertEqual([coverage.doubled(text) for text in found], [384, 384])
+        # From the border to the hole alone nothing is parted.
+        with self.assertRaisesRegex(ValueError, "does not part"):
+            self.parts(area, "LINESTRING (10 -1, 10 10)")
+
+    def test_into_many_parts(self) -> None:
+        comb = "POLYGON ((0 0, 90 0, 90 20, 80 20, 80 10, 60 10, 60 20, 40 20, 40 10, 20 10, 20 20, 0 20, 0 0))"
+        self.assertEqual(len(self.parts(comb, "LINESTRING (-1 15, 91 15)")), 4)
+
+    def test_along_the_border(self) -> None:
+        for line in ("LINESTRING (0 0, 10 0)", "LINESTRING (-5 0, 15 0)", "LINESTRING (20 20, 30 30)", "LINESTRING (2 2, 5 5)"):
+            with self.assertRaisesRegex(ValueError, "does not part p "):
+                self.parts("POLYGON ((0 0, 10 0, 10 10, 0 10, 0 0))", line)
+
+    def test_what_is_no_split(self) -> None:
+        line = self.store.add("p", "LINESTRING (0 0, 5 5)")
+        self.assertRaisesRegex(ValueError, "is no POLYGON", split, self.store, "p", line, "LINESTRING (0 0, 1 1)")
+        area = self.store.add("p", "POLYGON ((0 0, 10 0, 10 10, 0 0))")
+        self.assertRaisesRegex(ValueError, "no LINESTRING", split, self.store, "p", area, "POINT (0 0)")
+        self.assertRaises(Refused, split, self.store, "p", 77, "LINESTRING (0 0, 1 1)")
+
+    def test_a_corner_off_the_grid_goes_into_the_neighbours(self) -> None:
+        left = self.store.add("p", "POLYGON ((0 0, 7 30, -20 30, -20 0, 0 0))")
+        self.store.add("p", "POLYGON ((0 0, 30 0, 30 30, 7 30, 0 0))")
+        self.store.add_layer("fences", "linestring")
+        self.store.add("fences", "LINESTRING (-1 -1, 0 0, 7 30, 7 40)")
+        self.store.run("rule add alone never p T******** p")
+        split(self.store, "p", 2, "LINESTRING (-30 10, 40 11)", beside=["fences"])
+        self.assertEqual([feature.wkt for feature in self.store.get("p", left)], ["POLYGON ((0 0, 2 10, 7 30, -20 30, -20 0, 0 0))"])
+        self.assertEqual([feature.wkt for feature in self.store.show("fences")], ["LINESTRING (-1 -1, 0 0, 2 10, 7 30, 7 40)"])
+        self.store.undo()
+        self.assertEqual(self.store.show("fences")[0].wkt, "LINESTRING (-1 -1, 0 0, 7 30, 7 40)")
+
+
+class Coverage(TestCase):
+    """Random splits and merges of a coverage without gaps, under the rule that no two parcels overlap."""
+
+    def test_no_gap_and_no_overlap(self) -> None:
+        chance = random.Random(68)
+        with Store(program=PROGRAM) as store:
+            coverage.make(store, 10, chance, 1_000)
+            [before] = coverage.outline(feature.wkt for feature in store.show("parcels"))
+            first = {feature.id: feature for feature in store.show("parcels")}
+            steps = refused = 0
+            for _ in range(SPLITS):
+                at, to = ((chance.randint(-500, 10_500), chance.randint(-500, 10_500)) for _ in range(2))
+                line = f"LINESTRING ({at[0]} {at[1]}, {to[0]} {to[1]})"
+                crossed = store.query("parcels", "crosses", line) or store.query("parcels", "intersects", line)
+                for parcel in crossed[:2]:
+                    try:
+                        split(store, "parcels", parcel, line)
+                        steps += 1
+                    except ValueError as fault:
+                        self.assertIn("does not part", str(fault))
+                    except Refused:
+                        refused += 1
+            shown = store.show("parcels")
+            self.assertGreater(steps, 100)
+            self.assertLessEqual(refused, steps // 100)
+            [after] = coverage.outline(feature.wkt for feature in shown)
+            self.assertEqual((before.holes, after.holes), ([], []))
+            self.assertLess(max(coverage.far_from(point, before.shell) for point in after.shell), 0.7072)
+            self.assertEqual({feature.values["number"] for feature in shown}, set(range(1, 101)))
+            for _ in range(steps):
+                store.undo()
+            self.assertEqual({feature.id: feature for feature in store.show("parcels")}, first)
+
+    def test_what_was_parted_is_merged_again(self) -> None:
+        chance = random.Random(7)
+        with Store(program=PROGRAM) as store:
+            coverage.make(store, 4, chance)
+            for parcel in range(1, 17):
+                [feature] = store.get("parcels", parcel)
+                left, bottom, right, top = store.box("parcels", parcel)
+                ids = split(store, "parcels", parcel, f"LINESTRING ({left - 5} {(bottom + top) // 2}, {right + 5} {(bottom + top) // 2 + 3})")
+                whole = sum(coverage.doubled(part.wkt) for part in store.get("parcels", *ids))
+                merge(store, "parcels", *ids)
+                [again] = store.get("parcels", parcel)
+                self.assertEqual(coverage.doubled(again.wkt), whole)
+                self.assertEqual(again.values, feature.values)
