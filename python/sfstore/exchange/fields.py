@@ -253,6 +253,15 @@ class Fields(SourceColumns):
             kept = kept_name(source_name, name)
             self._origins[number] = ColumnOrigin(name, kept, type_name, subtype, field.GetWidth())
         self.left += [self._left(type_name, several) for type_name, several in left.items()]
+        self._tell_domains()
+
+    def _tell_domains(self) -> None:
+        """Reports what columns say of the meaning of their values, which a store has no place for."""
+        definition = self._layer.GetLayerDefn()
+        fields = [definition.GetFieldDefn(field.place) for field in self._fields]
+        names = [f"{field.GetName()} ({known})" for field in fields if (known := field.GetDomainName())]
+        if names:
+            self.left.append(Left("domains of columns, which say what their values mean, are left out", names))
 
     def _type(self, name: str, type_name: str, subtype: str) -> int | None:
         """The type that a column has in the store, or none where the store has none for it."""

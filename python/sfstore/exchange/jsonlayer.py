@@ -470,7 +470,7 @@ def _type(column: _Column, as_text: bool, wanted: str) -> int:
     type_name, subtype = column.type
     if type_name == STRING or wanted == "text" or (type_name == REAL and as_text and not column.fits):
         return TEXT
-    if type_name == REAL or wanted == "decimal":
+    if (type_name == REAL and wanted != "int") or wanted == "decimal":
         return DECIMAL
     return BOOL if subtype == "Boolean" and wanted != "int" else INT
 
@@ -479,8 +479,11 @@ def _stored(taken: _Taken, value: Any) -> tuple[Value, str]:
     """A value as the store has it, and why it can't have it, or nothing."""
     if taken.type != TEXT and not isinstance(value, (int, Decimal)):
         return 0, "a value that was written since the survey"
+    if taken.type == INT and _is_whole(value):
+        return int(value), ""
     if taken.type == INT:
-        return (int(value), "") if _is_whole(value) else (0, "a whole number of more than 64 bits")
+        is_whole = value == Decimal(value).to_integral_value()
+        return 0, "a whole number of more than 64 bits" if is_whole else "a number that is no whole one"
     if taken.type in MAKERS:
         made = MAKERS[taken.type](value)
         return (0 if made.value is None else made.value), made.fault

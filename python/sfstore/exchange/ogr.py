@@ -161,12 +161,13 @@ def _next_features(layer: Any) -> list[tuple[Any, str]]:
 
 
 def _fault(module: Any) -> str:
-    """Why the last call has failed, or nothing. What it has warned of is told: of several warnings the last one."""
+    """Why the last call has failed, or nothing. What it has warned of is told: of several warnings the last, and their count."""
     level, text = module.GetLastErrorType(), module.GetLastErrorMsg()
     if level >= _FAILURE:
         return text or "no reason is told"
     if level == _WARNING:
-        _tell_warning(level, 0, text)
+        further = module.GetErrorCounter() - 1
+        _tell_warning(level, 0, f"{text} ({further} more)" if further > 0 else text)
     return ""
 
 

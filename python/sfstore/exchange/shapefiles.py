@@ -9,7 +9,7 @@ from __future__ import annotations
 import os
 import re
 from collections.abc import Iterator, Mapping
-from decimal import Decimal
+from decimal import ROUND_DOWN, ROUND_HALF_EVEN, Context, Decimal
 from typing import Any, NamedTuple
 
 from sfstore.exchange import ogr
@@ -27,11 +27,12 @@ _END_OF_COLUMNS, _DELETED = 0x0D, b"*"
 # Blanks and zeros fill a place, and asterisks say that there is no value.
 _WHOLE = re.compile(rb"[ \0]*(?:[+-]?[0-9]+(?:\.0*)?[ \0]*)?|\*.*", re.DOTALL)
 _REAL = re.compile(rb"[ \0]*(?:[+-]?(?:[0-9]+\.?[0-9]*|\.[0-9]+)(?:[eE][+-]?[0-9]+)?[ \0]*)?|\*.*", re.DOTALL)
-_DAY = re.compile(rb"[ \0]*|[0-9]{8}[ \0]*")
+# OGR writes a day as a number, so that years before 1000 have no zeros before them.
+_DAY = re.compile(rb"[ \0]*(?:[0-9]{1,8}[ \0]*)?|[0-9]{2}/[0-9]{2}/[0-9]{4}")
 _FORMS = {INTEGER: _WHOLE, INTEGER_64: _WHOLE, REAL: _REAL, DATE: _DAY}
 _NO_DAY = "00000000"
-# So many digits each double has.
-_DIGITS = 15
+# So many digits each double has, and more than a number of a table.
+_DIGITS, _MANY = 15, Context(prec=1_000)
 # A whole archive of one Shapefile, or of several, that OGR opens by its name.
 _ARCHIVES = (".shz", ".shp.zip")
 
@@ -66,17 +67,21 @@ def odd_values(source: Any, name: str, columns: Mapping[int, str]) -> Iterator[O
                     yield Odd(at, column, text, text.lstrip("+"))
 
 
-def _is_day(digits: str) -> bool:
-    """Whether eight digits are a day, or say that there is none."""
-    return digits in ("", _NO_DAY) or day_of(f"{digits[:4]}-{digits[4:6]}-{digits[6:]}") is not None
+def _is_day(text: str) -> bool:
+    """Whether a text is a day, as its digits or as `month/day/year`, or says that there is none."""
+    month, slash, rest = text.partition("/")
+    digits = rest[3:] + month + rest[:2] if slash else text.rjust(len(_NO_DAY), "0")
+    return text in ("", _NO_DAY) or day_of(f"{digits[:4]}-{digits[4:6]}-{digits[6:]}") is not None
 
 
 def _is_double(text: str) -> bool:
-    """Whether a number is its double, or was written as one: with as many places as its column has."""
+    """Whether a number is its double, or was written as one: with as many places as there is room for."""
     if len(text) <= _DIGITS or not text.lstrip("+-").replace(".", "", 1).isdigit():
         return True
-    number = Decimal(text)
-    return number == Decimal(f"{float(text):.{len(text.partition('.')[2])}f}")
+    number, double = Decimal(text), Decimal(float(text))
+    place = Decimal(1).scaleb(-len(text.partition(".")[2]))
+    # Where the room has ended, what is further behind was cut off.
+    return number in (double.quantize(place, rounding, _MANY) for rounding in (ROUND_HALF_EVEN, ROUND_DOWN))
 
 
 def deleted_records(source: Any, name: str) -> int:

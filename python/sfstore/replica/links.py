@@ -75,13 +75,21 @@ def check_driver() -> None:
         raise ModuleNotFoundError("replicas need psycopg2 for Python (Debian's package python3-psycopg2)")
 
 
+def _parsed(dsn: str) -> dict[str, str]:
+    """Words of connection by their names. `ValueError` where they are none: what was said may have a password in it."""
+    try:
+        return dict(psycopg2.extensions.parse_dsn(dsn))
+    except psycopg2.ProgrammingError:
+        raise ValueError("the log is no words of connection, such as 'host=alpha,beta dbname=town'") from None
+
+
 def servers_of(dsn: str) -> list[str]:
     """The words of connection to each single server that some words name: hosts and ports go by pairs.
 
     >>> servers_of("host=a,b port=1,2 dbname=town")
     ['dbname=town host=a port=1', 'dbname=town host=b port=2']
     """
-    words = psycopg2.extensions.parse_dsn(dsn)
+    words = _parsed(dsn)
     lists = {key: words.pop(key, "").split(",") for key in ("host", "hostaddr", "port")}
     count = max(len(lists["host"]), len(lists["hostaddr"]))
     for key, items in lists.items():
@@ -99,7 +107,7 @@ def servers_of(dsn: str) -> list[str]:
 
 def place_of(dsn: str) -> str:
     """Where a server is, without the login's secrets."""
-    words = psycopg2.extensions.parse_dsn(dsn)
+    words = _parsed(dsn)
     return f"the server {words.get('host') or words.get('hostaddr', 'here')}:{words.get('port', '5432')}"
 
 
@@ -133,8 +141,8 @@ def primary_of(dsn: str) -> Link:
 
 def database_of(dsn: str) -> tuple[str, str]:
     """The name of the database of some words of connection, and the words for the one that each server has."""
-    name = psycopg2.extensions.parse_dsn(dsn).get("dbname", "postgres")
-    return str(name), str(psycopg2.extensions.make_dsn(dsn, dbname="postgres"))
+    name = _parsed(dsn).get("dbname", "postgres")
+    return name, str(psycopg2.extensions.make_dsn(dsn, dbname="postgres"))
 
 
 class Link:

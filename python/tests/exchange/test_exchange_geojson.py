@@ -83,6 +83,19 @@ class Values(GeoJsonCase):
         out = self.brought(collection(feature('{"a": 1e400000}'), feature('{"a": 0.5}')), status=1)
         self.assertIn("1 a number of more than 64 bits: 0 (the value of column a is left out)", out)
 
+    def test_whole_reals_are_added_to_a_column_of_whole_numbers(self):
+        with Store(PROGRAM, save=self.store) as store:
+            store.add_layer("a", "point")
+            store.add_column("a", "n", "int")
+        source = self.folder / "a.geojson"
+        source.write_text(collection(feature('{"n": 2.0}'), feature('{"n": 2.5}'), feature('{"n": 1e999999999}')))
+        status, out, _ = bring_in(source, self.store, "--add", "--grid", "0", "0", "1")
+        self.assertEqual(status, 1)
+        self.assertIn("1 a number that is no whole one: 1 (the value of column n is left out)\n", out)
+        self.assertIn("1 a whole number of more than 64 bits: 2 (the value of column n is left out)\n", out)
+        with Store(self.store, journal=True, program=PROGRAM) as store:
+            self.assertEqual([f.values for f in store.show("a")], [{"n": 2}, {}, {}])
+
     def test_values_of_several_kinds_are_texts_and_that_is_told(self):
         known = ["1", '"x"', "true", "2.50", "null", '{"b": 1}', '"1"']
         out = self.brought(collection(*(feature(f'{{"a": {value}}}') for value in known)))

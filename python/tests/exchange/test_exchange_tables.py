@@ -135,6 +135,25 @@ class Tables(TableCase):
             store.run_all(lines)
 
 
+    def test_what_values_mean_is_left_out_and_told(self):
+        source = Source(self.source)
+        values = {1: "clay", 2: "sand"}
+        source.data.AddFieldDomain(ogr.CreateCodedFieldDomain("soils", "", ogr.OFTInteger, ogr.OFSTNone, values))
+        layer = source.data.CreateLayer("w", None, ogr.wkbPoint)
+        field = ogr.FieldDefn("soil", ogr.OFTInteger)
+        field.SetDomainName("soils")
+        layer.CreateField(field)
+        feature = ogr.Feature(layer.GetLayerDefn())
+        feature.SetField("soil", 2)
+        feature.SetGeometry(ogr.CreateGeometryFromWkt("POINT (1 2)"))
+        layer.CreateFeature(feature)
+        del feature, layer
+        source.close()
+        status, out, _ = self.brought(self.source)
+        self.assertEqual((status, self.values()), (1, [{"soil": 2}]))
+        self.assertIn("domains of columns, which say what their values mean, are left out: soil (soils)\n", out)
+
+
 class ReferenceSystems(TableCase):
     GOOD = (
         'PROJCS["Näherung",GEOGCS["x",DATUM["D",SPHEROID["GRS_1980",6378137.0,298.257222101]],PRIMEM["Greenwich",0.0],'

@@ -110,6 +110,14 @@ class Commands(TestCase):
             "sfstore-replica: replicas need psycopg2 for Python (Debian's package python3-psycopg2)\n",
         )
 
+    @unittest.skipIf(missing(), missing())
+    def test_what_is_no_words_of_connection_is_refused_and_not_shown(self):
+        for words in ("secret", "host='a secret", "secret=x"):
+            for command in (["state"], ["cut"], ["setup"], ["login"], ["run", f"{self.folder}/none"]):
+                said = self.command(*command, words, *(["bob"] if command == ["login"] else []))
+                told = "sfstore-replica: the log is no words of connection, such as 'host=alpha,beta dbname=town'\n"
+                self.assertEqual((said.returncode, said.stderr), (3, told))
+
     def test_the_demonstration(self):
         said = self.command("demo", "--kills", "1", "--program", PROGRAM)
         self.assertEqual((said.returncode, said.stderr), (0, ""))
