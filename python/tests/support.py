@@ -6,11 +6,13 @@ The program is the one that the environment variable SFSTORE names, else that of
 from __future__ import annotations
 
 import atexit
+import math
 import os
 import signal
 import sys
 import tempfile
 import textwrap
+import time
 import unittest
 from collections.abc import Callable
 from pathlib import Path
@@ -44,6 +46,11 @@ say("refused 29 NothingToUndo\\n")
 """
 
 
+def crowd() -> float:
+    """How many times as long all takes as on a quiet machine: the processes that want a processor, for each that there is."""
+    return min(max(os.getloadavg()[0] / (os.cpu_count() or 1), 1.0), 10.0)
+
+
 def child_of(store: Store) -> int:
     """The identifier of the process of a store's program."""
     found: int = store._program._process.pid  # type: ignore[attr-defined]
@@ -51,7 +58,7 @@ def child_of(store: Store) -> int:
 
 
 class TestCase(unittest.TestCase):
-    """A test with a folder of its own, and with a limit of time: no call may hang."""
+    """A test with a folder of its own, and with a limit of time, longer beside other work: no call may hang."""
 
     SECONDS = 120
 
@@ -63,8 +70,13 @@ class TestCase(unittest.TestCase):
         self.addCleanup(signal.alarm, 0)
 
     def limit_time(self) -> None:
+        begun = time.monotonic()
+
         def too_slow(*_: object) -> None:
-            raise TimeoutError("the test hangs")
+            left = self.SECONDS * crowd() - (time.monotonic() - begun)
+            if left <= 0:
+                raise TimeoutError("the test hangs")
+            signal.alarm(math.ceil(left))
 
         signal.signal(signal.SIGALRM, too_slow)
         signal.alarm(self.SECONDS)
