@@ -22,7 +22,7 @@ MODULE = TOP / "python" / "sfstore"
 PAGE = TOP / "docs" / "use" / "PYTHON.md"
 
 # The packages, and the order in which their names are to be read; others follow by the alphabet.
-PACKAGES = ["sfstore", "sfstore.replica"]
+PACKAGES = ["sfstore", "sfstore.tools", "sfstore.replica"]
 FIRST = ["Store", "Editor", "Group", "Added", "Feature", "Layer", "Column", "Refused", "ProgramEnded", "JournalError", "Recovered", "Replica"]
 
 HEAD = """\
@@ -56,7 +56,7 @@ def definitions(package: str) -> dict[str, tuple[ast.stmt, str]]:
     for path in sources(package):
         body = ast.parse(path.read_text(encoding="utf-8")).body
         for at, node in enumerate(body):
-            if isinstance(node, ast.ClassDef):
+            if isinstance(node, (ast.ClassDef, ast.FunctionDef)):
                 found[node.name] = (node, ast.get_docstring(node) or "")
             elif isinstance(node, ast.Assign) and isinstance(node.targets[0], ast.Name):
                 found.setdefault(node.targets[0].id, (node, text_behind(body, at)))
@@ -112,6 +112,9 @@ def entry(name: str, node: ast.stmt, text: str) -> str:
     if isinstance(node, ast.ClassDef):
         bases = ", ".join(map(ast.unparse, node.bases))
         return f"### `class {name}{f'({bases})' if bases else ''}`\n\n{prose(text)}{members(node)}"
+    if isinstance(node, ast.FunctionDef):
+        gives = f" -> {ast.unparse(node.returns)}" if node.returns else ""
+        return f"### `{name}({ast.unparse(node.args)}){gives}`\n\n{prose(text)}"
     assert isinstance(node, ast.Assign)
     return f"### `{name}`\n\n{prose(text)}`{name} = {ast.unparse(node.value)}`\n\n"
 

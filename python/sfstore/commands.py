@@ -13,6 +13,12 @@ __all__ = ["COMMANDS", "OWN", "Command", "candidates", "help_text", "near_words"
 OWN = [
     Command("help COMMAND", "lists the commands, or shows one with an example", "help add"),
     Command("save", "saves the store; the history begins anew", "save"),
+    Command(
+        "split LAYER ID WKT",
+        "parts a polygon by a LINESTRING; new corners go into the neighbours too",
+        "split parcels 1 LINESTRING (5 -1, 5 11)",
+    ),
+    Command("merge LAYER ID ID", "makes one area of two or more; the first keeps its number and values", "merge parcels 1 2"),
     Command("picture FILE", "draws the store as SVG, and opens it in a browser", "picture town.svg"),
     Command(
         "import SOURCE",

@@ -35,6 +35,7 @@ from sfstore.mapunits import MapUnits
 from sfstore.refusals import words_of
 from sfstore.store import ProgramEnded, Refused, Store
 from sfstore.storefile import fault_words
+from sfstore.tools import merge, split
 
 __all__ = ["Console", "main"]
 
@@ -170,6 +171,8 @@ class Console:
         self._own: dict[str, Callable[[list[str]], None]] = {
             "help": self._help,
             "save": self._save,
+            "split": self._split,
+            "merge": self._merge,
             "picture": self._picture,
             "import": self._import,
             "export": self._export,
@@ -363,6 +366,22 @@ class Console:
             print(f"{stay.format(self._path + '.journal')} there when it is opened again.")
         self._store.close(save=False)
         self._is_over = True
+
+    def _split(self, words: list[str]) -> None:
+        """Parts a polygon by a line, and tells the numbers of the parts."""
+        if len(words) < 3:
+            raise ValueError("split takes a layer, a number and a LINESTRING")
+        layer, feature, wkt = words[0], int(words[1]), " ".join(words[2:])
+        parts = split(self._store, layer, feature, self._units.steps(wkt) if self._units else wkt)
+        print(f"ok: {layer} {', '.join(map(str, parts))}")
+
+    def _merge(self, words: list[str]) -> None:
+        """Makes one area of several."""
+        if len(words) < 3:
+            raise ValueError("merge takes a layer and two or more numbers")
+        layer, first, *others = words[0], *map(int, words[1:])
+        merge(self._store, layer, first, *others)
+        print(f"ok: {layer} {first}")
 
     def _picture(self, words: list[str]) -> None:
         """Draws the store as it is, and opens the picture where there is a browser."""

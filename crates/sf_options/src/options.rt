@@ -22,11 +22,10 @@ const EXAMPLE_AND_COMMANDS: &str = "Examples:
   sfstore --store parcels.sfs < edits
 
 Commands, one on a line; `man sfstore` and docs/use/CONSOLE.md have their answers:
-  layer add|drop|rename|move   column add|drop   layers   columns
-  add   addhex   delete   replace   vertex insert|move|remove   set   unset
-  rule add|drop   rules   undo   redo   save
-  show   get   find   check   hex   box   simple   area   length
-  relate   match   query   join
+  layer add|drop|rename|move   column add|drop   layers   columns   undo   redo
+  add   addhex   delete   replace   vertex insert|move|remove   set   unset   save
+  rule add|drop   rules   show   get   find   check   hex   box   simple
+  area   length   relate   match   query   join
 
 A line may begin with the editor who gives it, from @1 to @255: @2 undo.";
 

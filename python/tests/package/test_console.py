@@ -221,6 +221,31 @@ class InMapUnits(TestCase):
         with Store(self.path, journal=True, program=PROGRAM) as store:
             self.assertEqual([feature.wkt for feature in store.get("w", 3, 4)], ["POINT (1 0)", "POINT (8 0)"])
 
+    def test_areas_are_parted_and_merged(self):
+        said = self.said(
+            "split w 2 LINESTRING (500000 5600000, 500010 5600010)",
+            "get w 2 3",
+            "split w 2 LINESTRING (500001 5600000, 500002 5600000)",
+            "split w 2",
+            "split w 2 LINESTRING (500000.005 5600000, 500002 5600000)",
+            "merge w 2 3",
+            "area w 2",
+            "merge w 2",
+            "merge w 2 x",
+            "merge w 2 77",
+        )
+        for words in (
+            "ok: w 2, 3\n",
+            "3 POLYGON ((500000.00 5600000.00, 500005.00 5600005.00, 500000.00 5600010.00, 500000.00 5600000.00))",
+            "That line can't be read: the line does not part w 2",
+            "split takes a layer, a number and a LINESTRING",
+            "x 500000.005 lies between two places of the grid",
+            "ok: w 2\n2 50\n1 row",
+            "merge takes a layer and two or more numbers",
+            "Refused (21 NoFeature)",
+        ):
+            self.assertIn(words, said)
+
     def test_a_refusal_names_its_place_on_the_map(self):
         said = self.said("add w POLYGON ((500000 5600000, 500010 5600010, 500010 5600000, 500000 5600010, 500000 5600000))")
         self.assertIn("Refused (13 RingNotSimple)", said)

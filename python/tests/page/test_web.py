@@ -178,7 +178,7 @@ class People(WebCase):
         ben.line("add w POINT (2 2)")
         refused = ann.refused("undo")
         self.assertEqual((refused["number"], refused["name"]), (36, "NotYours"))
-        whose = {"number": ben.editor, "editor": "Ben", "line": "add w POINT (2 2)"}
+        whose = {"number": ben.editor, "editor": "Ben", "line": "add w POINT (2 2)", "shown": "add w POINT (2 2)"}
         self.assertEqual(refused["whose"], whose)
         self.assertEqual(ben.answer("undo"), "ok")
         self.assertEqual(ann.refused("redo")["whose"], whose)
