@@ -131,6 +131,13 @@ def _printable(text: str) -> str:
     return re.sub("[\x80-\x9f]", lambda found: f"\\x{ord(found[0]):02x}", text)
 
 
+def _feature(word: str) -> int:
+    """The number of a feature. `ValueError` where a word is none."""
+    if not (word.isascii() and word.isdecimal()):
+        raise ValueError(f"{word} is no number of a feature")
+    return int(word)
+
+
 class _Pending:
     """A group whose members are not all there: nothing of it was sent."""
 
@@ -371,7 +378,7 @@ class Console:
         """Parts a polygon by a line, and tells the numbers of the parts."""
         if len(words) < 3:
             raise ValueError("split takes a layer, a number and a LINESTRING")
-        layer, feature, wkt = words[0], int(words[1]), " ".join(words[2:])
+        layer, feature, wkt = words[0], _feature(words[1]), " ".join(words[2:])
         parts = split(self._store, layer, feature, self._units.steps(wkt) if self._units else wkt)
         print(f"ok: {layer} {', '.join(map(str, parts))}")
 
@@ -379,7 +386,7 @@ class Console:
         """Makes one area of several."""
         if len(words) < 3:
             raise ValueError("merge takes a layer and two or more numbers")
-        layer, first, *others = words[0], *map(int, words[1:])
+        layer, first, *others = words[0], *map(_feature, words[1:])
         merge(self._store, layer, first, *others)
         print(f"ok: {layer} {first}")
 

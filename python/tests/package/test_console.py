@@ -236,12 +236,13 @@ class InMapUnits(TestCase):
         )
         for words in (
             "ok: w 2, 3\n",
-            "3 POLYGON ((500000.00 5600000.00, 500005.00 5600005.00, 500000.00 5600010.00, 500000.00 5600000.00))",
+            "2 POLYGON ((500000.00 5600000.00, 500005.00 5600005.00, 500000.00 5600010.00, 500000.00 5600000.00))",
             "That line can't be read: the line does not part w 2",
             "split takes a layer, a number and a LINESTRING",
             "x 500000.005 lies between two places of the grid",
             "ok: w 2\n2 50\n1 row",
             "merge takes a layer and two or more numbers",
+            "x is no number of a feature",
             "Refused (21 NoFeature)",
         ):
             self.assertIn(words, said)
