@@ -5,13 +5,18 @@ from __future__ import annotations
 import random
 from collections.abc import Iterable
 
-import support  # noqa: F401 - it says where the module is.
+from support import PROGRAM
 
 from sfstore import Store
 from sfstore.geometry import read_wkt
 from sfstore.tools.rings import Point, Polygon, edges_of, polygons_of, split_at
 
 RULE = "rule add alone never parcels T******** parcels"
+
+
+def opened() -> Store:
+    """A store without layers, of the program under test."""
+    return Store(program=PROGRAM)
 
 
 def make(store: Store, side: int, chance: random.Random, wide: int = 100) -> None:

@@ -8,7 +8,7 @@ from dataclasses import dataclass, field
 from fractions import Fraction
 
 from sfstore.editor import Editor
-from sfstore.geometry import Flat, Shape, read_wkb, read_wkt, write_wkt
+from sfstore.geometry import Flat, read_wkb, read_wkt, write_wkt
 from sfstore.tools.rings import Edge, Point, edges_of, polygons_of, written
 
 __all__ = ["split"]
@@ -21,8 +21,8 @@ def split(store: Editor, layer: str, feature_id: int, line: str, *, beside: Sequ
     """Parts a polygon by a line, as one step. The identifiers of the parts: the largest keeps that of the feature.
 
     Each part gets the values of the feature. Where the line crosses a border off the grid, the new corner is rounded to it
-    once, and goes into each feature of the layer, and of the layers ``beside``, whose border passes there: the parts fit their
-    neighbours as before. `ValueError` where the feature is no POLYGON, or the line does not part it; `Refused` where the
+    once. It goes into each feature whose border passes there, of the layer and of the layers ``beside``, so that the parts fit
+    their neighbours as before. `ValueError` where the feature is no POLYGON, or the line does not part it; `Refused` where the
     program refuses the group, and nothing has changed.
 
     >>> from sfstore import Store

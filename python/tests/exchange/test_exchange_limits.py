@@ -14,9 +14,6 @@ from test_exchange import GRID, HAS_GDAL, ExchangeCase, bring_in, give_back
 from sfstore import Store
 from sfstore.language import INT_MAX, INT_MIN, TEXT_MAX
 
-if HAS_GDAL:
-    from osgeo import ogr
-
 # Of each type of a GeoPackage: the type of the store's column, what a row of the GeoPackage has, and how the store shows it.
 LIMITS: dict[str, tuple[str, list[tuple[Any, str]]]] = {
     "MEDIUMINT": ("int", [(-(2**31), "-2147483648"), (2**31 - 1, "2147483647"), (0, "0")]),

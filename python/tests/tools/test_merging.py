@@ -7,9 +7,9 @@ from fractions import Fraction
 
 import parcels_model as coverage
 from parcels_model import doubled
-from support import PROGRAM, TestCase
+from support import TestCase
 
-from sfstore import Refused, Store
+from sfstore import Refused
 from sfstore.geometry import read_wkt
 from sfstore.tools import merge
 from sfstore.tools.rings import edges_of, polygons_of, written
@@ -28,7 +28,7 @@ class Areas(TestCase):
 
     def setUp(self) -> None:
         super().setUp()
-        self.store = Store(program=PROGRAM)
+        self.store = coverage.opened()
         self.addCleanup(self.store.close, save=False)
         self.store.add_layer("p")
 
@@ -96,7 +96,7 @@ class Coverage(TestCase):
 
     def test_random_merges(self) -> None:
         chance = random.Random(90)
-        with Store(program=PROGRAM) as store:
+        with coverage.opened() as store:
             coverage.make(store, SIDE, chance)
             whole = sum(doubled(feature.wkt) for feature in store.show("parcels"))
             left = {feature.id for feature in store.show("parcels")}

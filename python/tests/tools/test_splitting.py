@@ -5,9 +5,9 @@ from __future__ import annotations
 import random
 
 import parcels_model as coverage
-from support import PROGRAM, TestCase
+from support import TestCase
 
-from sfstore import Refused, Store
+from sfstore import Refused
 from sfstore.tools import merge, split
 
 SPLITS = 300
@@ -18,7 +18,7 @@ class Areas(TestCase):
 
     def setUp(self) -> None:
         super().setUp()
-        self.store = Store(program=PROGRAM)
+        self.store = coverage.opened()
         self.addCleanup(self.store.close, save=False)
         self.store.add_layer("p")
         self.store.add_column("p", "owner", "text")
@@ -91,7 +91,7 @@ class Coverage(TestCase):
 
     def test_no_gap_and_no_overlap(self) -> None:
         chance = random.Random(68)
-        with Store(program=PROGRAM) as store:
+        with coverage.opened() as store:
             coverage.make(store, 10, chance, 1_000)
             [before] = coverage.outline(feature.wkt for feature in store.show("parcels"))
             first = {feature.id: feature for feature in store.show("parcels")}
@@ -121,7 +121,7 @@ class Coverage(TestCase):
 
     def test_what_was_parted_is_merged_again(self) -> None:
         chance = random.Random(7)
-        with Store(program=PROGRAM) as store:
+        with coverage.opened() as store:
             coverage.make(store, 4, chance)
             for parcel in range(1, 17):
                 [feature] = store.get("parcels", parcel)
