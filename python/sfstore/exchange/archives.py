@@ -13,10 +13,13 @@ from sfstore.exchange import ogr
 from sfstore.exchange.stamps import archive_of
 from sfstore.exchange.vsi import VsiFile
 
-__all__ = ["LEAST", "TIMES", "check_size", "is_zip"]
+__all__ = ["LEAST", "NAMED", "TIMES", "check_size", "is_zip"]
 
 TIMES, LEAST = 100, 1 << 30
 """How many times its own size an archive may unpack to, and from how many bytes on that counts."""
+
+NAMED = (".shz", ".shp.zip", ".gpkg.zip")
+"""The endings of archives that OGR opens by their own names."""
 
 _CHUNK = 1 << 20
 _ZIP, _GZIP = b"PK\3\4", b"\x1f\x8b"
@@ -24,7 +27,7 @@ _ZIP, _GZIP = b"PK\3\4", b"\x1f\x8b"
 
 def check_size(source: str) -> None:
     """`ogr.ExchangeError` where a source unpacks to far more than the archive has that it is in."""
-    archive = source if is_zip(source) else archive_of(source)
+    archive = source if source.lower().endswith(NAMED) and is_zip(source) else archive_of(source)
     if not archive:
         return
     most = max(LEAST, TIMES * os.path.getsize(archive))

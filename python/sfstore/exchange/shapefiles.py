@@ -13,6 +13,7 @@ from decimal import ROUND_DOWN, ROUND_HALF_EVEN, Context, Decimal
 from typing import Any, NamedTuple
 
 from sfstore.exchange import ogr
+from sfstore.exchange.archives import NAMED
 from sfstore.exchange.columns import DATE, INTEGER, INTEGER_64, REAL
 from sfstore.exchange.moments import day_of
 from sfstore.exchange.vsi import VsiFile
@@ -33,8 +34,6 @@ _FORMS = {INTEGER: _WHOLE, INTEGER_64: _WHOLE, REAL: _REAL, DATE: _DAY}
 _NO_DAY = "00000000"
 # So many digits each double has, and more than a number of a table.
 _DIGITS, _MANY = 15, Context(prec=1_000)
-# A whole archive of one Shapefile, or of several, that OGR opens by its name.
-_ARCHIVES = (".shz", ".shp.zip")
 
 
 class Odd(NamedTuple):
@@ -131,7 +130,7 @@ def _folder(source: Any) -> str:
     known = module.VSIStatL(path)
     if known is not None and known.IsDirectory():
         return path
-    return f"/vsizip/{{{path}}}" if path.lower().endswith(_ARCHIVES) else os.path.dirname(path) or "."
+    return f"/vsizip/{{{path}}}" if path.lower().endswith(NAMED) else os.path.dirname(path) or "."
 
 
 def _places(columns: bytes) -> Iterator[slice]:
