@@ -16,7 +16,7 @@ from typing import NamedTuple
 from sfstore.groups import lines_of
 from sfstore.language import GRID_MAX, GRID_MIN, words_of_line
 
-__all__ = ["MapUnits", "NoPlace"]
+__all__ = ["MapUnits", "NoPlace", "grid_decimal"]
 
 # The text of a coordinate made of another one, by its axis and as it is written.
 _Change = Callable[[int, str], str]
@@ -94,7 +94,7 @@ class MapUnits:
     """
 
     def __init__(self, x: str, y: str, step: str) -> None:
-        exact = [_decimal(word) for word in (x, y, step)]
+        exact = [grid_decimal(word) for word in (x, y, step)]
         if exact[2] <= 0:
             raise ValueError(f"the step of a grid is above 0, not {step}")
         digits = max(0, *(-int(number.as_tuple().exponent) for number in exact))
@@ -192,7 +192,7 @@ _ROWS: dict[str, Callable[[MapUnits, str], str]] = {
 }
 
 
-def _decimal(word: str) -> Decimal:
+def grid_decimal(word: str) -> Decimal:
     """A decimal in its shortest form. `ValueError` where a word is none that a grid can have."""
     try:
         number = Decimal(word)

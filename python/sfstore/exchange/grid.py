@@ -5,10 +5,10 @@ from __future__ import annotations
 import math
 from collections.abc import Sequence
 from dataclasses import dataclass
-from decimal import Decimal, InvalidOperation
 from fractions import Fraction
 
 from sfstore.language import GRID_MAX, GRID_MIN
+from sfstore.mapunits import grid_decimal
 
 __all__ = ["LEAST", "MOST", "NOISE_ULPS", "Grid", "OffGrid", "Outside", "Rounding"]
 
@@ -69,7 +69,7 @@ class Grid:
 
     def __init__(self, x: str, y: str, step: str) -> None:
         self.words = x, y, step
-        exact = [_decimal(word) for word in self.words]
+        exact = [Fraction(grid_decimal(word)) for word in self.words]
         if exact[2] <= 0:
             raise ValueError(f"the step of a grid is above 0, not {step}")
         self._denominator = math.lcm(*(number.denominator for number in exact))
@@ -167,13 +167,3 @@ class Grid:
         twice = 2 * (numerator * self._denominator - self._origin[axis] * denominator)
         unit = 2 * self._step * denominator
         return (twice + unit // 2) // unit
-
-
-def _decimal(word: str) -> Fraction:
-    try:
-        number = Decimal(word)
-    except InvalidOperation:
-        raise ValueError(f"{word!r} is no decimal number") from None
-    if not number.is_finite() or abs(number.adjusted()) > 300:
-        raise ValueError(f"{word!r} is no decimal number that a grid can have")
-    return Fraction(number)
