@@ -77,7 +77,7 @@ class Documents(unittest.TestCase):
                 self.assertEqual(named, version, page.name)
 
     def test_the_gate_stays_within_its_costs(self):
-        """Two hours of a processor, by the table: what is tried besides is tried in turn (bench/turns.py)."""
+        """Two and a half hours of a processor, by the table: what is tried besides is tried in turn (bench/turns.py)."""
         text = (TOP / "docs" / "build" / "COSTS.md").read_text()
         rows = re.findall(r"^\| `(\w+)` \| (\d*) ?\| (\d*) ?\| (\d*) ?\| (\d+) \|$", text, re.MULTILINE)
         costs = {name: [int(number or 0) for number in numbers] for name, *numbers in rows}
@@ -88,7 +88,7 @@ class Documents(unittest.TestCase):
         self.assertEqual({name for name, numbers in costs.items() if numbers[2]}, trying & set(costs))
         whole = re.search(r"^\| all \| (\d*) ?\| (\d*) ?\| (\d*) ?\| (\d+) \|$", text, re.MULTILINE)
         self.assertLessEqual(abs(sum(numbers[3] for numbers in costs.values()) - int(whole[4])), len(costs))
-        self.assertLessEqual(int(whole[4]), 120 * 60)
+        self.assertLessEqual(int(whole[4]), 150 * 60)
 
     def test_every_file_of_definitions_is_listed(self):
         text = (TOP / "docs" / "trust" / "DEFINITIONS.md").read_text()
