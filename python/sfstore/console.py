@@ -30,16 +30,21 @@ from sfstore.faults import fault_at, fault_of
 from sfstore.groups import size_of, text_of
 from sfstore.journal import JournalError
 from sfstore.language import MEMBERS, words_of_line
-from sfstore.lines import geometry_refused
+from sfstore.geometry import Shape
+from sfstore.lines import geometry_of, geometry_refused
 from sfstore.mapunits import MapUnits
 from sfstore.refusals import words_of
 from sfstore.store import ProgramEnded, Refused, Store
 from sfstore.storefile import fault_words
 from sfstore.tools import merge, split
+from sfstore.web.windows import Box, extent_of
 
 __all__ = ["Console", "main"]
 
 Complete = Callable[[str], "list[str]"]
+
+# How far off a map an addition is asked about: so many times what the map is wide or high, and so many steps besides.
+_FAR_SIDES, _FAR_STEPS = 10, 100_000
 
 _PICTURE = ".svg"
 
@@ -131,6 +136,17 @@ def _printable(text: str) -> str:
     return re.sub("[\x80-\x9f]", lambda found: f"\\x{ord(found[0]):02x}", text)
 
 
+def _is_far(shape: Shape, extent: Box | None) -> bool:
+    """Whether a geometry lies further from a map than ten times what that is wide or high, and than some steps at least."""
+    if extent is None:
+        return True
+    left, bottom, right, top = extent
+    far = _FAR_SIDES * max(right - left, top - bottom) + _FAR_STEPS
+    lines = [line for member in shape.members for line in member]
+    xs, ys = [x for line in lines for x in line[::2]], [y for line in lines for y in line[1::2]]
+    return min(xs) < left - far or max(xs) > right + far or min(ys) < bottom - far or max(ys) > top + far
+
+
 def _feature(word: str) -> int:
     """The number of a feature. `ValueError` where a word is none."""
     if not (word.isascii() and word.isdecimal()):
@@ -170,6 +186,7 @@ class Console:
         self._program = program
         self._in_steps = in_steps
         self._units: MapUnits | None = None
+        self._extent: Box | None = None
         self._store = self._opened()
         self._terminal = make_terminal(self._complete)
         self._is_over = False
@@ -231,8 +248,8 @@ class Console:
             self._take_member(self._group, line)
         elif size is not None:
             self._group = _Pending(line, size)
-        else:
-            self._answer(self._line_of(line))
+        elif self._is_meant(given := self._line_of(line)):
+            self._answer(given)
 
     def _take_member(self, group: _Pending, line: str) -> None:
         """Keeps a member, and sends the group when it has them all. One that can't be read is not kept."""
@@ -295,6 +312,19 @@ class Console:
     def _line_of(self, line: str) -> str:
         """A line that was typed, as the program takes it. `ValueError` where a coordinate is no place of the grid."""
         return self._units.line(line) if self._units else line
+
+    def _is_meant(self, line: str) -> bool:
+        """Whether a line is to be carried out. Of what would lie far off the map of an import that is asked."""
+        if self._units is None or words_of_line(line)[:1] not in (["add"], ["replace"], ["vertex"]):
+            return True
+        shape = geometry_of(line, self._store)
+        if shape is None or not _is_far(shape, self._extent):
+            return True
+        # Others may have come since.
+        self._extent = extent_of(self._store)
+        if self._extent is None or not _is_far(shape, self._extent):
+            return True
+        return self._yes("That lies far off the map. Is it meant?")
 
     def _answer(self, line: str) -> None:
         """Has the program carry out a line, and shows its answer."""

@@ -221,6 +221,15 @@ class InMapUnits(TestCase):
         with Store(self.path, journal=True, program=PROGRAM) as store:
             self.assertEqual([feature.wkt for feature in store.get("w", 3, 4)], ["POINT (1 0)", "POINT (8 0)"])
 
+    def test_what_lies_far_off_the_map_is_asked_about(self):
+        far = "add w POINT (503000 5600000)"
+        said = self.said("add w POINT (500900 5600000)", "undo", far, "n", "show w", "vertex move w 1 0 0 0 520000 5600000", "n", "show w")
+        self.assertIn("ok 3\nok\n1 POINT", said)
+        self.assertEqual(said.count("1 POINT (500045.00 5600015.00)\n2 POLYGON"), 2)
+        # Once it is meant, the map is larger, and what lies there is asked about no more.
+        self.assertIn("ok 3\nok 4\n", self.said(far, "y", far))
+        self.assertIn("ok 5\n", self.said("add w POINT (9000000 0)", in_steps=True))
+
     def test_areas_are_parted_and_merged(self):
         said = self.said(
             "split w 2 LINESTRING (500000 5600000, 500010 5600010)",
