@@ -19,6 +19,7 @@ OWN = [
         "split parcels 1 LINESTRING (5 -1, 5 11)",
     ),
     Command("merge LAYER ID ID", "makes one area of two or more; the first keeps its number and values", "merge parcels 1 2"),
+    Command("node X Y to X Y", "moves a corner in all features that have it, as one step", "node 10 10 to 11 12"),
     Command("picture FILE", "draws the store as SVG, and opens it in a browser", "picture town.svg"),
     Command(
         "import SOURCE",

@@ -36,7 +36,7 @@ from sfstore.mapunits import MapUnits
 from sfstore.refusals import words_of
 from sfstore.store import ProgramEnded, Refused, Store
 from sfstore.storefile import fault_words
-from sfstore.tools import merge, split
+from sfstore.tools import merge, move_node, split
 from sfstore.web.windows import Box, extent_of
 
 __all__ = ["Console", "main"]
@@ -197,6 +197,7 @@ class Console:
             "save": self._save,
             "split": self._split,
             "merge": self._merge,
+            "node": self._node,
             "picture": self._picture,
             "import": self._import,
             "export": self._export,
@@ -419,6 +420,22 @@ class Console:
         layer, first, *others = words[0], *map(_feature, words[1:])
         merge(self._store, layer, first, *others)
         print(f"ok: {layer} {first}")
+
+    def _node(self, words: list[str]) -> None:
+        """Moves a corner in all features that have it."""
+        if len(words) != 5 or words[2] != "to":
+            raise ValueError("node takes x and y, the word `to`, and x and y again")
+        at, to = self._point(*words[:2]), self._point(*words[3:])
+        moved = move_node(self._store, self._layer_names(), at, to)
+        print("ok: " + ", ".join(f"{layer} {feature}" for layer, feature in moved))
+
+    def _point(self, x: str, y: str) -> tuple[int, int]:
+        """A point of the grid that was typed. `ValueError` where it is none."""
+        steps = self._units.steps(f"({x} {y})") if self._units else f"({x} {y})"
+        found = re.fullmatch(r"\((-?[0-9]+) (-?[0-9]+)\)", steps)
+        if found is None:
+            raise ValueError(f"{x} {y} is no point of the grid")
+        return int(found[1]), int(found[2])
 
     def _picture(self, words: list[str]) -> None:
         """Draws the store as it is, and opens the picture where there is a browser."""

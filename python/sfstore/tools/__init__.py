@@ -4,6 +4,7 @@ So no tool can break a map: where the program refuses the group, nothing has cha
 """
 
 from sfstore.tools.merging import merge
+from sfstore.tools.nodes import move_node
 from sfstore.tools.splitting import split
 
-__all__ = ["merge", "split"]
+__all__ = ["merge", "move_node", "split"]

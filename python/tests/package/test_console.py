@@ -230,6 +230,28 @@ class InMapUnits(TestCase):
         self.assertIn("ok 3\nok 4\n", self.said(far, "y", far))
         self.assertIn("ok 5\n", self.said("add w POINT (9000000 0)", in_steps=True))
 
+    def test_a_shared_corner_is_moved(self):
+        said = self.said(
+            "add w POLYGON ((500010 5600000, 500010 5600010, 500000 5600010, 500010 5600000))",
+            "node 500010 5600000 to 500011 5599999.5",
+            "get w 2 3",
+            "node 500010 5600000 to 500011 5600000",
+            "node 500011 5599999.5 500011 5600000",
+            "node x y to 500011 5600000",
+            "undo",
+            "get w 3",
+        )
+        for words in (
+            "ok: w 2, w 3\n",
+            "2 POLYGON ((500000.00 5600000.00, 500011.00 5599999.50, 500000.00 5600010.00, 500000.00 5600000.00))",
+            "3 POLYGON ((500011.00 5599999.50, 500010.00 5600010.00, 500000.00 5600010.00, 500011.00 5599999.50))",
+            "no feature has a vertex at 1000 0",
+            "node takes x and y, the word `to`, and x and y again",
+            "x y is no point of the grid",
+            "3 POLYGON ((500010.00 5600000.00, 500010.00 5600010.00, 500000.00 5600010.00, 500010.00 5600000.00))",
+        ):
+            self.assertIn(words, said)
+
     def test_areas_are_parted_and_merged(self):
         said = self.said(
             "split w 2 LINESTRING (500000 5600000, 500010 5600010)",
