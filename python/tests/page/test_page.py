@@ -619,6 +619,18 @@ class Places(PageCase):
         other.type("get wells 5")
         other.logged("get wells 5", "rows 1\n5 POINT (500001.0 5600001.0)")
 
+    def test_a_vertex_is_moved_and_inserted_by_keys(self):
+        self.bring_grid()
+        page = self.open()
+        page.choose((270, 150), "parcels 2, a polygon")
+        page.use("#go")
+        page.press("v")
+        page.send("i")
+        page.logged("vertex insert parcels 2 0 0 1 500027.0 5600000.0", "ok")
+        page.until(lambda: "POLYGON ((500018.0 5600000.0, 500027.0 5600000.0, " in page.one("#wkt").get_property("value"))
+        page.send(page.keys.ARROW_DOWN, page.keys.ENTER)
+        page.until(lambda: re.fullmatch(r"vertex move parcels 2 0 0 [01] 5000[0-9.]+ 5599999.9", page.last()))
+
     def test_a_refusal_names_its_place_on_the_map(self):
         self.bring_grid()
         page = self.open()

@@ -253,7 +253,7 @@ export class Selection {
     const isBehind = (place) => place.part === part && place.ring === ring && place.index === index + 1;
     const middle = middlesOf(feature.code, feature.members).find(isBehind);
     if (!middle) return;
-    const line = (name) => `vertex insert ${name} ${numbers(middle)} ${middle.x} ${middle.y}`;
+    const line = (name) => `vertex insert ${name} ${numbers(middle)} ${this.app.place.units.point([middle.x, middle.y])}`;
     this.#edit(line, feature, { needsShape: true });
   }
 }
