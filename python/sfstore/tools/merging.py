@@ -36,6 +36,8 @@ def merge(store: Editor, layer: str, *feature_ids: int) -> None:
             raise ValueError(f"{layer} {feature} is no area")
     _check_apart(store, layer, feature_ids, shapes)
     whole = written(polygons_of(_outer(shapes)))
+    if any(each.name == layer and each.kind == "multipolygon" for each in store.layers()):
+        whole = Shape(6, whole.members)
     with store.together() as group:
         group.replace(layer, feature_ids[0], write_wkt(whole))
         for feature in feature_ids[1:]:

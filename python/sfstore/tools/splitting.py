@@ -2,14 +2,16 @@
 
 from __future__ import annotations
 
+from bisect import bisect_left, bisect_right
 from collections import defaultdict
 from collections.abc import Iterable, Iterator, Sequence
 from dataclasses import dataclass, field
 from fractions import Fraction
+from functools import cached_property, partial
 
 from sfstore.editor import Editor
-from sfstore.geometry import Flat, read_wkb, read_wkt, write_wkt
-from sfstore.tools.rings import Edge, Point, edges_of, polygons_of, written
+from sfstore.geometry import Flat, Shape, read_wkb, read_wkt, write_wkt
+from sfstore.tools.rings import Edge, Point, edges_of, polygons_of, split_at, written
 
 __all__ = ["split"]
 
@@ -21,9 +23,10 @@ def split(store: Editor, layer: str, feature_id: int, line: str, *, beside: Sequ
     """Parts a polygon by a line, as one step. The identifiers of the parts: the largest keeps that of the feature.
 
     Each part gets the values of the feature. Where the line crosses a border off the grid, the new corner is rounded to it
-    once. It goes into each feature whose border passes there, of the layer and of the layers ``beside``, so that the parts fit
-    their neighbours as before. `ValueError` where the feature is no POLYGON, or the line does not part it; `Refused` where the
-    program refuses the group, and nothing has changed.
+    once. It goes into each feature whose border passes there, of the layer and of the layers ``beside``, and the corners of
+    all of these on an edge that it bends do too: so the parts fit their neighbours as before. `ValueError` where the feature
+    is no POLYGON, nor a MULTIPOLYGON of one, where the line does not part it, and where it crosses itself there or parts it
+    too narrowly for the grid; `Refused` where the program refuses the line or the group, and nothing has changed.
 
     >>> from sfstore import Store
     >>> with Store() as store:
@@ -35,18 +38,25 @@ def split(store: Editor, layer: str, feature_id: int, line: str, *, beside: Sequ
     [1, 2]
     ['POLYGON ((4 0, 10 0, 10 9, 5 9, 4 0))', 'POLYGON ((0 0, 4 0, 5 9, 0 9, 0 0))']
     """
-    shape = read_wkb(bytes.fromhex(store.hex(layer, feature_id)))
+    # The program reads the line first: what it does not take it refuses by name.
+    store.relate(layer, feature_id, line)
+    shape = _area(store, layer, feature_id)
     cutter = read_wkt(line)
-    if shape.code != 3:
-        raise ValueError(f"{layer} {feature_id} is no POLYGON")
     if cutter.code != 2:
         raise ValueError("the line is no LINESTRING")
-    cut = _cut(list(edges_of(shape)), _points(cutter.members[0][0]))
-    parts = sorted(polygons_of(cut.edges()), key=lambda part: -_size(part.shell))
+    border = list(edges_of(shape))
+    cut = _cut(border, _points(cutter.members[0][0]))
+    layers = list(dict.fromkeys((layer, *beside)))
+    neighbours = dict(_neighbours(store, layers, shape)) if cut.corners else {}
+    neighbours.pop((layer, feature_id), None)
+    cut.pins = _pins(store, layers, _bent([shape, *neighbours.values()], cut))
+    edges = list(cut.edges(border))
+    if len(set(edges)) < len(edges) or not _is_planar({(min(edge), max(edge)) for edge in edges}, cut.moved):
+        raise ValueError(f"the line crosses itself in {layer} {feature_id}, or parts it too narrowly for the grid")
+    parts = sorted(polygons_of(edges), key=lambda part: -_size(part.shell))
     if len(parts) < 2:
         raise ValueError(f"the line does not part {layer} {feature_id}")
-    texts = [write_wkt(written([part])) for part in parts]
-    changed = list(_neighbours(store, (layer, *beside), (layer, feature_id), write_wkt(shape), cut.corners))
+    texts = [write_wkt(Shape(shape.code, written([part]).members)) for part in parts]
     [feature] = store.get(layer, feature_id)
     with store.together() as group:
         group.replace(layer, feature_id, texts[0])
@@ -54,17 +64,25 @@ def split(store: Editor, layer: str, feature_id: int, line: str, *, beside: Sequ
             added = group.add(layer, text)
             for name, value in feature.values.items():
                 group.set(layer, added, name, value)
-        for other_layer, other, text in changed:
-            group.replace(other_layer, other, text)
+        for (other_layer, other), beside_it in neighbours.items():
+            changed = beside_it.mapped(partial(_with_corners, cut=cut))
+            if changed != beside_it:
+                group.replace(other_layer, other, write_wkt(changed))
     return [feature_id, *group.ids]
+
+
+def _area(store: Editor, layer: str, feature_id: int) -> Shape:
+    """The polygon of a feature. `ValueError` where it is none, nor a MULTIPOLYGON of one."""
+    shape = read_wkb(bytes.fromhex(store.hex(layer, feature_id)))
+    if shape.code != 3 and (shape.code != 6 or len(shape.members) > 1):
+        raise ValueError(f"{layer} {feature_id} is no POLYGON")
+    return shape
 
 
 @dataclass
 class _Cut:
-    """The edges that a cut leaves, and the corners that it makes."""
+    """What a line makes of an area."""
 
-    border: list[Edge] = field(default_factory=list)
-    """The border of the area through the new corners, with the inside on its left."""
     across: list[Edge] = field(default_factory=list)
     """What of the line lies inside."""
     corners: dict[Place, Point] = field(default_factory=dict)
@@ -72,66 +90,143 @@ class _Cut:
 
     A place on the grid is one of them too: beside a further corner, off the grid, a neighbour without it would not fit.
     """
+    pins: set[Point] = field(default_factory=set)
+    """Corners of any feature on an edge that is bent: with them in it, it stays where they are."""
+    moved: set[Edge] = field(default_factory=set)
+    """The edges of the parts that are no piece of the border as it was, each with its lesser end first."""
 
-    def edges(self) -> Iterator[Edge]:
-        """The edges of the parts: what lies inside is the border of two of them."""
-        yield from self.border
-        for a, b in _without_ends(self.across, {a for a, _ in self.border}):
+    def edges(self, border: Iterable[Edge]) -> Iterator[Edge]:
+        """The edges of the parts: what of the line lies inside is the border of two of them."""
+        ends: set[Point] = set()
+        around: set[Edge] = set()
+        for edge in border:
+            stops = self.stops(edge)
+            pieces = [(min(piece), max(piece)) for piece in _pairs(stops)]
+            if self.is_bent(edge):
+                self.moved.update(pieces)
+            ends.update(stops)
+            around.update(pieces)
+            yield from _pairs(stops)
+        # What was rounded to a piece of the border is one already.
+        across = [(min(edge), max(edge)) for edge in self.across]
+        for a, b in _without_ends([edge for edge in across if edge not in around], ends):
+            self.moved.add((min(a, b), max(a, b)))
             yield a, b
             yield b, a
 
+    def is_bent(self, edge: Edge) -> bool:
+        """Whether a corner on an edge was rounded."""
+        return any(_exact(corner) != at for at, corner in self._on(edge))
+
+    def stops(self, edge: Edge) -> list[Point]:
+        """The points of an edge with all corners on it, in their order."""
+        on_edge = self._on(edge)
+        if not on_edge:
+            return list(dict.fromkeys(edge))
+        places = dict(on_edge)
+        if any(_exact(corner) != at for at, corner in on_edge):
+            places.update((_exact(a), a) for a, _ in split_at([edge], self.pins))
+        places.update((_exact(end), end) for end in edge)
+        start = edge[0]
+        order = sorted(places, key=lambda at: (abs(at[0] - start[0]), abs(at[1] - start[1])))
+        points = [places[at] for at in order]
+        return [point for point, before in zip(points, [None, *points]) if point != before]
+
+    def _on(self, edge: Edge) -> list[tuple[Place, Point]]:
+        """The corners on an edge, between its ends."""
+        low, high = sorted((edge[0][0], edge[1][0]))
+        near = self._by_x[bisect_left(self._columns, low) : bisect_right(self._columns, high)]
+        return [(at, self.corners[at]) for at in near if at not in map(_exact, edge) and _lies_on(at, edge)]
+
+    @cached_property
+    def _by_x(self) -> list[Place]:
+        return sorted(self.corners)
+
+    @cached_property
+    def _columns(self) -> list[int]:
+        """The whole parts of x of the corners, in their order."""
+        return [x.numerator // x.denominator for x, _ in self._by_x]
+
 
 def _cut(border: Sequence[Edge], line: Sequence[Point]) -> _Cut:
-    """What a line leaves of an area with this border."""
+    """What a line makes of an area with this border."""
     cut = _Cut()
-    on_border: dict[int, set[Place]] = defaultdict(set)
+    boxes = [(*sorted((a[0], b[0])), *sorted((a[1], b[1]))) for a, b in border]
+    is_inside: bool | None = None
     for piece in zip(line, line[1:]):
+        (left, right), (bottom, top) = (sorted(ends) for ends in zip(*piece))
         stops: set[Place] = {_exact(end) for end in piece}
-        for place, edge in enumerate(border):
-            for at in _shared(edge, piece):
-                on_border[place].add(at)
-                stops.add(at)
-        for a, b in _in_order(piece, stops):
-            if _is_inside(_middle(a, b), border):
+        met: set[Place] = set()
+        near = [edge for edge, box in zip(border, boxes) if box[0] <= right and box[1] >= left and box[2] <= top and box[3] >= bottom]
+        for edge in near:
+            shared = _shared(edge, piece)
+            met.update(shared)
+            cut.corners.update((at, _rounded(at)) for at in shared if at not in (_exact(edge[0]), _exact(edge[1])))
+        for a, b in _in_order(piece, stops | met):
+            if is_inside is None or a in met:
+                is_inside = _is_inside(_middle(a, b), border)
+            if is_inside:
                 cut.across += _edge(_rounded(a), _rounded(b))
-    for place, edge in enumerate(border):
-        ends = set(map(_exact, edge))
-        cut.corners.update((at, _rounded(at)) for at in on_border[place] - ends)
-        for a, b in _in_order(edge, ends | on_border[place]):
-            cut.border += _edge(_rounded(a), _rounded(b))
+            if b in met:
+                is_inside = None
     return cut
 
 
-def _neighbours(
-    store: Editor, layers: Sequence[str], own: tuple[str, int], wkt: str, corners: dict[Place, Point]
-) -> Iterator[tuple[str, int, str]]:
-    """The features whose border passes through a corner, with that corner in it."""
-    if not corners:
-        return
-    for layer in dict.fromkeys(layers):
+def _neighbours(store: Editor, layers: Iterable[str], area: Shape) -> Iterator[tuple[tuple[str, int], Shape]]:
+    """The features that have something in common with an area, by layer and number; points aside, which have no edge."""
+    wkt = write_wkt(area)
+    for layer in layers:
         for feature in store.query(layer, "intersects", wkt):
-            if (layer, feature) == own:
-                continue
             shape = read_wkb(bytes.fromhex(store.hex(layer, feature)))
-            changed = shape.mapped(lambda line: _with_corners(line, corners)) if shape.code not in (1, 4) else shape
-            if changed != shape:
-                yield layer, feature, write_wkt(changed)
+            if shape.code not in (1, 4):
+                yield (layer, feature), shape
 
 
-def _with_corners(line: Flat, corners: dict[Place, Point]) -> Flat:
+def _bent(shapes: Iterable[Shape], cut: _Cut) -> set[Edge]:
+    """The edges of shapes in which a corner was rounded, each with its lesser end first."""
+    edges = {(min(edge), max(edge)) for shape in shapes for member in shape.members for line in member for edge in _pairs(_points(line))}
+    return {edge for edge in edges if cut.is_bent(edge)}
+
+
+def _pins(store: Editor, layers: Sequence[str], edges: Iterable[Edge]) -> set[Point]:
+    """The corners of features that lie within one of these edges."""
+    pins: set[Point] = set()
+    for edge in edges:
+        wkt = write_wkt(Shape(2, [[[*edge[0], *edge[1]]]]))
+        for layer in layers:
+            for feature in store.query(layer, "intersects", wkt):
+                shape = read_wkb(bytes.fromhex(store.hex(layer, feature)))
+                points = [point for member in shape.members for line in member for point in _points(line)]
+                pins.update(a for a, _ in split_at([edge], points))
+    return pins
+
+
+def _with_corners(line: Flat, cut: _Cut) -> Flat:
     """A line or ring with the corners put in where it passes through them."""
     points = _points(line)
     found = points[:1]
-    is_changed = False
-    for edge in zip(points, points[1:]):
-        within = {at for at in corners if _lies_on(at, edge)} - set(map(_exact, edge))
-        stops = [corners[at] for at, _ in _in_order(edge, {_exact(edge[0]), *within, _exact(edge[1])}) if at in within]
-        for stop in stops:
-            if stop not in (found[-1], edge[1]):
-                found.append(stop)
-                is_changed = True
-        found.append(edge[1])
-    return [number for point in found for number in point] if is_changed else line
+    for edge in _pairs(points):
+        found += cut.stops(edge)[1:] or [edge[1]]
+    return [number for point in found for number in point] if found != points else line
+
+
+def _is_planar(edges: Iterable[Edge], moved: Iterable[Edge]) -> bool:
+    """Whether each of some moved edges meets all edges, of which it is one, at common ends alone."""
+    every = [(edge, min(edge[0][1], edge[1][1]), max(edge[0][1], edge[1][1])) for edge in edges]
+    for one in moved:
+        (left, _), (right, _) = one
+        bottom, top = sorted((one[0][1], one[1][1]))
+        for other, low, high in every:
+            if other[0][0] > right or other[1][0] < left or low > top or high < bottom or other == one:
+                continue
+            if any(at not in set(map(_exact, one)) & set(map(_exact, other)) for at in _shared(one, other)):
+                return False
+    return True
+
+
+def _pairs(points: Sequence[Point]) -> Iterator[Edge]:
+    """The edges between points."""
+    return zip(points, points[1:])
 
 
 def _points(line: Flat) -> list[Point]:
@@ -192,10 +287,12 @@ def _middle(a: Place, b: Place) -> Place:
 def _is_inside(at: Place, border: Sequence[Edge]) -> bool:
     """Whether a place lies inside of a border, and not on it."""
     x, y = at
+    # A whole number is above y where it is above the whole part of y.
+    below = y.numerator // y.denominator
     inside = False
     for edge in border:
         (ax, ay), (bx, by) = edge
-        if (ay > y) != (by > y):
+        if (ay > below) != (by > below):
             side = _turn(_exact(edge[0]), _exact(edge[1]), at)
             if side == 0:
                 return False
@@ -208,16 +305,19 @@ def _is_inside(at: Place, border: Sequence[Edge]) -> bool:
 def _without_ends(across: Sequence[Edge], border: set[Point]) -> list[Edge]:
     """The edges across an area without those that end inside of it: nothing is parted there."""
     left = dict.fromkeys((min(edge), max(edge)) for edge in across)
-    while True:
-        count: dict[Point, int] = defaultdict(int)
-        for edge in left:
-            for end in edge:
-                count[end] += 1
-        loose = [edge for edge in left if any(count[end] == 1 and end not in border for end in edge)]
-        if not loose:
-            return list(left)
-        for edge in loose:
+    at: dict[Point, set[Edge]] = defaultdict(set)
+    for edge in left:
+        for end in edge:
+            at[end].add(edge)
+    loose = [point for point, edges in at.items() if len(edges) == 1 and point not in border]
+    while loose:
+        for edge in list(at[loose.pop()]):
             del left[edge]
+            for end in edge:
+                at[end].discard(edge)
+                if len(at[end]) == 1 and end not in border:
+                    loose.append(end)
+    return list(left)
 
 
 def _size(ring: Sequence[Point]) -> int:

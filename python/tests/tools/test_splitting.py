@@ -3,6 +3,7 @@
 from __future__ import annotations
 
 import random
+import time
 
 import parcels_model as coverage
 from support import TestCase
@@ -84,6 +85,61 @@ class Areas(TestCase):
         self.assertEqual([feature.wkt for feature in self.store.show("fences")], ["LINESTRING (-1 -1, 0 0, 2 10, 7 30, 7 40)"])
         self.store.undo()
         self.assertEqual(self.store.show("fences")[0].wkt, "LINESTRING (-1 -1, 0 0, 7 30, 7 40)")
+
+
+    def test_corners_of_others_on_an_edge_that_is_bent_stay_on_it(self) -> None:
+        """One feature has a corner in the middle of an edge of another one: both fit still, whichever is parted."""
+        texts = (
+            "POLYGON ((12 0, 18 0, 21 20, 12 30, 12 0))",
+            "POLYGON ((12 30, 21 20, 24 40, 12 40, 12 30))",
+            "POLYGON ((18 0, 30 0, 30 40, 24 40, 18 0))",
+        )
+        ids = [self.store.add("p", text) for text in texts]
+        for parcel, line in ((ids[0], "LINESTRING (28 26, 15 -1)"), (ids[2], "LINESTRING (40 13, 10 6)")):
+            split(self.store, "p", parcel, line)
+            whole = self.store.show("p")
+            self.assertEqual(len(whole), 4)
+            self.assertEqual(list(self.store.join("p", "T********", "p")), [])
+            self.assertEqual(sum(coverage.doubled(feature.wkt) for feature in whole), sum(map(coverage.doubled, texts)))
+            self.store.undo()
+
+    def test_a_line_that_is_none_is_refused(self) -> None:
+        area = self.store.add("p", "POLYGON ((0 0, 10 0, 10 10, 0 10, 0 0))")
+        for line in ("LINESTRING (4.7 -1, 4.7 11)", "LINESTRING (4e0 -1, 4 11)", "LINESTRING (4 -1 7, 4 11 7)", "LINESTRING (4 4, 4 4)"):
+            self.assertRaises(Refused, split, self.store, "p", area, line)
+        self.assertEqual(len(self.store.show("p")), 1)
+
+    def test_parts_do_not_overlap(self) -> None:
+        for area, line in (
+            ("POLYGON ((1 12, 4 6, 1 8, 10 1, 12 6, 1 12), (6 8, 4 10, 7 6, 6 8))", "LINESTRING (4 -1, 3 13, 10 1)"),
+            ("POLYGON ((0 0, 10 0, 10 10, 0 10, 0 0))", "LINESTRING (2 -1, 8 5, 2 5, 8 -1)"),
+        ):
+            self.assertRaisesRegex(ValueError, "crosses itself in p ., or parts it too narrowly", self.parts, area, line)
+
+    def test_the_polygons_of_a_shapefile(self) -> None:
+        """Its layer takes MULTIPOLYGON alone."""
+        self.store.add_layer("m", "multipolygon")
+        square = "MULTIPOLYGON (((0 0, 10 0, 10 10, 0 10, 0 0)))"
+        parcel = self.store.add("m", square)
+        ids = split(self.store, "m", parcel, "LINESTRING (4 -1, 4 11)")
+        self.assertEqual([feature.wkt[:14] for feature in self.store.get("m", *ids)], ["MULTIPOLYGON ("] * 2)
+        merge(self.store, "m", *ids)
+        self.assertEqual(coverage.doubled(self.store.get("m", parcel)[0].wkt), 200)
+        self.assertTrue(self.store.get("m", parcel)[0].wkt.startswith("MULTIPOLYGON"))
+
+    def test_many_corners(self) -> None:
+        """A parcel and a line as a river makes them take no time for each pair of their corners."""
+        side = range(0, 20_000, 10)
+        ring = [(x, x // 10 % 2) for x in side] + [(x + 5, 3_000 + x // 10 % 3) for x in reversed(side)]
+        area = f"POLYGON (({', '.join(f'{x} {y}' for x, y in [*ring, ring[0]])}))"
+        line = f"LINESTRING ({', '.join(f'{x} {1_500 + x * 7 % 90}' for x in range(-50, 20_050, 40))})"
+        loose = f"LINESTRING ({', '.join(f'{x} {1_500 + x * 7 % 90}' for x in range(-50, 19_000, 40))})"
+        parcel = self.store.add("p", area)
+        start = time.process_time()
+        self.assertEqual(len(split(self.store, "p", parcel, line)), 2)
+        self.store.undo()
+        self.assertRaisesRegex(ValueError, "does not part", split, self.store, "p", parcel, loose)
+        self.assertLess(time.process_time() - start, 20)
 
 
 class Coverage(TestCase):
