@@ -331,7 +331,7 @@ class Console:
         """Has the program carry out a line, and shows its answer."""
         answer = self._store.run(line)
         rows = [answer] if isinstance(answer, str) else answer
-        shown = [self._units.row(line, row) for row in rows] if self._units else rows
+        shown = self._units.rows(line, rows) if self._units else rows
         if isinstance(answer, str):
             print(shown[0])
         else:
@@ -410,6 +410,8 @@ class Console:
         if len(words) < 3:
             raise ValueError("split takes a layer, a number and a LINESTRING")
         layer, feature, wkt = words[0], _feature(words[1]), " ".join(words[2:])
+        # Of a group that is refused the members are those that the tool made, not those that were typed last.
+        self._members = []
         parts = split(self._store, layer, feature, self._units.steps(wkt) if self._units else wkt)
         print(f"ok: {layer} {', '.join(map(str, parts))}")
 
@@ -418,6 +420,7 @@ class Console:
         if len(words) < 3:
             raise ValueError("merge takes a layer and two or more numbers")
         layer, first, *others = words[0], *map(_feature, words[1:])
+        self._members = []
         merge(self._store, layer, first, *others)
         print(f"ok: {layer} {first}")
 

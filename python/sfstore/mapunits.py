@@ -7,7 +7,7 @@ map. Both ways are exact: a coordinate that is no step is refused with the two n
 from __future__ import annotations
 
 import re
-from collections.abc import Callable
+from collections.abc import Callable, Sequence
 from decimal import Context, Decimal, InvalidOperation
 from fractions import Fraction
 from functools import reduce
@@ -153,11 +153,11 @@ class MapUnits:
         """
         return "\r".join(_coordinates_changed(each, self._place_text) for each in lines_of(line))
 
-    def row(self, line: str, row: str) -> str:
-        """A row of the answer to a line, in map units."""
+    def rows(self, line: str, rows: Sequence[str]) -> list[str]:
+        """The rows of the answer to a line, in map units."""
         words = words_of_line(line)
         shown = _ROWS.get(words[0]) if words else None
-        return shown(self, row) if shown else row
+        return [shown(self, row) for row in rows] if shown else list(rows)
 
     def _step_text(self, axis: int, text: str) -> str:
         return str(self._axes[axis].step_of(text))

@@ -363,7 +363,10 @@ class Calls:
 
     def _shown_line(self, line: str) -> str:
         """A line as pages show it: in map units where there is a grid. One that is long is cut between two points."""
-        front = line if len(line) <= _LINE_SHOWN else line[:_LINE_SHOWN].rpartition(",")[0] + ", .."
+        front = line
+        if len(line) > _LINE_SHOWN:
+            cut = line[:_LINE_SHOWN]
+            front = (cut.rpartition(",")[0] or cut) + ", .."
         return self._units.shown_line(front) if self._units else front
 
 
@@ -392,8 +395,8 @@ def _is_in_units(body: Body) -> bool:
 def _in_units(units: MapUnits, line: str, answer: Answer) -> Answer:
     """An answer in map units, of as many rows as can be sent."""
     if isinstance(answer, str):
-        return units.row(line, answer)
-    return [*(units.row(line, row) for row in answer[:_ROWS_MAX]), *answer[_ROWS_MAX:]]
+        return units.rows(line, [answer])[0]
+    return [*units.rows(line, answer[:_ROWS_MAX]), *answer[_ROWS_MAX:]]
 
 
 def _answered(answer: Answer) -> Body:

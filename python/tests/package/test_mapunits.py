@@ -121,7 +121,7 @@ class Lines(unittest.TestCase):
             ("find w a 7", "7", "7"),
             ("relate w 1 POINT (1 1)", "0FFFFF102", "0FFFFF102"),
         ]:
-            self.assertEqual(CENTIMETRES.row(line, row), wanted)
+            self.assertEqual(CENTIMETRES.rows(line, [row]), [wanted])
 
 
 class Stores(TestCase):
