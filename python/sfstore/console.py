@@ -144,6 +144,9 @@ def _is_far(shape: Shape, extent: Box | None) -> bool:
     far = _FAR_SIDES * max(right - left, top - bottom) + _FAR_STEPS
     lines = [line for member in shape.members for line in member]
     xs, ys = [x for line in lines for x in line[::2]], [y for line in lines for y in line[1::2]]
+    if not xs or len(xs) != len(ys):
+        # The program says what is wrong with it.
+        return False
     return min(xs) < left - far or max(xs) > right + far or min(ys) < bottom - far or max(ys) > top + far
 
 

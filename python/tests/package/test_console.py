@@ -252,6 +252,27 @@ class InMapUnits(TestCase):
         ):
             self.assertIn(words, said)
 
+    def test_what_has_no_points_is_refused_by_name(self):
+        for text in ("POINT ()", "POINT (a b)", "LINESTRING (())", "POINT (5)"):
+            said = self.said(f"add w {text}")
+            self.assertIn("Refused (2 Syntax)", said)
+            self.assertNotIn("min()", said)
+
+    def test_a_refused_tool_shows_no_member_that_was_typed(self):
+        """The rule refuses the merge: its members are those of the tool."""
+        said = self.said(
+            "add w POLYGON ((500000 5600100, 500010 5600100, 500010 5600110, 500000 5600100))",
+            "add w POLYGON ((500000 5600200, 500010 5600200, 500010 5600210, 500000 5600200))",
+            "layer add one polygon",
+            "add one POLYGON ((500000 5600100, 500010 5600100, 500010 5600110, 500000 5600100))",
+            "add one POLYGON ((500000 5600200, 500010 5600200, 500010 5600210, 500000 5600200))",
+            "together 2",
+            "add w POINT (500000.01 5600000)",
+            "add w POINT (500000.02 5600000)",
+            "merge one 1 2",
+        )
+        self.assertIn("It is member 1, and nothing of the group was done: replace one 1 MULTIPOLYGON (((", said)
+
     def test_areas_are_parted_and_merged(self):
         said = self.said(
             "split w 2 LINESTRING (500000 5600000, 500010 5600010)",
