@@ -322,8 +322,10 @@ class Calls:
         fault = fault_at(shape, refused) or fault_of(shape, self._program)
         if fault is None:
             return None
-        words = fault.words.format(*map(self._units.point_text, fault.points)) if self._units else str(fault)
-        return {"words": words, "points": [[float(x), float(y)] for x, y in fault.points]}
+        # In steps, and as pages show it.
+        words = str(fault)
+        shown = fault.words.format(*map(self._units.point_text, fault.points)) if self._units else words
+        return {"words": words, "shown": shown, "points": [[float(x), float(y)] for x, y in fault.points]}
 
     def _tell_edits(self, edits: Sequence[Edit]) -> None:
         """Tells all pages of an edit, or of a batch of them."""

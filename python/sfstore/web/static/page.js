@@ -188,7 +188,7 @@ class App {
     const which = member ? `, line ${member} of the group` : "";
     this.#showWords(`Refused (${refused.number} ${refused.name})${which}: ${refused.reason}.`, {
       reason: whose ? `The next step is ${whose.editor}'s: ${whose.shown}` : broken ? brokenWords(broken) : "",
-      place: place ? `${place.words}.` : "",
+      place: place ? `${place.shown}.` : "",
       help: refused.help,
     });
     const breaking = (broken?.features ?? []).filter((feature) => feature.members);
