@@ -9,3 +9,4 @@ pub mod MixedLaws
 pub mod BoundLaws
 pub mod SharedLaws
 pub mod ScaleLaws
+pub mod TextLaws

@@ -6,5 +6,6 @@ pub mod edges;
 pub mod laws;
 pub mod root;
 mod square;
+pub mod writing;
 
 pub use square::Square;

@@ -87,6 +87,21 @@ impl Square {
         root(self.millionths())
     }
 
+    /// The numerator of this square over [`Square::denominator`].
+    pub(crate) fn numerator(&self) -> u128
+        ensures { result ≡ self.now.whole * self.now.den + self.now.rest }
+    {
+        u128::from(self.whole) * u128::from(self.den) + u128::from(self.rest)
+    }
+
+    /// A denominator, which need not be the least.
+    pub(crate) fn denominator(&self) -> u128
+        ensures value { result ≡ self.now.den }
+        ensures some { 1 ≤ result }
+    {
+        u128::from(self.den)
+    }
+
     /// The square in squared thousandths of a grid step, rounded down.
     fn millionths(&self) -> u128
         ensures small { result < 2 ^ 85 }

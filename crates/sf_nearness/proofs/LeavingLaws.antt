@@ -43,10 +43,10 @@ pub record Common (e f : Edge) : Type 0 where
 grid_is_point : (a : Coordinates) → IsPoint (grid_point a)
 grid_is_point a = record { positive = omega arith }
 
-start_on : (e : Edge) → IsOnEdge e (grid_point e.a)
+pub start_on : (e : Edge) → IsOnEdge e (grid_point e.a)
 start_on e = on_edge-mean e (grid_point e.a) (pos 1) (pos 0) (mean_of_start e)
 
-end_on : (e : Edge) → IsOnEdge e (grid_point e.b)
+pub end_on : (e : Edge) → IsOnEdge e (grid_point e.b)
 end_on e = on_edge-mean e (grid_point e.b) (pos 0) (pos 1) (mean_of_end e)
 
 on_one_line : (e f : Edge) (low high : Coordinates) → Collinear e.a e.b f.a f.b low high → (IsSharing e f Apart) ⊎ Common e f

@@ -3,3 +3,4 @@ pub mod SegmentLaws
 pub mod NearLaws
 pub mod ListedLaws
 pub mod ContactLaws
+pub mod PairLaws

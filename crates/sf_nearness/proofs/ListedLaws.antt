@@ -29,7 +29,7 @@ interior-filled (MultiLineString lines) = refl
 interior-filled (Polygon rings) = refl
 interior-filled (MultiPolygon polygons) = refl
 
-has-point : (a : Geometry) → IsValid a → SharePoint a a
+pub has-point : (a : Geometry) → IsValid a → SharePoint a a
 has-point a v = (contact_is_shared a a).shared.0 (ap has_contact (sym (alike_is_decided a v).computed) ∙ interior-filled a)
 
 length-mapped : {X Y : Type 0} (f : X → Y) (xs : List X) → length (map f xs) ≡ length xs

@@ -2,4 +2,5 @@ pub mod Leaving
 pub mod Segments
 pub mod Sets
 pub mod Near
+pub mod Least
 pub mod Laws

@@ -23,6 +23,7 @@ use std::alloc::{AllocError, Global};
 pub(crate) fn share_inside(alloc: Global, a: &Valid, b: &Valid) -> Result<bool, AllocError>
     ensures shared { IfOk result (λ answer. IsTrue answer → SharePoint a.now b.now) }
     ensures seen { IfOk result (λ answer. IsFalse answer → IsBySegments a.now b.now) }
+    ensures valid { IsValid a.now × IsValid b.now }
 {
     if !has_area(a, b) {
         return Ok(false);

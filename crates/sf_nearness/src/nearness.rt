@@ -1,8 +1,10 @@
 //! The distance of geometries.
 
 ghost use Rattle.std.specs.Prelude.{◌↔◌, IfOk, IsTrue};
+ghost use Rattle.sf_grid.specs.Fraction.{fraction_eq};
 ghost use Rattle.sf_distance.specs.Mixed.{number_of};
 ghost use Rattle.sf_distance.specs.Squares.{IsLeastSquare, IsWithin};
+ghost use Rattle.sf_nearness.specs.Least.{least_square_of};
 ghost use Rattle.sf_nearness.specs.Segments.{IsOnSegments};
 ghost use Rattle.sf_nearness.specs.Sets.{IsOf};
 
@@ -20,7 +22,8 @@ use std::alloc::{AllocError, Global};
 ///
 /// Out of memory alone.
 pub fn square_between(alloc: Global, a: &Valid, b: &Valid) -> Result<Square, AllocError>
-    ensures { IfOk result (λ square. IsLeastSquare (IsOf a.now) (IsOf b.now) (number_of square)) }
+    ensures least { IfOk result (λ square. IsLeastSquare (IsOf a.now) (IsOf b.now) (number_of square)) }
+    ensures equal { IfOk result (λ square. IsTrue (fraction_eq (number_of square) (least_square_of a.now b.now))) }
 {
     if share_inside(alloc, a, b)? {
         return Ok(Square::whole(0));
