@@ -279,7 +279,8 @@ class Store(Editor):
         """The features of a layer as a ``geopandas.GeoDataFrame``, by their identifiers, with the columns of the layer.
 
         The geometries are in map units, with the reference system of the map, where the store has a `grid`; else in steps.
-        It needs ``python3-geopandas``.
+        Whole numbers are of the type ``Int64``, which has them all, and may be missing. The geometries are in the column
+        ``geometry``, or in ``_geometry`` where the layer has a column of that name. It needs ``python3-geopandas``.
         """
         from sfstore.frames import frame_of
 

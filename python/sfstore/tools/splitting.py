@@ -10,7 +10,8 @@ from fractions import Fraction
 from functools import cached_property, partial
 
 from sfstore.editor import Editor
-from sfstore.geometry import Flat, Shape, read_wkb, read_wkt, write_wkt
+from sfstore.geometry import Flat, Shape, read_wkt, write_wkt
+from sfstore.tools.pins import pairs, pins_of, points_of, shape_of
 from sfstore.tools.rings import Edge, Point, edges_of, polygons_of, split_at, written
 
 __all__ = ["split"]
@@ -45,11 +46,11 @@ def split(store: Editor, layer: str, feature_id: int, line: str, *, beside: Sequ
     if cutter.code != 2:
         raise ValueError("the line is no LINESTRING")
     border = list(edges_of(shape))
-    cut = _cut(border, _points(cutter.members[0][0]))
+    cut = _cut(border, points_of(cutter.members[0][0]))
     layers = list(dict.fromkeys((layer, *beside)))
     neighbours = dict(_neighbours(store, layers, shape)) if cut.corners else {}
     neighbours.pop((layer, feature_id), None)
-    cut.pins = _pins(store, layers, _bent([shape, *neighbours.values()], cut))
+    cut.pins = pins_of(store, layers, _bent([shape, *neighbours.values()], cut))
     edges = list(cut.edges(border))
     if len(set(edges)) < len(edges) or not _is_planar({(min(edge), max(edge)) for edge in edges}, cut.moved):
         raise ValueError(f"the line crosses itself in {layer} {feature_id}, or parts it too narrowly for the grid")
@@ -73,7 +74,7 @@ def split(store: Editor, layer: str, feature_id: int, line: str, *, beside: Sequ
 
 def _area(store: Editor, layer: str, feature_id: int) -> Shape:
     """The polygon of a feature. `ValueError` where it is none, nor a MULTIPOLYGON of one."""
-    shape = read_wkb(bytes.fromhex(store.hex(layer, feature_id)))
+    shape = shape_of(store, layer, feature_id)
     if shape.code != 3 and (shape.code != 6 or len(shape.members) > 1):
         raise ValueError(f"{layer} {feature_id} is no POLYGON")
     return shape
@@ -101,12 +102,12 @@ class _Cut:
         around: set[Edge] = set()
         for edge in border:
             stops = self.stops(edge)
-            pieces = [(min(piece), max(piece)) for piece in _pairs(stops)]
+            pieces = [(min(piece), max(piece)) for piece in pairs(stops)]
             if self.is_bent(edge):
                 self.moved.update(pieces)
             ends.update(stops)
             around.update(pieces)
-            yield from _pairs(stops)
+            yield from pairs(stops)
         # What was rounded to a piece of the border is one already.
         across = [(min(edge), max(edge)) for edge in self.across]
         for a, b in _without_ends([edge for edge in across if edge not in around], ends):
@@ -177,35 +178,22 @@ def _neighbours(store: Editor, layers: Iterable[str], area: Shape) -> Iterator[t
     wkt = write_wkt(area)
     for layer in layers:
         for feature in store.query(layer, "intersects", wkt):
-            shape = read_wkb(bytes.fromhex(store.hex(layer, feature)))
+            shape = shape_of(store, layer, feature)
             if shape.code not in (1, 4):
                 yield (layer, feature), shape
 
 
 def _bent(shapes: Iterable[Shape], cut: _Cut) -> set[Edge]:
     """The edges of shapes in which a corner was rounded, each with its lesser end first."""
-    edges = {(min(edge), max(edge)) for shape in shapes for member in shape.members for line in member for edge in _pairs(_points(line))}
+    edges = {(min(edge), max(edge)) for shape in shapes for member in shape.members for line in member for edge in pairs(points_of(line))}
     return {edge for edge in edges if cut.is_bent(edge)}
-
-
-def _pins(store: Editor, layers: Sequence[str], edges: Iterable[Edge]) -> set[Point]:
-    """The corners of features that lie within one of these edges."""
-    pins: set[Point] = set()
-    for edge in edges:
-        wkt = write_wkt(Shape(2, [[[*edge[0], *edge[1]]]]))
-        for layer in layers:
-            for feature in store.query(layer, "intersects", wkt):
-                shape = read_wkb(bytes.fromhex(store.hex(layer, feature)))
-                points = [point for member in shape.members for line in member for point in _points(line)]
-                pins.update(a for a, _ in split_at([edge], points))
-    return pins
 
 
 def _with_corners(line: Flat, cut: _Cut) -> Flat:
     """A line or ring with the corners put in where it passes through them."""
-    points = _points(line)
+    points = points_of(line)
     found = points[:1]
-    for edge in _pairs(points):
+    for edge in pairs(points):
         found += cut.stops(edge)[1:] or [edge[1]]
     return [number for point in found for number in point] if found != points else line
 
@@ -222,15 +210,6 @@ def _is_planar(edges: Iterable[Edge], moved: Iterable[Edge]) -> bool:
             if any(at not in set(map(_exact, one)) & set(map(_exact, other)) for at in _shared(one, other)):
                 return False
     return True
-
-
-def _pairs(points: Sequence[Point]) -> Iterator[Edge]:
-    """The edges between points."""
-    return zip(points, points[1:])
-
-
-def _points(line: Flat) -> list[Point]:
-    return [(int(x), int(y)) for x, y in zip(line[::2], line[1::2])]
 
 
 def _exact(point: Point) -> Place:

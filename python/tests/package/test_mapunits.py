@@ -170,6 +170,23 @@ class Stores(TestCase):
             self.assertEqual(list(frame["depth"])[0], 12)
             self.bring_grid()
 
+    @unittest.skipUnless(find_spec("geopandas"), "geopandas is not here")
+    def test_a_frame_has_each_value(self) -> None:
+        with Store(program=PROGRAM) as store:
+            store.add_layer("w")
+            for name, kind in (("number", "int"), ("geometry", "text")):
+                store.add_column("w", name, kind)
+            for _ in range(2):
+                store.add("w", "POINT (1 2)")
+            store.set("w", 1, "number", 2**53 + 1)
+            store.set("w", 1, "geometry", "by hand")
+            frame = store.to_geodataframe("w")
+            self.assertEqual((frame["number"][1], frame["geometry"][1]), (2**53 + 1, "by hand"))
+            self.assertEqual([(point.x, point.y) for point in frame.geometry], [(1.0, 2.0)] * 2)
+            self.assertTrue(frame["number"].isna()[2])
+            store.add_layer("empty")
+            self.assertEqual(len(store.to_geodataframe("empty")), 0)
+
 
 if __name__ == "__main__":
     unittest.main()

@@ -37,6 +37,25 @@ class Corners(TestCase):
                 store.undo()
             self.assertEqual(store.show("parcels"), first)
 
+    def test_corners_of_others_on_a_border(self) -> None:
+        """A neighbour that has no vertex there follows, and corners of neighbours on a bent edge stay on it."""
+        texts = "POLYGON ((0 0, 5 0, 5 5, 0 5, 0 0))", "POLYGON ((5 0, 10 0, 10 5, 5 5, 5 0))", "POLYGON ((0 5, 10 5, 10 9, 0 9, 0 5))"
+        for at, to in (((5, 5), (5, 7)), ((10, 5), (12, 6)), ((0, 5), (0, 3))):
+            with coverage.opened() as store:
+                store.add_layer("p")
+                for text in texts:
+                    store.add("p", text)
+                store.add_layer("marks")
+                store.add("marks", "POINT (1 1)")
+                moved = move_node(store, ["p", "marks"], at, to)
+                self.assertIn(("p", 3), moved)
+                whole = store.show("p")
+                self.assertEqual(list(store.join("p", "T********", "p")), [])
+                self.assertEqual(len(coverage.outline(feature.wkt for feature in whole)), 1)
+                self.assertEqual(coverage.outline(feature.wkt for feature in whole)[0].holes, [])
+                store.undo()
+                self.assertEqual([feature.wkt for feature in store.show("p")], list(texts))
+
     def test_several_layers_and_none(self) -> None:
         with coverage.opened() as store:
             for layer, text in ("a", "LINESTRING (0 0, 5 5, 9 9)"), ("b", "POINT (5 5)"), ("c", "POLYGON ((0 0, 9 0, 9 9, 5 5, 0 0))"):
