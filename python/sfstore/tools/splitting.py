@@ -25,9 +25,11 @@ def split(store: Editor, layer: str, feature_id: int, line: str, *, beside: Sequ
 
     Each part gets the values of the feature. Where the line crosses a border off the grid, the new corner is rounded to it
     once. It goes into each feature whose border passes there, of the layer and of the layers ``beside``, and the corners of
-    all of these on an edge that it bends do too: so the parts fit their neighbours as before. `ValueError` where the feature
-    is no POLYGON, nor a MULTIPOLYGON of one; where the line does not part it, crosses itself there, or parts it too narrowly
-    for the grid. `Refused` where the program refuses the line or the group, and nothing has changed.
+    all of these on an edge that it bends do too: so the parts fit their neighbours as before.
+
+    `ValueError` where the feature is no POLYGON, nor a MULTIPOLYGON of one. The same where the line does not part it, crosses
+    itself in it, or parts it too narrowly for the grid. `Refused` where the program refuses the line or the group, and
+    nothing has changed.
 
     >>> from sfstore import Store
     >>> with Store() as store:

@@ -231,6 +231,8 @@ class Calls:
 
     def _batch(self, editor: int, body: Body) -> Body:
         """Carries out lines as a whole: all of them, or none."""
+        if _is_in_units(body):
+            raise BadCall("a batch counts in steps: only line and feature take units of the map")
         batch = batch_of(editor, _page(body), body.get("lines"), body.get("seen"))
         try:
             return self._changing(editor, lambda: self._keeper.carry_out_all(batch))._asdict()
@@ -391,7 +393,10 @@ def _shape(shape: Shape) -> Body:
 
 def _is_in_units(body: Body) -> bool:
     """Whether who calls has coordinates in the units of the map, as pages do; programs count in steps."""
-    return body.get("units") == "map"
+    units = body.get("units", "steps")
+    if units not in ("map", "steps"):
+        raise BadCall("units has to be map or steps")
+    return bool(units == "map")
 
 
 def _in_units(units: MapUnits, line: str, answer: Answer) -> Answer:

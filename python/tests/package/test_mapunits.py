@@ -3,6 +3,7 @@
 from __future__ import annotations
 
 import random
+import time
 import unittest
 from decimal import Decimal
 from fractions import Fraction
@@ -122,6 +123,13 @@ class Lines(unittest.TestCase):
             ("relate w 1 POINT (1 1)", "0FFFFF102", "0FFFFF102"),
         ]:
             self.assertEqual(CENTIMETRES.rows(line, [row]), [wanted])
+
+    def test_many_rows_of_a_long_line(self) -> None:
+        """The line is not read again for each row of its answer."""
+        line = f"query w intersects POLYGON (({', '.join(f'{x} {x}' for x in range(20_000))}))"
+        start = time.process_time()
+        self.assertEqual(CENTIMETRES.rows(line, ["7"] * 10_000), ["7"] * 10_000)
+        self.assertLess(time.process_time() - start, 20)
 
 
 class Stores(TestCase):

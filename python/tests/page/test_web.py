@@ -74,6 +74,19 @@ class Listening:
 class Lines(WebCase):
     """Lines of the console, with their answers and refusals."""
 
+    def test_units_that_are_not_known_are_refused(self):
+        """Whoever means the map is never understood in steps."""
+        ann = self.serve().log_in("Ann")
+        ann.answer("layer add w any")
+        for path, body in (
+            ("/line", {"line": "add w POINT (1 2)", "units": "metres"}),
+            ("/line", {"line": "add w POINT (1 2)", "units": ["map"]}),
+            ("/batch", {"lines": ["add w POINT (1 2)"], "units": "map"}),
+        ):
+            status, told = ann.serving.posted(path, ann.key, page="p", seen=1, **body)
+            self.assertEqual((status, "units" in told["error"]), (400, True), told)
+        self.assertEqual(ann.line("show w")["count"], 0)
+
     def test_every_command(self):
         expected = [
             ("layer add w any", {"answer": "ok"}),
