@@ -10,3 +10,4 @@ pub mod BoundLaws
 pub mod SharedLaws
 pub mod ScaleLaws
 pub mod TextLaws
+mod WorkedTexts

@@ -27,17 +27,28 @@ one_bit r n bits h =
     let twice : r + 2 ^ suc bits ≡ (r + 2 ^ bits) + 2 ^ bits = omega (arith, pow-suc 2 bits) in
     subst (λ m. n < m * m) twice h
 
+-- with nothing known before
+first_bit : (n bits : ℕ) → n < (0 + 2 ^ suc bits) * (0 + 2 ^ suc bits) → n < (2 ^ bits + 2 ^ bits) * (2 ^ bits + 2 ^ bits)
+first_bit n bits h =
+    let twice : 0 + 2 ^ suc bits ≡ 2 ^ bits + 2 ^ bits = omega (arith, pow-suc 2 bits) in
+    subst (λ m. n < m * m) twice h
+
+from_none : (n k : ℕ) → n < k * k → n < (0 + k) * (0 + k)
+from_none n k h = let same : k ≡ 0 + k = omega arith in subst (λ m. n < m * m) same h
+
+by_square : (P : ℕ → Type 0) (b : Bool) (m n x y : ℕ) → nat_le m n ≡ b → (m ≤ n → P x) → (n < m → P y) → P (if b then x else y)
+by_square P true m n x y is upper lower = upper (le_from m n is)
+by_square P false m n x y is upper lower = lower (above_from m n is)
+
 root-found : (bits r n : ℕ) → r * r ≤ n → n < (r + 2 ^ bits) * (r + 2 ^ bits) → IsRoot n (root_from bits r n)
 unfolding root_from
 root-found zero r n low high = record { below = low; above = high }
-root-found (suc bits) r n low high =
-    by (nat_le ((r + 2 ^ bits) * (r + 2 ^ bits)) n) refl (λ low. root-found bits (r + 2 ^ bits) n low (one_bit r n bits high)) (λ high. root-found bits r n low high)
-  where
-    by : (b : Bool) → nat_le ((r + 2 ^ bits) * (r + 2 ^ bits)) n ≡ b
-        → ((r + 2 ^ bits) * (r + 2 ^ bits) ≤ n → IsRoot n (root_from bits (r + 2 ^ bits) n)) → (n < (r + 2 ^ bits) * (r + 2 ^ bits) → IsRoot n (root_from bits r n))
-        → IsRoot n (if b then root_from bits (r + 2 ^ bits) n else root_from bits r n)
-    by true is upper lower = upper (le_from ((r + 2 ^ bits) * (r + 2 ^ bits)) n is)
-    by false is upper lower = lower (above_from ((r + 2 ^ bits) * (r + 2 ^ bits)) n is)
+root-found (suc bits) zero n low high =
+    by_square (IsRoot n) (nat_le (2 ^ bits * 2 ^ bits) n) (2 ^ bits * 2 ^ bits) n (root_from bits (2 ^ bits) n) (root_from bits zero n) refl
+    (λ at. root-found bits (2 ^ bits) n at (first_bit n bits high)) (λ under. root-found bits zero n low (from_none n (2 ^ bits) under))
+root-found (suc bits) (suc r) n low high =
+    by_square (IsRoot n) (nat_le ((suc r + 2 ^ bits) * (suc r + 2 ^ bits)) n) ((suc r + 2 ^ bits) * (suc r + 2 ^ bits)) n (root_from bits (suc r + 2 ^ bits) n) (root_from bits (suc r) n) refl
+    (λ at. root-found bits (suc r + 2 ^ bits) n at (one_bit (suc r) n bits high)) (λ under. root-found bits (suc r) n low under)
 
 root-is : (n : ℕ) → n < 2 ^ 128 → IsRoot n (root_of n)
 root-is n small = root-found 64 0 n (omega arith) (omega (arith, small))

@@ -3,10 +3,13 @@
 use Rattle.std.specs.Prelude.{ℕ, zero, suc, ◌+◌, ◌*◌, ◌^◌, ◌/◌, ◌%◌, ◌==◌, List, [], ◌++◌, unsigned_abs, codes, decimal, nat_le, if◌then◌else◌}
 use Rattle.sf_grid.specs.Fraction.{Fraction}
 
--- the square root of a number, rounded down, bit by bit from above: r is what is known of it, and so many bits are left
+-- the square root of a number, rounded down, bit by bit from above: r is what is known of it, and so many bits are left. That r is taken
+-- by cases has it computed at each bit.
 unfoldable pub root_from : ℕ → ℕ → ℕ → ℕ
 root_from zero r n = r
-root_from (suc bits) r n = if nat_le ((r + 2 ^ bits) * (r + 2 ^ bits)) n then root_from bits (r + 2 ^ bits) n else root_from bits r n
+root_from (suc bits) zero n = if nat_le (2 ^ bits * 2 ^ bits) n then root_from bits (2 ^ bits) n else root_from bits zero n
+root_from (suc bits) (suc r) n =
+    if nat_le ((suc r + 2 ^ bits) * (suc r + 2 ^ bits)) n then root_from bits (suc r + 2 ^ bits) n else root_from bits (suc r) n
 
 -- of a number below 2^128
 abbrev pub root_of : ℕ → ℕ
