@@ -1,5 +1,5 @@
 -- Which values may stand in a column of a type, and which two are one.
-use Rattle.std.specs.Prelude.{ℕ, Bool, true, false, not, ◌&&◌, ◌==◌, nat_le, nat_lt, List, length, bytes_eq, if◌then◌else◌}
+use Rattle.std.specs.Prelude.{ℕ, Bool, true, false, ◌&&◌, ◌==◌, nat_le, nat_lt, List, length, bytes_eq, if◌then◌else◌}
 use Rattle.std.specs.Bool.{beq}
 use Rattle.std.specs.List.{list_all}
 use Rattle.std.specs.Ordering.{int_eq}
@@ -18,11 +18,11 @@ use Rattle.sf_features.specs.declared.attr_value.AttrValue.TheVariants as values
 abbrev pub text_max : ℕ
 text_max = 65535
 
--- no control character of ASCII
+-- any byte but 0, at which other programs end a text
 abbrev pub is_text_byte : ℕ → Bool
-is_text_byte b = nat_lt 31 b && not (b == 127)
+is_text_byte b = nat_lt 0 b
 
--- at most 65,535 bytes of UTF-8 with no control character of ASCII
+-- at most 65,535 bytes of UTF-8, none of them 0
 abbrev pub is_attr_text : List ℕ → Bool
 is_attr_text bytes = nat_le (length bytes) text_max && is_utf8 bytes && list_all is_text_byte bytes
 

@@ -37,8 +37,8 @@ impl AttrValue {
     }
 
     /// Whether the value may stand in a column of the type: a whole number; a text of at most 65,535
-    /// bytes with no control character of ASCII; a whole number, or one with 1 to 18 places behind the
-    /// point in its one form; true or false; a day that there is; a moment of such a day.
+    /// bytes, none of them 0; a whole number, or one with 1 to 18 places behind the point in its one
+    /// form; true or false; a day that there is; a moment of such a day.
     pub fn is_of_type(&self, column_type: ColumnType) -> bool
         ensures { result ≡ is_of_type column_type self.now }
     {
@@ -153,7 +153,7 @@ fn is_datetime(moment: DateTime) -> bool
 fn is_text_byte(b: u8) -> bool
     ensures { result ≡ is_text_byte_of b }
 {
-    b > 31 && b != 127
+    b > 0
 }
 
 fn are_text_bytes(bytes: &[u8]) -> bool

@@ -27,7 +27,7 @@ pub enum Refusal {
     NoColumn,
     /// A column of the layer has the name already.
     ColumnExists,
-    /// The value isn't of the column's type, or is a text that is too long or has a control character.
+    /// The value isn't of the column's type, or is a text that is too long or has a byte 0.
     WrongValue,
     /// The geometry has no such vertex.
     NoVertex,

@@ -1,3 +1,6 @@
+mod Computed
+pub mod Escapes
+pub mod OneLine
 pub mod QuoteLemmas
-pub mod WrittenQuotes
+pub mod WrittenPieces
 pub mod WrittenValues

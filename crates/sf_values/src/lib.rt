@@ -1,8 +1,11 @@
 //! The values and names that texts spell, the texts of values, and the kinds, types and predicates that words spell.
 #![tactic(auto)]
 
+mod form;
 pub mod laws;
 mod spelling;
+mod state;
+mod unescaping;
 mod value;
 mod writing;
 

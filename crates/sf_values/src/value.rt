@@ -1,15 +1,21 @@
 //! Attribute values that texts spell.
-ghost use Rattle.std.specs.Prelude.{◌≡◌, ◌≢◌, ℕ, Bool, List, [], ◌∷◌, ◌++◌, IfOk, IsTrue, MatchOption, option_map};
+ghost use Rattle.std.specs.Prelude.{◌≡◌, ◌≢◌, ℕ, Bool, List, [], ◌∷◌, ◌++◌, IfOk, IsTrue, MatchOption, option_map, if◌then◌else◌};
 ghost use Rattle.std.specs.List.{list_all};
 ghost use Rattle.sf_features.specs.declared.attr_value.AttrValue.TheVariants as kept;
-ghost use Rattle.sf_values.specs.Values.{begins_with_quote as begins_with_quote_of, bool_of as bool_spelled, is_plain, number_of as number_spelled, text_of as text_spelled, unquoted_of as unquoted_spelled, value_of as value_spelled};
+ghost use Rattle.sf_values.specs.Values.{begins_with_escape as begins_with_escape_of, begins_with_letter as begins_with_letter_of, begins_with_quote as begins_with_quote_of, bool_of as bool_spelled, escaped_text_of as escaped_text_spelled, is_plain, number_of as number_spelled, text_of as text_spelled, unquoted_of as unquoted_spelled, value_of as value_spelled, wordless_of as wordless_spelled};
 
+use super::unescaping::escaped_text_of;
 use sf_features::{AttrValue, Text};
 use std::alloc::{AllocError, Global};
 
+/// How many bytes the text of a day has.
+const DAY_LEN: usize = 10;
+
 /// The value that a text spells: `true` or `false`; a day, as 2024-02-29; a moment in UTC, as
 /// 2024-02-29T18:30:00.500Z, where the milliseconds may be left out; a number, digits behind an optional sign and
-/// then optionally a point and digits; or a text in single quotes, each quote in it doubled. None where it spells no
+/// then optionally a point and digits; a text in single quotes, each quote in it doubled; or a text with escapes,
+/// `E'..'`, in which a line feed is `\n`, a tab `\t`, a carriage return `\r`, a backslash `\\`, a quote `''`, and
+/// each other control character of ASCII `\x` with two digits in base 16, in small letters. None where it spells no
 /// value.
 ///
 /// # Errors
@@ -18,10 +24,13 @@ use std::alloc::{AllocError, Global};
 pub fn value_of(alloc: Global, text: &str) -> Result<Option<AttrValue>, AllocError>
     ensures { IfOk result (λ value. value ≡ value_spelled text.now) }
 {
-    if begins_with_quote(text.as_bytes()) {
+    let bytes = text.as_bytes();
+    if begins_with_quote(bytes) {
         text_of(alloc, text)
+    } else if begins_with_letter(bytes) {
+        lettered_of(alloc, text)
     } else {
-        Ok(unquoted_of(text))
+        Ok(wordless_of(text))
     }
 }
 
@@ -31,13 +40,55 @@ fn begins_with_quote(bytes: &[u8]) -> bool
     matches!(bytes, [b'\'', ..])
 }
 
+/// Whether a letter stands in front, or another byte that neither a number nor a day begins with.
+fn begins_with_letter(bytes: &[u8]) -> bool
+    ensures { result ≡ begins_with_letter_of bytes.now }
+{
+    matches!(bytes, [b'A'..=255, ..])
+}
+
 /// The value that a text without a quote in front spells.
+fn lettered_of(alloc: Global, text: &str) -> Result<Option<AttrValue>, AllocError>
+    ensures { IfOk result (λ value. value ≡ (if begins_with_escape_of text.now then escaped_text_spelled text.now else unquoted_spelled text.now)) }
+{
+    if begins_with_escape(text.as_bytes()) {
+        escaped_text_of(alloc, text)
+    } else {
+        Ok(unquoted_of(text))
+    }
+}
+
+fn begins_with_escape(bytes: &[u8]) -> bool
+    ensures { result ≡ begins_with_escape_of bytes.now }
+{
+    matches!(bytes, [b'E', b'\'', ..])
+}
+
+/// The value that a text without a quote in front spells, as no text.
 fn unquoted_of(text: &str) -> Option<AttrValue>
     ensures { result ≡ unquoted_spelled text.now }
 {
     if let Some(is) = bool_of(text) {
         return Some(AttrValue::Bool(is));
     }
+    wordless_of(text)
+}
+
+/// The day, the moment or the number that a text spells.
+fn wordless_of(text: &str) -> Option<AttrValue>
+    ensures { result ≡ wordless_spelled text.now }
+{
+    if text.len() < DAY_LEN {
+        number_of(text)
+    } else {
+        long_of(text)
+    }
+}
+
+/// The same of a text that is long enough for a day.
+fn long_of(text: &str) -> Option<AttrValue>
+    ensures { result ≡ wordless_spelled text.now }
+{
     if let Some(date) = sf_dates::date_of(text) {
         return Some(AttrValue::Date(date));
     }
