@@ -83,9 +83,9 @@ answered text written = if is_utf8 text && bytes_eq (escaped text) written then 
 
 pub read-written : (written text : List ℕ) → text ≡ unescaped Plain (within_escape written) → IsUtf8 text → escaped text ≡ written → Some (Text text) ≡ escaped_text_of written
 read-written written text told utf8 same = sym (
-  ap (λ t. answered t written) (sym told)
-  ∙ ap (λ b. if b && bytes_eq (escaped text) written then Some (Text text) else None) (is_utf8-from_IsUtf8 text utf8)
-  ∙ ap (λ b. if b then Some (Text text) else None) ((bytes_eq-Decides (escaped text) written).1 same))
+    ap (λ t. answered t written) (sym told)
+    ∙ ap (λ b. if b && bytes_eq (escaped text) written then Some (Text text) else None) (is_utf8-from_IsUtf8 text utf8)
+    ∙ ap (λ b. if b then Some (Text text) else None) ((bytes_eq-Decides (escaped text) written).1 same))
 
 -- and none where they tell no text
 pub read-none : (written text : List ℕ) → text ≡ unescaped Plain (within_escape written) → (IsUtf8 text → ⊥) → None ≡ escaped_text_of written

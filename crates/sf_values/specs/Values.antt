@@ -98,6 +98,10 @@ abbrev pub begins_with_letter : List ℕ → Truth
 begins_with_letter [] = false
 begins_with_letter (b ∷ bytes) = nat_le 65 b
 
+-- the day or the moment that a text spells
+abbrev pub dated_of : List ℕ → Option AttrValue
+dated_of bytes = or_else (date_of bytes) (datetime_of bytes)
+
 -- the day, the moment or the number that a text spells
 abbrev pub wordless_of : List ℕ → Option AttrValue
 wordless_of bytes = or_else (date_of bytes) (or_else (datetime_of bytes) (number_of bytes))

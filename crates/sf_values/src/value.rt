@@ -1,8 +1,7 @@
 //! Attribute values that texts spell.
-ghost use Rattle.std.specs.Prelude.{◌≡◌, ◌≢◌, ℕ, Bool, List, [], ◌∷◌, ◌++◌, IfOk, IsTrue, MatchOption, option_map, if◌then◌else◌};
+ghost use Rattle.std.specs.Prelude.{◌≡◌, ◌≢◌, ℕ, List, [], ◌∷◌, ◌++◌, IfOk, IsTrue, MatchOption, if◌then◌else◌};
 ghost use Rattle.std.specs.List.{list_all};
-ghost use Rattle.sf_features.specs.declared.attr_value.AttrValue.TheVariants as kept;
-ghost use Rattle.sf_values.specs.Values.{begins_with_escape as begins_with_escape_of, begins_with_letter as begins_with_letter_of, begins_with_quote as begins_with_quote_of, bool_of as bool_spelled, escaped_text_of as escaped_text_spelled, is_plain, number_of as number_spelled, text_of as text_spelled, unquoted_of as unquoted_spelled, value_of as value_spelled, wordless_of as wordless_spelled};
+ghost use Rattle.sf_values.specs.Values.{begins_with_escape as begins_with_escape_of, begins_with_letter as begins_with_letter_of, begins_with_quote as begins_with_quote_of, bool_of as bool_spelled, dated_of as dated_spelled, escaped_text_of as escaped_text_spelled, is_plain, number_of as number_spelled, text_of as text_spelled, value_of as value_spelled, wordless_of as wordless_spelled};
 
 use super::unescaping::escaped_text_of;
 use sf_features::{AttrValue, Text};
@@ -20,7 +19,7 @@ const DAY_LEN: usize = 10;
 ///
 /// # Errors
 ///
-/// Out of memory, which a text in quotes alone takes.
+/// Out of memory, which a text alone takes.
 pub fn value_of(alloc: Global, text: &str) -> Result<Option<AttrValue>, AllocError>
     ensures { IfOk result (λ value. value ≡ value_spelled text.now) }
 {
@@ -47,14 +46,14 @@ fn begins_with_letter(bytes: &[u8]) -> bool
     matches!(bytes, [b'A'..=255, ..])
 }
 
-/// The value that a text without a quote in front spells.
+/// The value that a text with a letter in front spells: a text with escapes, or a word.
 fn lettered_of(alloc: Global, text: &str) -> Result<Option<AttrValue>, AllocError>
-    ensures { IfOk result (λ value. value ≡ (if begins_with_escape_of text.now then escaped_text_spelled text.now else unquoted_spelled text.now)) }
+    ensures { IfOk result (λ value. value ≡ (if begins_with_escape_of text.now then escaped_text_spelled text.now else bool_spelled text.now)) }
 {
     if begins_with_escape(text.as_bytes()) {
         escaped_text_of(alloc, text)
     } else {
-        Ok(unquoted_of(text))
+        Ok(word_of(text))
     }
 }
 
@@ -64,48 +63,39 @@ fn begins_with_escape(bytes: &[u8]) -> bool
     matches!(bytes, [b'E', b'\'', ..])
 }
 
-/// The value that a text without a quote in front spells, as no text.
-fn unquoted_of(text: &str) -> Option<AttrValue>
-    ensures { result ≡ unquoted_spelled text.now }
+fn word_of(text: &str) -> Option<AttrValue>
+    ensures { result ≡ bool_spelled text.now }
 {
-    if let Some(is) = bool_of(text) {
-        return Some(AttrValue::Bool(is));
+    match text {
+        "true" => Some(AttrValue::Bool(true)),
+        "false" => Some(AttrValue::Bool(false)),
+        _ => None,
     }
-    wordless_of(text)
 }
 
 /// The day, the moment or the number that a text spells.
 fn wordless_of(text: &str) -> Option<AttrValue>
     ensures { result ≡ wordless_spelled text.now }
 {
-    if text.len() < DAY_LEN {
-        number_of(text)
-    } else {
-        long_of(text)
+    match dated_of(text) {
+        Some(value) => Some(value),
+        None => number_of(text),
     }
 }
 
-/// The same of a text that is long enough for a day.
-fn long_of(text: &str) -> Option<AttrValue>
-    ensures { result ≡ wordless_spelled text.now }
+/// The day or the moment that a text spells. Most numbers are shorter than one.
+fn dated_of(text: &str) -> Option<AttrValue>
+    ensures { result ≡ dated_spelled text.now }
 {
+    if text.len() < DAY_LEN {
+        return None;
+    }
     if let Some(date) = sf_dates::date_of(text) {
         return Some(AttrValue::Date(date));
     }
-    if let Some(moment) = sf_dates::datetime_of(text) {
-        return Some(AttrValue::DateTime(moment));
-    }
-    number_of(text)
-}
-
-/// The truth value that a word spells, in small letters.
-fn bool_of(word: &str) -> Option<bool>
-    ensures { option_map (λ (is : Bool). kept.Bool is) result ≡ bool_spelled word.now }
-{
-    match word {
-        "true" => Some(true),
-        "false" => Some(false),
-        _ => None,
+    match sf_dates::datetime_of(text) {
+        Some(moment) => Some(AttrValue::DateTime(moment)),
+        None => None,
     }
 }
 
