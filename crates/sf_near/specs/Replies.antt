@@ -6,7 +6,7 @@ use Rattle.std.specs.List.Sorted.{IsStrictlySortedBy}
 use Rattle.std.specs.List.{AllByRecursion}
 use Rattle.std.specs.Map.{keys_of, values_of}
 use Rattle.std.specs.Ordering.{nat_cmp}
-use Rattle.sf_grid.specs.Fraction.{Fraction, IsFraction, fraction_eq}
+use Rattle.sf_grid.specs.Fraction.{Fraction, fraction_eq}
 use Rattle.sf_geometry.specs.declared.geometry.Geometry.{Geometry}
 use Rattle.sf_valid_rules.specs.Validity.{IsValid}
 use Rattle.sf_distance.specs.Mixed.{number_of}
@@ -30,7 +30,7 @@ pub record AreWithin (layer : LayerContent) (bound : Fraction) (b : Geometry) (i
 abbrev pub WithinIsOverThePlane : Type 0
 WithinIsOverThePlane =
     (layer : LayerContent) (bound : Fraction) (b : Geometry) → IsStrictlySortedBy nat_cmp (keys_of layer.features)
-    → AllByRecursion (λ feature. IsValid feature.geometry) (values_of layer.features) → IsValid b → IsFraction bound
+    → AllByRecursion (λ feature. IsValid feature.geometry) (values_of layer.features) → IsValid b
     → AreWithin layer bound b (ids_within layer bound b)
 
 -- of the features within a distance

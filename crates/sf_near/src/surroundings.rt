@@ -3,8 +3,8 @@
 ghost use Rattle.std.specs.Prelude.{◌≡◌, IfOk};
 ghost use Rattle.sf_geometry.specs.Envelope.{envelope_of};
 ghost use Rattle.sf_rtree.specs.Indexes.{ids_meeting};
-ghost use Rattle.sf_valid_rules.specs.Validity.{IsValid};
 ghost use Rattle.sf_distance.specs.Reaches.{square_of_reach, steps_of_reach};
+ghost use Rattle.sf_validity.specs.Held.{IsHeld};
 ghost use Rattle.sf_near.specs.Answers.{is_within_of};
 ghost use Rattle.sf_near.specs.Grown.{grown as grown_by};
 
@@ -31,7 +31,7 @@ pub(crate) struct Surroundings<'a> {
 impl<'a> Model for Surroundings<'a> {
     ghost use Rattle.std.specs.Prelude.{◌≡◌};
     ghost use Rattle.sf_geometry.specs.Envelope.{envelope_of};
-    ghost use Rattle.sf_valid_rules.specs.Validity.{IsValid};
+    ghost use Rattle.sf_validity.specs.Held.{IsHeld};
     ghost use Rattle.sf_distance.specs.Mixed.{number_of};
     ghost use Rattle.sf_distance.specs.Reaches.{square_of_reach, steps_of_reach};
     ghost use Rattle.sf_near.specs.Grown.{grown};
@@ -41,7 +41,7 @@ impl<'a> Model for Surroundings<'a> {
 
     ghost view = { λ s. record { geometry = s.given.now; reach = s.reach } };
 
-    ghost invariant = { λ s. IsValid s.given.now
+    ghost invariant = { λ s. IsHeld s.given.now
         × (number_of s.bound ≡ square_of_reach s.reach)
         × (s.extent ≡ grown (steps_of_reach s.reach) (envelope_of s.given.now)) };
 }
@@ -49,7 +49,8 @@ impl<'a> Model for Surroundings<'a> {
 impl<'a> Surroundings<'a> {
     /// Those of a geometry.
     pub(crate) fn new(given: &'a Valid, reach: Reach) -> Surroundings<'a>
-        ensures { result ≡ record { geometry = given.now; reach = reach } }
+        ensures same { result ≡ record { geometry = given.now; reach = reach } }
+        ensures held { IsHeld given.now }
     {
         let extent = grown(given.geometry().envelope(), reach.steps());
         Surroundings {
@@ -66,7 +67,8 @@ impl<'a> Surroundings<'a> {
     ///
     /// Out of memory alone.
     pub(crate) fn near_ids(&self, alloc: Global, index: &RTree) -> Result<Vec<u32>, AllocError>
-        ensures { IfOk result (λ ids. ids.items ≡ ids_meeting (grown_by (steps_of_reach self.now.reach) (envelope_of self.now.geometry)) index.now) }
+        ensures ids { IfOk result (λ ids. ids.items ≡ ids_meeting (grown_by (steps_of_reach self.now.reach) (envelope_of self.now.geometry)) index.now) }
+        ensures held { IsHeld self.now.geometry }
     {
         index.meeting(alloc, &self.extent)
     }
