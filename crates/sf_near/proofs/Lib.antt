@@ -1,3 +1,4 @@
 pub mod ReachLaws
 pub mod GrownLaws
 pub mod FeatureLaws
+mod Computed
