@@ -78,6 +78,11 @@ told-near r a b bound t s ha hb is view told =
 abbrev pub passes : Fraction → Geometry → ℕ × FeatureContent → Bool
 passes bound b entry = is_within_of bound entry.1.geometry b
 
+-- what was told of a feature's geometry tells whether the feature passes
+pub told-passes : (bound : Fraction) (a b : Geometry) (entry : ℕ × FeatureContent) (answer told : Bool) → answer ≡ is_within_of bound a b → a ≡ entry.1.geometry → answer ≡ told
+    → passes bound b entry ≡ told
+told-passes bound a b entry answer told is same said = ap (λ (g : Geometry). is_within_of bound g b) (sym same) ∙ sym is ∙ said
+
 -- its box meets this one
 abbrev pub has_box_by : Extent → ℕ × FeatureContent → Bool
 has_box_by extent entry = extents_meet (envelope_of entry.1.geometry) extent
