@@ -4,8 +4,10 @@
 
 pub mod edges;
 pub mod laws;
+mod reach;
 pub mod root;
 mod square;
 pub mod writing;
 
+pub use reach::Reach;
 pub use square::Square;

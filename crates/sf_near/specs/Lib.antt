@@ -1,0 +1,4 @@
+pub mod Grown
+pub mod Surrounding
+pub mod Answers
+pub mod Replies

@@ -1,0 +1,8 @@
+//! Laws of features near a geometry, each the contract of a function that does nothing.
+
+ghost use Rattle.sf_near.specs.Replies.{WithinIsOverThePlane};
+
+/// The identifiers that are computed are those of just the features that are within the distance, over all points of the plane.
+pub fn within_is_over_the_plane()
+    ensures { WithinIsOverThePlane }
+{}
