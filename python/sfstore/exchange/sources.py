@@ -20,7 +20,7 @@ from sfstore.sidecar import Crs
 
 __all__ = ["Opened", "check_unchanged", "mode_for", "open_source"]
 
-_SHAPEFILE, _FLATGEOBUF = "ESRI Shapefile", "FlatGeobuf"
+_SHAPEFILE, _FLATGEOBUF, _DATABASE = "ESRI Shapefile", "FlatGeobuf", "PostgreSQL"
 # The formats whose files say how many features they have, so that one that was cut is seen.
 _COUNTED = (_SHAPEFILE, _FLATGEOBUF)
 # Tables and views of a database in which no column has a geometry. OGR names those of the schema public without it.
@@ -35,6 +35,15 @@ _PLAIN_TABLES = """
         WHERE attrelid = pg_class.oid AND NOT attisdropped AND format_type(atttypid, NULL) ~ '(^|[.])(geometry|geography)$')
     ORDER BY 1
 """
+# How a session of a database writes values, whatever its server, database and role have chosen; and that all that is
+# read is of one moment.
+_SESSION = (
+    "SET datestyle = 'ISO'",
+    "SET timezone = 'UTC'",
+    "SET extra_float_digits = 3",
+    "SET standard_conforming_strings = on",
+    "SET SESSION CHARACTERISTICS AS TRANSACTION ISOLATION LEVEL REPEATABLE READ, READ ONLY",
+)
 _SHAPEFILE_METADATA = "SHAPEFILE"
 _JSON = ("GeoJSON", "GeoJSONSeq")
 
@@ -88,6 +97,8 @@ def _opened(name: str, any_format: bool) -> Source:
     if data.GetDriver().ShortName in _JSON and not any_format:
         # OGR reads it otherwise: it changes numbers, and drops names that stand twice, without a word.
         raise ogr.ExchangeError(f"{ogr.printable(name):.200} is GeoJSON, and no file that begins as one: name its file alone")
+    if data.GetDriver().ShortName == _DATABASE:
+        _begin_session(data)
     metadata = data.GetMetadataItem(wayback.ITEM) if data.GetDriver().ShortName == "GPKG" else ""
     layers: list[Layer] = [OgrLayer(data, at) for at in range(data.GetLayerCount())]
     is_whole = data.GetDriver().ShortName in ogr.DRIVERS
@@ -116,9 +127,16 @@ def _opened_files(folder: str, any_format: bool) -> Opened:
     return found
 
 
+def _begin_session(data: Any) -> None:
+    """Has a database write values as OGR reads them, and begins the transaction in which all is read."""
+    for statement in _SESSION:
+        data.ExecuteSQL(statement)
+    data.StartTransaction()
+
+
 def _plain_tables(data: Any, layers: Sequence[Layer]) -> list[str]:
     """The tables of a database that have no geometries, which OGR does not list, but for those of extensions."""
-    if data.GetDriver().ShortName != "PostgreSQL":
+    if data.GetDriver().ShortName != _DATABASE:
         return []
     known = {layer.name for layer in layers}
     try:
