@@ -15,7 +15,7 @@ from sfstore.exchange.jsonlayer import JsonLayer
 from sfstore.exchange.layers import STRANGER, Feature, Layer, Lost, Source
 from sfstore.exchange.shapefiles import beside, deleted_records, index_fault
 from sfstore.exchange.srids import strangers
-from sfstore.exchange.stamps import changed, mode_of, stamps_of
+from sfstore.exchange.stamps import BESIDE, changed, mode_of, stamps_of
 from sfstore.sidecar import Crs
 
 __all__ = ["Opened", "check_unchanged", "mode_for", "open_source"]
@@ -46,6 +46,9 @@ _SESSION = (
 )
 _SHAPEFILE_METADATA = "SHAPEFILE"
 _JSON = ("GeoJSON", "GeoJSONSeq")
+# The endings of files that lead to layers, and that of the one of a Shapefile.
+_ENDINGS = tuple(ending for several in ogr.DRIVERS.values() for ending in several)
+_LEADING = ".shp"
 
 
 class Opened(NamedTuple):
@@ -62,10 +65,14 @@ def open_source(name: str, any_format: bool = False) -> Opened:
 
     `ogr.ExchangeError` where there is none, and for other formats than `ogr.DRIVERS` unless any is allowed.
     """
+    # OGR would take the files of one format alone, and pass over those that don't open.
+    found = _opened_files(name, any_format) if _has_maps(name) else Opened([], [])
+    if found.sources:
+        return found
     try:
         return Opened([_opened(name, any_format)], [])
     except RuntimeError as error:
-        found = _opened_files(name, any_format) if os.path.isdir(name) else Opened([], [])
+        found = _opened_files(name, any_format)
         if not found.sources:
             # The words of a database may have a password among them.
             shown = "the database" if name.startswith("PG:") else name
@@ -115,16 +122,41 @@ def _reason(name: str, error: RuntimeError) -> str:
 
 
 def _opened_files(folder: str, any_format: bool) -> Opened:
-    """The files of a folder that open."""
-    endings = tuple(ending for several in ogr.DRIVERS.values() for ending in several)
+    """The files of a folder that open: of a Shapefile the one that leads."""
+    names = _names_in(folder)
+    shapefiles = {name[: -len(_LEADING)].casefold() for name in names if name.lower().endswith(_LEADING)}
     found = Opened([], [])
-    for name in sorted(os.listdir(folder)):
+    for name in names:
+        stem, ending = os.path.splitext(name)
+        path = f"{folder.rstrip('/')}/{name}"
+        if ending.lower() in BESIDE[_LEADING] and stem.casefold() in shapefiles:
+            continue
+        if _has_maps(path):
+            found.left_out.append((name, "it is a folder in a folder: name it alone"))
+            continue
         try:
-            found.sources.append(_opened(os.path.join(folder, name), any_format))
+            source = _opened(path, any_format)
+            reason = "" if source.layers else "it has no layers, and may be cut off"
         except (RuntimeError, ogr.ExchangeError) as error:
-            if name.lower().endswith(endings):
-                found.left_out.append((name, str(error)))
+            reason = str(error)
+        if not reason:
+            found.sources.append(source)
+        elif name.lower().endswith(_ENDINGS):
+            found.left_out.append((name, reason))
     return found
+
+
+def _has_maps(folder: str) -> bool:
+    """Whether a folder has files with the ending of a format. One of a database of files has none."""
+    return any(name.lower().endswith(_ENDINGS) for name in _names_in(folder))
+
+
+def _names_in(folder: str) -> list[str]:
+    """The names in a folder, which may be one of an archive; none where it is no folder."""
+    module, _, _ = ogr.gdal()
+    known = module.VSIStatL(folder)
+    names = module.ReadDir(folder) if known is not None and known.IsDirectory() else None
+    return sorted(name for name in names or [] if name not in (".", ".."))
 
 
 def _begin_session(data: Any) -> None:
