@@ -13,7 +13,7 @@ from sfstore.exchange.archives import check_size, is_zip
 from sfstore.exchange.fields import Fields
 from sfstore.exchange.jsonlayer import JsonLayer
 from sfstore.exchange.layers import STRANGER, Feature, Layer, Lost, Source
-from sfstore.exchange.shapefiles import beside, deleted_records, index_fault
+from sfstore.exchange.shapefiles import beside, deleted_records, index_fault, table_fault
 from sfstore.exchange.srids import strangers
 from sfstore.exchange.stamps import BESIDE, changed, mode_of, stamps_of
 from sfstore.sidecar import Crs
@@ -251,8 +251,10 @@ class OgrLayer(Layer):
         unnamed = index_fault(self._data, self.name) if self.format == _SHAPEFILE else ""
         if unnamed:
             yield Lost("its .shx does not name all of its .shp, and no more", unnamed)
-        if self.format == _SHAPEFILE and not beside(self._data, self.name, ".dbf"):
-            yield Lost("it has no values", "its .dbf is missing")
+        has_columns = self._layer.GetLayerDefn().GetFieldCount() > 0
+        fault = table_fault(self._data, self.name) if self.format == _SHAPEFILE and not has_columns else ""
+        if fault:
+            yield Lost("it has no values", fault)
         told = self._layer.GetMetadata(_SHAPEFILE_METADATA) if self.format == _SHAPEFILE else {}
         if told.get("CPG_VALUE") and not told.get("SOURCE_ENCODING"):
             yield Lost("its texts are read as UTF-8, as their encoding is unknown", f"its .cpg says {told['CPG_VALUE']:.40}")
