@@ -33,8 +33,10 @@ _SHAPE_OF_ROW = re.compile(r"([0-9]+ [A-Z]+ )(\([-0-9 ,()]*\))")
 _MEASURE_OF_ROW = re.compile(r"([0-9]+) (-?[0-9]+(?:\.[0-9]+)?)")
 # How many more digits than those of a step a place has that stands between two steps.
 _MORE_DIGITS = 3
-# A number with a larger exponent is on no map.
-_EXPONENT_MAX = 400
+# A number with a larger exponent is on no map, and neither is one with more letters: it would take the square of their count.
+_EXPONENT_MAX, _LETTERS_MAX = 400, 1_000
+# How much of one is shown.
+_SHOWN = 40
 # Digits enough for the product of three numbers of a grid: nothing is rounded.
 _EXACT = Context(prec=4_000)
 
@@ -54,6 +56,8 @@ class _Axis(NamedTuple):
 
     def step_of(self, text: str) -> int:
         """The step of a coordinate as it is written. `NoPlace` where there is none."""
+        if len(text) > _LETTERS_MAX:
+            raise NoPlace(f"{self.name} {text[:_SHOWN]}.. has {len(text):,} letters, and a coordinate at most {_LETTERS_MAX:,}")
         number = Decimal(text)
         if number and number.adjusted() > _EXPONENT_MAX:
             raise NoPlace(f"{self.name} {text} lies {self._outside()}")
@@ -197,9 +201,9 @@ def grid_decimal(word: str) -> Decimal:
     try:
         number = Decimal(word)
     except InvalidOperation:
-        raise ValueError(f"{word!r} is no decimal number") from None
-    if not number.is_finite() or abs(number.adjusted()) > 300:
-        raise ValueError(f"{word!r} is no decimal number that a grid can have")
+        raise ValueError(f"{word[:_SHOWN]!r} is no decimal number") from None
+    if not number.is_finite() or abs(number.adjusted()) > 300 or len(word) > _LETTERS_MAX:
+        raise ValueError(f"{word[:_SHOWN]!r} is no decimal number that a grid can have")
     return _shortest(number)
 
 

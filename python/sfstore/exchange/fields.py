@@ -21,7 +21,7 @@ from sfstore.exchange.jsontext import text_of
 from sfstore.exchange.layers import Fault, Feature, Left, SourceColumns
 from sfstore.exchange.moments import day_of, moment_of, text_of_day, text_of_moment, text_of_time
 from sfstore.exchange.names import Names, kept_name
-from sfstore.exchange.shapefiles import odd_values
+from sfstore.exchange.shapefiles import foreign_columns, odd_values
 from sfstore.exchange.stored import MAKERS, Made, whole_of
 from sfstore.language import TEXT_MAX
 from sfstore.results import Value
@@ -236,8 +236,8 @@ class Fields(SourceColumns):
             source_name, type_name = field.GetName(), field.GetTypeName()
             if source_name in confused:
                 continue
-            if source_name in foreign:
-                left.setdefault(foreign[source_name], []).append(source_name)
+            if place in foreign:
+                left.setdefault(foreign[place], []).append(source_name)
                 continue
             subtype = module.GetFieldSubTypeName(field.GetSubType())
             known = names.get(source_name, source_name)
@@ -252,7 +252,8 @@ class Fields(SourceColumns):
             self._fields.append(_Field(number, place, name, kind, source_name, type_name))
             kept = kept_name(source_name, name)
             self._origins[number] = ColumnOrigin(name, kept, type_name, subtype, field.GetWidth())
-        self.left += [self._left(type_name, several) for type_name, several in left.items()]
+        are_kept = {type_name: not self._as_text and type_name not in foreign.values() for type_name in left}
+        self.left += [self._left(type_name, several, are_kept[type_name]) for type_name, several in left.items()]
         self._tell_domains()
 
     def _tell_domains(self) -> None:
@@ -277,10 +278,10 @@ class Fields(SourceColumns):
             return INT
         return TEXT if wanted == "text" else own_type
 
-    def _left(self, type_name: str, names: list[str]) -> Left:
-        """That columns of a type are left out, in words."""
+    def _left(self, type_name: str, names: list[str], are_kept: bool) -> Left:
+        """That columns of a type are left out, in words, and whether they would be kept as texts."""
         one = len(names) == 1
-        keeps = "" if self._as_text else f" (--as-text keeps {'it' if one else 'them'})"
+        keeps = f" (--as-text keeps {'it' if one else 'them'})" if are_kept else ""
         words = "1 column" if one else f"{len(names)} columns"
         return Left(f"{words} of type {type_name} {'is' if one else 'are'} left out{keeps}", names)
 
@@ -399,16 +400,18 @@ class Fields(SourceColumns):
         )
         return dict(asked(self._source, self._layer, query))
 
-    def _foreign_types(self) -> dict[str, str]:
-        """The columns of a database that OGR takes for whole numbers and that are none, with their types."""
+    def _foreign_types(self) -> dict[int, str]:
+        """The columns that OGR takes for whole numbers or texts and that are none, by their places, with their types."""
+        if self._driver == "ESRI Shapefile":
+            return foreign_columns(self._source, self._layer.GetName())
         if self._driver != "PostgreSQL":
             return {}
         _, module, _ = ogr.gdal()
         definition = self._layer.GetLayerDefn()
         types = self._postgresql_types()
         return {
-            field.GetName(): types[field.GetName()]
-            for field in map(definition.GetFieldDefn, range(definition.GetFieldCount()))
+            place: types[field.GetName()]
+            for place, field in enumerate(map(definition.GetFieldDefn, range(definition.GetFieldCount())))
             if field.GetType() in (module.OFTInteger, module.OFTInteger64)
             and types.get(field.GetName(), "integer") not in _WHOLE_TYPES
         }

@@ -1,8 +1,8 @@
 """What OGR does not say of a FlatGeobuf: values that it changes, or leaves out.
 
-It makes doubles of whole numbers of 64 bits without a sign, cuts moments off behind the milliseconds, and leaves out
-what it does not know as a moment. The format is https://flatgeobuf.org: a head, an index, and then the features, each a
-table of https://flatbuffers.dev behind its size.
+It makes doubles of whole numbers of 64 bits without a sign, cuts moments off behind the milliseconds and texts at a zero
+byte, passes over zones that are no quarters of an hour, and leaves out what it does not know as a moment. The format is
+https://flatgeobuf.org: a head, an index, and then the features, each a table of https://flatbuffers.dev behind its size.
 """
 
 from __future__ import annotations
@@ -21,8 +21,7 @@ _MAGIC, _VERSION = b"fgb", 3
 _LONGEST = 1 << 28
 # The types of columns by their numbers: how many bytes a value has, or that it says so itself.
 _SIZES = {0: 1, 1: 1, 2: 1, 3: 2, 4: 2, 5: 4, 6: 4, 7: 8, 8: 8, 9: 4, 10: 8}
-_UNSIGNED, _MOMENT = 8, 13
-_SIZED = (11, 12, _MOMENT, 14)
+_UNSIGNED, _TEXT, _JSON, _MOMENT = 8, 11, 12, 13
 # The places of fields in tables.
 _COLUMNS, _COUNT, _NODE = 7, 8, 9
 _TYPE, _PROPERTIES = 1, 1
@@ -124,10 +123,21 @@ def _odd_moment(value: bytes) -> tuple[str, str | None] | None:
         return repr(text), None
     if fine and fine[2].strip("0"):
         return repr(text), text
-    return None if moment.is_in_milliseconds and whole[10] == "T" else (repr(text), whole)
+    is_read = moment.is_in_milliseconds and moment.ogr_zone is not None and whole[10] == "T"
+    return None if is_read else (repr(text), whole)
 
 
-_LOOKS: dict[int, Callable[[bytes], tuple[str, str | None] | None]] = {_UNSIGNED: _odd_whole, _MOMENT: _odd_moment}
+def _odd_text(value: bytes) -> tuple[str, None] | None:
+    """A text that OGR cuts off."""
+    return (repr(value.decode("utf-8", "replace")), None) if b"\0" in value else None
+
+
+_LOOKS: dict[int, Callable[[bytes], tuple[str, str | None] | None]] = {
+    _UNSIGNED: _odd_whole,
+    _TEXT: _odd_text,
+    _JSON: _odd_text,
+    _MOMENT: _odd_moment,
+}
 """What looks at the values of a type of columns: an odd one is shown, with its text where it is one of the type."""
 
 

@@ -32,7 +32,8 @@ class Moment(NamedTuple):
         """The zone as OGR writes it, or none where it can't."""
         if self.offset is None:
             return 0
-        return None if self.offset % _QUARTER else _UTC + self.offset // _QUARTER
+        zone = _UTC + self.offset // _QUARTER
+        return None if self.offset % _QUARTER or zone <= 1 else zone
 
     @property
     def text(self) -> str:

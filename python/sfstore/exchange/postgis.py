@@ -129,6 +129,8 @@ class _Known(NamedTuple):
     """Whether the database computes it."""
     is_padded: bool
     """Whether blanks at the end of a text are none of it."""
+    is_unzoned: bool
+    """Whether its moments have no zone: an import takes them as of UTC."""
 
 
 class _Table(NamedTuple):
@@ -165,6 +167,10 @@ class _Export:
         exports = [_LayerExport(self, part, table, srid) for part, table in zip(parts, tables)]
         for export in exports:
             export.write()
+        # What triggers would do at the end they do now, so that it is seen.
+        self._run("SET CONSTRAINTS ALL IMMEDIATE")
+        for export in exports:
+            export.read_back()
         # A sequence does not go back with the transaction, so it comes last.
         for export in exports:
             export.count_on()
@@ -308,7 +314,8 @@ class _Export:
 
     def _columns(self, oid: int) -> dict[str, _Known]:
         rows = self.rows(
-            "SELECT attname, attgenerated::text <> '', atttypid = 'pg_catalog.bpchar'::pg_catalog.regtype "
+            "SELECT attname, attgenerated::text <> '', atttypid = 'pg_catalog.bpchar'::pg_catalog.regtype, "
+            "atttypid = 'pg_catalog.timestamp'::pg_catalog.regtype "
             "FROM pg_catalog.pg_attribute WHERE attrelid = %s::oid AND attnum > 0 AND NOT attisdropped",
             oid,
         )
@@ -379,9 +386,10 @@ class _LayerExport:
         self._name = export.quoted(table.schema, table.name)
         self._columns = [_Column(number, part.columns[number], sort) for number, sort in part.sorts.items()]
         self._padded = {name for name, column in table.columns.items() if column.is_padded}
+        self._unzoned = {name for name, column in table.columns.items() if column.is_unzoned}
 
     def write(self) -> None:
-        """Makes the table or empties it, fills it, and reads it back."""
+        """Makes the table or empties it, and fills it."""
         export, part = self._export, self._part
         if self._table.oid is None:
             self._make()
@@ -391,7 +399,6 @@ class _LayerExport:
         export.copy(export.format("COPY {} ({}) FROM STDIN", self._name, export.several(names)), self._rows())
         if self._table.oid is None:
             export.run("CREATE INDEX ON {} USING GIST ({})", self._name, export.quoted(part.geometry_column))
-        self._read_back()
 
     def _make(self) -> None:
         export, part = self._export, self._part
@@ -460,7 +467,7 @@ class _LayerExport:
                 *(sequence, self._part.next_id, sequence, sequence, self._part.next_id, sequence),
             )
 
-    def _read_back(self) -> None:
+    def read_back(self) -> None:
         """`ogr.ExchangeError` where the table has anything else than the layer."""
         export, part = self._export, self._part
         identifier = export.quoted(part.identifier_column)
@@ -487,7 +494,8 @@ class _LayerExport:
             value = values.get(column.number)
             if isinstance(value, str) and column.name in self._padded:
                 value = value.rstrip(" ")
-            if not _is_same(value, text, column.sort):
+            in_utc = text and column.name in self._unzoned and column.sort.is_zoned
+            if not _is_same(value, f"{text}Z" if in_utc else text, column.sort):
                 there = "no value" if text is None else ogr.printable(repr(text[:60]))
                 raise self._other(
                     f"has {there} for {ogr.printable(repr(value)[:60])} in column {ogr.printable(column.name)} "

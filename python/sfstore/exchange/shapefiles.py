@@ -18,13 +18,15 @@ from sfstore.exchange.columns import DATE, INTEGER, INTEGER_64, REAL
 from sfstore.exchange.moments import day_of
 from sfstore.exchange.vsi import VsiFile
 
-__all__ = ["Odd", "beside", "deleted_records", "index_fault", "odd_values"]
+__all__ = ["Odd", "beside", "deleted_records", "foreign_columns", "index_fault", "odd_values", "table_fault"]
 
 # How much of a table is read at a time.
 _CHUNK = 1 << 20
 # The sizes of the headers of a table, of one of its columns, and of shapes and their index.
 _TABLE, _COLUMN, _SHAPES = 32, 32, 100
 _END_OF_COLUMNS, _DELETED = 0x0D, b"*"
+# The types of columns whose values stand in a record as letters. Those of others are binaries, or the places of memos.
+_OF_LETTERS, _MEMO = "CNFDL", "M"
 # Blanks and zeros fill a place, and asterisks say that there is no value.
 _WHOLE = re.compile(rb"[ \0]*(?:[+-]?[0-9]+(?:\.0*)?[ \0]*)?|\*.*", re.DOTALL)
 _REAL = re.compile(rb"[ \0]*(?:[+-]?(?:[0-9]+\.?[0-9]*|\.[0-9]+)(?:[eE][+-]?[0-9]+)?[ \0]*)?|\*.*", re.DOTALL)
@@ -54,8 +56,8 @@ def odd_values(source: Any, name: str, columns: Mapping[int, str]) -> Iterator[O
         return
     with VsiFile(path) as file:
         head = file.read(_TABLE)
-        begin, size = int.from_bytes(head[8:10], "little"), int.from_bytes(head[10:12], "little")
-        places = list(_places(file.read(max(begin - _TABLE, 0))))
+        size = int.from_bytes(head[10:12], "little")
+        places = list(_places(_columns(file, head)))
         wanted = [(column, places[column], form) for column, form in forms.items() if column < len(places)]
         for at, record in enumerate(_records(file, size)):
             for column, place, form in wanted:
@@ -83,6 +85,27 @@ def _is_double(text: str) -> bool:
     return number in (double.quantize(place, rounding, _MANY) for rounding in (ROUND_HALF_EVEN, ROUND_DOWN))
 
 
+def foreign_columns(source: Any, name: str) -> dict[int, str]:
+    """The columns of a Shapefile that OGR takes for texts and that are none, by their places, with their types in words."""
+    path = beside(source, name, ".dbf")
+    if not path:
+        return {}
+    with VsiFile(path) as file:
+        columns = _columns(file, file.read(_TABLE))
+    kinds = [chr(columns[_COLUMN * at + 11]) for at, _ in enumerate(_places(columns))]
+    return {at: "memo" if kind == _MEMO else f"{kind!r} of dBase" for at, kind in enumerate(kinds) if kind not in _OF_LETTERS}
+
+
+def table_fault(source: Any, name: str) -> str:
+    """Why a Shapefile has no columns though it may have values, in words, or nothing."""
+    path = beside(source, name, ".dbf")
+    if not path:
+        return "its .dbf is missing"
+    with VsiFile(path) as file:
+        is_empty = file.read(_TABLE + 1)[_TABLE:] == bytes([_END_OF_COLUMNS])
+    return "" if is_empty else "its .dbf can't be read"
+
+
 def deleted_records(source: Any, name: str) -> int:
     """How many records of a Shapefile's table are marked as deleted, whose features OGR passes over."""
     path = beside(source, name, ".dbf")
@@ -90,7 +113,7 @@ def deleted_records(source: Any, name: str) -> int:
         return 0
     with VsiFile(path) as file:
         head = file.read(_TABLE)
-        file.read(max(int.from_bytes(head[8:10], "little") - _TABLE, 0))
+        _columns(file, head)
         return sum(record.startswith(_DELETED) for record in _records(file, int.from_bytes(head[10:12], "little")))
 
 
@@ -131,6 +154,11 @@ def _folder(source: Any) -> str:
     if known is not None and known.IsDirectory():
         return path
     return f"/vsizip/{{{path}}}" if path.lower().endswith(NAMED) else os.path.dirname(path) or "."
+
+
+def _columns(file: VsiFile, head: bytes) -> bytes:
+    """What says the columns of a table, behind its head."""
+    return file.read(max(int.from_bytes(head[8:10], "little") - _TABLE, 0))
 
 
 def _places(columns: bytes) -> Iterator[slice]:

@@ -13,14 +13,14 @@ from sfstore.exchange.archives import check_size, is_zip
 from sfstore.exchange.fields import Fields
 from sfstore.exchange.jsonlayer import JsonLayer
 from sfstore.exchange.layers import STRANGER, Feature, Layer, Lost, Source
-from sfstore.exchange.shapefiles import beside, deleted_records, index_fault
+from sfstore.exchange.shapefiles import beside, deleted_records, index_fault, table_fault
 from sfstore.exchange.srids import strangers
-from sfstore.exchange.stamps import changed, mode_of, stamps_of
+from sfstore.exchange.stamps import BESIDE, changed, mode_of, stamps_of
 from sfstore.sidecar import Crs
 
 __all__ = ["Opened", "check_unchanged", "mode_for", "open_source"]
 
-_SHAPEFILE, _FLATGEOBUF = "ESRI Shapefile", "FlatGeobuf"
+_SHAPEFILE, _FLATGEOBUF, _DATABASE = "ESRI Shapefile", "FlatGeobuf", "PostgreSQL"
 # The formats whose files say how many features they have, so that one that was cut is seen.
 _COUNTED = (_SHAPEFILE, _FLATGEOBUF)
 # Tables and views of a database in which no column has a geometry. OGR names those of the schema public without it.
@@ -35,8 +35,20 @@ _PLAIN_TABLES = """
         WHERE attrelid = pg_class.oid AND NOT attisdropped AND format_type(atttypid, NULL) ~ '(^|[.])(geometry|geography)$')
     ORDER BY 1
 """
+# How a session of a database writes values, whatever its server, database and role have chosen; and that all that is
+# read is of one moment.
+_SESSION = (
+    "SET datestyle = 'ISO'",
+    "SET timezone = 'UTC'",
+    "SET extra_float_digits = 3",
+    "SET standard_conforming_strings = on",
+    "SET SESSION CHARACTERISTICS AS TRANSACTION ISOLATION LEVEL REPEATABLE READ, READ ONLY",
+)
 _SHAPEFILE_METADATA = "SHAPEFILE"
 _JSON = ("GeoJSON", "GeoJSONSeq")
+# The endings of files that lead to layers, and that of the one of a Shapefile.
+_ENDINGS = tuple(ending for several in ogr.DRIVERS.values() for ending in several)
+_LEADING = ".shp"
 
 
 class Opened(NamedTuple):
@@ -53,10 +65,14 @@ def open_source(name: str, any_format: bool = False) -> Opened:
 
     `ogr.ExchangeError` where there is none, and for other formats than `ogr.DRIVERS` unless any is allowed.
     """
+    # OGR would take the files of one format alone, and pass over those that don't open.
+    found = _opened_files(name, any_format) if _has_maps(name) else Opened([], [])
+    if found.sources:
+        return found
     try:
         return Opened([_opened(name, any_format)], [])
     except RuntimeError as error:
-        found = _opened_files(name, any_format) if os.path.isdir(name) else Opened([], [])
+        found = _opened_files(name, any_format)
         if not found.sources:
             # The words of a database may have a password among them.
             shown = "the database" if name.startswith("PG:") else name
@@ -88,6 +104,8 @@ def _opened(name: str, any_format: bool) -> Source:
     if data.GetDriver().ShortName in _JSON and not any_format:
         # OGR reads it otherwise: it changes numbers, and drops names that stand twice, without a word.
         raise ogr.ExchangeError(f"{ogr.printable(name):.200} is GeoJSON, and no file that begins as one: name its file alone")
+    if data.GetDriver().ShortName == _DATABASE:
+        _begin_session(data)
     metadata = data.GetMetadataItem(wayback.ITEM) if data.GetDriver().ShortName == "GPKG" else ""
     layers: list[Layer] = [OgrLayer(data, at) for at in range(data.GetLayerCount())]
     is_whole = data.GetDriver().ShortName in ogr.DRIVERS
@@ -104,21 +122,53 @@ def _reason(name: str, error: RuntimeError) -> str:
 
 
 def _opened_files(folder: str, any_format: bool) -> Opened:
-    """The files of a folder that open."""
-    endings = tuple(ending for several in ogr.DRIVERS.values() for ending in several)
+    """The files of a folder that open: of a Shapefile the one that leads."""
+    names = _names_in(folder)
+    shapefiles = {name[: -len(_LEADING)].casefold() for name in names if name.lower().endswith(_LEADING)}
     found = Opened([], [])
-    for name in sorted(os.listdir(folder)):
+    for name in names:
+        stem, ending = os.path.splitext(name)
+        path = f"{folder.rstrip('/')}/{name}"
+        if ending.lower() in BESIDE[_LEADING] and stem.casefold() in shapefiles:
+            continue
+        if _has_maps(path):
+            found.left_out.append((name, "it is a folder in a folder: name it alone"))
+            continue
         try:
-            found.sources.append(_opened(os.path.join(folder, name), any_format))
+            source = _opened(path, any_format)
+            reason = "" if source.layers else "it has no layers, and may be cut off"
         except (RuntimeError, ogr.ExchangeError) as error:
-            if name.lower().endswith(endings):
-                found.left_out.append((name, str(error)))
+            reason = str(error)
+        if not reason:
+            found.sources.append(source)
+        elif name.lower().endswith(_ENDINGS):
+            found.left_out.append((name, reason))
     return found
+
+
+def _has_maps(folder: str) -> bool:
+    """Whether a folder has files with the ending of a format. One of a database of files has none."""
+    return any(name.lower().endswith(_ENDINGS) for name in _names_in(folder))
+
+
+def _names_in(folder: str) -> list[str]:
+    """The names in a folder, which may be one of an archive; none where it is no folder."""
+    module, _, _ = ogr.gdal()
+    known = module.VSIStatL(folder)
+    names = module.ReadDir(folder) if known is not None and known.IsDirectory() else None
+    return sorted(name for name in names or [] if name not in (".", ".."))
+
+
+def _begin_session(data: Any) -> None:
+    """Has a database write values as OGR reads them, and begins the transaction in which all is read."""
+    for statement in _SESSION:
+        data.ExecuteSQL(statement)
+    data.StartTransaction()
 
 
 def _plain_tables(data: Any, layers: Sequence[Layer]) -> list[str]:
     """The tables of a database that have no geometries, which OGR does not list, but for those of extensions."""
-    if data.GetDriver().ShortName != "PostgreSQL":
+    if data.GetDriver().ShortName != _DATABASE:
         return []
     known = {layer.name for layer in layers}
     try:
@@ -201,8 +251,10 @@ class OgrLayer(Layer):
         unnamed = index_fault(self._data, self.name) if self.format == _SHAPEFILE else ""
         if unnamed:
             yield Lost("its .shx does not name all of its .shp, and no more", unnamed)
-        if self.format == _SHAPEFILE and not beside(self._data, self.name, ".dbf"):
-            yield Lost("it has no values", "its .dbf is missing")
+        has_columns = self._layer.GetLayerDefn().GetFieldCount() > 0
+        fault = table_fault(self._data, self.name) if self.format == _SHAPEFILE and not has_columns else ""
+        if fault:
+            yield Lost("it has no values", fault)
         told = self._layer.GetMetadata(_SHAPEFILE_METADATA) if self.format == _SHAPEFILE else {}
         if told.get("CPG_VALUE") and not told.get("SOURCE_ENCODING"):
             yield Lost("its texts are read as UTF-8, as their encoding is unknown", f"its .cpg says {told['CPG_VALUE']:.40}")

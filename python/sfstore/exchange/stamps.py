@@ -8,10 +8,12 @@ import stat
 from collections.abc import Mapping
 from typing import NamedTuple, Optional
 
-__all__ = ["Stamp", "Stamps", "archive_of", "changed", "mode_of", "stamps_of"]
+__all__ = ["BESIDE", "Stamp", "Stamps", "archive_of", "changed", "mode_of", "stamps_of"]
 
-# What stands beside the file that is named, and is read with it. A `-shm` is written by readers too.
-_BESIDE = {".shp": (".shx", ".dbf", ".prj", ".cpg", ".qix", ".sbn"), ".gpkg": ("-wal", "-journal")}
+# A `-shm` is written by readers too.
+BESIDE = {".shp": (".shx", ".dbf", ".prj", ".cpg", ".qix", ".sbn"), ".gpkg": ("-wal", "-journal")}
+"""What stands beside the file that is named, and is read with it."""
+
 _OF_A_FOLDER = (".shp", ".gpkg", ".geojson", ".json", ".geojsonl", ".geojsons", ".fgb")
 
 # What stands before the path of an archive.
@@ -81,7 +83,7 @@ def _files(source: str) -> list[str]:
 def _set(path: str) -> list[str]:
     """A file, and what may stand beside it: beside a Shapefile in small or large letters."""
     stem, ending = os.path.splitext(path)
-    tails = _BESIDE.get(ending.lower(), ())
+    tails = BESIDE.get(ending.lower(), ())
     if ending.lower() == ".shp":
         return [path, *(stem + form for tail in tails for form in (tail, tail.upper()))]
     return [path, *(path + tail for tail in tails)]

@@ -212,6 +212,34 @@ class Others(DatabaseCase):
             self.assertIn(f"read back, the table wells {what}", err)
             self.assertEqual(self.ask("SELECT depth, ST_AsText(wkb_geometry) FROM wells"), [(7, "POINT(3 4)")])
 
+    def test_what_triggers_change_at_the_end_is_seen(self):
+        store = self.wells("layer add posts point", "add posts POINT (5 6)")
+        self.written(store, self.target, *PLAIN)
+        self.ask("CREATE FUNCTION other() RETURNS trigger LANGUAGE plpgsql AS "
+                 "'BEGIN UPDATE wells SET depth = -1 WHERE depth = 7; RETURN NULL; END'")
+        for table, kind, when in (
+            ("wells", "CONSTRAINT TRIGGER", "DEFERRABLE INITIALLY DEFERRED FOR EACH ROW"),
+            # A table that comes later.
+            ("posts", "TRIGGER", "FOR EACH STATEMENT"),
+        ):
+            self.ask(f"CREATE {kind} other AFTER INSERT ON {table} {when} EXECUTE FUNCTION other()")
+            err = self.refused(store, self.target, "--overwrite")
+            self.assertIn("read back, the table wells has '-1' for 7 in column depth of feature 1: nothing was written", err)
+            self.assertEqual(self.ask("SELECT depth FROM wells"), [(7,)])
+            self.ask(f"DROP TRIGGER other ON {table}")
+
+    def test_moments_without_a_zone_go_back_into_the_same_table(self):
+        self.ask("CREATE TABLE w (gid serial PRIMARY KEY, t timestamp, n int, geom geometry(Point)); "
+                 "INSERT INTO w (t, geom) VALUES ('2020-01-31 10:00:00.5', 'POINT(1 2)'), (NULL, 'POINT(1 3)')")
+        before = self.ask("SELECT t::text FROM w")
+        status, out, _ = bring_in(self.target, self.store, *PLAIN[:4])
+        self.assertEqual(status, 0, out)
+        with Store(self.store, journal=True, program=PROGRAM) as store:
+            store.set("w", 1, "n", 5)
+        self.written(self.store, self.target, "--overwrite")
+        self.assertEqual(self.ask("SELECT t::text FROM w"), before)
+        self.assertEqual(self.ask("SELECT n FROM w WHERE gid = 1"), [(5,)])
+
     def test_an_export_that_breaks_off_leaves_all_as_it_was(self):
         lines = ["layer add a point", "add a POINT (1 1)", "layer add b point", "column add b n int",
                  "add b POINT (1 1)", "set b 1 n 5"]

@@ -68,6 +68,47 @@ class Formats(ExchangeCase):
         self.assertIn("bad.geojson: 0 features read, 0 taken\n  does not open: ", out)
         self.assertNotIn("notes.txt", out)
 
+    def folder_of(self, **drivers):
+        """A folder with a map of each name, of its format."""
+        folder = self.folder / "maps"
+        shutil.rmtree(folder, ignore_errors=True)
+        folder.mkdir()
+        endings = {"GeoJSON": "geojson", "FlatGeobuf": "fgb", "ESRI Shapefile": "shp", "GPKG": "gpkg"}
+        for name, driver in drivers.items():
+            Source(folder / f"{name}.{endings[driver]}", driver).layer(name, {1: (POINT, {"n": 1})}, columns=[("n", ogr.OFTInteger)]).close()
+        return folder
+
+    def test_files_of_all_formats_of_a_folder_are_read(self):
+        folder = self.folder_of(a="ESRI Shapefile", b="GeoJSON", c="FlatGeobuf", d="GPKG")
+        shutil.make_archive(self.folder / "maps", "zip", folder)
+        for source in (folder, f"/vsizip/{self.folder}/maps.zip"):
+            status, out, _ = bring_in(source, self.store, *GRID, "--overwrite")
+            self.assertEqual(status, 0, out)
+            with Store(PROGRAM, load=self.store) as store:
+                self.assertEqual([layer.name for layer in store.layers()], ["a", "b", "c", "d"])
+                self.assertEqual(store.show("a")[0].values, {"n": 1})
+
+    def test_so_is_each_that_does_not_open_though_others_of_its_format_do(self):
+        for driver, name, break_it in (
+            ("ESRI Shapefile", "b.shp", lambda folder: (folder / "b.shp").write_bytes(b"")),
+            ("ESRI Shapefile", "b.shp", lambda folder: (folder / "b.shx").unlink()),
+            ("FlatGeobuf", "b.fgb", lambda folder: (folder / "b.fgb").write_bytes((folder / "b.fgb").read_bytes()[:60])),
+        ):
+            folder = self.folder_of(a=driver, b=driver)
+            break_it(folder)
+            status, out, _ = bring_in(folder, self.store, *GRID, "--overwrite")
+            self.assertEqual(status, 1, out)
+            self.assertIn(f"{name}: 0 features read, 0 taken\n  does not open: ", out)
+            with Store(PROGRAM, load=self.store) as store:
+                self.assertEqual([layer.name for layer in store.layers()], ["a"])
+
+    def test_a_folder_in_a_folder_is_told(self):
+        folder = self.folder_of(a="ESRI Shapefile")
+        shutil.copytree(folder, folder / "old")
+        status, out, _ = bring_in(folder, self.store, *GRID)
+        self.assertEqual(status, 1, out)
+        self.assertIn("old: 0 features read, 0 taken\n  does not open: it is a folder in a folder: name it alone\n", out)
+
 
 class Metadata(ExchangeCase):
     GOOD = {"name": "w", "next_id": 9, "next_column": 1, "columns": {}}

@@ -7,6 +7,7 @@ import time
 import unittest
 import zipfile
 from decimal import Decimal
+from unittest import mock
 
 from support import PROGRAM
 from test_exchange import HAS_GDAL, ExchangeCase, Source, bring_in, give_back
@@ -89,6 +90,31 @@ class Tables(TableCase):
         status, out, _ = self.brought(self.archived("a.shz"))
         self.assertEqual(status, 1)
         self.assertIn("it has no values: its .dbf is missing\n", out)
+
+    def test_a_table_that_ogr_passes_over_is_told(self):
+        self.shapefile([("n", ogr.OFTInteger, 9, 0)], [{"n": 1}])
+        table = self.folder / "w.dbf"
+        data = table.read_bytes()
+        for bad in (b"", b"y" * 200, data[:40]):
+            table.write_bytes(bad)
+            status, out, _ = self.brought(self.source)
+            self.assertEqual(status, 1, out)
+            self.assertIn("it has no values: its .dbf can't be read\n", out)
+        # One without columns has none.
+        table.write_bytes(data[:8] + (33).to_bytes(2, "little") + (1).to_bytes(2, "little") + data[12:32] + b"\r ")
+        self.assertEqual(self.brought(self.source)[0], 0)
+
+    def test_columns_that_are_none_of_letters_are_left_out_and_told(self):
+        for kind, shown in ((b"M", "memo"), (b"O", "'O' of dBase"), (b"+", "'+' of dBase")):
+            self.shapefile([("n", ogr.OFTInteger, 9, 0), ("m", ogr.OFTString, 10, 0)], [{"n": 1, "m": "ABCDEFGH"}])
+            data = bytearray((self.folder / "w.dbf").read_bytes())
+            data[64 + 11 : 64 + 12] = kind
+            (self.folder / "w.dbf").write_bytes(data)
+            for words in ((), ("--as-text",)):
+                status, out, _ = self.brought(self.source, *words)
+                self.assertEqual(status, 1, out)
+                self.assertIn(f"1 column of type {shown} is left out: m\n", out)
+                self.assertEqual(self.values(), [{"n": 1}])
 
     def test_what_is_no_day_becomes_no_other_text(self):
         days = [b"abcdefgh", b"31.01.20", b"20200231", b"2020    ", b"00000000", b"        ", b"20200131"]
@@ -270,6 +296,25 @@ class FlatGeobufs(TableCase):
                 self.assertEqual(self.brought(source)[0], 1)
                 numbers = {feature.values["n"] for feature in self.shown("w") if "n" in feature.values}
                 self.assertEqual(numbers, {2**53 + 1, 2**62 + 3, 5})
+
+    def test_zones_that_are_no_quarters_of_an_hour_are_the_very_ones(self):
+        moments = ("1890-01-01T05:53:28+05:53", "2020-01-31T10:00:00-00:01", "2020-01-31T10:00:00-25:00", "2020-01-31T10:00:00+05:45")
+        with mock.patch.object(FlatGeobufs, "MOMENTS", moments):
+            status, out, _ = self.brought(self.file(self.folder / "w.fgb", ["SPATIAL_INDEX=NO"]))
+        self.assertEqual(status, 1)
+        self.assertNotIn("without a zone", out)
+        self.assertIn("column at: 4 values are of another zone: kept in UTC\n", out)
+        wanted = ["1890-01-01 00:00:28", "2020-01-31 10:01:00", "2020-02-01 11:00:00", "2020-01-31 04:15:00"]
+        self.assertEqual([str(f["at"]) for f in self.values()[4:]], [f"{text}+00:00" for text in wanted])
+
+    def test_a_text_that_ogr_cuts_off_is_told(self):
+        path = self.folder / "w.fgb"
+        Source(path, "FlatGeobuf").layer("w", {0: ("POINT (1 2)", {"t": "ab#cd"})}, columns=[("t", ogr.OFTString)], crs=None).close()
+        path.write_bytes(path.read_bytes().replace(b"ab#cd", b"ab\0cd"))
+        status, out, _ = self.brought(path)
+        self.assertEqual(status, 1)
+        self.assertIn("1 a value that is none of the column's type String: 0 (the value 'ab\\x00cd' of column t is left out)", out)
+        self.assertEqual(self.values(), [{}])
 
     def test_as_texts_they_are_the_very_ones(self):
         status, out, _ = self.brought(self.file(self.folder / "w.fgb", ["SPATIAL_INDEX=NO"]), "--as-text")

@@ -7,6 +7,7 @@ import json
 import sqlite3
 import unittest
 from decimal import Decimal
+from unittest import mock
 
 from support import PROGRAM
 
@@ -14,6 +15,7 @@ from test_exchange import GRID, HAS_GDAL, ExchangeCase, Source, bring_in, give_b
 from test_exchange_postgis import HAS_SERVER, DatabaseCase
 
 from sfstore import Store
+from sfstore.exchange.srids import strangers
 
 if HAS_GDAL:
     from osgeo import ogr
@@ -369,6 +371,44 @@ class OfPostGis(DatabaseCase):
                 {"big": 7, "small": 6, "d": "2020-01-31", "t": "2020-01-31T10:00:00.500", "z": "2020-01-31T08:00:00Z"},
             ],
         )
+
+    def test_what_a_database_has_chosen_changes_no_value(self):
+        self.ask(
+            "CREATE TABLE w (gid serial PRIMARY KEY, d date, t timestamp, z timestamptz, f float8, r real, geom geometry(Point)); "
+            "INSERT INTO w (d, t, z, f, r, geom) VALUES ('2020-02-03', '2020-02-03 10:00', '1890-01-01 00:00+00', "
+            "0.1::float8 + 0.2::float8, 0.123456789, 'POINT(1 2)')"
+        )
+        self.ask("ALTER DATABASE town SET timezone = 'Europe/Berlin'; ALTER DATABASE town SET extra_float_digits = -3")
+        for style in ("SQL, DMY", "German", "Postgres"):
+            self.ask(f"ALTER DATABASE town SET datestyle = '{style}'")
+            status, out, err = bring_in(self.target, self.store, "--grid", "0", "0", "1", "--overwrite")
+            self.assertEqual((status, err), (0, ""), out)
+            utc = datetime.timezone.utc
+            self.assertEqual(
+                self.shown("w")[0].values,
+                {
+                    "d": datetime.date(2020, 2, 3),
+                    "t": datetime.datetime(2020, 2, 3, 10, tzinfo=utc),
+                    # In Berlin a clock was 53 minutes and 28 seconds before that of UTC then.
+                    "z": datetime.datetime(1890, 1, 1, tzinfo=utc),
+                    "f": Decimal("0.30000000000000004"),
+                    "r": Decimal("0.12345679"),
+                },
+            )
+
+    def test_all_that_is_read_is_of_one_moment(self):
+        self.ask("CREATE TABLE w (gid serial PRIMARY KEY, a numeric, b numeric, geom geometry(Point)); "
+                 "INSERT INTO w (a, b, geom) VALUES (12345678901234.56789, 1, 'POINT(1 2)')")
+
+        def changed(*found):
+            # Values that are no doubles were read before, and all others are read behind this.
+            self.ask("UPDATE w SET a = 22345678901234.56789, b = 2")
+            return strangers(*found)
+
+        with mock.patch("sfstore.exchange.sources.strangers", changed):
+            status, out, err = bring_in(self.target, self.store, "--grid", "0", "0", "1")
+        self.assertEqual((status, err), (0, ""), out)
+        self.assertEqual(self.shown("w")[0].values, {"a": Decimal("12345678901234.56789"), "b": Decimal(1)})
 
     def test_a_view_whose_identifiers_come_twice(self):
         self.ask("CREATE TABLE parts (n int, day date, geom geometry(Point)); CREATE VIEW w AS SELECT n AS ogc_fid, day, geom "

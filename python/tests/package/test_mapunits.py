@@ -56,6 +56,16 @@ class Coordinates(unittest.TestCase):
                 CENTIMETRES.steps(text)
             self.assertEqual(str(caught.exception), said)
 
+    def test_a_coordinate_of_very_many_digits_is_refused_at_once(self) -> None:
+        begin = time.process_time()
+        with self.assertRaises(NoPlace) as caught:
+            CENTIMETRES.steps(f"POINT (500000.{'3' * 300_000} 5600000)")
+        self.assertEqual(str(caught.exception), f"x 500000.{'3' * 33}.. has 300,007 letters, and a coordinate at most 1,000")
+        with self.assertRaises(ValueError):
+            MapUnits(f"0.{'3' * 300_000}", "0", "1")
+        self.assertLess(time.process_time() - begin, 1)
+        self.assertEqual(CENTIMETRES.steps(f"POINT (500000.{'0' * 900} 5600000)"), "POINT (0 0)")
+
     def test_what_is_no_coordinate_stays(self) -> None:
         for text in ("POINT (a b)", "POINT EMPTY", "POINT (nan inf)", "", "((", "POINT (1_0 0x1)"):
             self.assertEqual(CENTIMETRES.steps(text), text)
