@@ -1,6 +1,6 @@
 -- Which features are within a distance, what may be passed over, and that the answers are those over the plane.
-use Rattle.std.proofs.Common.{◌≡◌, ◌∙◌, ℕ, Bool, true, false, List, [], ◌∷◌, filter, Option, None, Some, Ok, IfOk, IsSome, IsTrue, Result, refl, ap, sym, subst}
-use Rattle.std.specs.Prelude.{◌↔◌, bytes_eq, cond}
+use Rattle.std.proofs.Common.{◌≡◌, ◌∙◌, ℕ, Bool, true, false, List, [], ◌∷◌, filter, Option, Some, Ok, IfOk, IsSome, IsTrue, Result, refl, ap, sym, subst}
+use Rattle.std.specs.Prelude.{◌↔◌, cond}
 use Rattle.std.specs.Global.{Vec}
 use Rattle.std.specs.List.{AllByRecursion}
 use Rattle.std.specs.Map.{keys_of, values_of}

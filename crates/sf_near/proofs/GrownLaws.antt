@@ -1,15 +1,15 @@
 -- A geometry that has a point within a reach of another one has a box that meets the other one's, grown by the reach.
-use Rattle.std.proofs.Common.{◌≡◌, ◌∙◌, refl, ap, sym, subst, ℕ, ◌*◌, ◌<◌, ℤ, pos, ◌+ℤ◌, ◌-ℤ◌, ◌*ℤ◌, ◌≤ℤ◌, arith, Bool, true, ◌&&◌, List, [], ◌∷◌}
+use Rattle.std.proofs.Common.{◌≡◌, refl, ℕ, ◌*◌, ◌<◌, ℤ, pos, ◌+ℤ◌, ◌-ℤ◌, ◌*ℤ◌, ◌≤ℤ◌, arith, true, ◌&&◌, List, [], ◌∷◌}
 use Rattle.std.specs.Prelude.{IsTrue, int_le}
 use Rattle.std.specs.Int.{int_max, int_min}
 use Rattle.std.specs.List.{AllByRecursion}
 use Rattle.std.proofs.lemmas.Bool.{and_from, and_parts}
 use Rattle.std.proofs.lemmas.Int.{clamps, ints}
-use Rattle.sf_grid.specs.Bounds.{IsCoordinate, grid_max, grid_min}
+use Rattle.sf_grid.specs.Bounds.{grid_max, grid_min}
 use Rattle.sf_grid.specs.Edge.{within}
 use Rattle.sf_grid.specs.Fraction.{fraction_le}
 use Rattle.sf_grid.specs.Plane.{Coordinates, IsOnGrid, IsPoint, Point, x_of, y_of}
-use Rattle.sf_grid.proofs.CallerLemmas.{dif, le_from_mul, le_from_test, mul, num, ring, sum, test_from_le, var}
+use Rattle.sf_grid.proofs.CallerLemmas.{dif, le_from_mul, le_from_test, mul, num, ring, test_from_le, var}
 use Rattle.sf_geometry.specs.declared.extent.Extent.{Extent}
 use Rattle.sf_geometry.specs.declared.geometry.Geometry.{Geometry}
 use Rattle.sf_geometry.specs.Envelope.{envelope_of, extent_of, extents_meet}

@@ -1,4 +1,4 @@
-use Rattle.std.proofs.Common.{◌≡◌, ◌∙◌, ap, subst, sym}
+use Rattle.std.proofs.Common.{◌∙◌, ap, sym}
 use Rattle.sf_distance.specs.Reaches.{square_of_reach}
 use Rattle.sf_layers.specs.Content.{layer_of}
 use Rattle.sf_query.proofs.QueryLaws.{layer-fits}
