@@ -53,11 +53,11 @@ fits : (a : Geometry) → LiesOnGrid a → Fits (envelope_of a)
 fits a h = fits-points (points_of a) h (points-in a)
 
 -- ---- a coordinate between two numbers
-record IsBetween (m n z : ℤ) (d : ℕ) : Type 0 where
-  low : (m *ℤ pos d) ≤ℤ z
-  high : z ≤ℤ (n *ℤ pos d)
+pub record IsBetween (m n z : ℤ) (d : ℕ) : Type 0 where
+  pub low : (m *ℤ pos d) ≤ℤ z
+  pub high : z ≤ℤ (n *ℤ pos d)
 
-between : (m n z : ℤ) (d : ℕ) → (int_le (m *ℤ pos d) z && int_le z (n *ℤ pos d)) ≡ true → IsBetween m n z d
+pub between : (m n z : ℤ) (d : ℕ) → (int_le (m *ℤ pos d) z && int_le z (n *ℤ pos d)) ≡ true → IsBetween m n z d
 between m n z d h =
     let parts = and_parts (int_le (m *ℤ pos d) z) (int_le z (n *ℤ pos d)) h in
     record { low = le_from_test (m *ℤ pos d) z parts.0; high = le_from_test z (n *ℤ pos d) parts.1 }
