@@ -1,12 +1,12 @@
 -- Geometries whose boxes have no two points farther apart than a bound are within it, since each has a point.
-use Rattle.std.proofs.Common.{◌≡◌, refl, ap, sym, ℕ, ◌+◌, ◌*◌, ℤ, pos, ◌+ℤ◌, ◌-ℤ◌, ◌*ℤ◌, ◌≤ℤ◌, ◌<ℤ◌, arith, [], ◌∷◌, true}
+use Rattle.std.proofs.Common.{◌≡◌, refl, ap, ℕ, ◌+◌, ◌*◌, ℤ, pos, ◌+ℤ◌, ◌-ℤ◌, ◌*ℤ◌, ◌≤ℤ◌, arith, [], ◌∷◌, true}
 use Rattle.std.specs.Prelude.{IsTrue}
 use Rattle.std.specs.Int.{int_max}
 use Rattle.std.proofs.lemmas.Bool.{and_parts}
 use Rattle.std.proofs.lemmas.Int.{clamps, ints, by_lt_z}
 use Rattle.sf_grid.specs.Edge.{within}
 use Rattle.sf_grid.specs.Fraction.{Fraction, fraction_le, whole}
-use Rattle.sf_grid.specs.Plane.{IsPoint, Point, x_of, y_of}
+use Rattle.sf_grid.specs.Plane.{Point, x_of, y_of}
 use Rattle.sf_grid.proofs.CallerLemmas.{dif, mul, mul_le, num, ring, sum, test_from_le, var}
 use Rattle.sf_geometry.specs.declared.extent.Extent.{Extent}
 use Rattle.sf_geometry.specs.declared.geometry.Geometry.{Geometry}

@@ -12,7 +12,7 @@ use super::grown::grown;
 use super::span::are_wholly_within;
 use sf_distance::{Reach, Square};
 use sf_geometry::Extent;
-use sf_nearness::is_within;
+use sf_nearness::Listed;
 use sf_rtree::{RTree, SpatialIndex};
 use sf_validity::Valid;
 use std::alloc::{AllocError, Global};
@@ -21,7 +21,7 @@ use std::marker::Model;
 /// A geometry and a reach, with what is asked of each feature's geometry. Contracts see the two.
 #[derive(Drop)]
 pub(crate) struct Surroundings<'a> {
-    given: &'a Valid,
+    given: Listed<'a>,
     reach: Reach,
     /// The square of the reach.
     bound: Square,
@@ -36,25 +36,33 @@ impl<'a> Model for Surroundings<'a> {
 
     ghost Value = { Surrounding };
 
-    ghost view = { λ s. record { geometry = s.given.now; reach = s.reach } };
+    ghost view = { λ s. record { geometry = s.given; reach = s.reach } };
 
-    ghost invariant = { λ s. AreKept s.given.now s.reach s.bound s.own s.extent };
+    ghost invariant = { λ s. AreKept s.given s.reach s.bound s.own s.extent };
 }
 
 impl<'a> Surroundings<'a> {
     /// Those of a geometry.
-    pub(crate) fn new(given: &'a Valid, reach: Reach) -> Surroundings<'a>
-        ensures same { result ≡ record { geometry = given.now; reach = reach } }
+    ///
+    /// # Errors
+    ///
+    /// Out of memory alone.
+    pub(crate) fn new(
+        alloc: Global,
+        given: &'a Valid,
+        reach: Reach,
+    ) -> Result<Surroundings<'a>, AllocError>
+        ensures same { IfOk result (λ around. around ≡ record { geometry = given.now; reach = reach }) }
         ensures held { IsHeld given.now }
     {
         let own = given.geometry().envelope();
-        Surroundings {
-            given,
+        Ok(Surroundings {
+            given: Listed::new(alloc, given)?,
             reach,
             bound: reach.square(),
             own,
             extent: grown(own, reach.steps()),
-        }
+        })
     }
 
     /// The identifiers of the boxes of an index that meet the grown box, rising. No other feature is within the reach.
@@ -85,6 +93,6 @@ impl<'a> Surroundings<'a> {
         if are_wholly_within(extent, self.own, &self.bound) {
             return Ok(true);
         }
-        is_within(alloc, geometry, self.given, &self.bound)
+        self.given.is_within(alloc, geometry, &self.bound)
     }
 }
