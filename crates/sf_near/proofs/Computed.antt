@@ -1,15 +1,17 @@
 -- Features within a distance, and grown boxes, computed.
-use Rattle.std.specs.Prelude.{◌≡◌, ℕ, pos, negsuc, ◌-◌, true, false, [], ◌∷◌, refl}
+use Rattle.std.specs.Prelude.{◌≡◌, ℕ, pos, negsuc, ◌-◌, ◌*◌, true, false, [], ◌∷◌, refl}
 use Rattle.sf_grid.specs.Plane.{Coordinates}
 use Rattle.sf_geometry.specs.declared.extent.Extent.{Extent}
 use Rattle.sf_geometry.specs.declared.geometry.Geometry.{Geometry}
 use Rattle.sf_geometry.specs.declared.geometry.Geometry.TheVariants.{LineString, Point, Polygon}
+use Rattle.sf_geometry.specs.Envelope.{extent_at}
 use Rattle.sf_distance.specs.Reaches.{reach_limit, square_of_reach, steps_of_reach}
 use Rattle.sf_features.specs.Features.{plain_feature}
 use Rattle.sf_layers.specs.declared.layer_kind.LayerKind.TheVariants.{Any}
 use Rattle.sf_layers.specs.Content.{LayerContent}
 use Rattle.sf_near.specs.Answers.{ids_within, is_within_of}
 use Rattle.sf_near.specs.Grown.{grown}
+use Rattle.sf_near.specs.Span.{square_of_span}
 
 at : ℕ → ℕ → Coordinates
 at x y = record { x = pos x; y = pos y }
@@ -117,3 +119,19 @@ grown_by_three = refl
 grown_to_all : grown (steps_of_reach (reach_limit - 1)) small ≡ all
 unfolding small all
 grown_to_all = refl
+
+-- ---- how far apart corners of two boxes are
+
+corners_of_points : square_of_span (extent_at (at 0 0)) (extent_at (at 3 4)) ≡ 25
+unfolding at
+corners_of_points = refl
+
+-- from -5, 0 to 8, 6: the second box begins within the first one
+farthest_corners : square_of_span small (record { min_x = pos 1; min_y = pos 1; max_x = pos 8; max_y = pos 6 }) ≡ 205
+unfolding small
+farthest_corners = refl
+
+-- over all numbers of 32 bits
+corners_of_all : square_of_span all all ≡ 2 * (4294967295 * 4294967295)
+unfolding all
+corners_of_all = refl

@@ -1,13 +1,13 @@
 -- Which features are within a distance, what may be passed over, and that the answers are those over the plane.
-use Rattle.std.proofs.Common.{◌≡◌, ◌∙◌, ℕ, Bool, true, false, List, [], ◌∷◌, filter, Option, None, Some, Ok, IfOk, IsSome, IsTrue, Result, refl, ap, sym, subst}
-use Rattle.std.specs.Prelude.{◌↔◌, bytes_eq, cond}
+use Rattle.std.proofs.Common.{◌≡◌, ◌∙◌, ℕ, Bool, true, false, List, [], ◌∷◌, filter, Option, Some, Ok, IfOk, IsSome, IsTrue, Result, refl, pos, ap, sym, subst}
+use Rattle.std.specs.Prelude.{◌↔◌, cond}
 use Rattle.std.specs.Global.{Vec}
 use Rattle.std.specs.List.{AllByRecursion}
 use Rattle.std.specs.Map.{keys_of, values_of}
 use Rattle.std.specs.Option.{option_map_or}
 use Rattle.std.proofs.lemmas.Bool.{both_ways, false_from_ne_true}
 use Rattle.std.proofs.lemmas.Result.{IfOk-weaker}
-use Rattle.sf_grid.specs.Fraction.{Fraction, fraction_eq}
+use Rattle.sf_grid.specs.Fraction.{Fraction, fraction_eq, fraction_le, whole}
 use Rattle.sf_geometry.specs.declared.extent.Extent.{Extent}
 use Rattle.sf_geometry.specs.declared.geometry.Geometry.{Geometry}
 use Rattle.sf_geometry.specs.Envelope.{envelope_of, extents_meet}
@@ -30,8 +30,10 @@ use Rattle.sf_query.proofs.FilterLaws.{IsFoundIn, each-filter, each-found, each-
 use Rattle.sf_near.specs.Answers.{ids_within, is_within_at, is_within_of}
 use Rattle.sf_near.specs.Grown.{grown}
 use Rattle.sf_near.specs.Replies.{AreWithin, IsFoundWithin, IsMeasured, IsMeasuredTo, WithinIsOverThePlane}
+use Rattle.sf_near.specs.Span.{square_of_span}
 use Rattle.sf_near.specs.Surrounding.{Surrounding}
 use Rattle.sf_near.proofs.GrownLaws.{near-boxes-meet}
+use Rattle.sf_near.proofs.SpanLaws.{whole-within}
 
 -- ---- one feature
 
@@ -63,6 +65,16 @@ pub told-far : (a g b : Geometry) (t : ℕ) (e k : Extent) (met : Bool) (s : Sur
 told-far a g b t e k met s ha hb same box more is none view =
     subst (λ (s : Surrounding). false ≡ is_within_of (square_of_reach s.reach) a s.geometry) view
     (sym (far-fails a b t ha hb (sym (is ∙ ap (λ x. extents_meet x k) (box ∙ ap envelope_of same) ∙ ap (extents_meet (envelope_of a)) more) ∙ none)))
+
+pub told-whole : (a g b : Geometry) (t : ℕ) (e k : Extent) (bound : Fraction) (s : Surrounding) → IsHeld a → IsHeld b → g ≡ a → e ≡ envelope_of g → k ≡ envelope_of b → bound ≡ square_of_reach t
+    → IsTrue (fraction_le (whole (pos (square_of_span e k))) bound) → ◌≡◌ {A = Surrounding} (record { geometry = b; reach = t }) s → true ≡ is_within_of (square_of_reach s.reach) a s.geometry
+told-whole a g b t e k bound s ha hb same box own is near view =
+    subst (λ (s : Surrounding). true ≡ is_within_of (square_of_reach s.reach) a s.geometry) view
+    (sym ((within-computed a b (square_of_reach t) ha.valid hb.valid).1
+    (subst (λ (f : Fraction). IsWithin (IsOf a) (IsOf b) f) is
+    (whole-within a b bound ha.valid hb.valid
+    (subst (λ (k : Extent). IsTrue (fraction_le (whole (pos (square_of_span (envelope_of a) k))) bound)) own
+    (subst (λ (e : Extent). IsTrue (fraction_le (whole (pos (square_of_span e k))) bound)) (box ∙ ap envelope_of same) near))))))
 
 pub told-near : {E : Type 0} (r : Result Bool E) (a b : Geometry) (bound : Fraction) (t : ℕ) (s : Surrounding) → IsHeld a → IsHeld b → bound ≡ square_of_reach t
     → ◌≡◌ {A = Surrounding} (record { geometry = b; reach = t }) s → IfOk r (λ answer. IsTrue answer ↔ IsWithin (IsOf a) (IsOf b) bound)

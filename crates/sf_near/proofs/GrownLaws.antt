@@ -1,15 +1,15 @@
 -- A geometry that has a point within a reach of another one has a box that meets the other one's, grown by the reach.
-use Rattle.std.proofs.Common.{◌≡◌, ◌∙◌, refl, ap, sym, subst, ℕ, ◌*◌, ◌<◌, ℤ, pos, ◌+ℤ◌, ◌-ℤ◌, ◌*ℤ◌, ◌≤ℤ◌, arith, Bool, true, ◌&&◌, List, [], ◌∷◌}
+use Rattle.std.proofs.Common.{◌≡◌, refl, ℕ, ◌*◌, ◌<◌, ℤ, pos, ◌+ℤ◌, ◌-ℤ◌, ◌*ℤ◌, ◌≤ℤ◌, arith, true, ◌&&◌, List, [], ◌∷◌}
 use Rattle.std.specs.Prelude.{IsTrue, int_le}
 use Rattle.std.specs.Int.{int_max, int_min}
 use Rattle.std.specs.List.{AllByRecursion}
 use Rattle.std.proofs.lemmas.Bool.{and_from, and_parts}
 use Rattle.std.proofs.lemmas.Int.{clamps, ints}
-use Rattle.sf_grid.specs.Bounds.{IsCoordinate, grid_max, grid_min}
+use Rattle.sf_grid.specs.Bounds.{grid_max, grid_min}
 use Rattle.sf_grid.specs.Edge.{within}
 use Rattle.sf_grid.specs.Fraction.{fraction_le}
 use Rattle.sf_grid.specs.Plane.{Coordinates, IsOnGrid, IsPoint, Point, x_of, y_of}
-use Rattle.sf_grid.proofs.CallerLemmas.{dif, le_from_mul, le_from_test, mul, num, ring, sum, test_from_le, var}
+use Rattle.sf_grid.proofs.CallerLemmas.{dif, le_from_mul, le_from_test, mul, num, ring, test_from_le, var}
 use Rattle.sf_geometry.specs.declared.extent.Extent.{Extent}
 use Rattle.sf_geometry.specs.declared.geometry.Geometry.{Geometry}
 use Rattle.sf_geometry.specs.Envelope.{envelope_of, extent_of, extents_meet}
@@ -53,11 +53,11 @@ fits : (a : Geometry) → LiesOnGrid a → Fits (envelope_of a)
 fits a h = fits-points (points_of a) h (points-in a)
 
 -- ---- a coordinate between two numbers
-record IsBetween (m n z : ℤ) (d : ℕ) : Type 0 where
-  low : (m *ℤ pos d) ≤ℤ z
-  high : z ≤ℤ (n *ℤ pos d)
+pub record IsBetween (m n z : ℤ) (d : ℕ) : Type 0 where
+  pub low : (m *ℤ pos d) ≤ℤ z
+  pub high : z ≤ℤ (n *ℤ pos d)
 
-between : (m n z : ℤ) (d : ℕ) → (int_le (m *ℤ pos d) z && int_le z (n *ℤ pos d)) ≡ true → IsBetween m n z d
+pub between : (m n z : ℤ) (d : ℕ) → (int_le (m *ℤ pos d) z && int_le z (n *ℤ pos d)) ≡ true → IsBetween m n z d
 between m n z d h =
     let parts = and_parts (int_le (m *ℤ pos d) z) (int_le z (n *ℤ pos d)) h in
     record { low = le_from_test (m *ℤ pos d) z parts.0; high = le_from_test z (n *ℤ pos d) parts.1 }

@@ -1,5 +1,5 @@
 -- Two points that are no farther apart than a reach: how far apart the numbers are between which their coordinates lie.
-use Rattle.std.proofs.Common.{◌≡◌, refl, ap, sym, ◌∙◌, ℕ, ◌+◌, ◌*◌, ◌/◌, ◌<◌, ℤ, pos, ◌+ℤ◌, ◌-ℤ◌, ◌*ℤ◌, ◌≤ℤ◌, ◌<ℤ◌, arith, [], ◌∷◌}
+use Rattle.std.proofs.Common.{◌≡◌, refl, ℕ, ◌*◌, ◌<◌, ℤ, pos, ◌+ℤ◌, ◌-ℤ◌, ◌*ℤ◌, ◌≤ℤ◌, arith, [], ◌∷◌}
 use Rattle.std.proofs.lemmas.Int.{ints, by_lt_z}
 use Rattle.sf_grid.proofs.CallerLemmas.{dif, le_from_mul, mul, mul_le, mul_nonneg-nonneg, num, ring, sum, var}
 use Rattle.sf_grid.proofs.OrderLaws.{product_pos}

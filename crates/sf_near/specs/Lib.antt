@@ -1,4 +1,5 @@
 pub mod Grown
+pub mod Span
 pub mod Surrounding
 pub mod Answers
 pub mod Replies

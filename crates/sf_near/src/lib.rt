@@ -4,6 +4,7 @@
 mod grown;
 pub mod laws;
 mod near;
+mod span;
 mod surroundings;
 
 pub use near::{distance_to, features_within};

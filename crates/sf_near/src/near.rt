@@ -34,7 +34,8 @@ pub fn features_within(
     let Some(layer) = store.layer(layer) else {
         return Err(Refusal::NoLayer);
     };
-    Ok(ids_within(alloc, layer, &Surroundings::new(given, reach))?)
+    let around = Surroundings::new(alloc, given, reach)?;
+    Ok(ids_within(alloc, layer, &around)?)
 }
 
 /// The square of the distance of a feature from the given geometry, in squared grid steps: some points of theirs, of all points of

@@ -3,7 +3,9 @@
 
 mod contact;
 pub mod laws;
+mod listed;
 mod nearness;
 mod segments;
 
+pub use listed::Listed;
 pub use nearness::{is_within, square_between};

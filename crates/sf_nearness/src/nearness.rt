@@ -9,9 +9,10 @@ ghost use Rattle.sf_nearness.specs.Segments.{IsOnSegments};
 ghost use Rattle.sf_nearness.specs.Sets.{IsOf};
 
 use super::contact::share_inside;
+use super::listed::Listed;
 use super::segments::segments_of;
 use sf_distance::Square;
-use sf_edge_distance::{are_within, least_square};
+use sf_edge_distance::least_square;
 use sf_validity::Valid;
 use std::alloc::{AllocError, Global};
 
@@ -40,10 +41,7 @@ pub fn square_between(alloc: Global, a: &Valid, b: &Valid) -> Result<Square, All
 pub fn is_within(alloc: Global, a: &Valid, b: &Valid, bound: &Square) -> Result<bool, AllocError>
     ensures { IfOk result (λ answer. IsTrue answer ↔ IsWithin (IsOf a.now) (IsOf b.now) (number_of bound.now)) }
 {
-    if are_segments_within(alloc, a, b, bound)? {
-        return Ok(true);
-    }
-    share_inside(alloc, a, b)
+    Listed::new(alloc, b)?.is_within(alloc, a, bound)
 }
 
 /// The square of the distance of the segments of two geometries.
@@ -53,18 +51,4 @@ fn square_of_segments(alloc: Global, a: &Valid, b: &Valid) -> Result<Square, All
     let first = segments_of(alloc, a)?;
     let second = segments_of(alloc, b)?;
     Ok(least_square(first.as_slice(), second.as_slice()))
-}
-
-/// Whether some points of segments of two geometries are no farther apart than the root of a bound.
-fn are_segments_within(
-    alloc: Global,
-    a: &Valid,
-    b: &Valid,
-    bound: &Square,
-) -> Result<bool, AllocError>
-    ensures { IfOk result (λ answer. IsTrue answer ↔ IsWithin (IsOnSegments a.now) (IsOnSegments b.now) (number_of bound.now)) }
-{
-    let first = segments_of(alloc, a)?;
-    let second = segments_of(alloc, b)?;
-    Ok(are_within(first.as_slice(), second.as_slice(), bound))
 }
