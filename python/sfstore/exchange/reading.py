@@ -295,14 +295,16 @@ class LayerImport:
         if len(set(identifiers)) < len(identifiers) or least < 0 or most + shift + len(self._further) > _LAST_ID:
             self._note("the features are numbered anew from 1, in the source's order")
             numbers = list(range(1, len(sources) + 1))
-            if self._layer.identifier_column:
-                self._keep_identifiers()
+            is_kept = False
         else:
             if shift:
                 self._note("identifiers begin with 0 in the source: each is greater by 1")
             numbers = [number + shift for number in sources]
+            is_kept = not shift
             for at, place in enumerate(self._further, 1):
                 numbers[place] = most + shift + at
+        if not is_kept and self._layer.identifier_column:
+            self._keep_identifiers()
         if numbers != sources:
             self._source_of = _sources_of(numbers, sources)
             self._features = [feature._replace(id=number) for feature, number in zip(self._features, numbers)]
