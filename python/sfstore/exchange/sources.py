@@ -35,14 +35,14 @@ _PLAIN_TABLES = """
         WHERE attrelid = pg_class.oid AND NOT attisdropped AND format_type(atttypid, NULL) ~ '(^|[.])(geometry|geography)$')
     ORDER BY 1
 """
-# How a session of a database writes values, whatever its server, database and role have chosen; and that all that is
-# read is of one moment.
-_SESSION = (
-    "SET datestyle = 'ISO'",
-    "SET timezone = 'UTC'",
-    "SET extra_float_digits = 3",
-    "SET standard_conforming_strings = on",
-    "SET SESSION CHARACTERISTICS AS TRANSACTION ISOLATION LEVEL REPEATABLE READ, READ ONLY",
+# That all that is read of a database is of one moment; and how it writes values, whatever server, database and role have
+# chosen.
+_TRANSACTION = (
+    "SET TRANSACTION ISOLATION LEVEL REPEATABLE READ, READ ONLY",
+    "SET LOCAL datestyle = 'ISO'",
+    "SET LOCAL timezone = 'UTC'",
+    "SET LOCAL extra_float_digits = 3",
+    "SET LOCAL standard_conforming_strings = on",
 )
 _SHAPEFILE_METADATA = "SHAPEFILE"
 _JSON = ("GeoJSON", "GeoJSONSeq")
@@ -105,7 +105,7 @@ def _opened(name: str, any_format: bool) -> Source:
         # OGR reads it otherwise: it changes numbers, and drops names that stand twice, without a word.
         raise ogr.ExchangeError(f"{ogr.printable(name):.200} is GeoJSON, and no file that begins as one: name its file alone")
     if data.GetDriver().ShortName == _DATABASE:
-        _begin_session(data)
+        _begin(data)
     metadata = data.GetMetadataItem(wayback.ITEM) if data.GetDriver().ShortName == "GPKG" else ""
     layers: list[Layer] = [OgrLayer(data, at) for at in range(data.GetLayerCount())]
     is_whole = data.GetDriver().ShortName in ogr.DRIVERS
@@ -159,11 +159,11 @@ def _names_in(folder: str) -> list[str]:
     return sorted(name for name in names or [] if name not in (".", ".."))
 
 
-def _begin_session(data: Any) -> None:
-    """Has a database write values as OGR reads them, and begins the transaction in which all is read."""
-    for statement in _SESSION:
-        data.ExecuteSQL(statement)
+def _begin(data: Any) -> None:
+    """Begins the transaction in which a database is read, and has it write values as OGR reads them."""
     data.StartTransaction()
+    for statement in _TRANSACTION:
+        data.ExecuteSQL(statement)
 
 
 def _plain_tables(data: Any, layers: Sequence[Layer]) -> list[str]:
