@@ -105,8 +105,8 @@ class LayerImport:
         """The layer as the store is to have it. `ogr.ExchangeError` where the source breaks off."""
         for source_name, name in self._fields.renamed:
             self._note(f"column {source_name!r} has the name {name}")
-        self._fields.find_odd()
-        with Store(self._taking.program) as scratch:
+        with self._layer.reading(), Store(self._taking.program) as scratch:
+            self._fields.find_odd()
             scratch.add_layer("c", self._taken_kind)
             for batch in self._batches():
                 self._judge(scratch, batch)

@@ -2,6 +2,7 @@
 
 from __future__ import annotations
 
+import contextlib
 import os
 from collections.abc import Iterator, Mapping, Sequence
 from functools import reduce
@@ -35,8 +36,8 @@ _PLAIN_TABLES = """
         WHERE attrelid = pg_class.oid AND NOT attisdropped AND format_type(atttypid, NULL) ~ '(^|[.])(geometry|geography)$')
     ORDER BY 1
 """
-# That all that is read of a database is of one moment; and how it writes values, whatever server, database and role have
-# chosen.
+# That all that is read of a layer is of one moment; and how a database writes values, whatever server, database and role
+# have chosen.
 _TRANSACTION = (
     "SET TRANSACTION ISOLATION LEVEL REPEATABLE READ, READ ONLY",
     "SET LOCAL datestyle = 'ISO'",
@@ -104,8 +105,6 @@ def _opened(name: str, any_format: bool) -> Source:
     if data.GetDriver().ShortName in _JSON and not any_format:
         # OGR reads it otherwise: it changes numbers, and drops names that stand twice, without a word.
         raise ogr.ExchangeError(f"{ogr.printable(name):.200} is GeoJSON, and no file that begins as one: name its file alone")
-    if data.GetDriver().ShortName == _DATABASE:
-        _begin(data)
     metadata = data.GetMetadataItem(wayback.ITEM) if data.GetDriver().ShortName == "GPKG" else ""
     layers: list[Layer] = [OgrLayer(data, at) for at in range(data.GetLayerCount())]
     is_whole = data.GetDriver().ShortName in ogr.DRIVERS
@@ -159,13 +158,6 @@ def _names_in(folder: str) -> list[str]:
     return sorted(name for name in names or [] if name not in (".", ".."))
 
 
-def _begin(data: Any) -> None:
-    """Begins the transaction in which a database is read, and has it write values as OGR reads them."""
-    data.StartTransaction()
-    for statement in _TRANSACTION:
-        data.ExecuteSQL(statement)
-
-
 def _plain_tables(data: Any, layers: Sequence[Layer]) -> list[str]:
     """The tables of a database that have no geometries, which OGR does not list, but for those of extensions."""
     if data.GetDriver().ShortName != _DATABASE:
@@ -205,7 +197,25 @@ class OgrLayer(Layer):
         return self._crs
 
     def count(self) -> int:
-        return int(self._layer.GetFeatureCount())
+        try:
+            return int(self._layer.GetFeatureCount())
+        except RuntimeError as error:
+            raise ogr.ExchangeError(f"layer {ogr.printable(self.name)} can't be read: {error}") from None
+
+    @contextlib.contextmanager
+    def reading(self) -> Iterator[None]:
+        if self.format != _DATABASE:
+            yield
+            return
+        self._data.StartTransaction()
+        for statement in _TRANSACTION:
+            self._data.ExecuteSQL(statement)
+        try:
+            yield
+        finally:
+            # Where the database broke off, that is said already.
+            with contextlib.suppress(RuntimeError):
+                self._data.RollbackTransaction()
 
     def features(self) -> Iterator[Feature]:
         found = strangers(self._data, self._layer)

@@ -240,6 +240,17 @@ class Others(DatabaseCase):
         self.assertEqual(self.ask("SELECT t::text FROM w"), before)
         self.assertEqual(self.ask("SELECT n FROM w WHERE gid = 1"), [(5,)])
 
+    def test_who_may_read_some_tables_alone(self):
+        self.ask("CREATE TABLE a (id serial PRIMARY KEY, geom geometry(Point)); INSERT INTO a (geom) VALUES ('POINT(1 2)'); "
+                 "CREATE TABLE b (LIKE a INCLUDING ALL); INSERT INTO b SELECT * FROM a; CREATE ROLE few LOGIN; GRANT SELECT ON a TO few")
+        self.addCleanup(lambda: self.ask("DROP OWNED BY few; DROP ROLE few"))
+        source = f"{self.target} user=few"
+        status, out, err = bring_in(source, self.store, *PLAIN[:4])
+        self.assertEqual((status, out), (3, ""), err)
+        self.assertIn("sfstore-import: layer b can't be read: ERROR:  permission denied for table b", err)
+        status, out, err = bring_in(source, self.store, *PLAIN[:4], "--layer", "a")
+        self.assertEqual((status, out, err), (0, "a: 1 features read, 1 taken\n", ""))
+
     def test_keys_that_no_store_has_stay_those_of_their_rows(self):
         for first, second in ((5_000_000_000, -4), (0, 1)):
             self.ask("DROP TABLE IF EXISTS w; CREATE TABLE w (osm bigint PRIMARY KEY, n int, geom geometry(Point)); "
