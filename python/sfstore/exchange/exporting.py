@@ -7,6 +7,7 @@ has a place for it. What it can't keep is said before anything is written.
 from __future__ import annotations
 
 import argparse
+import contextlib
 import hashlib
 import os
 import subprocess  # nosec B404: the store's own program is started, without a shell.
@@ -16,7 +17,7 @@ from dataclasses import dataclass
 
 from sfstore import files, journal, sidecar
 from sfstore.commandline import add_version
-from sfstore.exchange import ogr, outcome, rulesfile
+from sfstore.exchange import ogr, outcome, rulesfile, wayback
 from sfstore.exchange.formats import FORMATS, Part, format_of, parts_of, rules_kept
 from sfstore.exchange.geojson import crs_member
 from sfstore.exchange.grid import Grid
@@ -157,6 +158,8 @@ def _write_file(wishes: Wishes, parts: list[Part], found: Sidecar, rules: list[R
         names = _names(name, wishes.format)[1:]
     place = Place(folder, names, None, wishes.overwrite, _mode(wishes))
     _check_strangers(place, wishes.format)
+    if wishes.format == "GPKG" and wishes.overwrite:
+        _check_tables(place.path(name), parts)
     with placed(place, say) as new:
         write_data(os.path.join(new, place.leading), wishes.format, parts, found, rules)
         _check_strangers(place, wishes.format)
@@ -185,6 +188,25 @@ def _check_strangers(place: Place, name: str) -> None:
                     f"{place.path(found)} would be read with the new {place.leading}, and is of "
                     "another one: take it away, or name another file"
                 )
+
+
+def _check_tables(path: str, parts: list[Part]) -> None:
+    """`ogr.ExchangeError` where a GeoPackage has tables that would go with it: none of the new one's, nor of an export."""
+    try:
+        old = ogr.open_data(path, ["GPKG"])
+    except RuntimeError:
+        # It is none, or not there.
+        return
+    ours = {part.name.casefold() for part in parts}
+    with contextlib.suppress(ValueError):
+        ours.update(map(str.casefold, wayback.read(old.GetMetadataItem(wayback.ITEM) or "{}").layers))
+    names = [old.GetLayer(at).GetName() for at in range(old.GetLayerCount())]
+    lost = [name for name in names if name.casefold() not in ours]
+    if lost:
+        raise ogr.ExchangeError(
+            f"{path} has tables that the store has not, and they would be lost: {ogr.printable(', '.join(lost))}. "
+            "Name another file, or take that one away"
+        )
 
 
 def _write_folder(wishes: Wishes, parts: list[Part], found: Sidecar, say: Say) -> None:

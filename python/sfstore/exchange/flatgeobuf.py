@@ -1,8 +1,8 @@
 """What OGR does not say of a FlatGeobuf: values that it changes, or leaves out.
 
-It makes doubles of whole numbers of 64 bits without a sign, cuts moments off behind the milliseconds and texts at a zero
-byte, passes over zones that are no quarters of an hour, and leaves out what it does not know as a moment. The format is
-https://flatgeobuf.org: a head, an index, and then the features, each a table of https://flatbuffers.dev behind its size.
+It makes doubles of whole numbers of 64 bits without a sign, and cuts texts off at a zero byte. It cuts moments off behind the
+milliseconds, passes over zones that are no quarters of an hour, and leaves out what it does not know as a moment. The format
+is https://flatgeobuf.org: a head, an index, and then the features, each a table of https://flatbuffers.dev behind its size.
 """
 
 from __future__ import annotations

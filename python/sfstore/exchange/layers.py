@@ -5,6 +5,7 @@
 
 from __future__ import annotations
 
+import contextlib
 from abc import ABC, abstractmethod
 from collections.abc import Iterator, Mapping, Sequence
 from typing import Any, NamedTuple
@@ -98,6 +99,11 @@ class Layer(ABC):
     @abstractmethod
     def count(self) -> int:
         """How many features there are, or less than 0 where that is not known."""
+
+    @contextlib.contextmanager
+    def reading(self) -> Iterator[None]:
+        """In the body all that is read is of one moment. A file that changes meanwhile is found out afterwards."""
+        yield
 
     @abstractmethod
     def features(self) -> Iterator[Feature]:

@@ -403,16 +403,16 @@ class _LayerExport:
     def _make(self) -> None:
         export, part = self._export, self._part
         kind = f"({_KINDS[part.layer.kind]},{self._srid})"
-        defined = [self._identifier()]
+        defined = [self._identifier("PRIMARY KEY")]
         geometry = export.quoted(part.geometry_column), export.of_postgis("geometry"), export.plain(kind)
         defined.append(export.format("{} {}{}", *geometry))
         defined += [self._definition(column) for column in self._columns]
         export.run("CREATE TABLE {} ({})", self._name, export.plain(", ").join(defined))
 
-    def _identifier(self) -> Any:
+    def _identifier(self, key: str) -> Any:
         small = self._part.next_id - 1 <= _INT_32_MAX
-        kind = self._export.plain("serial" if small else "bigserial")
-        return self._export.format("{} {} PRIMARY KEY", self._export.quoted(self._part.identifier_column), kind)
+        kind = self._export.plain(f"{'serial' if small else 'bigserial'} {key}")
+        return self._export.format("{} {}", self._export.quoted(self._part.identifier_column), kind)
 
     def _definition(self, column: _Column) -> Any:
         return self._export.format("{} {}", self._export.quoted(column.name), self._export.plain(_type(column.sort)))
@@ -421,7 +421,8 @@ class _LayerExport:
         """Takes the rows away, and adds the columns that are missing."""
         self._export.run("TRUNCATE ONLY {}", self._name)
         if self._part.identifier_column not in self._table.columns:
-            self._export.run("ALTER TABLE {} ADD COLUMN {}", self._name, self._identifier())
+            # The table may have a key of its own.
+            self._export.run("ALTER TABLE {} ADD COLUMN {}", self._name, self._identifier("UNIQUE"))
         for column in self._columns:
             if column.name not in self._table.columns:
                 self._export.run("ALTER TABLE {} ADD COLUMN {}", self._name, self._definition(column))

@@ -6,10 +6,11 @@ from collections.abc import Callable, Iterator, Mapping
 from typing import Any, NamedTuple
 
 from sfstore.exchange import ogr
+from sfstore.exchange.columns import INTEGER_64
 from sfstore.exchange.grid import Grid, OffGrid, Outside, Rounding
 from sfstore.exchange.layers import Feature, Layer
 from sfstore.exchange.mending import mended
-from sfstore.exchange.names import kept_name
+from sfstore.exchange.names import Names, kept_name
 from sfstore.exchange.reports import Report
 from sfstore.exchange.wayback import LeftLayer
 from sfstore.faults import fault_at
@@ -18,7 +19,7 @@ from sfstore.language import COLUMNS_MAX, IDENTIFIER_MAX, POINTS_MAX
 from sfstore.refusals import words_of
 from sfstore.sidecar import ColumnOrigin, LayerOrigin
 from sfstore.store import Kind, Refused, Store
-from sfstore.storefile import FileColumn, FileFeature, FileLayer
+from sfstore.storefile import INT, FileColumn, FileFeature, FileLayer
 
 __all__ = ["LayerImport", "Taking"]
 
@@ -104,19 +105,19 @@ class LayerImport:
         """The layer as the store is to have it. `ogr.ExchangeError` where the source breaks off."""
         for source_name, name in self._fields.renamed:
             self._note(f"column {source_name!r} has the name {name}")
-        self._fields.find_odd()
-        with Store(self._taking.program) as scratch:
+        with self._layer.reading(), Store(self._taking.program) as scratch:
+            self._fields.find_odd()
             scratch.add_layer("c", self._taken_kind)
             for batch in self._batches():
                 self._judge(scratch, batch)
         self._columns, self._features, self._origins = self._fields.finished(self._features)
-        if len(self._columns) > COLUMNS_MAX:
-            shown = f"{ogr.printable(self._source_name)} has {len(self._columns):,} columns"
-            raise ogr.ExchangeError(f"{shown}, and a layer of the store at most {COLUMNS_MAX:,}")
         for note in self._fields.notes:
             self._note(note)
         self._make_multi()
         self._number_features()
+        if len(self._columns) > COLUMNS_MAX:
+            shown = f"{ogr.printable(self._source_name)} has {len(self._columns):,} columns"
+            raise ogr.ExchangeError(f"{shown}, and a layer of the store at most {COLUMNS_MAX:,}")
         self._tell()
         # It is held until all layers are written: what was needed to read it is not.
         self._identifiers.clear()
@@ -294,16 +295,30 @@ class LayerImport:
         if len(set(identifiers)) < len(identifiers) or least < 0 or most + shift + len(self._further) > _LAST_ID:
             self._note("the features are numbered anew from 1, in the source's order")
             numbers = list(range(1, len(sources) + 1))
+            is_kept = False
         else:
             if shift:
                 self._note("identifiers begin with 0 in the source: each is greater by 1")
             numbers = [number + shift for number in sources]
+            is_kept = not shift
             for at, place in enumerate(self._further, 1):
                 numbers[place] = most + shift + at
+        if not is_kept and self._layer.identifier_column:
+            self._keep_identifiers()
         if numbers != sources:
             self._source_of = _sources_of(numbers, sources)
             self._features = [feature._replace(id=number) for feature, number in zip(self._features, numbers)]
         self._features.sort(key=lambda feature: feature.id)
+
+    def _keep_identifiers(self) -> None:
+        """Has the identifiers that the source has in a column in one of the store, as these are no other's."""
+        source_name = self._layer.identifier_column
+        name = Names(column.name for column in self._columns).new(source_name)
+        number = len(self._columns) + 1
+        self._columns.append(FileColumn(number, INT, name))
+        self._origins.append(ColumnOrigin(name, kept_name(source_name, name), INTEGER_64, "None", 0))
+        self._features = [feature._replace(values={**feature.values, number: feature.id}) for feature in self._features]
+        self._note(f"identifiers that the store can't have are in the column {name}")
 
     def _kind(self) -> int:
         """The declared kind where all features have it, that of a Shapefile's Multi forms, else that any is taken."""

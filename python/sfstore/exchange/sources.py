@@ -2,6 +2,7 @@
 
 from __future__ import annotations
 
+import contextlib
 import os
 from collections.abc import Iterator, Mapping, Sequence
 from functools import reduce
@@ -35,14 +36,14 @@ _PLAIN_TABLES = """
         WHERE attrelid = pg_class.oid AND NOT attisdropped AND format_type(atttypid, NULL) ~ '(^|[.])(geometry|geography)$')
     ORDER BY 1
 """
-# How a session of a database writes values, whatever its server, database and role have chosen; and that all that is
-# read is of one moment.
-_SESSION = (
-    "SET datestyle = 'ISO'",
-    "SET timezone = 'UTC'",
-    "SET extra_float_digits = 3",
-    "SET standard_conforming_strings = on",
-    "SET SESSION CHARACTERISTICS AS TRANSACTION ISOLATION LEVEL REPEATABLE READ, READ ONLY",
+# That all that is read of a layer is of one moment; and how a database writes values, whatever server, database and role
+# have chosen.
+_TRANSACTION = (
+    "SET TRANSACTION ISOLATION LEVEL REPEATABLE READ, READ ONLY",
+    "SET LOCAL datestyle = 'ISO'",
+    "SET LOCAL timezone = 'UTC'",
+    "SET LOCAL extra_float_digits = 3",
+    "SET LOCAL standard_conforming_strings = on",
 )
 _SHAPEFILE_METADATA = "SHAPEFILE"
 _JSON = ("GeoJSON", "GeoJSONSeq")
@@ -104,8 +105,6 @@ def _opened(name: str, any_format: bool) -> Source:
     if data.GetDriver().ShortName in _JSON and not any_format:
         # OGR reads it otherwise: it changes numbers, and drops names that stand twice, without a word.
         raise ogr.ExchangeError(f"{ogr.printable(name):.200} is GeoJSON, and no file that begins as one: name its file alone")
-    if data.GetDriver().ShortName == _DATABASE:
-        _begin_session(data)
     metadata = data.GetMetadataItem(wayback.ITEM) if data.GetDriver().ShortName == "GPKG" else ""
     layers: list[Layer] = [OgrLayer(data, at) for at in range(data.GetLayerCount())]
     is_whole = data.GetDriver().ShortName in ogr.DRIVERS
@@ -159,13 +158,6 @@ def _names_in(folder: str) -> list[str]:
     return sorted(name for name in names or [] if name not in (".", ".."))
 
 
-def _begin_session(data: Any) -> None:
-    """Has a database write values as OGR reads them, and begins the transaction in which all is read."""
-    for statement in _SESSION:
-        data.ExecuteSQL(statement)
-    data.StartTransaction()
-
-
 def _plain_tables(data: Any, layers: Sequence[Layer]) -> list[str]:
     """The tables of a database that have no geometries, which OGR does not list, but for those of extensions."""
     if data.GetDriver().ShortName != _DATABASE:
@@ -205,7 +197,25 @@ class OgrLayer(Layer):
         return self._crs
 
     def count(self) -> int:
-        return int(self._layer.GetFeatureCount())
+        try:
+            return int(self._layer.GetFeatureCount())
+        except RuntimeError as error:
+            raise ogr.ExchangeError(f"layer {ogr.printable(self.name)} can't be read: {error}") from None
+
+    @contextlib.contextmanager
+    def reading(self) -> Iterator[None]:
+        if self.format != _DATABASE:
+            yield
+            return
+        self._data.StartTransaction()
+        for statement in _TRANSACTION:
+            self._data.ExecuteSQL(statement)
+        try:
+            yield
+        finally:
+            # Where the database broke off, that is said already.
+            with contextlib.suppress(RuntimeError):
+                self._data.RollbackTransaction()
 
     def features(self) -> Iterator[Feature]:
         found = strangers(self._data, self._layer)

@@ -312,8 +312,13 @@ class Import(ExchangeCase):
         status, out, _ = bring_in(self.source, self.store, *GRID)
         self.assertEqual(status, 0)
         self.assertIn("numbered anew from 1", out)
-        shown = [(feature.id, feature.wkt) for feature in self.shown("wells")]
-        self.assertEqual(shown, [(1, "POINT (100 0)"), (2, "POINT (0 0)")])
+        self.assertIn("identifiers that the store can't have are in the column fid\n", out)
+        shown = [(feature.id, feature.wkt, feature.values) for feature in self.shown("wells")]
+        self.assertEqual(shown, [(1, "POINT (100 0)", {"fid": 7}), (2, "POINT (0 0)", {"fid": 2**33})])
+        # They stay those of the features.
+        self.assertEqual(give_back(self.store, self.target)[0], 0)
+        self.assertEqual(bring_in(self.target, self.folder / "again.sfs")[0], 0)
+        self.assertEqual((self.folder / "again.sfs").read_bytes(), self.store.read_bytes())
 
     def test_words_that_are_wrong(self):
         self.points({})

@@ -240,6 +240,30 @@ class Others(DatabaseCase):
         self.assertEqual(self.ask("SELECT t::text FROM w"), before)
         self.assertEqual(self.ask("SELECT n FROM w WHERE gid = 1"), [(5,)])
 
+    def test_who_may_read_some_tables_alone(self):
+        self.ask("CREATE TABLE a (id serial PRIMARY KEY, geom geometry(Point)); INSERT INTO a (geom) VALUES ('POINT(1 2)'); "
+                 "CREATE TABLE b (LIKE a INCLUDING ALL); INSERT INTO b SELECT * FROM a; CREATE ROLE few LOGIN; GRANT SELECT ON a TO few")
+        self.addCleanup(lambda: self.ask("DROP OWNED BY few; DROP ROLE few"))
+        source = f"{self.target} user=few"
+        status, out, err = bring_in(source, self.store, *PLAIN[:4])
+        self.assertEqual((status, out), (3, ""), err)
+        self.assertIn("sfstore-import: layer b can't be read: ERROR:  permission denied for table b", err)
+        status, out, err = bring_in(source, self.store, *PLAIN[:4], "--layer", "a")
+        self.assertEqual((status, out, err), (0, "a: 1 features read, 1 taken\n", ""))
+
+    def test_keys_that_no_store_has_stay_those_of_their_rows(self):
+        for first, second in ((5_000_000_000, -4), (0, 1)):
+            self.ask("DROP TABLE IF EXISTS w; CREATE TABLE w (osm bigint PRIMARY KEY, n int, geom geometry(Point)); "
+                     f"INSERT INTO w VALUES ({first}, 1, 'POINT(1 2)'), ({second}, 2, 'POINT(1 3)')")
+            before = self.ask("SELECT osm, n, geom FROM w ORDER BY n")
+            status, out, _ = bring_in(self.target, self.store, *PLAIN[:4], "--overwrite")
+            self.assertEqual(status, 0, out)
+            self.assertIn("identifiers that the store can't have are in the column osm\n", out)
+            for _ in range(2):
+                err = self.written(self.store, self.target, "--overwrite")
+                self.assertIn("the name osm of a column that OGR makes: it is osm_2 there", err)
+                self.assertEqual(self.ask("SELECT osm, n, geom FROM w ORDER BY n"), before)
+
     def test_an_export_that_breaks_off_leaves_all_as_it_was(self):
         lines = ["layer add a point", "add a POINT (1 1)", "layer add b point", "column add b n int",
                  "add b POINT (1 1)", "set b 1 n 5"]

@@ -2,6 +2,7 @@
 
 from __future__ import annotations
 
+import contextlib
 import os
 import signal
 import sqlite3
@@ -60,6 +61,26 @@ class SetCase(ExchangeCase):
         return [name for name in names if not name.endswith(".lock")]
 
 
+class Tables(SetCase):
+    def test_a_geopackage_with_tables_of_others_is_not_replaced(self):
+        store, target = self.made("t.sfs", WELLS), self.folder / "out.gpkg"
+        self.assertEqual(give_back(store, target, *PLAIN)[0], 0)
+        with contextlib.closing(sqlite3.connect(target)) as opened:
+            opened.executescript("CREATE TABLE layer_styles (id integer PRIMARY KEY, style text); INSERT INTO layer_styles VALUES (1, 'red')")
+        before = target.read_bytes()
+        status, _, err = give_back(store, target, "--overwrite")
+        self.assertEqual(status, 3)
+        self.assertIn(f"{target} has tables that the store has not, and they would be lost: layer_styles. Name another file", err)
+        self.assertEqual(target.read_bytes(), before)
+
+    def test_one_that_has_what_an_export_has_left_is_replaced(self):
+        store, target = self.made("t.sfs", WELLS), self.folder / "out.gpkg"
+        self.assertEqual(give_back(store, target, *PLAIN)[0], 0)
+        with Store(store, journal=True, program=PROGRAM) as opened:
+            opened.run_all(["layer rename wells springs"])
+        self.assertEqual(give_back(store, target, "--overwrite")[0], 0)
+
+
 class Sets(SetCase):
     def test_a_shapefile_is_written_with_all_of_its_files(self):
         store, target = self.made("t.sfs", WELLS), self.folder / "out.shp"
@@ -107,6 +128,7 @@ class Sets(SetCase):
         status, _, err = give_back(store, target, "--overwrite")
         self.assertEqual(status, 3)
         self.assertIn("would be read with the new out.gpkg", err)
+        writer.execute("DROP TABLE mine")
         writer.close()
         self.assertEqual(give_back(store, target, "--overwrite")[0], 0)
 
