@@ -1,7 +1,7 @@
 """How a group of edits is written: as lines, a head and its members, or as one text with carriage returns between them.
 
-The text is what a journal's record has, and an entry of the log of replicas. No other accepted line has a carriage
-return inside.
+The text is what a journal's record has, and an entry of the log of replicas. No member has a carriage return inside;
+another line has one only within a text in quotes, and is no group.
 """
 
 from __future__ import annotations

@@ -10,6 +10,7 @@ import contextlib
 import fcntl
 import hashlib
 import os
+import re
 import time
 from collections.abc import Iterable, Iterator
 from dataclasses import dataclass
@@ -53,6 +54,8 @@ LOCK_SECONDS = 2.0
 _TITLE = b"sfstore-journal 3 "
 # How many bytes stand before a text: the digits of its sum and a blank.
 _MARK = 17
+# What begins so is accepted as a group alone.
+_GROUP = re.compile(rb"[ \t]*(?:@[0-9]{1,3}[ \t]+)?together[ \t]")
 
 
 def _row(bits: int) -> int:
@@ -158,9 +161,9 @@ def read_kept(data: bytes, path: str) -> Records:
 def sent(record: bytes) -> bytes:
     """The text of a record as the lines that a program is given: of a group its head and its members.
 
-    A record may be longer than a line. Of all texts that a program accepts a group alone has carriage returns.
+    A record may be longer than a line. The carriage returns of a group part it; another line may have some in a text.
     """
-    return record.replace(b"\r", b"\n")
+    return record.replace(b"\r", b"\n") if _GROUP.match(record) else record
 
 
 def torn_bytes(store: str) -> int:

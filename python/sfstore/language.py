@@ -180,7 +180,7 @@ COMMANDS = [
     ),
     Command(
         "set LAYER ID COLUMN VALUE",
-        "sets a value: 12, 'text', 12.5, true, 2024-02-29 or 2024-02-29T12:30:00Z",
+        "sets a value: 12, 'text', E'two\\nlines', 12.5, true, 2024-02-29 or 2024-02-29T12:30:00Z",
         "set wells 1 label 'old'",
         "values",
     ),

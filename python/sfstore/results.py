@@ -37,7 +37,7 @@ Answer = Union[str, list[str]]
 Value = Union[int, str, Decimal, bool, date, datetime]
 """The value of a feature in a column, which has the column's type.
 
-``int``: an `int` of 64 bits. ``text``: a `str` of at most 65,535 bytes of UTF-8. ``bool``: a `bool`.
+``int``: an `int` of 64 bits. ``text``: a `str` of at most 65,535 bytes of UTF-8, none of them 0. ``bool``: a `bool`.
 
 ``decimal``: a `decimal.Decimal` with at most 18 places behind the point, and a mantissa of 64 bits. An `int` is taken
 too, and comes back as a `decimal.Decimal`; a `float` is not taken.

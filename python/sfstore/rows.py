@@ -12,7 +12,7 @@ from sfstore.results import ColumnType, Feature, Rule, RuleForm, Value
 __all__ = ["feature_of", "row_values", "rule_of"]
 
 _ROW = re.compile(r"([0-9]+) ([A-Z]+ \([-0-9 ,()]*\))")
-_ROW_VALUE = re.compile(r" ([A-Za-z][A-Za-z0-9_]*)=([-0-9.:TZa-z]+|'[^']*(?:''[^']*)*')")
+_ROW_VALUE = re.compile(r" ([A-Za-z][A-Za-z0-9_]*)=([-0-9.:TZa-z]+|E?'[^']*(?:''[^']*)*')")
 
 
 def feature_of(row: str, types: Mapping[str, ColumnType]) -> Feature:

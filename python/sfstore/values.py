@@ -7,6 +7,7 @@ a value has to know its column.
 from __future__ import annotations
 
 import operator
+import re
 from datetime import date, datetime, timezone
 from decimal import Decimal
 
@@ -18,15 +19,28 @@ __all__ = ["in_utc", "mantissa_and_places", "of_mantissa", "read", "spelled"]
 _DIGITS_MAX = len(str(INT_MAX))
 _SHOWN_MAX = 40
 
+_CONTROL = re.compile(r"[\x00-\x1f\x7f]")
+# What stands for a letter in a text with escapes.
+_ESCAPES = {code: f"\\x{code:02x}" for code in (*range(32), 127)} | str.maketrans(
+    {"\n": r"\n", "\t": r"\t", "\r": r"\r", "\\": r"\\", "'": "''"}
+)
+_ESCAPED = re.compile(r"\\x[0-9a-f]{2}|\\.|''")
+_MEANT = {spelling: chr(code) for code, spelling in _ESCAPES.items()}
+
 
 def spelled(value: Value) -> str:
     """A value as the console wants it, and as it shows it.
 
     >>> spelled("it's"), spelled(Decimal("812.50")), spelled(False), spelled(date(2024, 2, 29))
     ("'it''s'", '812.5', 'false', '2024-02-29')
+
+    A text with a control character of ASCII has escapes:
+
+    >>> print(spelled("it's\\n\\x1b"))
+    E'it''s\\n\\x1b'
     """
     if isinstance(value, str):
-        return "'" + value.replace("'", "''") + "'"
+        return _spelled_text(value)
     # A bool is an int to Python, and a datetime is a date.
     if isinstance(value, bool):
         return "true" if value else "false"
@@ -42,11 +56,11 @@ def spelled(value: Value) -> str:
 def read(text: str, column_type: ColumnType) -> Value:
     """The value that a text spells in a column of a type. `ValueError` where it spells none.
 
-    >>> read("12", "decimal"), read("12", "int")
-    (Decimal('12'), 12)
+    >>> read("12", "decimal"), read("12", "int"), read(r"E'a\\tb'", "text")
+    (Decimal('12'), 12, 'a\\tb')
     """
     if column_type == "text":
-        return text[1:-1].replace("''", "'")
+        return _text(text)
     if column_type == "decimal":
         return Decimal(text)
     if column_type == "bool":
@@ -59,6 +73,22 @@ def read(text: str, column_type: ColumnType) -> Value:
 
 
 _BOOLS = {"false": False, "true": True}
+
+
+def _spelled_text(text: str) -> str:
+    if _CONTROL.search(text):
+        return f"E'{text.translate(_ESCAPES)}'"
+    return "'" + text.replace("'", "''") + "'"
+
+
+def _text(spelling: str) -> str:
+    """The text that stands in quotes, or with escapes."""
+    if not spelling.startswith("E"):
+        return spelling[1:-1].replace("''", "'")
+    try:
+        return _ESCAPED.sub(lambda found: _MEANT[found[0]], spelling[2:-1])
+    except KeyError as unknown:
+        raise ValueError(f"{unknown.args[0]} stands for no letter") from None
 
 
 def _integer(value: int) -> int:

@@ -260,7 +260,7 @@ class Commits(QgisCase):
     def test_texts_and_numbers(self):
         parcels = self.layer()
         parcels.startEditing()
-        values = ["it's $1 last", "ä" * (TEXT_MAX // 2), "", NULL]
+        values = ["it's $1 last", "ä" * (TEXT_MAX // 2), "", NULL, "two\nlines", "a\r\nb\rc\t'\x1b\\\x7f"]
         for number, owner in enumerate(values, 1):
             self.set(number, "owner", owner)
         self.set(5, "number", -(2**63))
@@ -270,7 +270,9 @@ class Commits(QgisCase):
         self.assert_alike()
         self.assertIn("owner='it''s $1 last'", self.stored()[1])
         self.assertNotIn("owner", self.stored()[4])
-        for owner in ("ä" * (TEXT_MAX // 2 + 1), "two\nlines"):
+        self.assertIn(r"owner=E'two\nlines'", self.stored()[5])
+        self.assertEqual([self.feature(number)["owner"] for number in (5, 6)], values[4:])
+        for owner in ("ä" * (TEXT_MAX // 2 + 1), "a\0b"):
             parcels.startEditing()
             self.set(1, "owner", owner)
             self.assertFalse(parcels.commitChanges())
@@ -417,7 +419,7 @@ class Types(QgisCase):
     lines = FEW + "".join(f"column add parcels c_{kind} {kind}\n" for kind in COLUMN_TYPES).encode()
     MOST = {
         "int": (str(2**63 - 1), str(-(2**63))),
-        "text": (f"'{'日' * (TEXT_MAX // 3)}'", "''"),
+        "text": (f"'{'日' * (TEXT_MAX // 3)}'", "''", r"E'two\nlines, it''s\t\\\r\x1b\x7f'", r"'a\b'"),
         "decimal": ("-922337203685477580.8", "0.000000000000000001", "9007199254740993", "0.1"),
         "bool": ("true", "false"),
         "date": ("0001-01-01", "9999-12-31", "2024-02-29"),
@@ -511,6 +513,11 @@ class Types(QgisCase):
         parcels = self.layer()
         best = [widgets.findBest(parcels, f"c_{kind}").type() for kind in COLUMN_TYPES]
         self.assertEqual(best[1:], ["TextEdit", "TextEdit", "CheckBox", "DateTime", "TextEdit"])
+        text, field = "a\r\nb\rc\n\t\x1b", QLineEdit()
+        wrapper = widgets.create("TextEdit", parcels, parcels.fields().indexOf("c_text"), {}, field, None)
+        self.assertIn(r" c_text=E'a\r\nb\rc\n\t\x1b'", self.saved("c_text", text))
+        wrapper.setFeature(self.feature(2))
+        self.assertEqual(wrapper.value(), text)
         self.bens(self.ben(), "set parcels 2 c_datetime 2026-10-25T01:30:11.005Z")
         at, line = parcels.fields().indexOf("c_datetime"), QLineEdit()
         wrapper = widgets.create("TextEdit", parcels, at, {}, line, None)

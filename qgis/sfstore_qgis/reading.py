@@ -21,7 +21,7 @@ from .values import shown
 __all__ = ["Row", "geometry_of", "rows_of"]
 
 _ROW = re.compile(r"([0-9]+) ([A-Z]+) (\([-0-9 ,()]*\))(.*)")
-_VALUE = re.compile(r" ([A-Za-z][A-Za-z0-9_]*)=([-0-9.:TZa-z]+|'[^']*(?:''[^']*)*')")
+_VALUE = re.compile(r" ([A-Za-z][A-Za-z0-9_]*)=([-0-9.:TZa-z]+|E?'[^']*(?:''[^']*)*')")
 _BLANKS = str.maketrans("(),", "   ")
 # How many parentheses a text has whose geometry is one list of points.
 _FLAT = {"POINT": 1, "LINESTRING": 1, "POLYGON": 2}

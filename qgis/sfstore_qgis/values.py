@@ -17,7 +17,7 @@ from qgis.PyQt.QtCore import QDate, QDateTime, Qt, QTime, QVariant
 
 from sfstore.language import TEXT_MAX
 from sfstore.results import Column, ColumnType
-from sfstore.values import spelled
+from sfstore.values import read, spelled
 
 __all__ = ["FORMS", "Form", "column_type_of", "field_of", "shown", "spelling_of", "told"]
 
@@ -35,7 +35,7 @@ class Form(NamedTuple):
 
 FORMS = {
     "int": Form("Whole number (64 bit)", QVariant.LongLong, 0, re.compile(r"-?[0-9]+")),
-    "text": Form(f"Text ({TEXT_MAX:,} bytes)", QVariant.String, TEXT_MAX, re.compile(r"'.*'")),
+    "text": Form(f"Text ({TEXT_MAX:,} bytes)", QVariant.String, TEXT_MAX, re.compile(r"E?'.*'")),
     "decimal": Form("Decimal (exact, shown as a text)", QVariant.String, 0, re.compile(r"-?[0-9]+(?:\.[0-9]+)?")),
     "bool": Form("Boolean", QVariant.Bool, 0, re.compile("true|false")),
     "date": Form("Date", QVariant.Date, 0, re.compile("[0-9]{4}-[0-9]{2}-[0-9]{2}")),
@@ -76,7 +76,7 @@ def shown(text: str, column_type: ColumnType) -> Any:
     if column_type == "int":
         return int(text)
     if column_type == "text":
-        return text[1:-1].replace("''", "'")
+        return read(text, "text")
     if column_type == "bool":
         return text == "true"
     if column_type == "decimal":

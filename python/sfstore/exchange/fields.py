@@ -40,7 +40,6 @@ _TIME = re.compile(r"[0-9]{2}:[0-9]{2}:[0-9]{2}(\.[0-9]{1,6})?([+-][0-9]{2}(:?[0
 _FAR_DAY = re.compile(r"([0-9]{4,7}-[0-9]{2}-[0-9]{2} BC|[0-9]{5,7}-[0-9]{2}-[0-9]{2})", re.ASCII)
 _FAR_MOMENT = re.compile(r"[0-9]{4,7}-[0-9]{2}-[0-9]{2}T[0-9]{2}:[0-9]{2}:[0-9]{2}\.[0-9]{6}Z?( BC)?", re.ASCII)
 _INFINITE = ("infinity", "-infinity")
-_CONTROL = re.compile(r"[\x00-\x1f\x7f]")
 
 _DAY_FORM = "[0-9][0-9][0-9][0-9]-[0-9][0-9]-[0-9][0-9]"
 _TIME_FORM = "[0-9][0-9]:[0-9][0-9]:[0-9][0-9]"
@@ -485,8 +484,8 @@ def _plain_text(feature: Any, field: _Field) -> str:
 
 def text_fault(text: str) -> str:
     """Why a text is none of the store, or nothing."""
-    if _CONTROL.search(text):
-        return "a text with a control character"
+    if "\0" in text:
+        return "a text with a byte 0"
     if len(text.encode("utf-8")) > TEXT_MAX:
         return f"a text of more than {TEXT_MAX} bytes"
     return ""

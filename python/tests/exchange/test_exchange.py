@@ -227,13 +227,12 @@ class Import(ExchangeCase):
         for number, (_, reason) in self.AWKWARD.items():
             self.assertTrue(told[str(number)].startswith(reason), (number, told[str(number)]))
         texts = [line[2] for line in lines if line[1] == "14"]
-        self.assertEqual(
-            texts, ["a text of more than 65535 bytes", "a text with a control character"]
-        )
+        self.assertEqual(texts, ["a text of more than 65535 bytes"])
         details = [line[3] for line in lines if line[0] == "awkward" and not line[1]]
         self.assertIn("column 'a b' has the name a_b", details)
         self.assertIn("column 'a-b' has the name a_b_2", details)
-        self.assertEqual([(f.id, f.values) for f in self.shown("awkward")], [(14, {"area": Decimal("0.5")})])
+        taken = {"u": "two\nlines", "area": Decimal("0.5")}
+        self.assertEqual([(f.id, f.values) for f in self.shown("awkward")], [(14, taken)])
 
     def test_faulty_features_as_a_map(self):
         self.awkward()

@@ -50,6 +50,12 @@ class GeoJsonCase(ExchangeCase):
 
 
 class Values(GeoJsonCase):
+    def test_texts_with_control_characters_are_taken_but_for_a_byte_0(self):
+        text = "".join(map(chr, range(1, 32))) + "\x7f two\nlines"
+        out = self.brought(collection(feature(json.dumps({"t": text})), feature('{"t": "a\\u0000b"}')), status=1)
+        self.assertIn("a text with a byte 0: 1 (the value of column t is left out)\n", out)
+        self.assertEqual(self.values(), [{"t": text}, {}])
+
     def test_objects_and_lists_stand_as_they_are(self):
         known = '{"o": {"b": 1.10, "a": 1, "a": 2, "e": 1.0E+3}, "l": [1, 2.50, "x", null, true], "t": "{\\"a\\":1}"}'
         out = self.brought(collection(feature(known), feature('{"o": [], "l": {"ü": "ü"}}')))

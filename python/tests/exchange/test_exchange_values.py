@@ -19,6 +19,7 @@ from test_exchange_sets import SetCase
 from sfstore import Store
 from sfstore.exchange import geojson, writing
 from sfstore.exchange import ogr as exchange_ogr
+from sfstore.values import spelled
 
 if HAS_GDAL:
     from osgeo import ogr, osr
@@ -28,6 +29,8 @@ TEXTS = [
     *("12", "1e5", "true", "ä" * 127, "x" * 255, "x" * 254, "日" * 85, "😀" * 63, "e\u0301", "\u00e9", "\ufeffbom"),
     *("\u2028", "\u0085nel", "\\n", "\\N", "\\", "%s%d", "\u202eabc", '{"a": 1}', '{"a":1,"a":2,"b":1.10}', "[1,2]"),
     *("\u200b", "\ufffe", "<b>", "&amp;", "****", "?", "T", "0x41", "2020-01-31T10:00:00Z", "Größe", "A", "a"),
+    *("two\nlines", "\n", "end\n", "\tlead", "a\r\nb\rc", "12\n", "2020-01-31\n", "\x1b[0m", "a\x1ab", "\x7f", "\x1f", "\\.\n", "\\N\t"),
+    *map(chr, range(1, 32)),
 ]
 INTS = [
     *(0, -1, 2**31 - 1, -(2**31), 2**31, 2**53, 2**53 + 1, -(2**53) - 1, 2**63 - 1, -(2**63), 10**17, -(10**17)),
@@ -70,8 +73,7 @@ def excused(name, value):
 
 
 def set_line(identifier, column, value):
-    text = str(value) if isinstance(value, int) else "'" + value.replace("'", "''") + "'"
-    return f"set w {identifier} {column} {text}"
+    return f"set w {identifier} {column} {spelled(value)}"
 
 
 class Values(SetCase):

@@ -128,6 +128,27 @@ class Sessions(JournalCase):
             store.save()
             self.assertEqual(store.unsaved_lines, [])
 
+    def test_ends_of_lines_within_texts(self):
+        """A record has the line as it was given, with a carriage return of a text too: no group is one."""
+        with Store(self.path, journal=True) as store:
+            store.run_all(["layer add w point", "column add w t text", "add w POINT (1 1)", "add w POINT (2 2)"])
+            store.run("@2 set w 1 t 'a\rdelete w 2'")
+            with store.together() as group:
+                group.set("w", 2, "t", "a\r\nb")
+                group.set("w", 1, "t", "\r")
+            store.undo()
+            shown = store.show("w")
+            self.assertEqual([feature.values for feature in shown], [{"t": "a\rdelete w 2"}, {}])
+            store.copy(self.folder / "copy.sfs")
+            lines = store.unsaved_lines
+            store.close(save=False)
+        with Store(self.path, journal=True) as store:
+            self.assertEqual((store.unsaved_lines, store.show("w")), (lines, shown))
+            store.redo()
+            self.assertEqual([feature.values for feature in store.show("w")], [{"t": "\r"}, {"t": "a\r\nb"}])
+        with Store(load=self.folder / "copy.sfs") as copy:
+            self.assertEqual(copy.show("w"), shown)
+
     def test_a_stopped_store_has_all_that_was_answered(self):
         store = journaled(self.path)
         store.add_layer("w", "point")

@@ -359,18 +359,22 @@ class Unsayable(TestCase):
         for line in ("\n", "layers\n", "layers\nlayer drop w", "\nlayers"):
             self.assert_unsayable(self.store.run, line)
             self.assert_unsayable(self.store.run_all, ["layer drop w", line])
-        self.assert_unsayable(self.store.set, "w", 1, "t", "x\nlayer drop w")
-        self.assert_unsayable(self.store.set, "w", 1, "t", "'\n")
         self.assert_unsayable(self.store.add, "w", "POINT (1 1)\nlayer drop w")
         self.assert_unsayable(self.store.replace, "w", 1, "POINT (1 1)\n")
         self.assert_unsayable(self.store.relate, "w", 1, "POINT (1 1)\n")
         self.assert_unsayable(self.store.match, "w", "*********", "POINT (1 1)\n")
         self.assert_unsayable(self.store.query, "w", "within", "POINT (1 1)\n")
-        self.assert_unsayable(self.store.find, "w", "t", "x\nlayer drop w")
+
+    def test_line_feeds_of_texts_are_no_ends_of_lines(self):
+        for text in ("x\nlayer drop w", "'\n", "\n", "a\rundo", "\r\n", "\x1c\x1d\x1e\x85\u2028", "\t\x0b\x0c\x7f\\'"):
+            self.store.set("w", 1, "t", text)
+            self.assertEqual([feature.values for feature in self.store.show("w")], [{"t": text}])
+            self.assertEqual(self.store.find("w", "t", text), [1])
+            self.assertNotIn("\n", self.store.run("get w 1")[0])
+            self.store.undo()
+        self.assert_refused(24, "WrongValue", self.store.set, "w", 1, "t", "a\0b")
 
     def test_other_ends_of_lines_are_sent(self):
-        for text in ("\r", "\x0b", "\x0c", "\x1c", "\x1d", "\x1e", "a\rundo", "\t", "\x00", "\x7f"):
-            self.assert_refused(24, "WrongValue", self.store.set, "w", 1, "t", text)
         self.assert_refused(2, "Syntax", self.store.add, "w", "POINT (1\u2028 1)")
         self.assert_refused(2, "Syntax", self.store.add, "w", "POINT (1 1)\rundo")
 

@@ -114,6 +114,45 @@ class Decimals(Tried):
             self.assertEqual(values.spelled(values.read(shown, "decimal")), shown)
 
 
+# What stands between E' and a quote: each text in one spelling. `\x00` is one too, of a text that no column has.
+ESCAPED = re.compile(r"E'(?:[^\x00-\x1f\x7f\\']|''|\\[ntr\\]|\\x(?:0[1-8bcef]|1[0-9a-f]|7f))*'")
+QUOTED = re.compile(r"'(?:[^']|'')*'")
+
+
+class Texts(Tried):
+    def test_each_text_has_one_spelling_with_escapes(self) -> None:
+        chance = random.Random(27)
+        good = ["a", "E", "ä", "😀", " ", "''", "\\\\", "n", "x", "\\n", "\\t", "\\r", "\\x1b", "\\x01", "\\x7f", "0", "7f"]
+        pieces = [*good, "'", "\\", "\\q", "\\x", "\x1b", "\x7f", "\t", *(f"\\x{code:02x}" for code in range(1, 256))]
+        texts = []
+        for _ in range(20_000):
+            inner = "".join(chance.choices(chance.choice((good, pieces)), k=chance.randrange(5)))
+            texts.append(chance.choice(("E'", "E'", "E'", "'", "e'", "E", "E '")) + inner + chance.choice(("'", "'", "'", "'", "")))
+        # Blanks at the end of a line are none of its words.
+        texts = [text for text in texts if text == text.strip(" \t") and "\\x00" not in text]
+        found = self.tried("text", texts)
+        for text, shown in zip(texts, found):
+            is_one = bool(ESCAPED.fullmatch(text) or QUOTED.fullmatch(text))
+            self.assertEqual(shown is not None, is_one, text)
+            if shown is not None:
+                self.assertEqual(shown, values.spelled(values.read(text, "text")), text)
+        self.assertGreater(sum(shown is not None and shown.startswith("E") for shown in found), 1_500)
+        self.assertGreater(sum(shown is None for shown in found), 2_000)
+
+    def test_each_control_character(self) -> None:
+        texts = [f"a{chr(code)}b" for code in (*range(1, 32), 127)]
+        spelled = [values.spelled(text) for text in texts]
+        self.assertEqual(self.tried("text", spelled), spelled)
+        self.assertEqual([values.read(text, "text") for text in spelled], texts)
+        self.assertEqual(spelled[9], r"E'a\nb'")
+        self.assertEqual(spelled[26], r"E'a\x1bb'")
+
+    def test_what_stands_for_no_letter_is_told(self) -> None:
+        for text in (r"E'\q'", r"E'\x0a'", r"E'\x1B'"):
+            with self.assertRaisesRegex(ValueError, "stands for no letter"):
+                values.read(text, "text")
+
+
 class Days(Tried):
     def test_days_of_the_calendar(self) -> None:
         chance = random.Random(2024)
@@ -190,7 +229,10 @@ class Python(TestCase):
     # What is given, and what comes back.
     LIMITS = {
         "int": [INT_MIN, INT_MAX, 0],
-        "text": ["", "it's", "日" * (TEXT_MAX // 3), "'" * TEXT_MAX, "true", "1.5", "a=1 b='2'"],
+        "text": [
+            *("two\nlines\r", "", "it's", "日" * (TEXT_MAX // 3), "'" * TEXT_MAX, "true", "1.5", "a=1 b='2'"),
+            *("".join(map(chr, (*range(1, 32), 127))), "\x1f" * TEXT_MAX, "E'a' b=E'\\n'\n", "\\"),
+        ],
         "decimal": [
             *(Decimal(text) for text in ("0", "-0.5", "9223372036854775807", "-9.223372036854775808", "0.000000000000000001")),
             *(Decimal(text) for text in ("-922337203685477580.8", "12", "812.5", "1E+18", "-1.5E-17")),

@@ -426,6 +426,43 @@ class Editing(PageCase):
         page.use("#replace")
         page.logged("replace wells 1 POINT (460 150)", "ok")
 
+    def test_a_text_has_as_many_lines_as_are_typed(self):
+        page = self.open()
+        page.choose((450, 150), "wells 1, a point")
+        keys = page.keys
+        field = page.one("#value-label")
+        field.send_keys(keys.CONTROL + "a" + keys.NULL, "it's\\", keys.SHIFT + keys.ENTER + keys.NULL, "two")
+        self.assertEqual(field.get_property("rows"), 2)
+        field.send_keys(keys.ENTER, "three", keys.TAB)
+        page.logged(r"set wells 1 label E'it''s\\\ntwo\nthree'", "ok")
+        self.shows_text(page, "it's\\\ntwo\nthree", 3)
+        page.type(r"set wells 1 label E'a\tb\x1b'", "ok")
+        self.shows_text(page, "a\tb\x1b", 1)
+        field.send_keys(keys.CONTROL + keys.END + keys.NULL, "c", keys.ENTER)
+        page.logged(r"set wells 1 label E'a\tb\x1bc'", "ok")
+
+    def test_the_ends_of_lines_stay_as_they_are(self):
+        page = self.open()
+        page.choose((450, 150), "wells 1, a point")
+        keys = page.keys
+        page.type(r"set wells 1 label E'a\r\nb'", "ok")
+        self.shows_text(page, "a\nb", 2)
+        page.one("#value-label").send_keys(keys.CONTROL + keys.END + keys.NULL, "c", keys.TAB)
+        page.logged(r"set wells 1 label E'a\r\nbc'", "ok")
+        page.type(r"set wells 1 label E'a\rb\nc'", "ok")
+        # What a browser would not give back can't be typed over.
+        page.until(lambda: page.one("#value-label").get_property("readOnly"))
+        page.one("#value-label").send_keys("x", keys.TAB)
+        page.type("set wells 1 label 'one'", "ok")
+        self.shows_text(page, "one", 1)
+        self.assertFalse(page.one("#value-label").get_property("readOnly"))
+        self.assertNotIn("set wells 1 label 'x", str(page.log()))
+
+    def shows_text(self, page, text, rows):
+        field = page.one("#value-label")
+        page.until(lambda: field.get_property("value") == text)
+        self.assertEqual(field.get_property("rows"), rows)
+
     def test_values_of_each_type(self):
         page = self.open()
         for column_type in ("decimal", "bool", "date", "datetime"):
