@@ -3,6 +3,7 @@
 from __future__ import annotations
 
 import contextlib
+import re
 import sys
 from collections.abc import Callable, Iterator
 from typing import Any
@@ -44,6 +45,9 @@ VRT does. None of these does.
 
 # JSON has texts and no dates, and OGR would write those that look like one in another form.
 _OPTIONS = {"GeoJSON": ["DATE_AS_STRING=YES"]}
+
+# A code of an authority. OGR takes other words for files, or for addresses in the network.
+_CODE = re.compile(r"[A-Za-z][A-Za-z0-9_]*:[A-Za-z0-9_.]+")
 
 # How many features are read at a time.
 _BATCH = 500
@@ -276,12 +280,18 @@ def _crs(reference: Any) -> Crs:
 
 
 def spatial_reference(crs: Crs | None) -> Any:
-    """A reference system as OGR takes it, x before y."""
+    """A reference system as OGR takes it, x before y. `ExchangeError` where it is none: a side-car may be a stranger's."""
     if crs is None:
         return None
     _, _, osr = gdal()
     reference = osr.SpatialReference()
-    reference.SetFromUserInput(str(crs) if crs.authority else crs.wkt)
+    try:
+        if _CODE.fullmatch(str(crs)):
+            reference.SetFromUserInput(str(crs))
+        else:
+            reference.ImportFromWkt(crs.wkt)
+    except RuntimeError as error:
+        raise ExchangeError(f"the reference system {printable(f'{crs}')} can't be read: {error}") from None
     reference.SetAxisMappingStrategy(osr.OAMS_TRADITIONAL_GIS_ORDER)
     return reference
 

@@ -66,10 +66,12 @@ def open_source(name: str, any_format: bool = False) -> Opened:
 
     `ogr.ExchangeError` where there is none, and for other formats than `ogr.DRIVERS` unless any is allowed.
     """
-    # OGR would take the files of one format alone, and pass over those that don't open.
-    found = _opened_files(name, any_format) if _has_maps(name) else Opened([], [])
-    if found.sources:
-        return found
+    if _has_maps(name):
+        # OGR would take the files of one format alone, and pass over those that don't open.
+        check_size(name)
+        found = _opened_files(name, any_format)
+        if found.sources:
+            return found
     try:
         return Opened([_opened(name, any_format)], [])
     except RuntimeError as error:

@@ -162,6 +162,14 @@ class Archives(SourceCase):
         self.check_refused(archive, archive)
         self.check_refused(f"/vsizip/{self.folder / 'a.zip'}/{target.name}", self.folder / "a.zip")
 
+    def test_so_is_one_of_many_files_that_are_too_large_together(self):
+        archive = self.folder / "a.zip"
+        with zipfile.ZipFile(archive, "w", zipfile.ZIP_DEFLATED) as made:
+            for at in range(50):
+                made.writestr(f"{at}.geojson", " " * 2_000 + '{"type": "FeatureCollection", "features": []}')
+        self.assertGreater(10 * os.path.getsize(archive), 2_100)
+        self.check_refused(f"/vsizip/{archive}", archive)
+
     def test_others_are_read(self):
         self.points(POINTS)
         archive = self.zipped("a.zip", self.source, "wells.gpkg")

@@ -5,6 +5,7 @@ from __future__ import annotations
 import contextlib
 import json
 import shutil
+import socket
 import sqlite3
 import unittest
 from decimal import Decimal
@@ -13,8 +14,9 @@ from unittest import mock
 from support import PROGRAM
 from test_exchange import GRID, HAS_GDAL, KINDS, ExchangeCase, Source, bring_in, give_back
 
-from sfstore import Store
+from sfstore import Store, files, sidecar
 from sfstore.exchange import importing, reading, wayback
+from sfstore.sidecar import Crs, Sidecar
 
 if HAS_GDAL:
     from osgeo import ogr
@@ -47,6 +49,20 @@ class Formats(ExchangeCase):
         self.assertEqual(bring_in("--suggest", self.source)[0], 3)
         self.assertEqual(bring_in(*words, "--any-format")[0], 0)
         self.assertIn(b"password123", self.store.read_bytes())
+
+    def test_a_side_car_leads_to_no_file_and_not_into_the_network(self):
+        with Store(PROGRAM, save=self.store) as store:
+            store.run_all(["layer add w point", "add w POINT (1 2)"])
+        with socket.create_server(("127.0.0.1", 0)) as server:
+            server.settimeout(0.2)
+            address = f"127.0.0.1:{server.getsockname()[1]}/x"
+            for crs in (Crs("", "", f"http://{address}"), Crs("http", f"//{address}", ""), Crs("", "", "/etc/passwd"), Crs("EPSG", "999999", "")):
+                sidecar.write(str(self.store), Sidecar(("0", "0", "1"), crs, []), [files.digest(str(self.store))])
+                status, _, err = give_back(self.store, self.target)
+                self.assertEqual((status, self.target.exists()), (3, False), err)
+                self.assertIn(f"the reference system {crs} can't be read: ", err)
+            with self.assertRaises(TimeoutError):
+                server.accept()
 
     def test_what_can_be_read_once_alone_is_refused(self):
         for name in ("/vsistdin/", "/vsigzip//vsistdin/"):
