@@ -197,7 +197,7 @@ class Whole(GroupCase):
             group.delete("p", 1)
             group.delete("no layer", 1)
         with self.assertRaises(ValueError), self.store.together() as group:
-            group.set("p", 1, "owner", "two\nlines")
+            group.add("p", "POINT (1 1)\n")
         with self.assertRaises(TypeError), self.store.together() as group:
             group.delete("p", "last")
         self.assertEqual(len(self.shown()), 1)

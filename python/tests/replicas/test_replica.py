@@ -237,6 +237,20 @@ class Writing(ReplicaCase):
             self.assertEqual(replica.run("show w"), [wanted])
         self.assertEqual(ben.run("find w c_decimal -0922337203685477580.80"), ["1"])
 
+    def test_texts_with_control_characters_reach_all_as_they_are(self):
+        ann, ben = self.town("ann", "ben")
+        ann.run_all(["add w POINT (3 4)", "column add w t text"])
+        for given, word in (
+            (r"E'two\nlines, it''s\t\\\r\x1b\x7f'", r"E'two\nlines, it''s\t\\\r\x1b\x7f'"),
+            # A carriage return that stands in quotes makes no group of a line.
+            ("'a\rdelete w 1'", r"E'a\rdelete w 1'"),
+        ):
+            self.assertEqual(ann.run(f"set w 1 t {given}"), "ok")
+            ben.follow()
+            for replica in (ann, ben):
+                self.assertEqual(replica.run("show w"), [f"1 POINT (3 4) t={word}"])
+                self.assertEqual(replica.run(f"find w t {word}"), ["1"])
+
     def test_editors_see_one_another_and_move_their_own_steps(self):
         ann, ben = self.town("ann", "ben")
         ann.run("add w POINT (1 1)")
