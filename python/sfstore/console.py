@@ -480,6 +480,8 @@ class Console:
             if self._store.layers() and not asked.add:
                 print("This store has layers: --add adds to these; or name another file behind the source, and open that.")
                 return
+            if not asked.add and not self._is_saved("Nothing is brought in: what comes takes the place of the saved store, and is no step to undo."):
+                return
             # What is added stands in the journal, on top of the edits there.
             self._store.close(save=not asked.add)
             try:
@@ -487,13 +489,19 @@ class Console:
             finally:
                 self._store = self._opened()
 
-    def _export(self, words: list[str]) -> None:
-        """Gives the store back as a map; it is saved first."""
+    def _is_saved(self, otherwise: str) -> bool:
+        """Whether all is saved, after a question where it was not; else what is said then."""
         if self._store.unsaved:
             if not self._yes(unsaved_question(self._store.unsaved)):
-                print("Nothing is written: an export is one of the saved store.")
-                return
+                print(otherwise)
+                return False
             self._save([])
+        return True
+
+    def _export(self, words: list[str]) -> None:
+        """Gives the store back as a map; it is saved first."""
+        if not self._is_saved("Nothing is written: an export is one of the saved store."):
+            return
         with contextlib.suppress(SystemExit):
             if exporting.main([self._path, *words, f"--program={self._program}"]) == 0:
                 print("It is written.")

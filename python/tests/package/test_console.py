@@ -147,6 +147,14 @@ class Pasted(TestCase):
         self.assertEqual(shown, [("POINT (1 1)", {})])
         self.assertNotIn("closed", said)
 
+    @unittest.skipUnless(HAS_GDAL, "no GDAL")
+    def test_an_import_saves_nothing_unasked(self):
+        lines = "layer add w point\nadd w POINT (1 1)\nsave\nlayer drop w"
+        with mock.patch("sys.stderr"):
+            shown, said = self.carry_out(lines, f"import {self.folder}/no.gpkg --grid 0 0 1", "n", "undo")
+        self.assertEqual(shown, [("POINT (1 1)", {})])
+        self.assertIn("Nothing is brought in", said)
+
     def test_a_group_that_was_pasted(self):
         begin = "layer add w point\ntogether 2\n\nadd w POINT (1 1)\r\nadd w POINT (2 2)\nundo\nredo"
         shown, said = self.carry_out(begin)
