@@ -202,16 +202,22 @@ class OgrLayer(Layer):
         try:
             return int(self._layer.GetFeatureCount())
         except RuntimeError as error:
-            raise ogr.ExchangeError(f"layer {ogr.printable(self.name)} can't be read: {error}") from None
+            raise self._unread(error) from None
+
+    def _unread(self, error: RuntimeError) -> ogr.ExchangeError:
+        return ogr.ExchangeError(f"layer {ogr.printable(self.name)} can't be read: {error}")
 
     @contextlib.contextmanager
     def reading(self) -> Iterator[None]:
         if self.format != _DATABASE:
             yield
             return
-        self._data.StartTransaction()
-        for statement in _TRANSACTION:
-            self._data.ExecuteSQL(statement)
+        try:
+            self._data.StartTransaction()
+            for statement in _TRANSACTION:
+                self._data.ExecuteSQL(statement)
+        except RuntimeError as error:
+            raise self._unread(error) from None
         try:
             yield
         finally:

@@ -21,6 +21,7 @@ from test_exchange import HAS_GDAL, ExchangeCase, Source, bring_in, give_back
 from test_exchange_sets import PLAIN
 
 from sfstore import Store
+from sfstore.exchange.sources import OgrLayer
 from sfstore.replica.servers import Server, binaries
 
 HAS_SERVER = binaries() is not None and find_spec("psycopg2") is not None
@@ -250,6 +251,19 @@ class Others(DatabaseCase):
         self.assertIn("sfstore-import: layer b can't be read: ERROR:  permission denied for table b", err)
         status, out, err = bring_in(source, self.store, *PLAIN[:4], "--layer", "a")
         self.assertEqual((status, out, err), (0, "a: 1 features read, 1 taken\n", ""))
+
+    def test_a_connection_that_is_lost_before_a_layer_is_read(self):
+        self.ask("CREATE TABLE w (id serial PRIMARY KEY, geom geometry(Point)); INSERT INTO w (geom) VALUES ('POINT(1 2)')")
+        reading = OgrLayer.reading
+
+        def lost(layer):
+            self.ask("SELECT pg_terminate_backend(pid) FROM pg_stat_activity WHERE datname = 'town' AND pid <> pg_backend_pid()")
+            return reading(layer)
+
+        with mock.patch.object(OgrLayer, "reading", lost):
+            status, out, err = bring_in(self.target, self.store, *PLAIN[:4])
+        self.assertEqual((status, out), (3, ""), err)
+        self.assertIn("sfstore-import: layer w can't be read: ", err)
 
     def test_keys_that_no_store_has_stay_those_of_their_rows(self):
         for first, second in ((5_000_000_000, -4), (0, 1)):
