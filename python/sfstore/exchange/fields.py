@@ -322,9 +322,14 @@ class Fields(SourceColumns):
             self._note_odd(field, condition, shown)
 
     def _find_odd_of_shapefile(self) -> None:
-        types = {field.place: field.source_type for field in self._fields}
+        fields = {field.place: field for field in self._fields}
+        types = {place: field.source_type for place, field in fields.items()}
         for record, place, text, number in odd_values(self._source, self._layer.GetName(), types):
-            self._odd[record, place] = repr(text), number
+            if types[place] == STRING:
+                # There every program ends a text: behind it stands what a writer has left in its buffer.
+                self._changed[fields[place].name, "cut off at a byte 0"] += 1
+            else:
+                self._odd[record, place] = repr(text), number
 
     def _find_odd_of_flatgeobuf(self) -> None:
         taken = {field.place for field in self._fields}

@@ -1,7 +1,7 @@
 """What OGR does not say of a Shapefile: values that are none of their column's type, and shapes that its index does not name.
 
 OGR makes a number of the beginning of any text, and 0 of one that begins with none; of a text a day in the same way; and
-of each number with a fraction the nearest double.
+of each number with a fraction the nearest double. It ends a text at a byte 0, whatever stands behind that.
 """
 
 from __future__ import annotations
@@ -14,7 +14,7 @@ from typing import Any, NamedTuple
 
 from sfstore.exchange import ogr
 from sfstore.exchange.archives import NAMED
-from sfstore.exchange.columns import DATE, INTEGER, INTEGER_64, REAL
+from sfstore.exchange.columns import DATE, INTEGER, INTEGER_64, REAL, STRING
 from sfstore.exchange.moments import day_of
 from sfstore.exchange.vsi import VsiFile
 
@@ -32,7 +32,8 @@ _WHOLE = re.compile(rb"[ \0]*(?:[+-]?[0-9]+(?:\.0*)?[ \0]*)?|\*.*", re.DOTALL)
 _REAL = re.compile(rb"[ \0]*(?:[+-]?(?:[0-9]+\.?[0-9]*|\.[0-9]+)(?:[eE][+-]?[0-9]+)?[ \0]*)?|\*.*", re.DOTALL)
 # OGR writes a day as a number, so that years before 1000 have no zeros before them.
 _DAY = re.compile(rb"[ \0]*(?:[0-9]{1,8}[ \0]*)?|[0-9]{2}/[0-9]{2}/[0-9]{4}")
-_FORMS = {INTEGER: _WHOLE, INTEGER_64: _WHOLE, REAL: _REAL, DATE: _DAY}
+_TEXT = re.compile(rb"[^\0]*[ \0]*", re.DOTALL)
+_FORMS = {INTEGER: _WHOLE, INTEGER_64: _WHOLE, REAL: _REAL, DATE: _DAY, STRING: _TEXT}
 _NO_DAY = "00000000"
 # So many digits each double has, and more than a number of a table.
 _DIGITS, _MANY = 15, Context(prec=1_000)
@@ -61,6 +62,8 @@ def odd_values(source: Any, name: str, columns: Mapping[int, str]) -> Iterator[O
         wanted = [(column, places[column], form) for column, form in forms.items() if column < len(places)]
         for at, record in enumerate(_records(file, size)):
             for column, place, form in wanted:
+                if form is _TEXT and b"\0" not in record:
+                    continue
                 text = record[place].decode("latin-1").strip(" \0")
                 if not form.fullmatch(record[place]) or (form is _DAY and not _is_day(text)):
                     yield Odd(at, column, text)

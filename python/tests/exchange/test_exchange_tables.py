@@ -70,6 +70,16 @@ class Tables(TableCase):
         (self.folder / "w.sbn").write_bytes(b"\0\0\x27\x0a\xff\xff\xfe\x70" + b"\xff" * 200)
         self.assertEqual(self.brought(self.source)[0], 0)
 
+    def test_a_text_that_goes_on_behind_a_byte_0_is_told(self):
+        rows = [{"t": text} for text in ("one", "two", "end and rest", "line\nfeed\t")]
+        self.shapefile([("t", ogr.OFTString, 12, 0)], rows)
+        self.changed(b"one         ", b"one\0\0\0\0\0\0\0\0\0")
+        self.changed(b"end and rest", b"end\0and rest")
+        status, out, _ = self.brought(self.source)
+        self.assertEqual(status, 0)
+        self.assertIn("  column t: 1 value is cut off at a byte 0\n", out)
+        self.assertEqual(self.values(), [{"t": text} for text in ("one", "two", "end", "line\nfeed\t")])
+
     def test_texts_among_numbers_and_deleted_records_of_an_archive_are_told(self):
         self.shapefile([("n", ogr.OFTInteger, 9, 0)], [{"n": at} for at in (11, 22, 33)])
         self.changed(b"       22", b"   22 m2 ")
