@@ -140,10 +140,12 @@ box a 4
 simple a 4
 area a 4 2
 length a 2 4 2
+distance a 4 LINESTRING (-5 15, 15 15)
 relate a 4 LINESTRING (-5 5, 15 5)
 match a T*F**F*** POLYGON ((0 0, 9 0, 9 9, 0 9, 0 0))
 query a intersects POLYGON ((4 4, 7 4, 7 7, 4 4))
 query a disjoint MULTIPOINT (0 0, 7 7)
+query a near 2.5 POINT (5 5)
 join a intersects a
 join a T******** a 4
 """.splitlines()

@@ -83,6 +83,7 @@ FORMS = {
     b"simple": re.compile(rb"true|false"),
     b"area": ROWS,
     b"length": ROWS,
+    b"distance": re.compile(rb"[0-9]+\.[0-9]{3} [0-9]+(?:/[0-9]+)?"),
     b"relate": re.compile(rb"[F012]{9}"),
 }
 # Where a geometry is wrong, behind a refusal of `check`.
@@ -133,6 +134,8 @@ LINES = [
     b"area a 2 1 1",
     b"length a 1",
     b"relate a 1 POLYGON ((5 5, 95 5, 95 8, 5 8, 5 5))",
+    b"distance a 1 POLYGON ((5 5, 95 5, 95 8, 5 8, 5 5))",
+    b"query a near 2.5 POINT (5 5)",
     b"match a T*F**F*** POLYGON ((-9 -9, 99 -9, 99 99, -9 99, -9 -9))",
     b"query a intersects LINESTRING (0 0, 9 9)",
     b"query a disjoint POINT (1000 1000)",

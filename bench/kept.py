@@ -5,6 +5,8 @@
     bench/kept.py sf_query sf_edits      those of these crates
     bench/kept.py --jobs 4 NAME ..       so many at once
     bench/kept.py --checked FOLDER       over the libraries of a checkout whose crates `rt check` or `rt ci` has proved there
+    bench/kept.py --crate sf_console     looks at a crate as it is, with holes: `rt check`, which begins with all crates below
+    bench/kept.py --crate NAME MODULE .. the functions of these modules alone, as `answering` or `answering::near`
 
 `bench/plants.py` does the same by `rt must-fail`, which proves each crate first. Here the prover looks at the functions of
 the files alone that a plant changes, and at the whole crate where these are proved with it. The libraries of the crates
@@ -75,6 +77,14 @@ def gather(checkout: Path, folder: Path) -> None:
     """Puts the libraries that checks left in a checkout into a folder."""
     for library in checkout.glob("crates/*/out/rlib/*.rlib"):
         shutil.copytree(library, folder / library.name)
+
+
+def libraries_into(folder: Path, checkout: Path | None) -> None:
+    """Puts the libraries of a checkout into a folder, or those that were kept."""
+    if checkout:
+        gather(checkout, folder)
+    else:
+        unpack(folder)
 
 
 def below(crate: str) -> list[str]:
@@ -160,23 +170,32 @@ def tried(libraries: Path, plant: Plant) -> Tried:
     return Tried(plant, found, said)
 
 
+def look(libraries: Path, crate: str, only: Sequence[str]) -> int:
+    """Has the prover look at a crate as it is, and say what it finds. The status is the prover's."""
+    folder = TOP / "crates" / crate
+    root = "src/lib.rt" if (folder / "src/lib.rt").exists() else "src/main.rt"
+    return subprocess.run([*words(crate, root, libraries, only), "--allow-holes"], cwd=folder, check=False).returncode
+
+
 def main(arguments: Sequence[str]) -> int:
     """Prints a row for each plant. The status is 1 where something else came than is expected."""
     parser = argparse.ArgumentParser(description="tries wrong bodies of bench/plants over kept libraries")
     parser.add_argument("names", nargs="*", help="crates, or names of plants; none for all")
     parser.add_argument("--jobs", type=int, default=2, help="how many are tried at once")
     parser.add_argument("--checked", type=Path, help="a checkout that has the libraries; none for those that were kept")
+    parser.add_argument("--crate", help="looks at this crate as it is, in place of plants; the names are modules of it then")
     asked = parser.parse_args(arguments)
+    if asked.crate:
+        with tempfile.TemporaryDirectory(prefix="sfstore-libraries-") as name:
+            libraries_into(Path(name), asked.checked)
+            return look(Path(name), asked.crate, asked.names)
     wanted = [plant for plant in plants() if not plant.test]
     chosen = [plant for plant in wanted if not asked.names or {plant.crate, plant.name} & set(asked.names)]
     if not chosen:
         parser.error("no such plant that a contract has to refuse")
     status = 0
     with tempfile.TemporaryDirectory(prefix="sfstore-libraries-") as name, ThreadPoolExecutor(asked.jobs) as pool:
-        if asked.checked:
-            gather(asked.checked, Path(name))
-        else:
-            unpack(Path(name))
+        libraries_into(Path(name), asked.checked)
         for outcome in pool.map(partial(tried, Path(name)), chosen):
             line = row(outcome.plant, outcome.found)
             status |= line.startswith("!")

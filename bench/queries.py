@@ -2,7 +2,8 @@
 """Times queries of a layer by windows, and edits of a layer whose points are indexed.
 
 Layers of 1,000 to 1,000,000 points in rows, and one of 100,000 squares, are asked for what meets a small
-window (25 points or 9 squares), at places all over the layer; one of 100,000 for what is apart from it.
+window (25 points or 9 squares), at places all over the layer; one of 100,000 for what is apart from it;
+the layers of points for what is within a distance of one (21 points).
 Then 1,000,000 points at places all over the grid are added, moved and deleted. Each line of the result has
 the microseconds of a question or an edit, with reading its line and writing its answer: the difference of
 the least times of sessions with and without them. A program whose answers are others than the expected
@@ -68,6 +69,20 @@ def questions(n, size, count, predicate):
             yield "", f"{k}\n"
 
 
+def distances(n, reach, count):
+    """Lines that ask which of n points in rows are within a distance of one of them, each with its answer, line by line."""
+    rng = random.Random(n)
+    across, far = rows_of(n), reach // STEP
+    beside = [(row, column) for row in range(-far, far + 1) for column in range(-far, far + 1)
+              if (row * STEP) ** 2 + (column * STEP) ** 2 <= reach**2]
+    for _ in range(count):
+        column, row = rng.randrange(far, across - far), rng.randrange(far, n // across - far)
+        near = sorted((row + down) * across + column + right + 1 for down, right in beside)
+        yield f"query w near {reach} POINT ({column * STEP} {row * STEP})\n", f"rows {len(near)}\n"
+        for k in near:
+            yield "", f"{k}\n"
+
+
 def moves(order):
     """The lines that move points, each with its answer."""
     for k in order:
@@ -99,6 +114,11 @@ def time_questions(folder, name, added, n, size, count, predicate):
     print(f"{predicate} of {n:9} {name:8} {seconds / count * 1e6:10.2f} us")
 
 
+def time_distances(folder, n, reach, count):
+    _, seconds = time_parts(folder, [points(n), distances(n, reach, count)])
+    print(f"near {reach} of {n:9} points {seconds / count * 1e6:10.2f} us")
+
+
 def time_edits(folder, n):
     """Points added, moved and deleted, at places and in an order all over."""
     order = random.Random(n).sample(range(n), n)
@@ -115,6 +135,8 @@ def main():
             time_questions(folder, "points", points, n, 5, QUESTIONS, "intersects")
         time_questions(folder, "squares", squares, 100_000, 3, QUESTIONS, "intersects")
         time_questions(folder, "points", points, 100_000, 5, 20, "disjoint")
+        for n in SIZES:
+            time_distances(folder, n, 11, QUESTIONS)
         time_edits(folder, 1_000_000)
 
 

@@ -39,6 +39,7 @@ HEADLINE: list[tuple[str, list[str]]] = [
     ("sf_relate/src/laws.rt", ["matrices_are_over_the_plane"]),
     ("sf_valid_rules/src/laws.rt", []),
     ("sf_measure/src/laws.rt", []),
+    ("sf_near/src/laws.rt", []),
     ("sf_keeping/src/keeping.rt", ["serve_kept"]),
     ("sf_keeping/src/replaying.rt", ["replay"]),
     ("sf_keeping/src/laws.rt", []),
@@ -66,6 +67,7 @@ SUBJECTS: list[tuple[str, list[str]]] = [
     ("Validity and simplicity", ["sf_valid_rules", "sf_validity", "sf_faults"]),
     ("Areas and lengths", ["sf_measure"]),
     ("Matrices and predicates", ["sf_known", "sf_relate", "sf_query", "sf_joins"]),
+    ("Distances", ["sf_distance", "sf_nearness", "sf_near"]),
     (
         "Features, layers, edits and their inverses",
         ["sf_decimals", "sf_dates", "sf_refusals", "sf_features", "sf_layers", "sf_steps", "sf_edits"],

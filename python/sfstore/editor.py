@@ -4,13 +4,14 @@ from __future__ import annotations
 
 from collections.abc import Callable, Iterable, Iterator
 from decimal import Decimal
+from fractions import Fraction
 from typing import cast
 
 from sfstore import edits, spelling, values
 from sfstore.group import Group
 from sfstore.language import QUESTIONS, words_of_line
 from sfstore.program import Link, batches
-from sfstore.results import Answer, Column, ColumnType, Feature, Kind, Layer, Predicate, Refused, Rule, RuleForm, Value
+from sfstore.results import Answer, Column, ColumnType, Distance, Feature, Kind, Layer, Predicate, Refused, Rule, RuleForm, Value
 from sfstore.rows import feature_of, rule_of
 
 __all__ = ["Editor"]
@@ -462,6 +463,22 @@ class Editor:
         """
         return self._measures("length", layer, feature_ids)
 
+    def distance(self, layer: str, feature_id: int, wkt: str) -> Distance:
+        """The distance of a feature from the given geometry, over all points of both, in grid steps; and its square, exact.
+
+        The distance has three places and is rounded down. It is 0 where they share a point.
+
+        >>> with Store() as store:
+        ...     store.add_layer("parcels")
+        ...     store.add("parcels", "POLYGON ((10 0, 20 0, 10 10, 10 0))")
+        ...     store.distance("parcels", 1, "POINT (20 10)")
+        1
+        Distance(steps=Decimal('7.071'), square=Fraction(50, 1))
+        """
+        answer = self._line(f"distance {spelling.name(layer)} {spelling.identifier(feature_id)} {spelling.geometry(wkt)}")
+        steps, square = answer.split(" ")
+        return Distance(Decimal(steps), Fraction(square))
+
     def relate(self, layer: str, feature_id: int, wkt: str) -> str:
         """The DE-9IM matrix of the geometry of a feature with the given one, nine characters.
 
@@ -500,6 +517,24 @@ class Editor:
         [1]
         """
         rows = self._rows(f"query {spelling.name(layer)} {spelling.one_of(Predicate, predicate)} {spelling.geometry(wkt)}")
+        return [int(row) for row in rows]
+
+    def near(self, layer: str, distance: int | Decimal, wkt: str) -> list[int]:
+        """The features that have a point no farther than a distance from one of the given geometry, over all points of both.
+
+        They are given by their identifiers, rising. The distance is in grid steps, from 0 on, below 2**32, and has three
+        places behind the point at most; `ValueError` for another one. A `float` is not taken.
+
+        >>> with Store() as store:
+        ...     store.add_layer("wells")
+        ...     store.add("wells", "POINT (20 10)")
+        ...     store.near("wells", Decimal("7.071"), "POLYGON ((10 0, 20 0, 10 10, 10 0))")
+        ...     store.near("wells", Decimal("7.072"), "POLYGON ((10 0, 20 0, 10 10, 10 0))")
+        1
+        []
+        [1]
+        """
+        rows = self._rows(f"query {spelling.name(layer)} near {spelling.distance(distance)} {spelling.geometry(wkt)}")
         return [int(row) for row in rows]
 
     def join(self, layer: str, ask: str, other: str) -> Iterator[tuple[int, int]]:

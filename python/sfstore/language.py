@@ -7,12 +7,15 @@ language is made from here, or compared with it by a test.
 from __future__ import annotations
 
 import re
+from collections.abc import Sequence
 from typing import Literal, NamedTuple, Optional
 
 __all__ = [
     "COLUMNS_MAX",
     "COLUMN_TYPES",
     "COMMANDS",
+    "DISTANCE_LIMIT",
+    "DISTANCE_PLACES",
     "EDITOR_MAX",
     "EDITS",
     "GRID_MAX",
@@ -75,6 +78,9 @@ IDENTIFIERS_MAX = 1_000
 
 INT_MIN, INT_MAX = -(2**63), 2**63 - 1
 """From where to where the values of a column of whole numbers go, and the mantissa of a decimal."""
+
+DISTANCE_PLACES, DISTANCE_LIMIT = 3, 2**32
+"""How many digits the distance of a query has behind the point at most, and what it is below, in grid steps."""
 
 PLACES_MAX = 18
 """How many digits a decimal has behind the point at most."""
@@ -209,6 +215,11 @@ COMMANDS = [
     Command("area LAYER ID", "gives areas of features in squared grid steps, of one or up to 1,000", "area parcels 1"),
     Command("length LAYER ID", "gives lengths in grid steps; of areas that of their rings", "length roads 1"),
     Command(
+        "distance LAYER ID WKT",
+        "gives the distance of a feature from a geometry in grid steps, and its square",
+        "distance parcels 1 POINT (20 10)",
+    ),
+    Command(
         "relate LAYER ID WKT",
         "gives the DE-9IM matrix of a feature with a geometry",
         "relate parcels 1 POINT (5 5)",
@@ -222,6 +233,11 @@ COMMANDS = [
         "query LAYER PREDICATE WKT",
         "lists the features of which a predicate holds with a geometry",
         "query parcels contains POINT (5 5)",
+    ),
+    Command(
+        "query LAYER near D WKT",
+        "lists the features that have a point no farther than D grid steps from a geometry",
+        "query wells near 2.5 POINT (5 5)",
     ),
     Command(
         "join LAYER ASK LAYER",
@@ -257,6 +273,7 @@ MEMBERS = frozenset(command.word for command in COMMANDS if command.touches in (
 """The first words of the lines that may be members of a group."""
 
 _ADDRESS = re.compile(r"@[0-9]{1,3}")
+_WORDS_BEFORE_GEOMETRY = {"add": 2, "check": 2, "replace": 3, "distance": 3, "relate": 3, "match": 3, "query": 3}
 
 
 def edits_of(*touched: Touched) -> frozenset[str]:
@@ -285,3 +302,23 @@ def words_of_line(line: str) -> list[str]:
     """
     words = parted(line)
     return words[1:] if words and _ADDRESS.fullmatch(words[0]) else words
+
+
+def is_near(words: Sequence[str]) -> bool:
+    """Whether the words of a line ask for what is near a geometry.
+
+    >>> is_near(["query", "wells", "near", "2.5", "POINT", "(3", "4)"])
+    True
+    """
+    return words[:1] == ["query"] and words[2:3] == ["near"]
+
+
+def words_before_geometry(words: Sequence[str]) -> Optional[int]:
+    """How many words of a line stand before its well-known text, or none where it has none.
+
+    >>> words_before_geometry(["add", "wells", "POINT", "(3", "4)"])
+    2
+    """
+    if is_near(words):
+        return _WORDS_BEFORE_GEOMETRY["query"] + 1
+    return _WORDS_BEFORE_GEOMETRY.get(words[0]) if words else None

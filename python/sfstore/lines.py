@@ -3,7 +3,7 @@
 from __future__ import annotations
 
 from sfstore.geometry import NotTaken, Shape, read_wkb, read_wkt
-from sfstore.language import words_of_line
+from sfstore.language import words_before_geometry, words_of_line
 from sfstore.store import Editor, Refused
 
 __all__ = ["geometry_of", "geometry_refused"]
@@ -22,12 +22,12 @@ def geometry_refused(refused: Refused, line: str, store: Editor) -> Shape | None
 def geometry_of(line: str, store: Editor) -> Shape | None:
     """The geometry that a refused line would have brought, or none where that is not known."""
     words = words_of_line(line)
-    given = {"add": 2, "addhex": 2, "check": 2, "replace": 3, "relate": 3, "match": 3, "query": 3}
+    before = words_before_geometry(words)
     try:
         if words[0] == "addhex":
             return read_wkb(bytes.fromhex(words[2]))
-        if words[0] in given:
-            return read_wkt(" ".join(words[given[words[0]] :]))
+        if before is not None:
+            return read_wkt(" ".join(words[before:]))
         if words[0] == "vertex":
             shape = read_wkb(bytes.fromhex(store.hex(words[2], int(words[3]))))
             return _with_vertex(shape, words[1], [int(word.split(".")[0]) for word in words[4:]])

@@ -14,22 +14,23 @@ from functools import reduce
 from typing import NamedTuple
 
 from sfstore.groups import lines_of
-from sfstore.language import GRID_MAX, GRID_MIN, words_of_line
+from sfstore.language import DISTANCE_PLACES, GRID_MAX, GRID_MIN, is_near, words_before_geometry, words_of_line
 
 __all__ = ["MapUnits", "NoPlace", "grid_decimal"]
 
 # The text of a coordinate made of another one, by its axis and as it is written.
 _Change = Callable[[int, str], str]
 
-# The geometry of a line begins behind so many words, and a vertex is the last two of so many.
-_WORDS_BEFORE_GEOMETRY = {"add": 2, "check": 2, "replace": 3, "relate": 3, "match": 3, "query": 3}
+# A vertex is the last two of so many words, and the distance of a query the last of so many.
 _WORDS_OF_VERTEX = 9
+_WORDS_TO_DISTANCE = 4
 _ADDRESS = re.compile(r"[ \t]*@[0-9]{1,3}(?=[ \t])")
 _WORD = re.compile(r"[ \t]*[^ \t]+")
 _WKT_TOKEN = re.compile(r"[(),]|[^ \t(),]+")
 _NUMBER = re.compile(r"[-+]?(?:[0-9]+(?:\.[0-9]*)?|\.[0-9]+)(?:[eE][-+]?[0-9]{1,4})?")
 _PAIR = re.compile(r"(-?[0-9]+) (-?[0-9]+)")
 _SHAPE_OF_ROW = re.compile(r"([0-9]+ [A-Z]+ )(\([-0-9 ,()]*\))")
+_DISTANCE_ROW = re.compile(r"([0-9]+\.[0-9]+) ([0-9]+(?:/[0-9]+)?)")
 _MEASURE_OF_ROW = re.compile(r"([0-9]+) (-?[0-9]+(?:\.[0-9]+)?)")
 # How many more digits than those of a step a place has that stands between two steps.
 _MORE_DIGITS = 3
@@ -134,6 +135,19 @@ class MapUnits:
         """
         return _product(steps, self.step)
 
+    def reach(self, distance: Decimal) -> Decimal:
+        """A distance in map units, in grid steps. `NoPlace` where it is none that a line may have: three places behind the point.
+
+        >>> MapUnits("0", "0", "0.01").reach(Decimal("2.5"))
+        Decimal('250')
+        """
+        scaled = Fraction(distance) / Fraction(self.step) * 10**DISTANCE_PLACES
+        if scaled.denominator == 1:
+            return _shortest(Decimal(scaled.numerator).scaleb(-DISTANCE_PLACES, _EXACT))
+        below = scaled.numerator // scaled.denominator
+        near = " and ".join(str(self.length(Decimal(each).scaleb(-DISTANCE_PLACES, _EXACT))) for each in (below, below + 1))
+        raise NoPlace(f"the distance {distance} is no whole number of thousandths of a grid step; {near} are")
+
     def point_text(self, point: tuple[int | Fraction, int | Fraction]) -> str:
         """A place in map units, as ``(500045.00 5600015.50)``. One that has no end as a decimal is rounded, behind a ``~``."""
         x, y = (axis.near_place_of(step) for axis, step in zip(self._axes, point))
@@ -147,7 +161,7 @@ class MapUnits:
         >>> MapUnits("500000", "5600000", "0.01").line("@7 vertex move parcels 3 0 0 1 500045.5 5600015")
         '@7 vertex move parcels 3 0 0 1 4550 1500'
         """
-        return "\r".join(_coordinates_changed(each, self._step_text) for each in lines_of(line))
+        return "\r".join(_coordinates_changed(_distance_changed(each, self._reach), self._step_text) for each in lines_of(line))
 
     def shown_line(self, line: str) -> str:
         """A line of steps, as it would be written in map units: what `line` makes steps of again.
@@ -155,7 +169,7 @@ class MapUnits:
         >>> MapUnits("500000", "5600000", "0.01").shown_line("add wells POINT (4550 1500)")
         'add wells POINT (500045.50 5600015.00)'
         """
-        return "\r".join(_coordinates_changed(each, self._place_text) for each in lines_of(line))
+        return "\r".join(_coordinates_changed(_distance_changed(each, self._shown_reach), self._place_text) for each in lines_of(line))
 
     def rows(self, line: str, rows: Sequence[str]) -> list[str]:
         """The rows of the answer to a line, in map units."""
@@ -172,6 +186,30 @@ class MapUnits:
         if number.adjusted() > _EXPONENT_MAX or number != number.to_integral_value():
             return text
         return self._axes[axis].place_of(int(number))
+
+    def _reach(self, text: str) -> str:
+        if len(text) > _LETTERS_MAX:
+            raise NoPlace(f"the distance {text[:_SHOWN]}.. has {len(text):,} letters, and may have {_LETTERS_MAX:,} at most")
+        number = Decimal(text)
+        return text if abs(number.adjusted()) > _EXPONENT_MAX else format(self.reach(number), "f")
+
+    def _shown_reach(self, text: str) -> str:
+        if len(text) > _LETTERS_MAX or abs(Decimal(text).adjusted()) > _EXPONENT_MAX:
+            return text
+        return format(self.length(Decimal(text)), "f")
+
+    def _distance_row(self, row: str) -> str:
+        """A distance and its square, in map units: the square as a decimal where it ends as one."""
+        return _DISTANCE_ROW.sub(lambda found: f"{self.length(Decimal(found[1]))} {self._square(Fraction(found[2]))}", row, count=1)
+
+    def _square(self, square: Fraction) -> str:
+        scaled = square * Fraction(self.step) ** 2
+        rest = scaled.denominator
+        for factor in (2, 5):
+            while rest % factor == 0:
+                rest //= factor
+        exact = _EXACT.divide(Decimal(scaled.numerator), Decimal(scaled.denominator)) if rest == 1 else None
+        return str(scaled) if exact is None else format(_shortest(exact), "f")
 
     def _shape_row(self, row: str) -> str:
         return _SHAPE_OF_ROW.sub(lambda found: found[1] + self.places(found[2]), row, count=1)
@@ -193,6 +231,7 @@ _ROWS: dict[str, Callable[[MapUnits, str], str]] = {
     "box": MapUnits.places,
     "area": MapUnits._area_row,
     "length": MapUnits._length_row,
+    "distance": MapUnits._distance_row,
 }
 
 
@@ -242,14 +281,22 @@ def _end_of_words(line: str, count: int) -> int:
 def _coordinates_changed(line: str, change: _Change) -> str:
     """A line with its coordinates changed: those of a geometry, or of a vertex."""
     words = words_of_line(line)
-    if not words:
-        return line
-    if words[0] == "vertex" and len(words) == _WORDS_OF_VERTEX:
+    count = words_before_geometry(words)
+    if words[:1] == ["vertex"] and len(words) == _WORDS_OF_VERTEX:
         count = _WORDS_OF_VERTEX - 2
-    else:
-        count = _WORDS_BEFORE_GEOMETRY.get(words[0], len(words))
+    if count is None:
+        return line
     at = _end_of_words(line, count)
     return line[:at] + _numbers_changed(line[at:], change)
+
+
+def _distance_changed(line: str, change: Callable[[str], str]) -> str:
+    """A line with the distance changed that it asks for, where it is one that can be read."""
+    if not is_near(words_of_line(line)):
+        return line
+    start, end = _end_of_words(line, _WORDS_TO_DISTANCE - 1), _end_of_words(line, _WORDS_TO_DISTANCE)
+    word = line[start:end].strip(" \t")
+    return line[:start] + " " + change(word) + line[end:] if _NUMBER.fullmatch(word) else line
 
 
 def _numbers_changed(text: str, change: _Change) -> str:

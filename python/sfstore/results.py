@@ -7,6 +7,7 @@ import re
 from dataclasses import dataclass
 from datetime import date, datetime
 from decimal import Decimal
+from fractions import Fraction
 from typing import Any, Literal, NamedTuple, Union
 
 from sfstore.groups import member_of
@@ -16,6 +17,7 @@ __all__ = [
     "Answer",
     "Column",
     "ColumnType",
+    "Distance",
     "Feature",
     "JournalError",
     "Kind",
@@ -222,6 +224,16 @@ class Recovered(NamedTuple):
     """How many edits the last save did not have. They are there again, and can be undone."""
     torn: int
     """How many bytes of an edit were dropped that was not written to its end, nor answered."""
+
+
+class Distance(NamedTuple):
+    """How far two geometries are apart, in grid steps."""
+
+    steps: Decimal
+    """The distance, rounded down to three places."""
+
+    square: Fraction
+    """The square of the distance, exact."""
 
 
 class Layer(NamedTuple):

@@ -4,12 +4,14 @@ from __future__ import annotations
 
 import operator
 from collections.abc import Sequence
+from decimal import Decimal
 from typing import Any, get_args
 
 from sfstore.groups import lines_of, size_of
-from sfstore.language import EDITOR_MAX, IDENTIFIER_MAX, IDENTIFIERS_MAX, NAME, PATTERN, PREDICATES
+from sfstore.language import DISTANCE_LIMIT, DISTANCE_PLACES, EDITOR_MAX, IDENTIFIER_MAX, IDENTIFIERS_MAX, NAME, PATTERN, PREDICATES
 
 __all__ = [
+    "distance",
     "editor",
     "encoded",
     "geometry",
@@ -110,6 +112,15 @@ def editor(number: int) -> int:
     if not 1 <= number <= EDITOR_MAX:
         raise ValueError(f"no number of an editor: {number}")
     return number
+
+
+def distance(steps: int | Decimal) -> str:
+    """A distance in grid steps that a query may ask for. `TypeError` for a `float`, which may be none that was meant."""
+    if not isinstance(steps, Decimal):
+        steps = Decimal(integer(steps))
+    if not (steps.is_finite() and 0 <= steps < DISTANCE_LIMIT and steps == round(steps, DISTANCE_PLACES)):
+        raise ValueError(f"{steps} is no distance: from 0 to below {DISTANCE_LIMIT} grid steps, with {DISTANCE_PLACES} places behind the point at most")
+    return format(abs(steps), "f")
 
 
 def vertex(layer: str, which: str, part: int, ring: int, index: int) -> str:

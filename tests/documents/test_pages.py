@@ -99,6 +99,9 @@ class Learned(PageCase):
     def test_how_to_find_shared_borders(self):
         self.compare("use/SHARED_BORDERS.md")
 
+    def test_how_to_find_what_is_near(self):
+        self.compare("use/FIND_WHAT_IS_NEAR.md")
+
     def test_how_to_take_back_an_edit(self):
         self.compare("use/TAKE_BACK_AN_EDIT.md")
 

@@ -36,6 +36,7 @@ box
 simple
 area
 length
+distance
 relate
 match
 query

@@ -44,6 +44,7 @@ Pairs of features of two layers
 Several edits as one step (26)
 Rules: an edit that breaks one is refused until it is dropped
 Areas and lengths
+Distances
 """.splitlines()
 PAIRS = "Matrices of all pairs of twenty geometries, by bench/matrices.py"
 GEOMETRIES = 20

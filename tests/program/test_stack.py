@@ -71,6 +71,8 @@ SESSION = [
     "find a depth 12",
     "find a label",
     *(f"check a {geometry}" for geometry in GEOMETRIES),
+    f"distance a 1 {GEOMETRIES[2]}",
+    f"query a near 1.5 {GEOMETRIES[0]}",
     f"relate a 1 {GEOMETRIES[2]}",
     f"query a intersects {GEOMETRIES[0]}",
     f"match a ****1**** {GEOMETRIES[5]}",

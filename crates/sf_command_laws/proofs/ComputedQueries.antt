@@ -6,7 +6,7 @@ use Rattle.sf_geometry.specs.declared.geometry.Geometry.{Geometry}
 use Rattle.sf_geometry.specs.declared.geometry.Geometry.TheVariants as geometries
 use Rattle.sf_known.specs.declared.letter.Letter.TheVariants.{Any, Filled, Empty as Unfilled, Zero, One, Two}
 use Rattle.sf_known.specs.declared.predicate.Predicate.TheVariants as predicates
-use Rattle.sf_commands.specs.declared.command.Command.TheVariants.{Relate, Match, Query}
+use Rattle.sf_commands.specs.declared.command.Command.TheVariants.{Distance, Relate, Match, Query, Near}
 use Rattle.sf_commands.specs.Commands.{command_of}
 
 abbrev point : Geometry
@@ -18,6 +18,24 @@ IsRefused line refusal = command_of line ≡ Err refusal
 
 related : (command_of (codes "relate p 3 POINT (1 -2)") ≡ Ok (0, Relate (codes "p") 3 point)) × (command_of (codes " relate  p 0000000003\tpoint(1 -2) ") ≡ Ok (0, Relate (codes "p") 3 point))
 related = (refl, refl)
+
+distant : (command_of (codes "distance p 3 POINT (1 -2)") ≡ Ok (0, Distance (codes "p") 3 point)) × (command_of (codes "@7 distance  p 03\tpoint(1 -2) ") ≡ Ok (7, Distance (codes "p") 3 point))
+distant = (refl, refl)
+
+-- a distance in thousandths of a grid step
+near : (command_of (codes "query p near 2 POINT (1 -2)") ≡ Ok (0, Near (codes "p") 2000 point))
+    × (command_of (codes "query p  near\t+02.50 point(1 -2)") ≡ Ok (0, Near (codes "p") 2500 point))
+    × (command_of (codes "query near near 0 POINT (1 -2)") ≡ Ok (0, Near (codes "near") 0 point))
+    × (command_of (codes "query p near 4294967295.999 POINT (1 -2)") ≡ Ok (0, Near (codes "p") 4294967295999 point))
+near = (refl, refl, refl, refl)
+
+-- a word that is no distance: one below 0, with four places, as large as the limit, or with an exponent; or none
+faults_of_distances : IsRefused (codes "query p near -1 POINT (1 -2)") BadCommand × IsRefused (codes "query p near 1.0001 POINT (1 -2)") BadCommand
+    × IsRefused (codes "query p near 4294967296 POINT (1 -2)") BadCommand × IsRefused (codes "query p near 1e3 POINT (1 -2)") BadCommand
+    × IsRefused (codes "query p near POINT (1 -2)") BadCommand × IsRefused (codes "query p near 1") BadCommand × IsRefused (codes "query p near") BadCommand
+    × IsRefused (codes "distance p 3") BadCommand × IsRefused (codes "distance p x POINT (1 -2)") BadCommand × IsRefused (codes "distance p 3 LINESTRING (1 1, 1 1)") ShortLine
+    × IsRefused (codes "query p near 1 LINESTRING (1 1, 1 1)") ShortLine × IsRefused (codes "query p near x LINESTRING (1 1, 1 1)") BadCommand
+faults_of_distances = (refl, refl, refl, refl, refl, refl, refl, refl, refl, refl, refl, refl)
 
 matched : command_of (codes "match p T*F**F*** POINT (1 -2)") ≡ Ok (0, Match (codes "p") (Filled ∷ Any ∷ Unfilled ∷ Any ∷ Any ∷ Unfilled ∷ Any ∷ Any ∷ Any ∷ []) point)
 matched = refl

@@ -34,12 +34,13 @@ use Rattle.sf_rules.specs.declared.rule.Form.{Form}
 use Rattle.sf_rules.specs.declared.rule.Form.TheVariants.{Never, Each}
 use Rattle.sf_steps.specs.declared.edit.Edit.TheVariants as edits
 use Rattle.sf_commands.specs.declared.command.Command.{Command}
-use Rattle.sf_commands.specs.declared.command.Command.TheVariants.{Edit, Undo, Redo, Layers, Columns, Rules, Show, Get, Hex, Simple, Extent, Measured, Relate, Match, Query}
+use Rattle.sf_commands.specs.declared.command.Command.TheVariants.{Edit, Undo, Redo, Layers, Columns, Rules, Show, Get, Hex, Simple, Extent, Measured, Distance, Relate, Match, Query, Near}
 use Rattle.sf_words.specs.declared.naming.Naming.TheVariants.{ById}
 use Rattle.sf_words.specs.declared.verb.Verb.{Verb}
 use Rattle.sf_words.specs.declared.verb.Verb.TheVariants as verbs
 use Rattle.sf_words.specs.declared.verb.Action.{Action}
 use Rattle.sf_words.specs.declared.verb.Action.TheVariants as actions
+use Rattle.sf_words.specs.Reaches.{is_near, reach_of}
 use Rattle.sf_words.specs.Words.{words, skip_blanks, skip_word, trimmed_end}
 use Rattle.sf_words.specs.Points.{point_by, point_of}
 use Rattle.sf_values.specs.Values.{value_of}
@@ -47,8 +48,8 @@ use Rattle.sf_words.specs.Verbs.{action_of, verb_of}
 use Rattle.sf_words.specs.Naming.{given, id_of, vertex_place}
 use Rattle.sf_words.specs.Editors.{addressed, behind_at, by_digits, by_first_word, editor_of}
 use Rattle.sf_values.specs.Kinds.{column_type_of, layer_kind_of, predicate_of}
-use Rattle.sf_commands.specs.Commands.{add_arguments, add_column, check_arguments, add_layer, add_rule, addhex_arguments, addressed_command, after_two_words, alone, ask_by, ask_of, by_editor, by_verb, by_words, bytes_command, column_arguments, column_command, delete_arguments, drop_column, drop_layer, drop_rule, faultless, feature_arguments, feature_command, feature_named, features_arguments, features_command, find_arguments, form_of, join_arguments, join_by, beside_of, hex_command, ids_of, insert_vertex, layer_arguments, layer_command, made, match_arguments, move_layer, move_vertex, of_layer, of_text, query_arguments, relate_arguments, remove_vertex, rename_layer, replace_arguments, rule_arguments, rule_asked, rule_command, second_of, set_arguments, sought_of, unset_arguments, valid_of, vertex_arguments, vertex_command, with_geometry, with_id}
-use Rattle.sf_command_laws.specs.Laws.{GivenGeometriesAreJudgedOverThePlane, HasFaultyGiven, HasJudgedGiven, HasValidGiven, SpellsValid, given_text}
+use Rattle.sf_commands.specs.Commands.{add_arguments, add_column, check_arguments, add_layer, add_rule, addhex_arguments, addressed_command, after_two_words, alone, ask_by, ask_of, by_editor, by_verb, by_words, bytes_command, column_arguments, column_command, delete_arguments, drop_column, drop_layer, drop_rule, faultless, feature_arguments, feature_command, feature_named, features_arguments, features_command, find_arguments, form_of, join_arguments, join_by, beside_of, hex_command, ids_of, insert_vertex, layer_arguments, layer_command, made, match_arguments, move_layer, move_vertex, of_layer, of_text, query_arguments, remove_vertex, rename_layer, replace_arguments, rule_arguments, rule_asked, rule_command, second_of, set_arguments, sought_of, unset_arguments, valid_of, vertex_arguments, vertex_command, with_geometry, with_id, compared_arguments, query_near, query_named}
+use Rattle.sf_command_laws.specs.Laws.{GivenGeometriesAreJudgedOverThePlane, HasFaultyGiven, HasJudgedGiven, HasValidGiven, SpellsValid, from_third, given_text, query_text, text_behind, text_by_words}
 
 -- what is said of what was made of a text behind the verb
 abbrev Judged : List ℕ → Result Command Refusal → Type 0
@@ -399,17 +400,32 @@ after_two_words_judged : (t : List ℕ) (make : List ℕ → List ℕ → List �
 after_two_words_judged t make (layer ∷ word ∷ first ∷ more) judged = judged layer word
 after_two_words_judged t make arguments judged = bad t
 
-relate_judged : (t : List ℕ) (arguments : List (List ℕ)) → Judged t (relate_arguments arguments t)
-relate_judged t arguments = after_two_words_judged t _ arguments (λ layer id.
-    with_geometry_judged t Relate layer (ok_or (id_of id) BadCommand) (valid_of (read t)) (spelled_other (id_of id) BadCommand refl) (given_is_judged t) (λ id given valid. valid))
+compared_judged : (t : List ℕ) (command : List ℕ → ℕ → Geometry → Command) (arguments : List (List ℕ))
+    → ((layer : List ℕ) (id : ℕ) (given : Geometry) → SpellsValid t given → HasValidGiven t (command layer id given)) → Judged t (compared_arguments command arguments t)
+compared_judged t command arguments judged = after_two_words_judged t _ arguments (λ layer id.
+    with_geometry_judged t command layer (ok_or (id_of id) BadCommand) (valid_of (read t)) (spelled_other (id_of id) BadCommand refl) (given_is_judged t) (judged layer))
 
 match_judged : (t : List ℕ) (arguments : List (List ℕ)) → Judged t (match_arguments arguments t)
 match_judged t arguments = after_two_words_judged t _ arguments (λ layer pattern.
     with_geometry_judged t Match layer (ok_or (pattern_of pattern) BadPattern) (valid_of (read t)) (spelled_other (pattern_of pattern) BadPattern refl) (given_is_judged t) (λ pattern given valid. valid))
 
-query_judged : (t : List ℕ) (arguments : List (List ℕ)) → Judged t (query_arguments arguments t)
-query_judged t arguments = after_two_words_judged t _ arguments (λ layer predicate.
-    with_geometry_judged t Query layer (ok_or (predicate_of predicate) BadCommand) (valid_of (read t)) (spelled_other (predicate_of predicate) BadCommand refl) (given_is_judged t) (λ predicate given valid. valid))
+near_judged : (t layer : List ℕ) (arguments : List (List ℕ)) → Judged t (query_near layer arguments t)
+near_judged t layer (distance ∷ first ∷ more) =
+    with_geometry_judged t Near layer (ok_or (reach_of distance) BadCommand) (valid_of (read t)) (spelled_other (reach_of distance) BadCommand refl) (given_is_judged t) (λ reach given valid. valid)
+near_judged t layer arguments = bad t
+
+query_judged : (arguments : List (List ℕ)) (text : List ℕ) → Judged (query_text arguments text) (query_arguments arguments text)
+query_judged (layer ∷ ask ∷ first ∷ more) text = by (is_near ask)
+  where
+    by : (near : Bool) → Judged (if near then skip_blanks (skip_word text) else text)
+        (if near then query_near layer (words text) (skip_blanks (skip_word text)) else query_named layer ask text)
+    by true = near_judged (skip_blanks (skip_word text)) layer (words text)
+    by false =
+        with_geometry_judged text Query layer (ok_or (predicate_of ask) BadCommand) (valid_of (read text)) (spelled_other (predicate_of ask) BadCommand refl) (given_is_judged text)
+        (λ predicate given valid. valid)
+query_judged (layer ∷ ask ∷ []) text = bad (query_text (layer ∷ ask ∷ []) text)
+query_judged (layer ∷ []) text = bad text
+query_judged [] text = bad text
 
 of_layer_judged : (t : List ℕ) (command : List ℕ → Command) (arguments : List (List ℕ)) → ((layer : List ℕ) → HasValidGiven t (command layer)) → Judged t (of_layer command arguments)
 of_layer_judged t command (layer ∷ []) judged = judged layer
@@ -423,9 +439,9 @@ alone_judged t command arguments judged = bad t
 
 -- the text that a given geometry has behind a verb and the line after it
 abbrev behind : List ℕ → List ℕ
-behind rest = skip_blanks (skip_word (skip_word rest))
+behind rest = from_third rest
 
-by_verb_judged : (verb : Option Verb) (rest : List ℕ) → Judged (behind rest) (by_verb verb rest)
+by_verb_judged : (verb : Option Verb) (rest : List ℕ) → Judged (text_behind verb rest) (by_verb verb rest)
 by_verb_judged (Some verbs.Layer) rest = layer_judged (behind rest) (words rest)
 by_verb_judged (Some verbs.Column) rest = column_judged (behind rest) (words rest)
 by_verb_judged (Some verbs.Add) rest = add_judged (behind rest) (words rest) (skip_blanks (skip_word rest))
@@ -450,13 +466,14 @@ by_verb_judged (Some verbs.Box) rest = feature_judged (behind rest) Extent (word
 by_verb_judged (Some verbs.Simple) rest = feature_judged (behind rest) Simple (words rest) (λ layer id. tt)
 by_verb_judged (Some verbs.Area) rest = features_judged (behind rest) (Measured Area) (words rest) (λ layer ids. tt)
 by_verb_judged (Some verbs.Length) rest = features_judged (behind rest) (Measured Length) (words rest) (λ layer ids. tt)
-by_verb_judged (Some verbs.Relate) rest = relate_judged (behind rest) (words rest)
+by_verb_judged (Some verbs.Distance) rest = compared_judged (behind rest) Distance (words rest) (λ layer id given valid. valid)
+by_verb_judged (Some verbs.Relate) rest = compared_judged (behind rest) Relate (words rest) (λ layer id given valid. valid)
 by_verb_judged (Some verbs.Match) rest = match_judged (behind rest) (words rest)
-by_verb_judged (Some verbs.Query) rest = query_judged (behind rest) (words rest)
+by_verb_judged (Some verbs.Query) rest = query_judged (words rest) (behind rest)
 by_verb_judged (Some verbs.Join) rest = join_judged (behind rest) (words rest)
 by_verb_judged None rest = bad (behind rest)
 
-by_words_judged : (all : List (List ℕ)) (rest : List ℕ) → Judged (behind rest) (by_words all rest)
+by_words_judged : (all : List (List ℕ)) (rest : List ℕ) → Judged (text_by_words all rest) (by_words all rest)
 by_words_judged [] rest = bad (behind rest)
 by_words_judged (verb ∷ arguments) rest = by_verb_judged (verb_of verb) rest
 

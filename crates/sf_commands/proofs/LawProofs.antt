@@ -28,7 +28,7 @@ use Rattle.sf_steps.specs.Laws.{BringsGridPoints}
 use Rattle.sf_groups.specs.declared.member.Member.{Member}
 use Rattle.sf_groups.specs.Members.{may_follow}
 use Rattle.sf_commands.specs.declared.command.Command.{Command}
-use Rattle.sf_commands.specs.declared.command.Command.TheVariants.{Edit, Undo, Redo, Layers, Columns, Rules, Show, Get, Hex, Simple, Extent, Measured, Relate, Match, Query}
+use Rattle.sf_commands.specs.declared.command.Command.TheVariants.{Edit, Undo, Redo, Layers, Columns, Rules, Show, Get, Hex, Simple, Extent, Measured, Distance, Relate, Match, Query, Near}
 use Rattle.sf_commands.specs.declared.group_text.GroupRefusal.{GroupRefusal}
 use Rattle.sf_words.specs.declared.naming.Naming.{Naming}
 use Rattle.sf_words.specs.declared.naming.Naming.TheVariants.{ById, OrLast}
@@ -36,6 +36,7 @@ use Rattle.sf_words.specs.declared.verb.Verb.{Verb}
 use Rattle.sf_words.specs.declared.verb.Verb.TheVariants as verbs
 use Rattle.sf_words.specs.declared.verb.Action.{Action}
 use Rattle.sf_words.specs.declared.verb.Action.TheVariants as actions
+use Rattle.sf_words.specs.Reaches.{is_near, reach_of}
 use Rattle.sf_words.specs.Words.{words, skip_blanks, skip_word, trimmed_end}
 use Rattle.sf_words.specs.Points.{point_by, point_of}
 use Rattle.sf_values.specs.Values.{value_of}
@@ -43,7 +44,7 @@ use Rattle.sf_words.specs.Verbs.{action_of, verb_of}
 use Rattle.sf_words.specs.Naming.{given, id_named, id_of, vertex_place}
 use Rattle.sf_words.specs.Editors.{addressed}
 use Rattle.sf_values.specs.Kinds.{column_type_of, layer_kind_of, predicate_of}
-use Rattle.sf_commands.specs.Commands.{add_arguments, add_column, check_arguments, add_layer, add_rule, addhex_arguments, addressed_command, after_two_words, alone, ask_of, by_editor, by_verb, by_words, bytes_command, column_arguments, column_command, command_of, delete_arguments, drop_column, drop_layer, drop_rule, feature_arguments, feature_command, feature_named, features_arguments, features_command, find_arguments, form_of, join_arguments, join_by, beside_of, hex_command, ids_of, insert_vertex, layer_arguments, layer_command, made, match_arguments, move_layer, move_vertex, of_layer, of_text, query_arguments, relate_arguments, remove_vertex, rename_layer, replace_arguments, rule_arguments, rule_asked, rule_command, second_of, set_arguments, sought_of, unset_arguments, valid_of, vertex_arguments, vertex_command, with_geometry}
+use Rattle.sf_commands.specs.Commands.{add_arguments, add_column, check_arguments, add_layer, add_rule, addhex_arguments, addressed_command, after_two_words, alone, ask_of, by_editor, by_verb, by_words, bytes_command, column_arguments, column_command, command_of, delete_arguments, drop_column, drop_layer, drop_rule, feature_arguments, feature_command, feature_named, features_arguments, features_command, find_arguments, form_of, join_arguments, join_by, beside_of, hex_command, ids_of, insert_vertex, layer_arguments, layer_command, made, match_arguments, move_layer, move_vertex, of_layer, of_text, query_arguments, remove_vertex, rename_layer, replace_arguments, rule_arguments, rule_asked, rule_command, second_of, set_arguments, sought_of, unset_arguments, valid_of, vertex_arguments, vertex_command, with_geometry, compared_arguments, query_near, query_asked, query_named}
 use Rattle.sf_commands.specs.Members.{member_by, member_by_verb, member_by_words, member_of, second_is_last, third_is_last}
 use Rattle.sf_words.specs.Parts.{parts_of}
 use Rattle.sf_commands.specs.GroupTexts.{and_behind, members_behind, members_in, placed}
@@ -263,17 +264,28 @@ after_two_words_brings : (make : List ℕ → List ℕ → List ℕ → Result C
 after_two_words_brings make (layer ∷ word ∷ first ∷ more) text brings = brings layer word text
 after_two_words_brings make arguments text brings = tt
 
-relate_brings : (arguments : List (List ℕ)) (text : List ℕ) → Brings (relate_arguments arguments text)
-relate_brings arguments text =
-    after_two_words_brings _ arguments text (λ layer id text. with_geometry_brings Relate layer (ok_or (id_of id) BadCommand) (valid_of (read text)) (λ id given. tt))
+compared_brings : (command : List ℕ → ℕ → Geometry → Command) (arguments : List (List ℕ)) (text : List ℕ)
+    → ((layer : List ℕ) (id : ℕ) (given : Geometry) → BringsOnGrid (command layer id given)) → Brings (compared_arguments command arguments text)
+compared_brings command arguments text brings =
+    after_two_words_brings _ arguments text (λ layer id text. with_geometry_brings command layer (ok_or (id_of id) BadCommand) (valid_of (read text)) (brings layer))
 
 match_brings : (arguments : List (List ℕ)) (text : List ℕ) → Brings (match_arguments arguments text)
 match_brings arguments text =
     after_two_words_brings _ arguments text (λ layer pattern text. with_geometry_brings Match layer (ok_or (pattern_of pattern) BadPattern) (valid_of (read text)) (λ pattern given. tt))
 
+near_brings : (layer : List ℕ) (arguments : List (List ℕ)) (text : List ℕ) → Brings (query_near layer arguments text)
+near_brings layer (distance ∷ first ∷ more) text = with_geometry_brings Near layer (ok_or (reach_of distance) BadCommand) (valid_of (read text)) (λ reach given. tt)
+near_brings layer arguments text = tt
+
+query_asked_brings : (layer ask text : List ℕ) → Brings (query_asked layer ask text)
+query_asked_brings layer ask text = by (is_near ask)
+  where
+    by : (near : Bool) → Brings (if near then query_near layer (words text) (skip_blanks (skip_word text)) else query_named layer ask text)
+    by true = near_brings layer (words text) (skip_blanks (skip_word text))
+    by false = with_geometry_brings Query layer (ok_or (predicate_of ask) BadCommand) (valid_of (read text)) (λ predicate given. tt)
+
 query_brings : (arguments : List (List ℕ)) (text : List ℕ) → Brings (query_arguments arguments text)
-query_brings arguments text =
-    after_two_words_brings _ arguments text (λ layer predicate text. with_geometry_brings Query layer (ok_or (predicate_of predicate) BadCommand) (valid_of (read text)) (λ predicate given. tt))
+query_brings arguments text = after_two_words_brings query_asked arguments text query_asked_brings
 
 of_layer_brings : (command : List ℕ → Command) (arguments : List (List ℕ)) → ((layer : List ℕ) → BringsOnGrid (command layer)) → Brings (of_layer command arguments)
 of_layer_brings command (layer ∷ []) brings = brings layer
@@ -310,7 +322,8 @@ by_verb_brings (Some verbs.Box) rest = feature_brings Extent (words rest) (λ la
 by_verb_brings (Some verbs.Simple) rest = feature_brings Simple (words rest) (λ layer id. tt)
 by_verb_brings (Some verbs.Area) rest = features_brings (Measured Area) (words rest) (λ layer ids. tt)
 by_verb_brings (Some verbs.Length) rest = features_brings (Measured Length) (words rest) (λ layer ids. tt)
-by_verb_brings (Some verbs.Relate) rest = relate_brings (words rest) (skip_blanks (skip_word (skip_word rest)))
+by_verb_brings (Some verbs.Distance) rest = compared_brings Distance (words rest) (skip_blanks (skip_word (skip_word rest))) (λ layer id given. tt)
+by_verb_brings (Some verbs.Relate) rest = compared_brings Relate (words rest) (skip_blanks (skip_word (skip_word rest))) (λ layer id given. tt)
 by_verb_brings (Some verbs.Match) rest = match_brings (words rest) (skip_blanks (skip_word (skip_word rest)))
 by_verb_brings (Some verbs.Query) rest = query_brings (words rest) (skip_blanks (skip_word (skip_word rest)))
 by_verb_brings (Some verbs.Join) rest = join_brings (words rest)

@@ -1,9 +1,9 @@
--- What `relate`, `match` and `query` make of the words after them.
-use Rattle.std.proofs.Common.{◌≡◌, ◌≢◌, ℕ, List, [], ◌∷◌, Option, None, Some, Result, Ok, Err, refl, sym, ap, ◌∙◌, subst}
+-- What `distance`, `relate`, `match` and `query` make of the words after them.
+use Rattle.std.proofs.Common.{◌≡◌, ◌≢◌, ℕ, true, false, List, [], ◌∷◌, Option, None, Some, Result, Ok, Err, if◌then◌else◌, refl, sym, ap, ◌∙◌, subst}
 use Rattle.std.specs.Option.{ok_or}
 use Rattle.std.specs.Result.{IsErrAnd}
 use Rattle.sf_refusals.specs.declared.refusal.Refusal.{Refusal}
-use Rattle.sf_refusals.specs.declared.refusal.Refusal.TheVariants.{Memory, BadPattern}
+use Rattle.sf_refusals.specs.declared.refusal.Refusal.TheVariants.{Memory, BadCommand, BadPattern}
 use Rattle.sf_geometry.specs.declared.geometry.Geometry.{Geometry}
 use Rattle.sf_geometry.specs.Size.{IsSized}
 use Rattle.sf_valid_rules.specs.Validity.{IsValid}
@@ -16,10 +16,13 @@ use Rattle.sf_known.specs.declared.refusal.Refusal.{Refusal as PatternRefusal}
 use Rattle.sf_known.specs.declared.refusal.Refusal.TheVariants as patterns
 use Rattle.sf_known.specs.Patterns.{pattern_of}
 use Rattle.sf_wkt.specs.declared.fault.WktFault.{WktFault}
+use Rattle.sf_wkt.specs.Grammar.{read}
 use Rattle.sf_steps.proofs.Judged.{its_fault, no_fault}
 use Rattle.sf_commands.specs.declared.command.Command.{Command}
+use Rattle.sf_commands.specs.declared.command.Command.TheVariants.{Near}
+use Rattle.sf_words.specs.Reaches.{is_near, reach_of}
 use Rattle.sf_words.specs.Words.{words, skip_blanks, skip_word}
-use Rattle.sf_commands.specs.Commands.{after_two_words, faultless, made, valid_of, OrMemory}
+use Rattle.sf_commands.specs.Commands.{after_two_words, faultless, made, query_asked, query_named, query_near, valid_of, with_geometry, OrMemory}
 use Rattle.sf_commands.proofs.AddLemmas.{OrMemory-memory, OrMemory-refused, OrMemory-same}
 
 -- ---- the words
@@ -40,6 +43,27 @@ after_two_words-text make line next last layer word text first rest second end s
     ∙ ap (λ n. after_two_words make (layer ∷ word ∷ words last) (skip_blanks n)) (sym left)
     ∙ ap (λ t. after_two_words make (layer ∷ word ∷ words last) t) (sym behind)
     ∙ with_some make layer word text (words last) some
+
+-- a query by a distance, and by a predicate
+pub asked-near : (layer ask text : List ℕ) → is_near ask ≡ true → query_asked layer ask text ≡ query_near layer (words text) (skip_blanks (skip_word text))
+asked-near layer ask text is = ap (λ near. if near then query_near layer (words text) (skip_blanks (skip_word text)) else query_named layer ask text) is
+
+pub asked-named : (layer ask text : List ℕ) → is_near ask ≡ false → query_asked layer ask text ≡ query_named layer ask text
+asked-named layer ask text is = ap (λ near. if near then query_near layer (words text) (skip_blanks (skip_word text)) else query_named layer ask text) is
+
+near_some : (layer distance text : List ℕ) (more : List (List ℕ)) → more ≢ []
+    → query_near layer (distance ∷ more) text ≡ with_geometry Near layer (ok_or (reach_of distance) BadCommand) (valid_of (read text))
+near_some layer distance text [] some = absurd (some refl)
+near_some layer distance text (first ∷ more) some = refl
+
+-- where a text stands behind the word of the distance
+pub query_near-text : (line next layer distance text : List ℕ) → words line ≡ distance ∷ words next → next ≡ skip_word line → words next ≢ [] → text ≡ skip_blanks next
+    → query_near layer (words line) (skip_blanks (skip_word line)) ≡ with_geometry Near layer (ok_or (reach_of distance) BadCommand) (valid_of (read text))
+query_near-text line next layer distance text first rest some behind =
+    ap (λ w. query_near layer w (skip_blanks (skip_word line))) first
+    ∙ ap (λ n. query_near layer (distance ∷ words next) (skip_blanks n)) (sym rest)
+    ∙ ap (query_near layer (distance ∷ words next)) (sym behind)
+    ∙ near_some layer distance text (words next) some
 
 -- ---- the pattern
 

@@ -32,7 +32,7 @@ use Rattle.sf_words.specs.declared.verb.Verb.TheVariants as verbs
 use Rattle.sf_words.specs.declared.verb.Action.{Action}
 use Rattle.sf_words.specs.declared.verb.Action.TheVariants as actions
 use Rattle.sf_commands.specs.declared.command.Command.{Command}
-use Rattle.sf_commands.specs.declared.command.Command.TheVariants.{Edit, AddRule, DropRule, Undo, Redo, Layers, Columns, Rules, Show, Get, Find, Check, Hex, Simple, Extent, Measured, Relate, Match, Query, JoinMatching, JoinNamed}
+use Rattle.sf_commands.specs.declared.command.Command.TheVariants.{Edit, AddRule, DropRule, Undo, Redo, Layers, Columns, Rules, Show, Get, Find, Check, Hex, Simple, Extent, Measured, Distance, Relate, Match, Query, Near, JoinMatching, JoinNamed}
 use Rattle.sf_words.specs.declared.naming.Naming.{Naming}
 use Rattle.sf_words.specs.declared.naming.Naming.TheVariants.{ById}
 use Rattle.sf_words.specs.Words.{words, skip_blanks, skip_word, trimmed_end}
@@ -40,6 +40,7 @@ use Rattle.sf_words.specs.Editors.{addressed}
 use Rattle.sf_words.specs.Naming.{given, id_named, id_of, vertex_place}
 use Rattle.sf_words.specs.Verbs.{action_of, verb_of}
 use Rattle.sf_words.specs.Points.{point_of}
+use Rattle.sf_words.specs.Reaches.{is_near, reach_of}
 use Rattle.sf_values.specs.Kinds.{column_type_of, layer_kind_of, predicate_of}
 use Rattle.sf_values.specs.Values.{value_of}
 
@@ -262,20 +263,39 @@ after_two_words make arguments text = Err BadCommand
 abbrev pub with_geometry : {X : Type 0} → (List ℕ → X → Geometry → Command) → List ℕ → Result X Refusal → Result Geometry Refusal → Result Command Refusal
 with_geometry command layer spelled geometry = made spelled (λ x. made geometry (λ given. Ok (command layer x given)))
 
--- the command of the words after `relate`: a layer, an identifier and a text
+-- a command of the words after its verb: a layer, an identifier and a text
+abbrev pub compared_arguments : (List ℕ → ℕ → Geometry → Command) → List (List ℕ) → List ℕ → Result Command Refusal
+compared_arguments command arguments text =
+    after_two_words (λ layer id text. with_geometry command layer (ok_or (id_of id) BadCommand) (valid_of (read text))) arguments text
+
+-- the command of the words after `distance`, and of those after `relate`
+abbrev pub distance_arguments : List (List ℕ) → List ℕ → Result Command Refusal
+distance_arguments arguments text = compared_arguments Distance arguments text
+
 abbrev pub relate_arguments : List (List ℕ) → List ℕ → Result Command Refusal
-relate_arguments arguments text =
-    after_two_words (λ layer id text. with_geometry Relate layer (ok_or (id_of id) BadCommand) (valid_of (read text))) arguments text
+relate_arguments arguments text = compared_arguments Relate arguments text
 
 -- the command of the words after `match`: a layer, a pattern and a text
 abbrev pub match_arguments : List (List ℕ) → List ℕ → Result Command Refusal
 match_arguments arguments text =
     after_two_words (λ layer pattern text. with_geometry Match layer (ok_or (pattern_of pattern) BadPattern) (valid_of (read text))) arguments text
 
--- the command of the words after `query`: a layer, a predicate and a text
+-- `query` by a predicate
+abbrev pub query_named : List ℕ → List ℕ → List ℕ → Result Command Refusal
+query_named layer predicate text = with_geometry Query layer (ok_or (predicate_of predicate) BadCommand) (valid_of (read text))
+
+-- `query` by a distance: the word of it, and a text, which is the rest of the line from the second word on
+abbrev pub query_near : List ℕ → List (List ℕ) → List ℕ → Result Command Refusal
+query_near layer (distance ∷ first ∷ more) text = with_geometry Near layer (ok_or (reach_of distance) BadCommand) (valid_of (read text))
+query_near layer arguments text = Err BadCommand
+
+-- `query`, of a layer, of what is asked and of the line behind it
+abbrev pub query_asked : List ℕ → List ℕ → List ℕ → Result Command Refusal
+query_asked layer ask text = if is_near ask then query_near layer (words text) (skip_blanks (skip_word text)) else query_named layer ask text
+
+-- the command of the words after `query`: a layer, a predicate and a text, or a layer, `near`, a distance and a text
 abbrev pub query_arguments : List (List ℕ) → List ℕ → Result Command Refusal
-query_arguments arguments text =
-    after_two_words (λ layer predicate text. with_geometry Query layer (ok_or (predicate_of predicate) BadCommand) (valid_of (read text))) arguments text
+query_arguments arguments text = after_two_words query_asked arguments text
 
 -- the identifier behind the second layer of a join, where there is a word for one
 abbrev pub beside_of : List (List ℕ) → Result (Option ℕ) Refusal
@@ -386,6 +406,7 @@ by_verb (Some verbs.Box) rest = feature_arguments Extent (words rest)
 by_verb (Some verbs.Simple) rest = feature_arguments Simple (words rest)
 by_verb (Some verbs.Area) rest = features_arguments (Measured Area) (words rest)
 by_verb (Some verbs.Length) rest = features_arguments (Measured Length) (words rest)
+by_verb (Some verbs.Distance) rest = distance_arguments (words rest) (skip_blanks (skip_word (skip_word rest)))
 by_verb (Some verbs.Relate) rest = relate_arguments (words rest) (skip_blanks (skip_word (skip_word rest)))
 by_verb (Some verbs.Match) rest = match_arguments (words rest) (skip_blanks (skip_word (skip_word rest)))
 by_verb (Some verbs.Query) rest = query_arguments (words rest) (skip_blanks (skip_word (skip_word rest)))

@@ -58,14 +58,26 @@ fn member_of_verb(alloc: Global, verb: Option<Verb>, words: Words<'_>) -> Result
     }
 }
 
-/// The member of an edit; no other command is one.
+/// The member of a command that could be read.
 fn member(of_last: bool, command: Result<Command, Refusal>) -> Result<Member, Refusal>
     ensures { result ≡ member_by of_last command }
 {
     match command {
-        Ok(Command::Edit(edit)) => Ok(Member { edit, of_last }),
-        Ok(_) => Err(Refusal::BadCommand),
+        Ok(command) => member_of_command(of_last, command),
         Err(refusal) => Err(refusal),
+    }
+}
+
+/// The member of an edit; no other command is one.
+fn member_of_command(of_last: bool, command: Command) -> Result<Member, Refusal>
+    ensures { result ≡ member_by of_last (Ok command) }
+{
+    match command {
+        Command::Edit(edit) => Ok(Member { edit, of_last }),
+        Command::Undo | Command::Redo | Command::Layers | Command::Rules => Err(
+            Refusal::BadCommand,
+        ),
+        _ => Err(Refusal::BadCommand),
     }
 }
 

@@ -14,7 +14,9 @@ use super::feature_commands::{
 use super::join_commands::join_arguments;
 use super::layer_commands::{layer_arguments, layers_arguments};
 use super::lookup_commands::{area_arguments, find_arguments, get_arguments, length_arguments};
-use super::query_commands::{match_arguments, query_arguments, relate_arguments};
+use super::query_commands::{
+    distance_arguments, match_arguments, query_arguments, relate_arguments,
+};
 use super::rule_commands::{rule_arguments, rules_arguments};
 use super::vertex_commands::vertex_arguments;
 use sf_refusals::Refusal;
@@ -78,6 +80,7 @@ fn arguments_of(alloc: Global, verb: Option<Verb>, words: Words<'_>) -> Result<C
         Some(Verb::Simple) => simple_arguments(alloc, words),
         Some(Verb::Area) => area_arguments(alloc, words),
         Some(Verb::Length) => length_arguments(alloc, words),
+        Some(Verb::Distance) => distance_arguments(alloc, words),
         Some(Verb::Relate) => relate_arguments(alloc, words),
         Some(Verb::Match) => match_arguments(alloc, words),
         Some(Verb::Query) => query_arguments(alloc, words),

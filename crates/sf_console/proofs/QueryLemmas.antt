@@ -1,9 +1,21 @@
--- The answers to `relate`, `match` and `query`.
-use Rattle.std.proofs.Common.{◌≡◌, ◌∙◌, ◌⊎◌, ℕ, List, [], ◌∷◌, length, map, decimal, get_or, Option, None, Some, option_map, Result, Ok, Err, inl, inr, refl, ap, arith}
+-- The answers to `distance`, `relate`, `match` and `query`.
+use Rattle.std.proofs.Common.{◌≡◌, ◌∙◌, ◌⊎◌, ℕ, ◌<◌, ℤ, pos, ◌*ℤ◌, ◌≤ℤ◌, IsTrue, List, [], ◌∷◌, ◌++◌, length, map, codes, decimal, get_or, Option, None, Some, option_map, Result, Ok, Err, inl, inr, refl, ap, arith}
+use Rattle.std.specs.Global.{Vec}
 use Rattle.std.specs.Result.{IsErrAnd}
 use Rattle.sf_refusals.specs.declared.refusal.Refusal.{Refusal}
 use Rattle.sf_refusals.specs.declared.refusal.Refusal.TheVariants.{Memory}
+use Rattle.std.proofs.lemmas.Int.{ints}
+use Rattle.sf_grid.specs.Fraction.{Fraction, IsFraction, fraction_eq}
+use Rattle.sf_grid.proofs.CallerLemmas.{eq_from_test, mul, mul_nonneg, nonneg_from_mul, ring, var}
 use Rattle.sf_geometry.specs.declared.geometry.Geometry.{Geometry}
+use Rattle.sf_distance.specs.declared.square.Square.{Square}
+use Rattle.sf_distance.specs.Mixed.{number_of}
+use Rattle.sf_distance.specs.Reaches.{square_of_reach}
+use Rattle.sf_distance.specs.Texts.{distance_text, square_text}
+use Rattle.sf_distance.proofs.TextLaws.{equal_is_written_alike}
+use Rattle.sf_nearness.specs.Least.{least_square_of}
+use Rattle.sf_nearness.proofs.PairLaws.{least_is_number}
+use Rattle.sf_near.specs.Replies.{IsFoundWithin, IsMeasured, IsMeasuredTo}
 use Rattle.sf_known.specs.declared.matrix.Matrix.{Matrix}
 use Rattle.sf_features.specs.Features.{FeatureContent}
 use Rattle.sf_layers.specs.Content.{LayerContent, feature_of}
@@ -14,7 +26,7 @@ use Rattle.sf_query.specs.declared.refusal.Refusal.TheVariants as queries
 use Rattle.sf_query.specs.Refusals.{refusal_of}
 use Rattle.sf_query.specs.Replies.{IsQueried, IsRelated, IsRelatedTo}
 use Rattle.sf_console.specs.declared.reply.Reply.{Reply}
-use Rattle.sf_console.specs.Answers.{found_of, found_rows, line, matrix_text, refusal_line, related_text, reply_text, rows, rows_of, told, told_of}
+use Rattle.sf_console.specs.Answers.{distance_words, distant_text, found_of, found_rows, line, matrix_text, near_rows, refusal_line, related_text, reply_text, rows, rows_of, told, told_of}
 use Rattle.sf_console.proofs.ReadingLemmas.{refused_text}
 
 -- the text is this one, or that of out of memory
@@ -54,6 +66,54 @@ pub queried-refused : (o : Option LayerContent) (ask : Ask) (given : Geometry) (
     → IsErrAnd r (λ e. e ≡ refusal_of refusal) → IsToldAs (rows_of (found_rows ask given) o) (reply_text r)
 queried-refused None ask given refusal r h is = inl (refused-as refusal queries.NoLayer r is cc)
 queried-refused (Some layer) ask given refusal r want is = inr (refused-as refusal queries.Memory r is want)
+
+-- ---- distances
+
+turned : (a b c : ℤ) → a ≡ b *ℤ c → pos 0 ≤ℤ a → pos 0 ≤ℤ (c *ℤ b)
+turned a b c is h = omega (arith, ints, is, ring (b ∷ c ∷ []) (mul (var 1) (var 0)) (mul (var 0) (var 1)) refl, h)
+
+-- a fraction that is the number of one that is not negative is not negative
+not_below : (s t : Fraction) → IsFraction s → pos 0 ≤ℤ s.num → IsTrue (fraction_eq s t) → pos 0 ≤ℤ t.num
+not_below s t number some same =
+    nonneg_from_mul (pos s.den) t.num (let den : 0 < s.den = number.positive in omega (arith, ints))
+    (turned (s.num *ℤ pos t.den) t.num (pos s.den) (eq_from_test (s.num *ℤ pos t.den) (t.num *ℤ pos s.den) same) (mul_nonneg s.num t.den some))
+
+alike : (square : Square) (a b : Geometry) → IsFraction (number_of square) → IsTrue (fraction_eq (number_of square) (least_square_of a b))
+    → distance_words (number_of square) ≡ distance_words (least_square_of a b)
+alike square a b number same =
+    by
+    (equal_is_written_alike (number_of square) (least_square_of a b) number (least_is_number a b) (omega (arith, ints))
+    (not_below (number_of square) (least_square_of a b) number (omega (arith, ints)) same) same)
+  where
+    by : (distance_text (number_of square) ≡ distance_text (least_square_of a b)) × (square_text (number_of square) ≡ square_text (least_square_of a b))
+        → distance_words (number_of square) ≡ distance_words (least_square_of a b)
+    by texts = ap (λ t. t ++ (codes " " ++ square_text (number_of square))) texts.0 ∙ ap (λ t. distance_text (least_square_of a b) ++ (codes " " ++ t)) texts.1
+
+pub distant-told : (o : Option LayerContent) (id : ℕ) (given : Geometry) (square : Square) → IsMeasured o id given (Ok square) → line (distance_words (number_of square)) ≡ told (distant_text given) o id
+distant-told None id given square is = cc
+distant-told (Some layer) id given square is = by (feature_of layer id) is
+  where
+    by : (f : Option FeatureContent) → IsMeasuredTo f given (Ok square) → line (distance_words (number_of square)) ≡ told_of (distant_text given) (found_of (option_map (λ feature. feature.geometry) f))
+    by None h = cc
+    by (Some feature) h = ap line (alike square feature.geometry given h.0.is_number h.1)
+
+pub distant-refused : (o : Option LayerContent) (id : ℕ) (given : Geometry) (refusal : QueryRefusal) (r : Result Reply Refusal) → IsMeasured o id given (Err refusal)
+    → IsErrAnd r (λ e. e ≡ refusal_of refusal) → IsToldAs (told (distant_text given) o id) (reply_text r)
+distant-refused None id given refusal r h is = inl (refused-as refusal queries.NoLayer r is cc)
+distant-refused (Some layer) id given refusal r h is = by (feature_of layer id) h
+  where
+    by : (f : Option FeatureContent) → IsMeasuredTo f given (Err refusal) → IsToldAs (told_of (distant_text given) (found_of (option_map (λ feature. feature.geometry) f))) (reply_text r)
+    by None missing = inl (refused-as refusal queries.NoFeature r is cc)
+    by (Some feature) want = inr (refused-as refusal queries.Memory r is want)
+
+pub near-rows : (o : Option LayerContent) (reach : ℕ) (given : Geometry) (ids : Vec ℕ) → IsFoundWithin o (square_of_reach reach) given (Ok ids) → rows (map decimal ids.items) ≡ rows_of (near_rows reach given) o
+near-rows None reach given ids h = cc
+near-rows (Some layer) reach given ids h = ap (λ ids. rows (map decimal ids)) h.0
+
+pub near-refused : (o : Option LayerContent) (reach : ℕ) (given : Geometry) (refusal : QueryRefusal) (r : Result Reply Refusal) → IsFoundWithin o (square_of_reach reach) given (Err refusal)
+    → IsErrAnd r (λ e. e ≡ refusal_of refusal) → IsToldAs (rows_of (near_rows reach given) o) (reply_text r)
+near-refused None reach given refusal r h is = inl (refused-as refusal queries.NoLayer r is cc)
+near-refused (Some layer) reach given refusal r want is = inr (refused-as refusal queries.Memory r is want)
 
 -- ---- nine letters and a line feed
 

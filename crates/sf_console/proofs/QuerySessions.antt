@@ -3,6 +3,7 @@ use Rattle.std.proofs.Common.{◌≡◌, ◌++◌, codes, refl}
 use Rattle.std.specs.Fmt.{digits}
 use Rattle.std.specs.Str.{is_utf8, chars}
 use lib.Utf8.{encode}
+use Rattle.sf_distance.specs.Texts.{gcd_within, root_from}
 use Rattle.sf_console.specs.Answers.{line}
 use Rattle.sf_console.specs.Session.{output_of}
 
@@ -26,3 +27,8 @@ features_got = refl
 pub features_found : output_of (line (codes "layer add w any") ++ line (codes "column add w n int") ++ line (codes "column add w t text") ++ line (codes "add w POINT (1 1)") ++ line (codes "add w LINESTRING (0 0, 5 5)") ++ line (codes "add w POINT (3 -3)") ++ line (codes "set w 1 n 12") ++ line (codes "set w 3 n 12") ++ line (codes "set w 3 t 'it''s'") ++ line (codes "find w n 12") ++ line (codes "find w n +013") ++ line (codes "find w t 'it''s'") ++ line (codes "find w t") ++ line (codes "find v n 'x'") ++ line (codes "find w m 1") ++ line (codes "find w n 'x'") ++ line (codes "find w t 1") ++ line (codes "find w n")) ≡ line (codes "ok") ++ line (codes "ok") ++ line (codes "ok") ++ line (codes "ok 1") ++ line (codes "ok 2") ++ line (codes "ok 3") ++ line (codes "ok") ++ line (codes "ok") ++ line (codes "ok") ++ line (codes "rows 2") ++ line (codes "1") ++ line (codes "3") ++ line (codes "rows 0") ++ line (codes "rows 1") ++ line (codes "3") ++ line (codes "rows 1") ++ line (codes "3") ++ line (codes "refused 18 NoLayer") ++ line (codes "refused 22 NoColumn") ++ line (codes "refused 24 WrongValue") ++ line (codes "refused 24 WrongValue") ++ line (codes "rows 2") ++ line (codes "1") ++ line (codes "3")
 unfolding is_utf8 chars encode digits
 features_found = refl
+
+-- at the distance, and a thousandth below it
+pub distances_told : output_of (line (codes "layer add w any") ++ line (codes "add w POINT (0 0)") ++ line (codes "distance w 1 POINT (3 4)") ++ line (codes "query w near 5 POINT (3 4)") ++ line (codes "query w near 4.999 POINT (3 4)") ++ line (codes "distance w 2 POINT (3 4)") ++ line (codes "distance v 1 POINT (3 4)") ++ line (codes "query v near 5 POINT (3 4)")) ≡ line (codes "ok") ++ line (codes "ok 1") ++ line (codes "5.000 25") ++ line (codes "rows 1") ++ line (codes "1") ++ line (codes "rows 0") ++ line (codes "refused 21 NoFeature") ++ line (codes "refused 18 NoLayer") ++ line (codes "refused 18 NoLayer")
+unfolding is_utf8 chars encode digits root_from gcd_within
+distances_told = refl

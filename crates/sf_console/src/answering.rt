@@ -6,7 +6,7 @@ ghost use Rattle.sf_text_lines.specs.Lines.{HasNoFeed};
 ghost use Rattle.sf_text_lines.specs.Buffers.{IsBufferOf};
 ghost use Rattle.sf_commands.specs.Commands.{command_of, takes_memory};
 ghost use Rattle.sf_commands.specs.GroupTexts.{group_of};
-ghost use Rattle.sf_console.specs.Answers.{reply_text, refusal_line, rows, rows_of, layer_row, column_rows as column_rows_of, feature_rows as feature_rows_of, found, found_by, got, told, hex_text, measured as measured_of, simple_text, box_text, related_text, found_rows};
+ghost use Rattle.sf_console.specs.Answers.{reply_text, refusal_line, rows, rows_of, layer_row, column_rows as column_rows_of, feature_rows as feature_rows_of, found, found_by, got, told, hex_text, measured as measured_of, simple_text, box_text, distant_text, related_text, near_rows, found_rows};
 ghost use Rattle.sf_history.specs.History.{Machine};
 ghost use Rattle.sf_console.specs.Readings.{Asked, line_text, reading_of, text_reading};
 ghost use Rattle.sf_console.specs.Requests.{Ends, Gathering, Request, gathered};
@@ -18,13 +18,15 @@ use super::finding::{column_of, ids_with, may_be_sought};
 use super::group_lines::{GroupLines, LineAsks};
 use super::grouping::{answer_cut, answer_group};
 use super::joining::joined;
-use super::reply::{Reply, hex_line};
+use super::reply::{Reply, distance_line, hex_line};
 use super::rows::{column_rows, feature_rows, id_rows, layer_rows, measured_rows, rows_under};
 use super::rules::{add_rule, drop_rule, refused_by_rules, rules};
 use sf_commands::{Command, Identifiers, is_blank_text, parse, parse_group};
+use sf_distance::Reach;
 use sf_history::Editor;
 use sf_layers::{AttrValue, Store, Text};
 use sf_measure::Measure;
+use sf_near::{distance_to, features_within};
 use sf_query::{Ask, query, relate_one};
 use sf_refusals::Refusal;
 use sf_steps::{Answer, Edit};
@@ -219,6 +221,7 @@ pub fn execute(
         Command::Measured(measure, layer, ids) => {
             measured(alloc, editor.store(), measure, &layer, &ids)
         }
+        Command::Distance(layer, id, given) => distance(alloc, editor.store(), &layer, id, &given),
         Command::Relate(layer, id, given) => relate(alloc, editor.store(), &layer, id, &given),
         Command::Match(layer, pattern, given) => {
             let ask = Ask::Matching(pattern);
@@ -228,6 +231,7 @@ pub fn execute(
             let ask = Ask::Named(predicate);
             features(alloc, editor.store(), &layer, &ask, &given)
         }
+        Command::Near(layer, reach, given) => near(alloc, editor.store(), &layer, reach, &given),
         Command::JoinMatching(first, pattern, second, id) => {
             let ask = Ask::Matching(pattern);
             joined(alloc, editor.store(), &first, &ask, &second, id)
@@ -342,6 +346,20 @@ fn extent(store: &Store, layer: &Text, id: u32) -> Result<Reply, Refusal>
     Ok(Reply::Extent(valid.geometry().envelope()))
 }
 
+/// The distance of a feature's geometry from the given one, and its square.
+fn distance(
+    alloc: Global,
+    store: &Store,
+    layer: &Text,
+    id: u32,
+    given: &Valid,
+) -> Result<Reply, Refusal>
+    ensures { (reply_text result ≡ told (distant_text given.now) (layer_of store.now layer.now) id) ⊎ (reply_text result ≡ refusal_line Refusal.Memory) }
+{
+    let square = distance_to(alloc, store, layer.as_str(), id, given)?;
+    Ok(Reply::Lines(distance_line(alloc, &square)?))
+}
+
 /// The matrix of a feature's geometry with the given one.
 fn relate(
     alloc: Global,
@@ -368,6 +386,20 @@ fn features(
 {
     let found = query(alloc, store, layer.as_str(), ask, given)?;
     Ok(Reply::Lines(id_rows(alloc, found.ids.as_slice())?))
+}
+
+/// The identifiers of the features of a layer that have a point no farther than this from the given geometry.
+fn near(
+    alloc: Global,
+    store: &Store,
+    layer: &Text,
+    reach: Reach,
+    given: &Valid,
+) -> Result<Reply, Refusal>
+    ensures { (reply_text result ≡ rows_of (near_rows reach given.now) (layer_of store.now layer.now)) ⊎ (reply_text result ≡ refusal_line Refusal.Memory) }
+{
+    let ids = features_within(alloc, store, layer.as_str(), reach, given)?;
+    Ok(Reply::Lines(id_rows(alloc, ids.as_slice())?))
 }
 
 /// The geometry of a feature. `NoLayer` where no layer has the name, `NoFeature` where the layer has none

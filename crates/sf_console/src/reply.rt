@@ -1,6 +1,9 @@
 ghost use Rattle.std.specs.Prelude.{◌≡◌, string_bytes, IfOk};
-ghost use Rattle.sf_console.specs.Answers.{line as line_of, hex_text, matrix_text};
+ghost use Rattle.sf_distance.specs.Mixed.{number_of};
+ghost use Rattle.sf_console.specs.Answers.{distance_words, line as line_of, hex_text, matrix_text};
 
+use sf_distance::Square;
+use sf_distance::writing::{push_distance, push_square};
 use sf_geometry::Extent;
 use sf_refusals::Refusal;
 use sf_relate::Matrix;
@@ -35,6 +38,18 @@ pub(crate) fn hex_line(alloc: Global, valid: &Valid) -> Result<String, AllocErro
 {
     let bytes = sf_wkb::write(alloc, valid.geometry())?;
     let mut line = hex::encode(alloc, bytes.as_slice())?;
+    line.push('\n')?;
+    Ok(line)
+}
+
+/// A distance, its square, and a line feed.
+pub(crate) fn distance_line(alloc: Global, square: &Square) -> Result<String, AllocError>
+    ensures { IfOk result (λ line. string_bytes line ≡ line_of (distance_words (number_of square.now))) }
+{
+    let mut line = String::new(alloc);
+    push_distance(&mut line, square)?;
+    line.push(' ')?;
+    push_square(&mut line, square)?;
     line.push('\n')?;
     Ok(line)
 }

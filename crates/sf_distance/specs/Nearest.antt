@@ -1,4 +1,3 @@
--- Internal: who wants to trust the program need not read this file.
 -- The square of the distance of a grid point from an edge, as it is computed, and of two edges that share no point.
 use Rattle.std.specs.Prelude.{ℤ, pos, ◌+ℤ◌, ◌-ℤ◌, ◌*ℤ◌, int_le, unsigned_abs, if◌then◌else◌}
 use Rattle.sf_grid.specs.Fraction.{Fraction, fraction_le, whole}

@@ -1,4 +1,3 @@
--- Beside the headline, which says nothing of distances.
 -- Distances that are asked about, in thousandths of a grid step.
 use Rattle.std.specs.Prelude.{ℕ, ◌+◌, ◌*◌, ◌/◌, pos}
 use Rattle.sf_grid.specs.Fraction.{Fraction}

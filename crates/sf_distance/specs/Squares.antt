@@ -1,4 +1,3 @@
--- Beside the headline, which says nothing of distances.
 -- The square of the distance between two points of the plane, and when it is the least between two sets of points (6.1.2.4, Distance).
 use Rattle.std.specs.Prelude.{◌*◌, pos, ◌+ℤ◌, ◌-ℤ◌, ◌*ℤ◌, IsTrue}
 use Rattle.sf_grid.specs.Fraction.{Fraction, IsFraction, fraction_eq, fraction_le}

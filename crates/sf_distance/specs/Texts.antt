@@ -1,4 +1,3 @@
--- Beside the headline, which says nothing of distances.
 -- Squares of distances as texts: of fractions that are one number the texts are the same.
 use Rattle.std.specs.Prelude.{ℕ, zero, suc, ◌+◌, ◌*◌, ◌^◌, ◌/◌, ◌%◌, ◌==◌, List, [], ◌++◌, unsigned_abs, codes, decimal, nat_le, if◌then◌else◌}
 use Rattle.sf_grid.specs.Fraction.{Fraction}

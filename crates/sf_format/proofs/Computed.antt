@@ -288,9 +288,9 @@ text_of_256_bytes_cut_off = refl
 pub text_cut_off : load (feature_front 2 (0 ∷ 1 ∷ 0 ∷ 1 ∷ 0 ∷ 255 ∷ 97 ∷ [])) ≡ Err (68, 7)
 text_cut_off = refl
 
-pub text_with_a_control : load (feature_front 2 (0 ∷ 1 ∷ 0 ∷ 1 ∷ 0 ∷ 1 ∷ 127 ∷ [])) ≡ Err (65, 24)
+pub text_with_a_zero : load (feature_front 2 (0 ∷ 1 ∷ 0 ∷ 1 ∷ 0 ∷ 1 ∷ 0 ∷ [])) ≡ Err (65, 24)
 unfolding is_utf8 chars encode
-text_with_a_control = refl
+text_with_a_zero = refl
 
 pub text_not_utf8 : load (feature_front 2 (0 ∷ 1 ∷ 0 ∷ 1 ∷ 0 ∷ 1 ∷ 255 ∷ [])) ≡ Err (65, 24)
 unfolding is_utf8 chars encode

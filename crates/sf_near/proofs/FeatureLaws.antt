@@ -170,7 +170,7 @@ within_is_over_the_plane layer bound b rising valid vb = record {
 
 -- ---- what the calls answer
 
-geometries-valid : (layer : LayerContent) → IsLayer layer → AllByRecursion (λ (feature : FeatureContent). IsValid feature.geometry) (values_of layer.features)
+pub geometries-valid : (layer : LayerContent) → IsLayer layer → AllByRecursion (λ (feature : FeatureContent). IsValid feature.geometry) (values_of layer.features)
 geometries-valid layer fits = each-map (IsFeature layer.kind layer.columns) (λ (feature : FeatureContent). IsValid feature.geometry) (λ feature f. f.valid) (values_of layer.features) fits.features
 
 pub found-within : (o : Option LayerContent) (layer : LayerContent) (bound : Fraction) (b : Geometry) (ids : Vec ℕ) → o ≡ Some layer → IsLayer layer → IsValid b

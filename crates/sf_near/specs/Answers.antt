@@ -1,4 +1,3 @@
--- Beside the headline, which says nothing of distances.
 -- Which features of a layer are within a distance of a geometry, computed.
 use Rattle.std.specs.Prelude.{ℕ, Bool, false, List, filter}
 use Rattle.std.specs.Map.{keys_of}

@@ -1,4 +1,3 @@
--- Beside the headline, which says nothing of distances.
 -- What the calls answer: as it is computed, and over all points of the plane (6.1.2.4, Distance).
 use Rattle.std.specs.Prelude.{◌≡◌, ◌↔◌, ℕ, List, Option, Some, None, Result, Ok, Err, Contains, IsTrue}
 use Rattle.std.specs.Global.{Vec}

@@ -222,6 +222,9 @@ some-pair [] fs h k = absurd (omega (arith, h))
 some-pair (e ∷ es) [] h k = absurd (omega (arith, k))
 some-pair (e ∷ es) (f ∷ fs) h k = omega arith
 
+ends-number : (e f : Edge) → IsFraction (square_of_ends e f)
+ends-number e f = lesser-is IsFraction _ _ (first-number e f) (first-number f e)
+
 pairs-least : (es fs : List Edge) → 0 < length es → 0 < length fs → ((p : Point) → IsPoint p → IsOn es p → IsOn fs p → ⊥) → IsLeastSquare (IsOn es) (IsOn fs) (least_of (squares_of_pairs es fs))
 pairs-least es fs some others none =
     let numbers : AllByRecursion IsFraction (squares_of_pairs es fs) = pairs-all IsFraction (IsOn es) (IsOn fs) es fs (λ e f on over. ends-number e f) (λ q h. h) (λ q h. h) in
@@ -236,9 +239,6 @@ pairs-least es fs some others none =
           (pairs-any (square_between p q) p q es fs (λ e f on over h' k'. ends-least e f p q (λ r o both. none r o (on r both.0) (over r both.1)) i j h' k') h k);
     }
   where
-    ends-number : (e f : Edge) → IsFraction (square_of_ends e f)
-    ends-number e f = lesser-is IsFraction _ _ (first-number e f) (first-number f e)
-
     wider : (e f : Edge) → Within (IsOnEdge e) (IsOn es) → Within (IsOnEdge f) (IsOn fs) → IsReached (IsOnEdge e) (IsOnEdge f) (square_of_ends e f) → IsReached (IsOn es) (IsOn fs) (square_of_ends e f)
     wider e f on over r =
         record {
@@ -250,6 +250,19 @@ pairs-least es fs some others none =
           in_second = over r.second r.in_second;
           reached = r.reached;
         }
+
+-- ---- what is computed is a number, of any geometries
+any-least : (ss : List Fraction) → AllByRecursion IsFraction ss → IsFraction (least_of ss)
+any-least [] n = record { positive = omega arith }
+any-least (s ∷ ss) n = least-is IsFraction (s ∷ ss) (omega arith) n
+
+pub least_is_number : (a b : Geometry) → IsFraction (least_square_of a b)
+least_is_number a b =
+    let es : List Edge = segments_of a in
+    let fs : List Edge = segments_of b in
+    if_cases IsFraction (has_contact (matrix_of a b)) (whole (pos 0)) (least_of (squares_of_pairs (segments_of a) (segments_of b)))
+    (λ t. record { positive = omega arith })
+    (λ t. any-least (squares_of_pairs es fs) (pairs-all IsFraction (IsOn es) (IsOn fs) es fs (λ e f on over. ends-number e f) (λ q h. h) (λ q h. h)))
 
 -- ---- valid geometries
 some-of : (a : Geometry) → IsValid a → 0 < length (segments_of a)

@@ -1,4 +1,3 @@
--- Beside the headline, which says nothing of distances.
 -- The square of the least distance of two geometries, computed (6.1.2.4, Distance).
 use Rattle.std.specs.Prelude.{List, [], ◌∷◌, map, pos, if◌then◌else◌}
 use Rattle.std.specs.List.{flat_map}

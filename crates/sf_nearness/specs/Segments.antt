@@ -1,4 +1,3 @@
--- Internal: who wants to trust the program need not read this file.
 -- What of a geometry can be nearest to something outside it: its points, and the edges of its lines and rings. A point stands for an edge
 -- whose ends are one point.
 use Rattle.std.specs.Prelude.{◌≡◌, ◌<◌, Bool, List, [], ◌∷◌, length, map, IsTrue}

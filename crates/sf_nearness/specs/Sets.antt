@@ -1,4 +1,3 @@
--- Beside the headline, which says nothing of distances.
 -- The points of a geometry: those of its interior and its boundary.
 use Rattle.std.specs.Prelude.{IsTrue, not}
 use Rattle.sf_grid.specs.Plane.{Point}

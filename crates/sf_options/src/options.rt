@@ -25,7 +25,7 @@ Commands, one on a line; `man sfstore` and docs/use/CONSOLE.md have their answer
   layer add|drop|rename|move   column add|drop   layers   columns   undo   redo
   add   addhex   delete   replace   vertex insert|move|remove   set   unset   save
   rule add|drop   rules   show   get   find   check   hex   box   simple
-  area   length   relate   match   query   join
+  area   length   distance   relate   match   query   join
 
 A line may begin with the editor who gives it, from @1 to @255: @2 undo.";
 

@@ -114,9 +114,23 @@ class Lines(unittest.TestCase):
         for line in ("", "undo", "set w 1 a 'POINT (1 1)'", "add w POINT (1.5 x)", "add w POINT (1e999 y)"):
             self.assertEqual(CENTIMETRES.shown_line(line), line)
 
+    def test_distances(self) -> None:
+        asked, steps = "query w near 2.5 POINT (500000 5600000)", "query w near 250 POINT (0 0)"
+        self.assertEqual(CENTIMETRES.line(asked), steps)
+        self.assertEqual(CENTIMETRES.shown_line(steps), "query w near 2.5 POINT (500000.00 5600000.00)")
+        self.assertEqual(CENTIMETRES.line("@7 query  w\tnear 0.00001\tPOINT (500000 5600000)"), "@7 query  w\tnear 0.001\tPOINT (0 0)")
+        with self.assertRaisesRegex(NoPlace, "0.000015 is no whole number of thousandths of a grid step; 0.00001 and 0.00002 are"):
+            CENTIMETRES.line("query w near 0.000015 POINT (500000 5600000)")
+        with self.assertRaisesRegex(NoPlace, "has 1,000,002 letters"):
+            CENTIMETRES.line(f"query w near 0.{'1' * 1_000_000} POINT (500000 5600000)")
+        long = f"query w near 0.{'1' * 1_000_000} x"
+        self.assertEqual(CENTIMETRES.shown_line(long), long)
+        for line, wanted in {"query w near": "query w near", "query w near x POINT (500000 5600000)": "query w near x POINT (0 0)"}.items():
+            self.assertEqual(CENTIMETRES.line(line), wanted)
+
     def test_lines_without(self) -> None:
         others = ["", "add", "add w", "vertex move w 1 0 0", "vertex remove w 500000 0 0 2", "set w 1 a 'POINT (500000 5600000)'", "addhex w 0101"]
-        given = {"add", "check", "replace", "relate", "match", "query"}
+        given = {"add", "check", "replace", "distance", "relate", "match", "query"}
         examples = [command.example for command in COMMANDS if command.word not in given and not command.example.startswith("vertex")]
         for line in [*others, *examples]:
             self.assertEqual(CENTIMETRES.line(line), line)
@@ -128,6 +142,8 @@ class Lines(unittest.TestCase):
             ("box w 1", "0 -3 10 7", "500000.00 5599999.97 500000.10 5600000.07"),
             ("area w 1", "1 95.5", "1 0.00955"),
             ("length w 1", "1 15000.000", "1 150"),
+            ("distance w 1 POINT (1 1)", "7.071 50", "0.07071 0.005"),
+            ("distance w 1 POINT (1 1)", "0.577 1/3", "0.00577 1/30000"),
             ("layers", "w point", "w point"),
             ("find w a 7", "7", "7"),
             ("relate w 1 POINT (1 1)", "0FFFFF102", "0FFFFF102"),

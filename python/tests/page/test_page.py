@@ -120,6 +120,12 @@ class Day(PageCase):
         page.use("#ask [type=submit]")
         page.until(lambda: page.hits() == ["parcels-1", "parcels-2", "parcels-3", "parcels-7"])
         self.assertTrue(page.last().startswith("match parcels ****1**** POLYGON ((180 0, "))
+        self.ask(page, "parcels", "near")
+        for distance, found in (("0", "123678"), ("179.999", "123678"), ("180", "12346789")):
+            page.script(f"document.getElementById('ask-distance').value = '{distance}'")
+            page.use("#ask [type=submit]")
+            page.until(lambda found=found: page.hits() == [f"parcels-{k}" for k in found])
+        self.assertTrue(page.last().startswith("query parcels near 180 POLYGON ((180 0, "))
 
     def split(self, page):
         page.choose((450, 100), "parcels 3, a polygon")

@@ -16,7 +16,10 @@ export class Asking {
       event.preventDefault();
       this.ask();
     };
-    byId("ask-predicate").onchange = () => (byId("pattern-label").hidden = byId("ask-predicate").value !== "");
+    byId("ask-predicate").onchange = () => {
+      byId("pattern-label").hidden = byId("ask-predicate").value !== "";
+      byId("distance-label").hidden = byId("ask-predicate").value !== "near";
+    };
     byId("ask-chosen").onclick = () => {
       if (app.selection.feature) byId("ask-wkt").value = app.selection.feature.wkt;
     };
@@ -30,7 +33,7 @@ export class Asking {
     if (layers.some(({ name }) => name === chosen)) byId("ask-layer").value = chosen;
   }
 
-  /** Asks with the predicate or pattern that is chosen about a geometry that was drawn. */
+  /** Asks with the predicate, distance or pattern that is chosen about a geometry that was drawn. */
   askAbout(wkt, shape) {
     byId("ask-wkt").value = wkt;
     return this.ask(shape);
@@ -39,17 +42,23 @@ export class Asking {
   async ask(shape = null) {
     const wkt = byId("ask-wkt").value.replaceAll("\n", " ").trim();
     if (!wkt) return this.app.tell("There is no geometry to ask about: draw one, or take the selected feature.");
-    const predicate = byId("ask-predicate").value;
-    const how = predicate ? ["query", predicate] : ["match", byId("ask-pattern").value];
+    const [verb, how] = this.#how();
     const layer = byId("ask-layer").value;
     const layers = layer ? [layer] : this.app.map.layers.map(({ name }) => name);
     this.clear();
     byId("ask-wkt").value = wkt;
     this.app.overlay.show("asked", shape);
     for (const name of layers) {
-      const answer = await this.app.run(`${how[0]} ${name} ${how[1]} ${wkt}`, { isFurther: true });
+      const answer = await this.app.run(`${verb} ${name} ${how} ${wkt}`, { isFurther: true });
       if (answer.refused) break;
     }
+  }
+
+  /** The verb of the question, and the words between the layer and the geometry. */
+  #how() {
+    const predicate = byId("ask-predicate").value;
+    if (predicate === "near") return ["query", `near ${byId("ask-distance").value.trim()}`];
+    return predicate ? ["query", predicate] : ["match", byId("ask-pattern").value];
   }
 
   /** Takes the answer of a line that asked, typed or made here. */

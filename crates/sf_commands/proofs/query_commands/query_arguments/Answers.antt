@@ -1,34 +1,31 @@
-use Rattle.std.proofs.Common.{◌≡◌, ◌∙◌, Ok, Some, Result, ap, subst, sym, rules}
-use Rattle.std.specs.Option.{ok_or}
-use Rattle.sf_refusals.specs.declared.refusal.Refusal.{Refusal}
-use Rattle.sf_refusals.specs.declared.refusal.Refusal.TheVariants.{BadCommand}
-use Rattle.sf_wkt.specs.Grammar.{read}
-use Rattle.sf_commands.specs.declared.command.Command.{Command}
-use Rattle.sf_commands.specs.declared.command.Command.TheVariants.{Query}
-use Rattle.sf_values.specs.Kinds.{predicate_of}
-use Rattle.sf_commands.specs.Commands.{valid_of, with_geometry, OrMemory}
-use Rattle.sf_commands.proofs.QueryLemmas.{after_two_words-text, OrMemory-made}
+use Rattle.std.proofs.Common.{◌≡◌, ◌∙◌, true, false, ap, subst, sym, rules}
+use Rattle.sf_words.specs.Reaches.{is_near}
+use Rattle.sf_words.specs.Words.{words, skip_blanks, skip_word}
+use Rattle.sf_commands.specs.Commands.{query_asked, query_near, OrMemory}
+use Rattle.sf_commands.proofs.QueryLemmas.{after_two_words-text, asked-named, asked-near}
 use Rattle.sf_commands.proofs.query_commands.query_arguments.Goals as goal
 
-pub returns-in_err-given : goal.returns-in_err-given
-returns-in_err-given c =
+pub returns-then-is_near : goal.returns-then-is_near
+returns-then-is_near c =
     let layer = c.in_ok-layer.layer.now in
+    let ask = c.in_ok-ask.ask.now in
     let text = c.in_ok-text.text.now in
-    let predicate : predicate_of c.in_ok-predicate.predicate.now ≡ Some c.in_ok-predicate-2.predicate = search rules in
-    let P : Result Command Refusal → Type 0 = λ expected. OrMemory expected c.from_residual-in_err-given.result in
-    subst P
-    (sym (after_two_words-text (λ layer word text. with_geometry Query layer (ok_or (predicate_of word) BadCommand) (valid_of (read text))) c.args.words c.next.new.self c.next-2.new.self layer c.in_ok-predicate.predicate.now text
-    c.in_ok-layer.ensures.0 c.in_ok-layer.ensures.1 c.in_ok-predicate.ensures.0 c.in_ok-predicate.ensures.1 c.in_ok-text.ensures.0 c.in_ok-text.ensures.1
-    ∙ ap (λ x. with_geometry Query layer (ok_or x BadCommand) (valid_of (read text))) predicate))
-    (OrMemory-made (valid_of (read text)) (λ given. Ok (Query layer c.in_ok-predicate-2.predicate given)) _ c.from_residual-in_err-given.result c.in_err-given.ensures c.from_residual-in_err-given.ensures.1)
+    let near : is_near c.in_ok-ask.ask.now ≡ true = search rules in
+    subst (λ expected. OrMemory expected c.query_near.result)
+    (sym (after_two_words-text query_asked c.args.words c.next.new.self c.next-2.new.self layer ask text
+    c.in_ok-layer.ensures.0 c.in_ok-layer.ensures.1 c.in_ok-ask.ensures.0 c.in_ok-ask.ensures.1 c.in_ok-text.ensures.0 c.in_ok-text.ensures.1
+    ∙ asked-near layer ask text near
+    ∙ ap (λ t. query_near layer (words t) (skip_blanks (skip_word t))) (sym c.new.ensures)))
+    c.query_near.ensures
 
-pub returns : goal.returns
-returns c =
+pub returns-else-is_near : goal.returns-else-is_near
+returns-else-is_near c =
     let layer = c.in_ok-layer.layer.now in
+    let ask = c.in_ok-ask.ask.now in
     let text = c.in_ok-text.text.now in
-    let predicate : predicate_of c.in_ok-predicate.predicate.now ≡ Some c.in_ok-predicate-2.predicate = search rules in
-    ap (λ l. Ok (Query l c.in_ok-predicate-2.predicate c.in_ok-given.given)) c.in_ok-layer-2.ensures
-    ∙ sym (after_two_words-text (λ layer word text. with_geometry Query layer (ok_or (predicate_of word) BadCommand) (valid_of (read text))) c.args.words c.next.new.self c.next-2.new.self layer c.in_ok-predicate.predicate.now text
-    c.in_ok-layer.ensures.0 c.in_ok-layer.ensures.1 c.in_ok-predicate.ensures.0 c.in_ok-predicate.ensures.1 c.in_ok-text.ensures.0 c.in_ok-text.ensures.1
-    ∙ ap (λ x. with_geometry Query layer (ok_or x BadCommand) (valid_of (read text))) predicate
-    ∙ ap (with_geometry Query layer (Ok c.in_ok-predicate-2.predicate)) (sym c.in_ok-given.ensures))
+    let named : is_near c.in_ok-ask.ask.now ≡ false = search rules in
+    subst (λ expected. OrMemory expected c.query_named.result)
+    (sym (after_two_words-text query_asked c.args.words c.next.new.self c.next-2.new.self layer ask text
+    c.in_ok-layer.ensures.0 c.in_ok-layer.ensures.1 c.in_ok-ask.ensures.0 c.in_ok-ask.ensures.1 c.in_ok-text.ensures.0 c.in_ok-text.ensures.1
+    ∙ asked-named layer ask text named))
+    c.query_named.ensures
