@@ -16,7 +16,7 @@ from sfstore.exchange.jsonlayer import JsonLayer
 from sfstore.exchange.layers import STRANGER, Feature, Layer, Lost, Source
 from sfstore.exchange.shapefiles import beside, deleted_records, index_fault, table_fault
 from sfstore.exchange.srids import strangers
-from sfstore.exchange.stamps import BESIDE, changed, mode_of, stamps_of
+from sfstore.exchange.stamps import BESIDE, archive_of, changed, mode_of, stamps_of
 from sfstore.sidecar import Crs
 
 __all__ = ["Opened", "check_unchanged", "mode_for", "open_source"]
@@ -95,12 +95,13 @@ def mode_for(sources: Sequence[Source], group: int) -> int:
     return reduce(and_, (mode_of(source.files, group) if source.is_whole else 0o700 for source in sources), 0o777)
 
 
-def _opened(name: str, any_format: bool) -> Source:
+def _opened(name: str, any_format: bool, is_measured: bool = False) -> Source:
     """A source. `RuntimeError` where OGR opens none, `ogr.ExchangeError` where it is JSON and no GeoJSON."""
     if "/vsistdin" in name:
         raise ogr.ExchangeError(f"{ogr.printable(name)} can be read once alone, and a source is read twice: name a file")
     files = stamps_of(name)
-    check_size(name)
+    if not is_measured:
+        check_size(name)
     if jsontext.is_json(name) and not (any_format and ogr.format_of(name) not in (*_JSON, "")):
         return Source(name, [JsonLayer(name)], files)
     data = ogr.open_data(name, None if any_format else list(ogr.DRIVERS))
@@ -125,6 +126,8 @@ def _reason(name: str, error: RuntimeError) -> str:
 def _opened_files(folder: str, any_format: bool) -> Opened:
     """The files of a folder that open: of a Shapefile the one that leads."""
     names = _names_in(folder)
+    # An archive was measured as a whole: each of its files anew would take the square of their count.
+    is_measured = bool(archive_of(folder))
     shapefiles = {name[: -len(_LEADING)].casefold() for name in names if name.lower().endswith(_LEADING)}
     found = Opened([], [])
     for name in names:
@@ -136,7 +139,7 @@ def _opened_files(folder: str, any_format: bool) -> Opened:
             found.left_out.append((name, "it is a folder in a folder: name it alone"))
             continue
         try:
-            source = _opened(path, any_format)
+            source = _opened(path, any_format, is_measured)
             reason = "" if source.layers else "it has no layers, and may be cut off"
         except (RuntimeError, ogr.ExchangeError) as error:
             reason = str(error)
