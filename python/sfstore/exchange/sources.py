@@ -108,6 +108,9 @@ def _opened(name: str, any_format: bool, is_measured: bool = False) -> Source:
     if data.GetDriver().ShortName in _JSON and not any_format:
         # OGR reads it otherwise: it changes numbers, and drops names that stand twice, without a word.
         raise ogr.ExchangeError(f"{ogr.printable(name):.200} is GeoJSON, and no file that begins as one: name its file alone")
+    if data.GetDriver().ShortName == _DATABASE:
+        # OGR takes all texts for UTF-8, whatever PGCLIENTENCODING has the database send.
+        data.ExecuteSQL("SET client_encoding = 'UTF8'")
     metadata = data.GetMetadataItem(wayback.ITEM) if data.GetDriver().ShortName == "GPKG" else ""
     layers: list[Layer] = [OgrLayer(data, at) for at in range(data.GetLayerCount())]
     is_whole = data.GetDriver().ShortName in ogr.DRIVERS
