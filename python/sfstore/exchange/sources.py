@@ -11,6 +11,7 @@ from typing import Any, NamedTuple
 
 from sfstore.exchange import jsontext, ogr, wayback
 from sfstore.exchange.archives import check_size, is_zip
+from sfstore.exchange.asking import tables_of
 from sfstore.exchange.fields import Fields
 from sfstore.exchange.jsonlayer import JsonLayer
 from sfstore.exchange.layers import STRANGER, Feature, Layer, Lost, Source
@@ -167,17 +168,23 @@ def _names_in(folder: str) -> list[str]:
 
 
 def _plain_tables(data: Any, layers: Sequence[Layer]) -> list[str]:
-    """The tables of a database that have no geometries, which OGR does not list, but for those of extensions."""
+    """The tables that OGR does not list: those of a database without geometries, but for those of extensions, and pictures."""
+    known = {layer.name for layer in layers}
+    return [name for name in _tables(data) if name not in known]
+
+
+def _tables(data: Any) -> list[str]:
+    if data.GetDriver().ShortName == "GPKG":
+        return tables_of(data)
     if data.GetDriver().ShortName != _DATABASE:
         return []
-    known = {layer.name for layer in layers}
     try:
         result = data.ExecuteSQL(_PLAIN_TABLES)
     except RuntimeError as error:
         raise ogr.ExchangeError(f"the database can't be read: {error}") from None
     names = [str(row.GetField(0)) for row, _ in ogr.features(result)]
     data.ReleaseResultSet(result)
-    return [name for name in names if name not in known]
+    return names
 
 
 class OgrLayer(Layer):
