@@ -4,6 +4,7 @@ from __future__ import annotations
 
 import contextlib
 import os
+import re
 from collections.abc import Iterator, Mapping, Sequence
 from functools import reduce
 from operator import and_
@@ -51,6 +52,9 @@ _JSON = ("GeoJSON", "GeoJSONSeq")
 # The endings of files that lead to layers, and that of the one of a Shapefile.
 _ENDINGS = tuple(ending for several in ogr.DRIVERS.values() for ending in several)
 _LEADING = ".shp"
+# Bytes of a name that are not UTF-8, as Python has them.
+_NO_UTF_8 = re.compile("[\udc80-\udcff]")
+_INNER = "it is a folder in a folder: name it alone"
 
 
 class Opened(NamedTuple):
@@ -139,17 +143,19 @@ def _opened_files(folder: str, any_format: bool) -> Opened:
         path = f"{folder.rstrip('/')}/{name}"
         if ending.lower() in BESIDE[_LEADING] and stem.casefold() in shapefiles:
             continue
-        if _has_maps(path):
-            found.left_out.append((name, "it is a folder in a folder: name it alone"))
-            continue
-        try:
-            source = _opened(path, any_format, is_measured)
-            reason = "" if source.layers else "it has no layers, and may be cut off"
-        except (RuntimeError, ogr.ExchangeError) as error:
-            reason = str(error)
+        if _NO_UTF_8.search(name):
+            reason = "its name is not UTF-8"
+        elif _has_maps(path):
+            reason = _INNER
+        else:
+            try:
+                source = _opened(path, any_format, is_measured)
+                reason = "" if source.layers else "it has no layers, and may be cut off"
+            except (RuntimeError, ogr.ExchangeError) as error:
+                reason = _INNER if _is_folder(path) else str(error)
         if not reason:
             found.sources.append(source)
-        elif name.lower().endswith(_ENDINGS):
+        elif reason == _INNER or name.lower().endswith(_ENDINGS):
             found.left_out.append((name, reason))
     return found
 
@@ -162,9 +168,15 @@ def _has_maps(folder: str) -> bool:
 def _names_in(folder: str) -> list[str]:
     """The names in a folder, which may be one of an archive; none where it is no folder."""
     module, _, _ = ogr.gdal()
-    known = module.VSIStatL(folder)
-    names = module.ReadDir(folder) if known is not None and known.IsDirectory() else None
-    return sorted(name for name in names or [] if name not in (".", ".."))
+    names = module.ReadDir(folder) if _is_folder(folder) else None
+    # One that is not UTF-8 comes as bytes.
+    return sorted(os.fsdecode(name) for name in names or [] if name not in (".", ".."))
+
+
+def _is_folder(path: str) -> bool:
+    module, _, _ = ogr.gdal()
+    known = module.VSIStatL(path)
+    return known is not None and bool(known.IsDirectory())
 
 
 def _plain_tables(data: Any, layers: Sequence[Layer]) -> list[str]:
