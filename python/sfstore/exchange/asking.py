@@ -7,7 +7,10 @@ from typing import Any
 
 from sfstore.exchange import ogr
 
-__all__ = ["asked", "literal", "quoted", "table_of", "tells_apart"]
+__all__ = ["asked", "literal", "quoted", "table_of", "tables_of", "tells_apart"]
+
+# How tables begin that a GeoPackage has for itself.
+_OWN = ("gpkg_", "sqlite_", "rtree_")
 
 
 def asked(source: Any, layer: Any, query: str) -> list[tuple[str, str]]:
@@ -33,6 +36,14 @@ def table_of(source: Any, layer: Any) -> str:
     if dot and asked(source, layer, query):
         return f"{quoted(before)}.{quoted(behind)}"
     return quoted(name)
+
+
+def tables_of(geopackage: Any) -> list[str]:
+    """The tables and views of a GeoPackage but for its own, also those that are no layers to OGR, as those of pictures."""
+    result = geopackage.ExecuteSQL("SELECT name FROM sqlite_master WHERE type IN ('table', 'view') ORDER BY 1")
+    names = [str(row.GetField(0)) for row, _ in ogr.features(result)]
+    geopackage.ReleaseResultSet(result)
+    return [name for name in names if not name.lower().startswith(_OWN)]
 
 
 def tells_apart(source: Any, layer: Any, table: str) -> bool:

@@ -18,6 +18,7 @@ from dataclasses import dataclass
 from sfstore import files, journal, sidecar
 from sfstore.commandline import add_version
 from sfstore.exchange import ogr, outcome, rulesfile, wayback
+from sfstore.exchange.asking import tables_of
 from sfstore.exchange.formats import FORMATS, Part, format_of, parts_of, rules_kept
 from sfstore.exchange.geojson import crs_member
 from sfstore.exchange.grid import Grid
@@ -192,15 +193,17 @@ def _check_strangers(place: Place, name: str) -> None:
 
 def _check_tables(path: str, parts: list[Part]) -> None:
     """`ogr.ExchangeError` where a GeoPackage has tables that would go with it: none of the new one's, nor of an export."""
+    module, _, _ = ogr.gdal()
     try:
-        old = ogr.open_data(path, ["GPKG"])
+        # One that has pictures alone is no map of layers.
+        old = module.OpenEx(path, module.OF_VECTOR | module.OF_RASTER, allowed_drivers=["GPKG"])
+        names = tables_of(old)
     except RuntimeError:
         # It is none, or not there.
         return
     ours = {part.name.casefold() for part in parts}
     with contextlib.suppress(ValueError):
         ours.update(map(str.casefold, wayback.read(old.GetMetadataItem(wayback.ITEM) or "{}").layers))
-    names = [old.GetLayer(at).GetName() for at in range(old.GetLayerCount())]
     lost = [name for name in names if name.casefold() not in ours]
     if lost:
         raise ogr.ExchangeError(

@@ -33,6 +33,7 @@ __all__ = ["Fields", "text_fault"]
 
 # The types of the store that are those of OGR.
 _TYPES = {REAL: DECIMAL, DATE: FILE_DATE, DATE_TIME: DATETIME}
+_NUMBERS = (INTEGER, INTEGER_64, REAL)
 _WHOLE = re.compile(r"-?[0-9]{1,19}", re.ASCII)
 _DECIMAL = re.compile(r"-?[0-9]+(\.[0-9]+)?", re.ASCII)
 _TIME = re.compile(r"[0-9]{2}:[0-9]{2}:[0-9]{2}(\.[0-9]{1,6})?([+-][0-9]{2}(:?[0-9]{2})*)?", re.ASCII)
@@ -203,7 +204,7 @@ class Fields(SourceColumns):
         columns = [FileColumn(new[field.number], self._final_type(field), field.name) for field in self._fields]
         makers: dict[int, Callable[[Any], Any]] = {}
         for field in self._fields:
-            if self._final_type(field) == TEXT and field.source_type == REAL:
+            if self._final_type(field) == TEXT and field.source_type in _NUMBERS:
                 makers[field.number] = _text_of
             elif field.maker and field.number not in self._broken:
                 makers[field.number] = field.maker

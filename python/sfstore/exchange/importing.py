@@ -389,7 +389,7 @@ def _of_one_crs(
         its_crs = layer.crs()
         if not taken and wanted is None:
             crs = its_crs
-        if its_crs != crs and (wanted is None or not _is_same(its_crs, wanted)):
+        if not _is_same(its_crs, crs):
             detail = f"{its_crs or 'none'} in place of {crs or 'none'}: the layer is left out"
             report.problem(found.name, None, "another reference system", detail)
             continue

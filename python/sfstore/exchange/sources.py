@@ -4,6 +4,7 @@ from __future__ import annotations
 
 import contextlib
 import os
+import re
 from collections.abc import Iterator, Mapping, Sequence
 from functools import reduce
 from operator import and_
@@ -11,12 +12,13 @@ from typing import Any, NamedTuple
 
 from sfstore.exchange import jsontext, ogr, wayback
 from sfstore.exchange.archives import check_size, is_zip
+from sfstore.exchange.asking import tables_of
 from sfstore.exchange.fields import Fields
 from sfstore.exchange.jsonlayer import JsonLayer
 from sfstore.exchange.layers import STRANGER, Feature, Layer, Lost, Source
 from sfstore.exchange.shapefiles import beside, deleted_records, index_fault, table_fault
 from sfstore.exchange.srids import strangers
-from sfstore.exchange.stamps import BESIDE, changed, mode_of, stamps_of
+from sfstore.exchange.stamps import BESIDE, archive_of, changed, mode_of, stamps_of
 from sfstore.sidecar import Crs
 
 __all__ = ["Opened", "check_unchanged", "mode_for", "open_source"]
@@ -50,6 +52,9 @@ _JSON = ("GeoJSON", "GeoJSONSeq")
 # The endings of files that lead to layers, and that of the one of a Shapefile.
 _ENDINGS = tuple(ending for several in ogr.DRIVERS.values() for ending in several)
 _LEADING = ".shp"
+# Bytes of a name that are not UTF-8, as Python has them.
+_NO_UTF_8 = re.compile("[\udc80-\udcff]")
+_INNER = "it is a folder in a folder: name it alone"
 
 
 class Opened(NamedTuple):
@@ -95,18 +100,22 @@ def mode_for(sources: Sequence[Source], group: int) -> int:
     return reduce(and_, (mode_of(source.files, group) if source.is_whole else 0o700 for source in sources), 0o777)
 
 
-def _opened(name: str, any_format: bool) -> Source:
+def _opened(name: str, any_format: bool, is_measured: bool = False) -> Source:
     """A source. `RuntimeError` where OGR opens none, `ogr.ExchangeError` where it is JSON and no GeoJSON."""
     if "/vsistdin" in name:
         raise ogr.ExchangeError(f"{ogr.printable(name)} can be read once alone, and a source is read twice: name a file")
     files = stamps_of(name)
-    check_size(name)
+    if not is_measured:
+        check_size(name)
     if jsontext.is_json(name) and not (any_format and ogr.format_of(name) not in (*_JSON, "")):
         return Source(name, [JsonLayer(name)], files)
     data = ogr.open_data(name, None if any_format else list(ogr.DRIVERS))
     if data.GetDriver().ShortName in _JSON and not any_format:
         # OGR reads it otherwise: it changes numbers, and drops names that stand twice, without a word.
         raise ogr.ExchangeError(f"{ogr.printable(name):.200} is GeoJSON, and no file that begins as one: name its file alone")
+    if data.GetDriver().ShortName == _DATABASE:
+        # OGR takes all texts for UTF-8, whatever PGCLIENTENCODING has the database send.
+        data.ExecuteSQL("SET client_encoding = 'UTF8'")
     metadata = data.GetMetadataItem(wayback.ITEM) if data.GetDriver().ShortName == "GPKG" else ""
     layers: list[Layer] = [OgrLayer(data, at) for at in range(data.GetLayerCount())]
     is_whole = data.GetDriver().ShortName in ogr.DRIVERS
@@ -125,6 +134,8 @@ def _reason(name: str, error: RuntimeError) -> str:
 def _opened_files(folder: str, any_format: bool) -> Opened:
     """The files of a folder that open: of a Shapefile the one that leads."""
     names = _names_in(folder)
+    # An archive was measured as a whole: each of its files anew would take the square of their count.
+    is_measured = bool(archive_of(folder))
     shapefiles = {name[: -len(_LEADING)].casefold() for name in names if name.lower().endswith(_LEADING)}
     found = Opened([], [])
     for name in names:
@@ -132,17 +143,19 @@ def _opened_files(folder: str, any_format: bool) -> Opened:
         path = f"{folder.rstrip('/')}/{name}"
         if ending.lower() in BESIDE[_LEADING] and stem.casefold() in shapefiles:
             continue
-        if _has_maps(path):
-            found.left_out.append((name, "it is a folder in a folder: name it alone"))
-            continue
-        try:
-            source = _opened(path, any_format)
-            reason = "" if source.layers else "it has no layers, and may be cut off"
-        except (RuntimeError, ogr.ExchangeError) as error:
-            reason = str(error)
+        if _NO_UTF_8.search(name):
+            reason = "its name is not UTF-8"
+        elif _has_maps(path):
+            reason = _INNER
+        else:
+            try:
+                source = _opened(path, any_format, is_measured)
+                reason = "" if source.layers else "it has no layers, and may be cut off"
+            except (RuntimeError, ogr.ExchangeError) as error:
+                reason = _INNER if _is_folder(path) else str(error)
         if not reason:
             found.sources.append(source)
-        elif name.lower().endswith(_ENDINGS):
+        elif reason == _INNER or name.lower().endswith(_ENDINGS):
             found.left_out.append((name, reason))
     return found
 
@@ -155,23 +168,35 @@ def _has_maps(folder: str) -> bool:
 def _names_in(folder: str) -> list[str]:
     """The names in a folder, which may be one of an archive; none where it is no folder."""
     module, _, _ = ogr.gdal()
-    known = module.VSIStatL(folder)
-    names = module.ReadDir(folder) if known is not None and known.IsDirectory() else None
-    return sorted(name for name in names or [] if name not in (".", ".."))
+    names = module.ReadDir(folder) if _is_folder(folder) else None
+    # One that is not UTF-8 comes as bytes.
+    return sorted(os.fsdecode(name) for name in names or [] if name not in (".", ".."))
+
+
+def _is_folder(path: str) -> bool:
+    module, _, _ = ogr.gdal()
+    known = module.VSIStatL(path)
+    return known is not None and bool(known.IsDirectory())
 
 
 def _plain_tables(data: Any, layers: Sequence[Layer]) -> list[str]:
-    """The tables of a database that have no geometries, which OGR does not list, but for those of extensions."""
+    """The tables that OGR does not list: those of a database without geometries, but for those of extensions, and pictures."""
+    known = {layer.name for layer in layers}
+    return [name for name in _tables(data) if name not in known]
+
+
+def _tables(data: Any) -> list[str]:
+    if data.GetDriver().ShortName == "GPKG":
+        return tables_of(data)
     if data.GetDriver().ShortName != _DATABASE:
         return []
-    known = {layer.name for layer in layers}
     try:
         result = data.ExecuteSQL(_PLAIN_TABLES)
     except RuntimeError as error:
         raise ogr.ExchangeError(f"the database can't be read: {error}") from None
     names = [str(row.GetField(0)) for row, _ in ogr.features(result)]
     data.ReleaseResultSet(result)
-    return [name for name in names if name not in known]
+    return names
 
 
 class OgrLayer(Layer):

@@ -8,6 +8,7 @@ import io
 import json
 import os
 import shutil
+import sqlite3
 import subprocess
 import sys
 import unittest
@@ -589,6 +590,27 @@ class Export(ExchangeCase):
         data = ogr.Open(str(self.target))
         names = [data.GetLayer(place).GetName() for place in range(data.GetLayerCount())]
         self.assertEqual(names[0], "void")
+
+    def test_a_truth_value_that_is_none_makes_texts_where_these_are_taken(self):
+        definition = ogr.FieldDefn("yes", ogr.OFTInteger)
+        definition.SetSubType(ogr.OFSTBoolean)
+        source = Source(self.source)
+        source.layer("w", {}, options=["SPATIAL_INDEX=NO"])
+        layer = source.data.GetLayerByName("w")
+        layer.CreateField(definition)
+        for number in (1, 2):
+            feature = ogr.Feature(layer.GetLayerDefn())
+            feature.SetField("yes", number)
+            feature.SetGeometry(ogr.CreateGeometryFromWkt(KINDS["point"]))
+            layer.CreateFeature(feature)
+        del layer
+        source.close()
+        with contextlib.closing(sqlite3.connect(self.source)) as opened:
+            opened.execute("UPDATE w SET yes = fid")
+            opened.commit()
+        status, _, err = bring_in(self.source, self.store, *GRID, "--as-text")
+        self.assertEqual((status, err), (0, ""))
+        self.assertEqual([feature.values for feature in self.shown("w")], [{"yes": "1"}, {"yes": "2"}])
 
     def test_types_of_columns_come_back(self):
         definition = ogr.FieldDefn("yes", ogr.OFTInteger)

@@ -23,7 +23,7 @@ from sfstore import Store, files, sidecar
 from sfstore.exchange import exporting, placing, publishing, rulesfile, telling
 
 if HAS_GDAL:
-    from osgeo import ogr
+    from osgeo import gdal, ogr
 
 PLAIN = ["--grid", "0", "0", "1", "--crs", "EPSG:25832"]
 
@@ -72,6 +72,39 @@ class Tables(SetCase):
         self.assertEqual(status, 3)
         self.assertIn(f"{target} has tables that the store has not, and they would be lost: layer_styles. Name another file", err)
         self.assertEqual(target.read_bytes(), before)
+
+    def test_nor_is_one_with_pictures_or_with_tables_that_ogr_does_not_list(self):
+        store, target = self.made("t.sfs", WELLS), self.folder / "out.gpkg"
+        picture = gdal.GetDriverByName("MEM").Create("", 64, 64, 3)
+        picture.SetGeoTransform([0, 1, 0, 64, 0, -1])
+
+        def add_picture(*options):
+            gdal.Translate(str(target), picture, format="GPKG", creationOptions=["RASTER_TABLE=photo", *options])
+
+        def add_table():
+            with contextlib.closing(sqlite3.connect(target)) as opened:
+                # OGR lists no such table where this extension is.
+                opened.executescript("CREATE TABLE notes (note text); INSERT INTO gpkg_extensions (extension_name, definition, scope) "
+                                     "VALUES ('gdal_aspatial', '', 'read-write')")
+
+        for name, begin, add in (
+            ("photo", True, lambda: add_picture("APPEND_SUBDATASET=YES")), ("photo", False, add_picture), ("notes", True, add_table)
+        ):
+            with self.subTest(name, begin=begin):
+                target.unlink(missing_ok=True)
+                if begin:
+                    self.assertEqual(give_back(store, target, *PLAIN)[0], 0)
+                    (self.folder / "t.sfs.json").unlink()
+                add()
+                before = target.read_bytes()
+                status, _, err = give_back(store, target, *PLAIN, "--overwrite")
+                self.assertEqual(status, 3)
+                self.assertIn(f"tables that the store has not, and they would be lost: {name}. Name another file", err)
+                self.assertEqual(target.read_bytes(), before)
+                if begin:
+                    status, out, _ = bring_in(target, self.store, "--overwrite")
+                    self.assertEqual(status, 1)
+                    self.assertIn(f"{name}: 0 features read, 0 taken\n  a table without geometries: its rows are left out\n", out)
 
     def test_one_that_has_what_an_export_has_left_is_replaced(self):
         store, target = self.made("t.sfs", WELLS), self.folder / "out.gpkg"

@@ -170,6 +170,16 @@ class Archives(SourceCase):
         self.assertGreater(10 * os.path.getsize(archive), 2_100)
         self.check_refused(f"/vsizip/{archive}", archive)
 
+    def test_its_files_are_not_measured_one_by_one_too(self):
+        archive = self.folder / "a.zip"
+        with zipfile.ZipFile(archive, "w") as made:
+            for at in range(3):
+                made.writestr(f"{at}.geojson", '{"type": "FeatureCollection", "features": []}')
+        with mock.patch("sfstore.exchange.sources.check_size") as measured:
+            status, out, _ = self.brought(f"/vsizip/{archive}")
+        self.assertEqual(status, 0, out)
+        measured.assert_called_once_with(f"/vsizip/{archive}")
+
     def test_others_are_read(self):
         self.points(POINTS)
         archive = self.zipped("a.zip", self.source, "wells.gpkg")

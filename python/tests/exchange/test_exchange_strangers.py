@@ -4,6 +4,7 @@ from __future__ import annotations
 
 import contextlib
 import json
+import os
 import shutil
 import socket
 import sqlite3
@@ -124,6 +125,31 @@ class Formats(ExchangeCase):
         status, out, _ = bring_in(folder, self.store, *GRID)
         self.assertEqual(status, 1, out)
         self.assertIn("old: 0 features read, 0 taken\n  does not open: it is a folder in a folder: name it alone\n", out)
+
+    def test_so_is_one_whose_maps_stand_further_below(self):
+        folder = self.folder_of(a="GeoJSON")
+        shutil.copytree(folder, folder / "old" / "older")
+        status, out, _ = bring_in(folder, self.store, *GRID)
+        self.assertEqual(status, 1, out)
+        self.assertIn("old: 0 features read, 0 taken\n  does not open: it is a folder in a folder: name it alone\n", out)
+
+    def test_a_file_whose_name_is_not_utf_8_is_told(self):
+        folder = self.folder_of(a="GeoJSON")
+        for name in (b"b\xff.geojson", b"notes\xff.txt"):
+            shutil.copy(folder / "a.geojson", os.fsencode(folder) + b"/" + name)
+        status, out, err = bring_in(folder, self.store, *GRID)
+        self.assertEqual((status, err), (1, ""), out)
+        self.assertIn("b\\udcff.geojson: 0 features read, 0 taken\n  does not open: its name is not UTF-8\n", out)
+        self.assertNotIn("notes", out)
+
+    def test_layers_are_of_one_reference_system_whatever_words_their_formats_have_for_it(self):
+        folder = self.folder_of()
+        feature = '{"type": "Feature", "properties": {}, "geometry": {"type": "Point", "coordinates": [500001, 5600001]}}'
+        (folder / "b.geojson").write_text(f'{{"type": "FeatureCollection", "features": [{feature}]}}')
+        Source(folder / "a.shp", "ESRI Shapefile").layer("a", {1: (POINT, {})}, crs=4326).close()
+        status, out, _ = bring_in(folder, self.store, *GRID)
+        self.assertEqual(status, 0, out)
+        self.assertIn("b: 1 features read, 1 taken\n", out)
 
 
 class Metadata(ExchangeCase):

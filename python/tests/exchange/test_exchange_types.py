@@ -396,6 +396,17 @@ class OfPostGis(DatabaseCase):
                 },
             )
 
+    def test_texts_are_what_they_are_whatever_encoding_the_environment_names(self):
+        self.ask("CREATE TABLE w (gid serial PRIMARY KEY, \"größe\" text, geom geometry(Point)); "
+                 "INSERT INTO w (\"größe\", geom) VALUES ('\u00c3\u00a4', 'POINT(1 2)')")
+        for encoding in ("LATIN1", "WIN1252"):
+            with mock.patch.dict("os.environ", PGCLIENTENCODING=encoding):
+                status, out, err = bring_in(self.target, self.store, "--grid", "0", "0", "1", "--overwrite")
+            self.assertEqual((status, err), (0, ""), out)
+            self.assertIn("column 'größe' has the name ", out)
+            # In such an encoding these two letters are the bytes of another one in UTF-8.
+            self.assertEqual(list(self.shown("w")[0].values.values()), ["\u00c3\u00a4"])
+
     def test_all_that_is_read_is_of_one_moment(self):
         self.ask("CREATE TABLE w (gid serial PRIMARY KEY, a numeric, b numeric, geom geometry(Point)); "
                  "INSERT INTO w (a, b, geom) VALUES (12345678901234.56789, 1, 'POINT(1 2)')")
