@@ -490,7 +490,7 @@ first_word_other [] line = refl
 first_word_other (word ∷ more) line = digits_other (behind_at word) (skip_word line) line
 
 addressed_judged : (r : Result (ℕ × List ℕ) Refusal) → IfErr r IsOther → HasJudgedGiven (given_text r) (made r (λ at. by_editor at.0 (by_words (words at.1) (skip_word at.1))))
-addressed_judged (Ok at) others = by_editor_judged (behind (skip_word at.1)) at.0 (by_words (words at.1) (skip_word at.1)) (by_words_judged (words at.1) (skip_word at.1))
+addressed_judged (Ok at) others = by_editor_judged (text_by_words (words at.1) (skip_word at.1)) at.0 (by_words (words at.1) (skip_word at.1)) (by_words_judged (words at.1) (skip_word at.1))
 addressed_judged (Err refusal) others = other [] refusal others
 
 by_length : (t : List ℕ) (long : Bool) (r : Result (ℕ × Command) Refusal) → HasJudgedGiven t r → HasJudgedGiven t (if long then Err LineTooLong else r)
