@@ -105,6 +105,7 @@ layer rename b c
 layer move c 0
 column add a depth int
 column add a label text
+column add a price decimal
 add a POINT (1 1)
 add a LINESTRING (0 0, 5 5)
 addhex a 010100000000000000000008400000000000001040
@@ -114,6 +115,8 @@ set a 1 depth 12
 set a 1 label 'it''s'
 set a 2 depth -7
 set a 1 depth 13
+set a 2 label E'a\\nb''s\\x1b'
+set a 4 price -812.50
 replace a 1 MULTIPOINT (1 1, 2 2)
 vertex insert a 2 0 0 1 3 4
 vertex move a 2 0 0 0 -1 0
@@ -133,6 +136,8 @@ show c
 get a 4 2 4
 find a depth
 find a label 'it''s'
+find a label E'a\\nb''s\\x1b'
+find a price -812.5
 check a POLYGON ((0 0, 9 0, 9 9, 0 9, 0 0), (1 1, 2 1, 2 2, 1 1))
 check a POLYGON ((0 0, 4 4, 4 0, 0 4, 0 0))
 hex a 2
