@@ -116,9 +116,13 @@ class Learned(PageCase):
 # Lines with two faults or more, each with the refusal that comes first.
 FIRST = """\
 match nosuch T POINT (1.5 2): 32
+query nosuch near 1 POINT (1: 2
+query nosuch near 1e3 POINT (1: 31
 query nosuch foo POINT (1.5 2): 31
 match nosuch TTTTTTTTT POINT (1.5 2): 3
 query nosuch contains LINESTRING (1 1, 1 1): 10
+distance nosuch 1 LINESTRING (1 1, 1 1): 10
+distance nosuch 1 POINT (1 1): 18
 relate nosuch 1 LINESTRING (1 1, 1 1): 10
 add nosuch POINT (1.5 1): 3
 add nosuch LINESTRING (1 1, 1 1): 18
